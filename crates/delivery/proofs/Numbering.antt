@@ -12,7 +12,7 @@ use Rattle.stations.specs.declared.tick.Tick.TheVariants.{Deliver, Go, Step}
 use Rattle.stations.proofs.TickLoops.{counted-ticks}
 use Rattle.stations.specs.AtomicRunLaws.{counted_join, noted_join}
 use Rattle.stations.specs.AtomicRuns.{IsTick, LeadsTo, counted_of, is_go, most_accesses, noted_of}
-use Rattle.delivery.specs.TickNumbers.{numbers, numbers_of}
+use Rattle.delivery.specs.TickNumbers.{numbers, noted_numbers}
 
 -- One tick more.
 next : (i n j : ℕ) (ticks : List Tick) (others : List ℕ) → min i n ≡ j → numbers ticks i n ≡ others
@@ -56,7 +56,7 @@ grows (Idles tick ∷ later) i most = grows later i most
 numbered-steps :
     (caller i n : ℕ) (steps : List AtomicStep) (others : List Tick) (a b : List StationState) → LeadsTo caller steps a b
     → i ≤ most_accesses → n ≤ most_accesses → counted_of i steps ≤ n
-    → numbers (map tick_of steps ++ others) i n ≡ numbers_of (noted_of i steps) ++ numbers others (counted_of i steps) n
+    → numbers (map tick_of steps ++ others) i n ≡ noted_numbers (noted_of i steps) ++ numbers others (counted_of i steps) n
 numbered-steps caller i n [] others a b leads low most within = refl
 numbered-steps caller i n (At host (Steps kind wire_free answer) ∷ later) others a b leads low most within =
     next i n i (map tick_of later ++ others) _ (omega (arith, within, (grows later i low).least))
@@ -102,7 +102,7 @@ pub numbered-all :
     (caller : ℕ) (ticks : List Tick) (accesses : List Access) (first last : List AtomicStep) (a m b : List StationState)
     → LeadsTo caller first a m → All IsTick last → LeadsTo caller last m b → map tick_of first ≡ played_in is_go Go [] accesses ticks
     → map tick_of last ≡ without_go is_go (waiting_after is_go accesses ticks)
-    → numbers ticks 0 (counted_of 0 first) ≡ numbers_of (noted_of 0 (first ++ last))
+    → numbers ticks 0 (counted_of 0 first) ≡ noted_numbers (noted_of 0 (first ++ last))
 numbered-all caller ticks accesses first last a m b leads are later played ended =
     let n = counted_of 0 first in
     let waiting = waiting_after is_go accesses ticks in
@@ -114,13 +114,13 @@ numbered-all caller ticks accesses first last a m b leads are later played ended
     sym (numbered-played accesses ticks 0 n)
     ∙ ap (λ (list : List Tick). numbers (list ++ waiting) 0 n) (sym played)
     ∙ numbered-steps caller 0 n first waiting a m leads low most same
-    ∙ ap (λ (list : List ℕ). numbers_of (noted_of 0 first) ++ list)
+    ∙ ap (λ (list : List ℕ). noted_numbers (noted_of 0 first) ++ list)
     (late waiting n n same
     ∙ ap (λ (list : List Tick). numbers list n n) (sym ended ∙ sym (append-nil (map tick_of last)))
     ∙ numbered-steps caller n n last [] m b later most most within
-    ∙ append-nil (numbers_of (noted_of n last)))
+    ∙ append-nil (noted_numbers (noted_of n last)))
     ∙ sym (map-append (λ (one : Numbered). one.accesses) (noted_of 0 first) (noted_of n last))
-    ∙ ap numbers_of (sym (noted_join 0 first last))
+    ∙ ap noted_numbers (sym (noted_join 0 first last))
 
 -- The accesses of a call are those before its last ticks.
 pub counted-all : (first last : List AtomicStep) → All IsTick last → counted_of 0 (first ++ last) ≡ counted_of 0 first

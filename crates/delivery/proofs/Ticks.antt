@@ -40,7 +40,7 @@ use Rattle.delivery.specs.CountedHosts.{CanAnswer, IsCounted, IsCountedWrite}
 use Rattle.delivery.specs.Counts.{HostCounts, counts_of}
 use Rattle.delivery.specs.AnswersLaws.{AbsentHostsAnswerNothing, CountsGoByOutcomes, FaultNeverComes, GoAnswersNothing}
 use Rattle.delivery.specs.AnswersLaws.{TicksAreAnsweredByCounting, WaitingFramesGoByOutcomes}
-use Rattle.delivery.specs.StepAnswers.{IsAnswer, IsDelivery, IsStepAnswer, IsTickOf, counts_at, stations_behind}
+use Rattle.delivery.specs.StepAnswers.{IsTickAnswer, IsDelivery, IsStepAnswer, IsTickOf, counts_at, stations_behind}
 use Rattle.delivery.specs.WaitingFrames.{waiting_at}
 
 -- A run up to a step of it, the step, and the rest.
@@ -249,7 +249,7 @@ cannot-answer (Some s) none can = absurd (cc)
 tick-answer : (caller host : ℕ) (before later : List AtomicStep) (step : AtomicStep) (a b : List StationState)
     → LeadsTo caller before a (stations_behind before a) → LeadsTo caller (step ∷ later) (stations_behind before a) b
     → Known host before a → ResetNothing host (step ∷ later) → EnginesRun (world_at b host).adapter → IsTickOf host (tick_of step)
-    → IsAnswer a before (tick_of step) (outcome_of step)
+    → IsTickAnswer a before (tick_of step) (outcome_of step)
 tick-answer caller host before later (At other (Steps kind wire_free answer)) a b leads rest known none run of_host =
     let mid = stations_behind before a in
     let step = λ (k : ℕ). At k (Steps kind wire_free answer) in
@@ -257,7 +257,7 @@ tick-answer caller host before later (At other (Steps kind wire_free answer)) a 
     let resets = subst (λ (k : ℕ). ResetNothing host (step k ∷ later)) of_host none in
     let well = no-fault caller host (Steps kind wire_free answer) later mid b own resets run in
     let answered = step-answer caller host before a kind wire_free answer leads own.0 known well in
-    subst (λ (k : ℕ). IsAnswer a before (Step k kind) answer) (sym of_host)
+    subst (λ (k : ℕ). IsTickAnswer a before (Step k kind) answer) (sym of_host)
     (subst (λ (counts : HostCounts). IsStepAnswer a before host counts kind answer) known.counts answered)
 tick-answer caller host before later (At other (Arrives frame fate)) a b leads rest known none run of_host =
     is-delivery (waiting_at a before other) frame fate

@@ -20,7 +20,7 @@ use Rattle.stations.specs.declared.lent_bus.LentBus.{LentBus}
 use Rattle.delivery.specs.Fates.{AreRightByCounting, AreRightFates, Mark, marks}
 use Rattle.delivery.specs.Happenings.{Happening, accepted, given, happened_in, missed, put, reached, stored, told, told_alone, toward}
 use Rattle.delivery.specs.Reception.{LeavesReception, ReceivesRightly}
-use Rattle.delivery.specs.TickNumbers.{numbers, numbers_of}
+use Rattle.delivery.specs.TickNumbers.{numbers, noted_numbers}
 
 -- Outcomes.
 
@@ -38,7 +38,7 @@ pub record IsToldByOutcomes (ticks : List Tick) (first last : List AtomicStep) :
   -- the steps that aren't accesses are the ticks that aren't Go, in order
   pub played : without_go is_go (map tick_of (first ++ last)) ≡ without_go is_go ticks
   pub said : told ticks (noted_of 0 (first ++ last)) ≡ happened_in (first ++ last)
-  pub numbered : numbers ticks 0 (counted_of 0 first) ≡ numbers_of (noted_of 0 (first ++ last))
+  pub numbered : numbers ticks 0 (counted_of 0 first) ≡ noted_numbers (noted_of 0 (first ++ last))
   pub counted : counted_of 0 (first ++ last) ≡ counted_of 0 first
 
 abbrev pub OutcomesTellSteps : Type 0

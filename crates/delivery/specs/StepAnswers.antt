@@ -72,10 +72,10 @@ abbrev pub counts_at : (start : List StationState) → List AtomicStep → (host
 counts_at start steps host = counts_behind (events_at host steps) (counts_of (world_at start host).adapter)
 
 -- The outcome of a tick that comes behind these steps, by what is counted at their start.
-abbrev pub IsAnswer : (start : List StationState) (before : List AtomicStep) → Tick → FrameOutcome → Type 0
-IsAnswer start before Go outcome = outcome ≡ Nothing
-IsAnswer start before (Step host kind) outcome = IsStepAnswer start before host (counts_at start before host) kind outcome
-IsAnswer start before (Deliver host) outcome = IsDelivery (waiting_at start before host) outcome
+abbrev pub IsTickAnswer : (start : List StationState) (before : List AtomicStep) → Tick → FrameOutcome → Type 0
+IsTickAnswer start before Go outcome = outcome ≡ Nothing
+IsTickAnswer start before (Step host kind) outcome = IsStepAnswer start before host (counts_at start before host) kind outcome
+IsTickAnswer start before (Deliver host) outcome = IsDelivery (waiting_at start before host) outcome
 
 -- it is a tick of this host
 abbrev pub IsTickOf : (host : ℕ) → Tick → Type 0
@@ -91,4 +91,4 @@ OfEachTick host steps fact =
 
 -- Each tick of a host is answered so, by what is counted at the start.
 abbrev pub AreAnswered : (host : ℕ) → (start : List StationState) → List AtomicStep → Type 0
-AreAnswered host start steps = OfEachTick host steps (IsAnswer start)
+AreAnswered host start steps = OfEachTick host steps (IsTickAnswer start)

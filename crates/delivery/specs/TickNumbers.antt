@@ -12,5 +12,5 @@ numbers (Go ∷ ticks) i n = numbers ticks (i + 1) n
 numbers (Step host kind ∷ ticks) i n = min i n ∷ numbers ticks i n
 numbers (Deliver host ∷ ticks) i n = min i n ∷ numbers ticks i n
 
-abbrev pub numbers_of : List Numbered → List ℕ
-numbers_of outcomes = map (λ (one : Numbered). one.accesses) outcomes
+abbrev pub noted_numbers : List Numbered → List ℕ
+noted_numbers outcomes = map (λ (one : Numbered). one.accesses) outcomes

@@ -17,16 +17,18 @@ use Rattle.bus.specs.PastOfStretch.{Past, joined}
 use Rattle.bus.specs.declared.event.Access.{Access}
 use Rattle.bus.specs.declared.event.Access.TheVariants.{Reads}
 use Rattle.bus.specs.declared.bus.Bus.{Ghosts}
+use Rattle.driver_law.proofs.Accesses.{ran_by-join}
 use Rattle.driver_law.proofs.Calls.{ran-on}
 use Rattle.driver_law.proofs.Places.{place-add}
 use Rattle.driver_law.proofs.Stretches.{flows_join, work_kept}
 use Rattle.driver_law.proofs.TakenSlots.{parts_are_few}
-use Rattle.driver_law.specs.Calls.{HasNoForgottenWork, Moment, Ran, ReadsCauses, at, call_did, driver_in, frames_ended, held_at, only}
+use Rattle.driver_law.specs.Calls.{GoesTo, HasNoForgottenWork, Moment, Ran, ReadsCauses, at, call_did, driver_did, driver_in}
+use Rattle.driver_law.specs.Calls.{frames_ended, held_at, in_world_of, only}
 use Rattle.driver_law.specs.Calls.{receive_loads, stores_from, tail_write, takes_from, with_missed}
 use Rattle.driver_law.specs.DriverState.{DriverState, HandedOut, frame_of, holding, next_receive, numbers_of, with_owners}
 use Rattle.driver_law.specs.ReadyDrivers.{ReadyWith}
-use Rattle.driver.specs.HandlerSteps.{HandlesIt, IsLook, Scene, TakesAll, Works, handled_accesses, held_in, moment}
-use Rattle.driver.specs.Parts.{frames_of, pieces_of}
+use Rattle.driver.specs.HandlerSteps.{HandlesIt, IsLook, Scene, TakesAll, Works, held_in, moment, offering_accesses, taking_accesses}
+use Rattle.driver.specs.Parts.{joined_frames, pieces_of}
 use Rattle.driver.specs.RefillSteps.{Refills}
 use Rattle.driver.specs.declared.receiver.Receiver.{Ghosts as OfReceiver}
 use Rattle.bring_up.specs.WrittenRegisters.{handled_causes}
@@ -80,22 +82,28 @@ next-same d1 d2 d3 d4 numbers follows oldest =
 ran-same : {B : Type 0} (bus : Ghosts B) {up : Bool} {xs ys : List Access} {t1 t2 accepted : List (List ℕ)} {a b : Moment B}
     → xs ≡ ys → t1 ≡ t2 → Ran bus up (call_did xs t1 accepted) a b
     → Ran bus up (call_did ys t2 accepted) a b
-ran-same bus {up} {xs} {ys} {t1} {t2} {accepted} {a} {b} accesses frames ran =
-    subst (λ (list : List Access). Ran bus up (call_did list t2 accepted) a b) accesses
-    (subst (λ (list : List (List ℕ)). Ran bus up (call_did xs list accepted) a b) frames ran)
+ran-same bus {up} {xs} {ys} {t1} {t2} {accepted} {a} {b} accesses frames ran = record {
+  past = ran.past;
+  reports = ran.reports;
+  only = ran.only ∙ accesses;
+  goes = subst (λ (list : List (List ℕ)). GoesTo up (in_world_of bus a) (in_world_of bus b) (driver_did list accepted) ran.past) frames
+      ran.goes;
+  follows = ran.follows;
+}
 
 -- The last look: no frame ends in finished slots, so all of them are parts.
-last-look : {up : Bool} (d : DriverState) (world : World) (loads : ℕ) → ReadyWith up d world → frames_ended (driver_in d world) ≡ []
-    → loads ≡ min (suc (length (finished_pieces d.oldest_receive world))) (length d.buffers) → IsLook loads d.buffers
-last-look {up} d world loads ready none is =
+last-look : {up : Bool} (d : DriverState) (world : World) (oldest loads : ℕ) → ReadyWith up d world → frames_ended (driver_in d world) ≡ []
+    → loads ≡ min (suc (length (finished_pieces d.oldest_receive world))) (length d.buffers) → oldest ≡ d.oldest_receive
+    → IsLook oldest d.buffers world loads
+last-look {up} d world oldest loads ready none is same =
     let pieces = finished_pieces d.oldest_receive world in
     let seen = only-parts [] pieces none in
     let few = parts_are_few up d seen.0 [] world ready (seen.1 ∙ sym (append-nil (parts seen.0))) in
-    record {
-      parts = length pieces;
+    subst (λ (slot : ℕ). IsLook slot d.buffers world loads) (sym same) (record {
+      none_left = none;
       short = subst (λ (n : ℕ). receive_buffer_bytes * n ≤ longest_frame) (sym (ap length seen.1 ∙ length-parts seen.0)) few;
       loads_are = is;
-    }
+    })
 
 pub works : {up : Bool} {B R : Type 0} (bus : Ghosts B) (receivers : OfReceiver R)
     → ((a b c : B) (first later : Past) → bus.happened a b first → bus.happened b c later → bus.happened a c (joined first later))
@@ -103,46 +111,42 @@ pub works : {up : Bool} {B R : Type 0} (bus : Ghosts B) (receivers : OfReceiver 
     → Ran bus up (only (Reads 0x4010 misses ∷ [])) (held_at held (moment a)) (held_at held (moment b))
     → (all : TakesAll bus receivers n up (held_in held (record b { receiver = a.receiver }))
     (held_in held (record c { receiver = e.receiver })))
-    → Refills bus up (held_at (held ++ pieces_of all.takes.kept) (moment c)) (held_at (held ++ pieces_of all.takes.kept) (moment e))
+    → Refills bus up (held_at (held ++ pieces_of all.takes.frames.kept) (moment c))
+    (held_at (held ++ pieces_of all.takes.frames.kept) (moment e))
     → Works bus receivers n up (held_in held a) (held_in held e)
+unfolding ran-on ran_by-join ran-same
 works {up} bus receivers joins a b c e misses n slots held follows counts all refills =
     let takes = all.takes in
     let d1 = a.driver in
     let d2 = b.driver in
     let d3 = c.driver in
     let d4 = e.driver in
-    let lists = map numbers_of takes.taken in
-    let numbers = numbers_of (pieces_of takes.taken) in
+    let lists = map numbers_of takes.frames.taken in
+    let numbers = numbers_of (pieces_of takes.frames.taken) in
     let xs = refills.numbers in
     let same = changed d1 d2 d3 d4 follows in
     let oldest : d1.buffers ≡ numbers ++ d3.buffers = ap (λ (d : DriverState). d.buffers) (sym follows.counted) ∙ takes.oldest in
     let from = place d1.layout.rx d1.oldest_receive (length (concat lists)) in
     let oldest_is : d3.oldest_receive ≡ from = oldest-after d1 d2 d3 d4 numbers follows oldest
-    ∙ ap (λ (list : List ℕ). place d1.layout.rx d1.oldest_receive (length list)) (sym (concat-numbers takes.taken)) in
-    let tail : List Access = stores_from d3.layout (next_receive d3) xs ++ tail_write (next_receive d4) (d3.staged ++ xs) in
-    let head : List Access = Reads 0x4010 misses
-    ∷ (takes_from d1.layout d1.oldest_receive lists ++ receive_loads d1.layout from all.loads)
-    in
-    let accesses : (Reads 0x4010 misses
-    ∷ (takes_from d2.layout d2.oldest_receive lists ++ receive_loads d3.layout d3.oldest_receive all.loads)) ++ tail
-    ≡ handled_accesses d1 misses lists all.loads xs (next_receive d4) =
-    ap (λ (d : DriverState). (Reads 0x4010 misses
-    ∷ (takes_from d.layout d.oldest_receive lists ++ receive_loads d3.layout d3.oldest_receive all.loads)) ++ tail) follows.counted
-    ∙ ap (λ (slot : ℕ). (Reads 0x4010 misses
-    ∷ (takes_from d1.layout d1.oldest_receive lists ++ receive_loads d3.layout slot all.loads)) ++ tail) oldest_is
-    ∙ ap (λ (d : DriverState). (Reads 0x4010 misses
-    ∷ (takes_from d1.layout d1.oldest_receive lists ++ receive_loads d.layout from all.loads)) ++ tail) same
-    ∙ ap (λ (d : DriverState). head ++ (stores_from d.layout (next_receive d3) xs ++ tail_write (next_receive d4) (d.staged ++ xs))) same
-    ∙ ap (λ (slot : ℕ). head ++ (stores_from d1.layout slot xs ++ tail_write (next_receive d4) (d1.staged ++ xs)))
+    ∙ ap (λ (list : List ℕ). place d1.layout.rx d1.oldest_receive (length list)) (sym (concat-numbers takes.frames.taken)) in
+    let taking : Reads 0x4010 misses
+    ∷ (takes_from d2.layout d2.oldest_receive lists ++ receive_loads d3.layout d3.oldest_receive all.loads)
+    ≡ taking_accesses d1 misses lists all.loads =
+    ap (λ (d : DriverState). Reads 0x4010 misses
+    ∷ (takes_from d.layout d.oldest_receive lists ++ receive_loads d3.layout d3.oldest_receive all.loads)) follows.counted
+    ∙ ap (λ (slot : ℕ). Reads 0x4010 misses
+    ∷ (takes_from d1.layout d1.oldest_receive lists ++ receive_loads d3.layout slot all.loads)) oldest_is
+    ∙ ap (λ (d : DriverState). Reads 0x4010 misses
+    ∷ (takes_from d1.layout d1.oldest_receive lists ++ receive_loads d.layout from all.loads)) same in
+    let offers : List Access = stores_from d3.layout (next_receive d3) xs ++ tail_write (next_receive d4) (d3.staged ++ xs) in
+    let offering : offers ≡ offering_accesses d1 xs (next_receive d4) =
+    ap (λ (d : DriverState). stores_from d.layout (next_receive d3) xs ++ tail_write (next_receive d4) (d.staged ++ xs)) same
+    ∙ ap (λ (slot : ℕ). stores_from d1.layout slot xs ++ tail_write (next_receive d4) (d1.staged ++ xs))
     (next-same d1 d2 d3 d4 numbers follows oldest) in
-    let ran = ran-on bus joins (ran-on bus joins counts takes.ran) refills.ran in
+    let up_to = ran-on bus joins counts takes.ran in
+    let ran = ran-on bus joins up_to refills.ran in
     record {
-      taken = takes.taken;
-      kept = takes.kept;
-      shown = takes.shown;
-      part = takes.part;
-      count = takes.count;
-      groups = takes.groups;
+      frames = takes.frames;
       misses = record {
         misses = misses;
         missed = ap (λ (d : DriverState). d.missed) follows.refilled ∙ ap (λ (d : DriverState). d.missed) same;
@@ -156,9 +160,23 @@ works {up} bus receivers joins a b c e misses n slots held follows counts all re
         no_bad = ap (λ (d : DriverState). d.bad) follows.refilled ∙ takes.bad ∙ ap (λ (d : DriverState). d.bad) follows.counted;
       };
       loads = all.loads;
-      look = last-look (holding (held ++ pieces_of takes.kept) d3) (bus.world c.bus) all.loads takes.ran.goes.flows.ready all.none_left
-          all.loads_are;
-      ran = ran-same bus accesses (append-nil _) ran;
+      ran =
+          ran-same bus
+          (ap (λ (list : List Access). list ++ offers) taking
+          ∙ ap (λ (list : List Access). taking_accesses d1 misses lists all.loads ++ list) offering)
+          (append-nil (joined_frames takes.frames.taken)) ran;
+      split = record {
+        middle = c.bus;
+        before = up_to.past;
+        behind = refills.ran.past;
+        reaches = up_to.reports;
+        leaves = refills.ran.reports;
+        whole = refl;
+        first_made = up_to.only ∙ taking;
+        later_made = refills.ran.only ∙ offering;
+      };
+      look = last-look (holding (held ++ pieces_of takes.frames.kept) d3) (bus.world c.bus) d4.oldest_receive all.loads
+          takes.ran.goes.flows.ready all.none_left all.loads_are (ap (λ (d : DriverState). d.oldest_receive) follows.refilled);
     }
 
 -- After the read of ICR, if that had a cause.
@@ -171,12 +189,13 @@ pub handles-it : {up : Bool} {B R : Type 0} (bus : Ghosts B) (receivers : OfRece
     → Ran bus up (only (Reads 0x4010 misses ∷ [])) (held_at held (moment a)) (held_at held (moment b))
     → (all : TakesAll bus receivers n up (held_in held (record b { receiver = a.receiver }))
     (held_in held (record c { receiver = e.receiver })))
-    → Refills bus up (held_at (held ++ pieces_of all.takes.kept) (moment c)) (held_at (held ++ pieces_of all.takes.kept) (moment e))
+    → Refills bus up (held_at (held ++ pieces_of all.takes.frames.kept) (moment c))
+    (held_at (held ++ pieces_of all.takes.frames.kept) (moment e))
     → HandlesIt bus receivers n (held_in held (record a { bus = o })) (held_in held e)
     (record { causes = causes; after_read = a.bus; reads = reads })
 handles-it {up} bus receivers joins o a b c e causes misses n slots held follows some reads counts taking refills =
     let takes = taking.takes in
-    let held2 = held ++ pieces_of takes.kept in
+    let held2 = held ++ pieces_of takes.frames.kept in
     let all = works bus receivers joins a b c e misses n slots held follows counts taking refills in
     record {
       some = some;
@@ -188,8 +207,8 @@ handles-it {up} bus receivers joins o a b c e causes misses n slots held follows
             counts.goes.flows.least,
             takes.ran.goes.flows.least,
             ap length taking.none_left,
-            length-map takes.taken frame_of,
-            takes.count,
+            length-map takes.frames.taken frame_of,
+            takes.frames.count,
           );
       work = λ enabled.
           let mask = takes.ran.goes.flows.mask ∙ counts.goes.flows.mask ∙ reads.flows.mask in
@@ -199,8 +218,8 @@ handles-it {up} bus receivers joins o a b c e causes misses n slots held follows
           refills.ran.past refills.ran.goes before in
           record { enabled = behind.enabled; asked = behind.asked };
       flows =
-          flows_join (holding held a.driver) (holding held a.driver) (holding (held ++ pieces_of all.kept) e.driver) (bus.world o)
+          flows_join (holding held a.driver) (holding held a.driver) (holding (held ++ pieces_of all.frames.kept) e.driver) (bus.world o)
           (bus.world a.bus) (bus.world e.bus) []
-          (frames_of all.taken) [] [] reads.past all.ran.past
+          (joined_frames all.frames.taken) [] [] reads.past all.ran.past
           reads.flows all.ran.goes.flows;
     }

@@ -1,17 +1,18 @@
 -- A frame is sent over a bus.
 use Rattle.std.proofs.Common.{true, ◌≡◌, ◌<◌, ◌+◌, ◌-◌, Err, Ok, ◌%◌, ◌++◌, ◌∷◌, [], ℕ, List, length, refl, sym, ap, subst, ◌∙◌, arith}
 use Rattle.dma_memory.specs.Layout.{Counts}
+use Rattle.descriptors.specs.RingLaws.{place}
 use Rattle.adapter.specs.Slots.{written_back}
 use Rattle.bus.specs.PastOfStretch.{Past, joined}
 use Rattle.bus.specs.declared.bus.Bus.{Ghosts}
 use Rattle.bus.specs.declared.event.Access.{Access}
 use Rattle.bus.specs.declared.event.Access.TheVariants.{Stores, Writes}
 use Rattle.driver_law.proofs.Calls.{ran-on}
-use Rattle.driver_law.proofs.Places.{place-below, place-next}
+use Rattle.driver_law.proofs.Places.{place-below, place-next, place-same}
 use Rattle.driver_law.specs.DriverState.{DriverState, transmit_slot, transmit_tail}
 use Rattle.driver_law.specs.Calls.{IsReady, Moment, Ran, send_accesses, transmit_buffer, whole_descriptor}
 use Rattle.driver.specs.InsideDriver.{IsSending}
-use Rattle.driver.specs.SendSteps.{IsAnswer, Reclaims, Sends, accesses_by, loads_to_free, sent_now, with_transmit_slots}
+use Rattle.driver.specs.SendSteps.{IsTransmitAnswer, Reclaims, Sends, accesses_by, loads_to_free, sent_now, with_transmit_slots}
 use Rattle.driver.specs.declared.transmit.SendError.TheVariants.{RingFull}
 
 -- The place that is sent by.
@@ -28,18 +29,32 @@ sending-more counts oldest next sending room sends = record {
   next_slot = ap (λ (slot : ℕ). (slot + 1) % counts.tx) sends.next_slot ∙ sym (place-next counts.tx oldest sending);
 }
 
--- A ring that is full after the freeing was full before it, with no slot written back.
+-- A ring that is full after the freeing was full before it, with no slot written back. So no slot was freed.
 pub was-full : {B : Type 0} (bus : Ghosts B) (old new : Moment B) → IsReady bus true old → Reclaims bus old new
-    → new.driver.sending + 1 ≡ old.driver.layout.tx → IsAnswer bus (Err RingFull) old new
-was-full bus old new is reclaims full =
+    → new.driver ≡ with_transmit_slots old.driver new.driver.oldest_transmit new.driver.sending
+    → transmit_tail new.driver ≡ transmit_tail old.driver
+    → new.driver.sending + 1 ≡ old.driver.layout.tx → IsTransmitAnswer bus (Err RingFull) old new
+was-full bus old new is reclaims others tail full =
     let room = is.ready.transmit.room in
-    let count = reclaims.ran.goes.flows.frees in (
-      (
-        omega (arith, full, count, room, ap length reclaims.none),
-        none-of (written_back old.driver.oldest_transmit (bus.world old.bus)) (omega (arith, full, count, room, ap length reclaims.none)),
-      ),
-      (full ∙ sym (ap (λ (layout : Counts). layout.tx) reclaims.ran.goes.flows.layout), reclaims.none),
-    )
+    let flows = reclaims.ran.goes.flows in
+    let count = flows.frees in
+    let layout = flows.layout in
+    let none : length (written_back old.driver.oldest_transmit (bus.world old.bus)) ≡ 0 = omega
+    (arith, full, count, room, ap length reclaims.none) in
+    let sending : old.driver.sending ≡ new.driver.sending = omega (arith, full, count, room, ap length reclaims.none) in
+    let ends : place old.driver.layout.tx new.driver.oldest_transmit new.driver.sending
+    ≡ place old.driver.layout.tx old.driver.oldest_transmit new.driver.sending =
+    sym (ap (λ (counts : Counts). place counts.tx new.driver.oldest_transmit new.driver.sending) layout) ∙ tail
+    ∙ ap (place old.driver.layout.tx old.driver.oldest_transmit) sending in
+    let oldest = place-same old.driver.layout.tx new.driver.sending new.driver.oldest_transmit old.driver.oldest_transmit
+    (subst (λ (counts : Counts). new.driver.oldest_transmit < counts.tx) layout flows.ready.transmit.oldest_slot)
+    is.ready.transmit.oldest_slot (omega (arith, full)) ends in
+    record {
+      at_entry = (omega (arith, full, sending), none-of (written_back old.driver.oldest_transmit (bus.world old.bus)) none);
+      at_return = (full ∙ sym (ap (λ (counts : Counts). counts.tx) layout), reclaims.none);
+      same = others ∙ ap (λ (slot : ℕ). with_transmit_slots old.driver slot new.driver.sending) oldest
+          ∙ ap (λ (n : ℕ). with_transmit_slots old.driver old.driver.oldest_transmit n) (sym sending);
+    }
   where
     none-of : (slots : List ℕ) → length slots ≡ 0 → slots ≡ []
     none-of [] none = refl

@@ -28,7 +28,7 @@ use Rattle.driver_law.specs.ReceiveSteps.{after_slots}
 use Rattle.driver.specs.HandlerSteps.{AreOfOneFrame, HandsOn, HandsOver, HasEtherType, LeavesRing, Scene, ShowsAll, Takes}
 use Rattle.driver.specs.HandlerSteps.{WhereReadyIn, WhereTaken, count_if, part_none, scene}
 use Rattle.driver.specs.Looks.{FindsFrame}
-use Rattle.driver.specs.Parts.{buffers_in, buffers_of, frames_of, parts_of, pieces_of, received_of}
+use Rattle.driver.specs.Parts.{buffers_in, buffers_of, joined_frames, parts_of, pieces_of, received_of}
 use Rattle.driver.specs.declared.look.Run.{Run}
 use Rattle.driver.specs.declared.parts.Part.{Part}
 use Rattle.driver.specs.declared.receiver.Received.{Received}
@@ -64,12 +64,7 @@ walks-none bus receivers stays waits b r d = record {
   most = omega arith;
   shows = shows-none receivers.took waits r d;
   takes = λ up held is. record {
-    taken = [];
-    kept = [];
-    shown = waits r;
-    part = part_none;
-    count = refl;
-    groups = all-none AreOfOneFrame;
+    frames = record { taken = []; kept = []; shown = waits r; part = part_none; count = refl; groups = all-none AreOfOneFrame };
     oldest = refl;
     bad = refl;
     ran = subst (λ (list : List HandedOut). Ran bus up (only []) (at b (holding held d)) (at b (holding list d)))
@@ -91,15 +86,16 @@ takes-next : {up : Bool} {B R : Type 0} (bus : Ghosts B) (receivers : OfReceiver
     → d2.layout ≡ d1.layout → length (buffers_in parts) ≡ run.count → LeavesRing run parts d2 d3
     → d4 ≡ record d3 { pool = d4.pool; bad = d4.bad }
     → (before : Takes bus receivers [] n up (scene a (holding held d1) r) (scene b (holding held d2) s))
-    → FindsFrame bus run up (at b (holding (held ++ pieces_of before.kept) d2)) (at c (holding (held ++ pieces_of before.kept) d2))
-    → ((pieces : List HandedOut) → ReadyWith up (holding ((held ++ pieces_of before.kept) ++ pieces) d3) (bus.world c)
+    → FindsFrame bus run up (at b (holding (held ++ pieces_of before.frames.kept) d2))
+    (at c (holding (held ++ pieces_of before.frames.kept) d2))
+    → ((pieces : List HandedOut) → ReadyWith up (holding ((held ++ pieces_of before.frames.kept) ++ pieces) d3) (bus.world c)
     → parts_of pieces ≡ parts → HasEtherType pieces
-    → HandsOver bus receivers pieces up (scene c (holding ((held ++ pieces_of before.kept) ++ pieces) d3) s)
-    (scene e (holding ((held ++ pieces_of before.kept) ++ pieces) d4) t))
+    → HandsOver bus receivers pieces up (scene c (holding ((held ++ pieces_of before.frames.kept) ++ pieces) d3) s)
+    (scene e (holding ((held ++ pieces_of before.frames.kept) ++ pieces) d4) t))
     → Takes bus receivers [] (n + 1) up (scene a (holding held d1) r) (scene e (holding held d4) t)
 takes-next {up} bus receivers stays joins also a b c e r s t d1 d2 d3 d4 n slots run parts held oldest_is outstanding known size leaves
     given before finds over =
-    let held2 = held ++ pieces_of before.kept in
+    let held2 = held ++ pieces_of before.frames.kept in
     let take = takes-run bus stays b c d2 d3 (holding held2 d2) run parts size leaves refl finds finds.ran.goes.flows.ready in
     let pieces = take.pieces in
     let held3 = held2 ++ pieces in
@@ -131,14 +127,14 @@ takes-next {up} bus receivers stays joins also a b c e r s t d1 d2 d3 d4 n slots
     let three = ran_by-join bus joins _ _ a c c (holding held d1) (holding held2 d2) (holding held3 d3) _ _ [] [] two taking in
     let four = ran_by-join bus joins _ _ a c e (holding held d1) (holding held3 d3) (holding held3 d3) _ _ [] [] three looked in
     let five = ran_by-join bus joins _ _ a e e (holding held d1) (holding held3 d3) _ _ _ [] [] four comes in
-    let lists = map numbers_of before.taken in
-    let numbers = numbers_of (pieces_of before.taken) in
+    let lists = map numbers_of before.frames.taken in
+    let numbers = numbers_of (pieces_of before.frames.taken) in
     let same : buffers_in parts ≡ numbers_of pieces = ap buffers_in (sym take.same) ∙ buffers-pieces pieces in
     let first : d2.buffers ≡ numbers_of pieces ++ d3.buffers = leaves.first ∙ ap (λ (list : List ℕ). list ++ d3.buffers) same in
     let many : length (concat lists) ≡ slots = omega (
       arith,
       outstanding,
-      ap length (concat-numbers before.taken),
+      ap length (concat-numbers before.frames.taken),
       ap length before.oldest,
       length-append numbers d2.buffers,
     ) in
@@ -149,7 +145,8 @@ takes-next {up} bus receivers stays joins also a b c e r s t d1 d2 d3 d4 n slots
     let from = place d1.layout.rx d1.oldest_receive (length (concat lists)) in
     let loads = receive_loads d2.layout d2.oldest_receive run.count in
     let load = ether_type_load d3.layout (numbers_of pieces) in
-    let accesses : (((((all lists ++ []) ++ loads) ++ []) ++ load) ++ []) ≡ all (map numbers_of (before.taken ++ pieces ∷ [])) ++ [] =
+    let accesses : (((((all lists ++ []) ++ loads) ++ []) ++ load) ++ [])
+    ≡ all (map numbers_of (before.frames.taken ++ pieces ∷ [])) ++ [] =
     ap (λ (list : List Access). list ++ [])
     (ap (λ (list : List Access). list ++ load) (append-nil ((all lists ++ []) ++ loads))
     ∙ ap (λ (list : List Access). (list ++ loads) ++ load) (append-nil (all lists))
@@ -160,43 +157,47 @@ takes-next {up} bus receivers stays joins also a b c e r s t d1 d2 d3 d4 n slots
     ∙ ap (λ (layout : Counts). all lists ++ (receive_loads d1.layout from (length (numbers_of pieces))
     ++ ether_type_load layout (numbers_of pieces))) counts
     ∙ sym (takes-push d1.layout d1.oldest_receive lists (numbers_of pieces))
-    ∙ ap all (sym (map-append numbers_of before.taken (pieces ∷ [])))) in
+    ∙ ap all (sym (map-append numbers_of before.frames.taken (pieces ∷ [])))) in
     let shape : ℕ → DriverState = λ bad. record d3 { pool = d4.pool; bad = bad } in
-    let last : holding held4 (shape d3.bad) ≡ holding (held ++ pieces_of (before.kept ++ kept.entries)) d4 =
+    let last : holding held4 (shape d3.bad) ≡ holding (held ++ pieces_of (before.frames.kept ++ kept.entries)) d4 =
     ap (λ (bad : ℕ). holding held4 (shape bad)) (sym hands.bad) ∙ ap (holding held4) (sym given)
-    ∙ ap (λ (list : List HandedOut). holding list d4) (append_assoc held (pieces_of before.kept) more
-    ∙ ap (λ (list : List HandedOut). held ++ list) (sym (flat_map-append (λ (x : List HandedOut). x) before.kept kept.entries))) in
-    let frames : (((frames_of before.taken ++ []) ++ frame_of pieces ∷ []) ++ []) ++ [] ≡ frames_of (before.taken ++ pieces ∷ []) =
+    ∙ ap (λ (list : List HandedOut). holding list d4) (append_assoc held (pieces_of before.frames.kept) more
+    ∙ ap (λ (list : List HandedOut). held ++ list) (sym (flat_map-append (λ (x : List HandedOut). x) before.frames.kept kept.entries))) in
+    let frames : (((joined_frames before.frames.taken ++ []) ++ frame_of pieces ∷ []) ++ []) ++ []
+    ≡ joined_frames (before.frames.taken ++ pieces ∷ []) =
     append-nil _ ∙ append-nil _
-    ∙ ap (λ (list : List (List ℕ)). list ++ frame_of pieces ∷ []) (append-nil (frames_of before.taken))
-    ∙ sym (map-append frame_of before.taken (pieces ∷ [])) in
-    let shown : map received_of before.taken ++ received_of pieces ∷ []
-    ≡ map received_of (before.taken ++ pieces ∷ []) = sym (map-append received_of before.taken (pieces ∷ [])) in
-    let has : map received_of before.kept ++ hands.shows.kept ≡ map received_of (before.kept ++ kept.entries) =
-    ap (λ (list : List Received). map received_of before.kept ++ list) (sym kept.same)
-    ∙ sym (map-append received_of before.kept kept.entries) in
+    ∙ ap (λ (list : List (List ℕ)). list ++ frame_of pieces ∷ []) (append-nil (joined_frames before.frames.taken))
+    ∙ sym (map-append frame_of before.frames.taken (pieces ∷ [])) in
+    let shown : map received_of before.frames.taken ++ received_of pieces ∷ []
+    ≡ map received_of (before.frames.taken ++ pieces ∷ []) = sym (map-append received_of before.frames.taken (pieces ∷ [])) in
+    let has : map received_of before.frames.kept ++ hands.shows.kept ≡ map received_of (before.frames.kept ++ kept.entries) =
+    ap (λ (list : List Received). map received_of before.frames.kept ++ list) (sym kept.same)
+    ∙ sym (map-append received_of before.frames.kept kept.entries) in
     let left : d3.buffers ≡ d4.buffers = ap (λ (d : DriverState). d.buffers) (sym given) in
-    let pushed : pieces_of before.taken ++ pieces ≡ pieces_of (before.taken ++ pieces ∷ []) =
-    ap (λ (list : List HandedOut). pieces_of before.taken ++ list) (sym (append-nil pieces))
-    ∙ sym (flat_map-append (λ (x : List HandedOut). x) before.taken (pieces ∷ [])) in
+    let pushed : pieces_of before.frames.taken ++ pieces ≡ pieces_of (before.frames.taken ++ pieces ∷ []) =
+    ap (λ (list : List HandedOut). pieces_of before.frames.taken ++ list) (sym (append-nil pieces))
+    ∙ sym (flat_map-append (λ (x : List HandedOut). x) before.frames.taken (pieces ∷ [])) in
     record {
-      taken = before.taken ++ pieces ∷ [];
-      kept = before.kept ++ kept.entries;
-      shown =
-          subst (λ (list : List Received). receivers.took r t list (map received_of (before.kept ++ kept.entries))) shown
-          (subst (λ (list : List Received). receivers.took r t (map received_of before.taken ++ received_of pieces ∷ []) list) has
-          (also r s t (map received_of before.taken) (map received_of before.kept)
-          (received_of pieces ∷ []) hands.shows.kept before.shown hands.shows.shown));
-      part = part-append before.part kept.part;
-      count = omega (arith, length-append before.taken (pieces ∷ []), before.count);
-      groups = subst (All AreOfOneFrame) (sym (map-append numbers_of before.taken (pieces ∷ [])))
-          (All-append AreOfOneFrame (map numbers_of before.taken) (numbers_of pieces ∷ []) before.groups
-          (All-cons AreOfOneFrame (numbers_of pieces) [] take.group (all-none AreOfOneFrame)));
+      frames = record {
+        taken = before.frames.taken ++ pieces ∷ [];
+        kept = before.frames.kept ++ kept.entries;
+        shown =
+            subst (λ (list : List Received). receivers.took r t list (map received_of (before.frames.kept ++ kept.entries))) shown
+            (subst (λ (list : List Received). receivers.took r t (map received_of before.frames.taken ++ received_of pieces ∷ []) list) has
+            (also r s t (map received_of before.frames.taken) (map received_of before.frames.kept)
+            (received_of pieces ∷ []) hands.shows.kept before.frames.shown hands.shows.shown));
+        part = part-append before.frames.part kept.part;
+        count = omega (arith, length-append before.frames.taken (pieces ∷ []), before.frames.count);
+        groups = subst (All AreOfOneFrame) (sym (map-append numbers_of before.frames.taken (pieces ∷ [])))
+            (All-append AreOfOneFrame (map numbers_of before.frames.taken) (numbers_of pieces ∷ []) before.frames.groups
+            (All-cons AreOfOneFrame (numbers_of pieces) [] take.group (all-none AreOfOneFrame)));
+      };
       oldest =
           before.oldest
           ∙ ap (λ (list : List ℕ). numbers ++ list) (first ∙ ap (λ (list : List ℕ). numbers_of pieces ++ list) left)
           ∙ sym (append_assoc numbers (numbers_of pieces) d4.buffers)
-          ∙ ap (λ (list : List ℕ). list ++ d4.buffers) (sym (map-append number_of (pieces_of before.taken) pieces) ∙ ap numbers_of pushed);
+          ∙ ap (λ (list : List ℕ). list ++ d4.buffers)
+          (sym (map-append number_of (pieces_of before.frames.taken) pieces) ∙ ap numbers_of pushed);
       bad = hands.bad ∙ ap (λ (d : DriverState). d.bad) leaves.others ∙ before.bad;
       ran = ran_by-same bus _ _ a e (holding held d1) (holding held4 (shape d3.bad)) _ _ _ [] accesses last frames five;
     }
@@ -256,7 +257,7 @@ walks-next bus receivers stays joins also a b c e r s t d1 d2 d3 d4 n m run part
           (shows-next receivers.took also r s t d1 d2 d3 d4 n walks.bad_runs run parts whole walks.shows leaves given hands);
       takes = λ up held is.
           let before = walks.takes up held is in
-          let later = held ++ pieces_of before.kept in
+          let later = held ++ pieces_of before.frames.kept in
           let there = ready-on bus (at a (holding held d1)) (at b (holding later d2)) keeps1 is before.ran in
           let found = finds up later there in
           let shown : whole ≡ true = whole_is ∙ found.whole in
@@ -274,18 +275,13 @@ pub walks-look : {up : Bool} {B R : Type 0} (bus : Ghosts B) (receivers : OfRece
     → ((a b c : B) (first later : Past) → bus.happened a b first → bus.happened b c later → bus.happened a c (joined first later))
     → (ys : List Access) (a b c : B) (r s : R) (d d' : DriverState) (n : ℕ)
     → (takes : Takes bus receivers [] n up (scene a d r) (scene b d' s))
-    → Ran bus up (only ys) (at b (holding (d.handed_out ++ pieces_of takes.kept) d'))
-    (at c (holding (d.handed_out ++ pieces_of takes.kept) d'))
+    → Ran bus up (only ys) (at b (holding (d.handed_out ++ pieces_of takes.frames.kept) d'))
+    (at c (holding (d.handed_out ++ pieces_of takes.frames.kept) d'))
     → Takes bus receivers ys n up (scene a d r) (scene c d' s)
 walks-look bus receivers joins ys a b c r s d d' n takes looks =
-    let held = d.handed_out ++ pieces_of takes.kept in
+    let held = d.handed_out ++ pieces_of takes.frames.kept in
     record {
-      taken = takes.taken;
-      kept = takes.kept;
-      shown = takes.shown;
-      part = takes.part;
-      count = takes.count;
-      groups = takes.groups;
+      frames = takes.frames;
       oldest = takes.oldest;
       bad = takes.bad;
       ran =

@@ -1,4 +1,6 @@
--- What a driver takes off its receive ring, who holds it then, and what its interrupt handler does.
+-- What a driver takes off its receive ring, who holds it then, and what its interrupt handler does. The contract of `interrupt` names the
+-- records from `Handles` and `Serves` down; those under "Taking frames" and "With a receiver" that these don't name are for the private
+-- functions that it calls.
 use Rattle.std.specs.Prelude.{⊤, ◌≡◌, ◌≤◌, ◌<◌, ◌⊎◌, ◌+◌, ◌-◌, ◌*◌, ◌^◌, ◌++◌, ◌∷◌, []}
 use Rattle.std.specs.Prelude.{ℕ, suc, Bool, true, false, not, All, List, length, map}
 use Rattle.std.specs.Prelude.{IsTrue, min, take}
@@ -8,16 +10,19 @@ use Rattle.dma_memory.specs.Owners.{HaveSameNumbers}
 use Rattle.descriptors.specs.Frames.{longest_frame}
 use Rattle.rx_engine.specs.Addresses.{ether_type}
 use Rattle.descriptors.specs.RingLaws.{place}
+use Rattle.rx_engine.specs.Pieces.{frames_of}
 use Rattle.adapter.specs.HostFrames.{finished_pieces}
+use Rattle.adapter.specs.World.{World}
 use Rattle.bus.specs.declared.bus.Bus.{Ghosts}
 use Rattle.bus.specs.declared.event.Access.{Access}
 use Rattle.bus.specs.declared.event.Access.TheVariants.{Reads}
-use Rattle.driver_law.specs.Calls.{FlowsTo, HasNoForgottenWork, IsReady, Moment, OffersAll, Ran, ReadsCauses, at, call_did, driver_did}
+use Rattle.driver_law.specs.Calls.{Did, FlowsTo, HasNoForgottenWork, IsReady, Moment, OffersAll, Ran, ReadsCauses, at, call_did}
+use Rattle.driver_law.specs.Calls.{driver_did}
 use Rattle.driver_law.specs.Calls.{ether_type_load, frames_ended, held_at, in_world_of, only, receive_loads, stores_from, tail_write}
 use Rattle.driver_law.specs.Calls.{takes_from, with_missed}
 use Rattle.driver_law.specs.DriverState.{DriverState, HandedOut, frame_of, holding, next_receive, numbers_of, owners}
 use Rattle.driver_law.specs.ReceiveSteps.{after_slots}
-use Rattle.driver.specs.Parts.{AreFrames, buffers_in, buffers_of, frames_of, lengths_in, parts_of, pieces_of, received_of}
+use Rattle.driver.specs.Parts.{AreFrames, buffers_in, buffers_of, joined_frames, lengths_in, parts_of, pieces_of, received_of}
 use Rattle.driver.specs.declared.look.Run.{Run}
 use Rattle.driver.specs.declared.parts.Part.{Part}
 use Rattle.driver.specs.declared.receiver.Received.{Received}
@@ -25,7 +30,7 @@ use Rattle.driver.specs.declared.receiver.Receiver.{Ghosts as OfReceiver}
 use Rattle.adapter.specs.declared.offsets.TheConstants.{MPC}
 use Rattle.registers.specs.Bits.{HasBit, Meet}
 use Rattle.registers.specs.Places.{rxt0}
-use Rattle.bus.specs.PastOfStretch.{joined}
+use Rattle.bus.specs.PastOfStretch.{Past, joined}
 use Rattle.bring_up.specs.WrittenRegisters.{handled_causes}
 use Rattle.driver.specs.declared.interrupt.Handled.{Handled}
 use Rattle.driver.specs.declared.interrupt.Handled.TheVariants.{NotMine}
@@ -138,21 +143,25 @@ pub record AreOfOneFrame (numbers : List ℕ) : Type 0 where
   pub least : 1 ≤ length numbers
   pub most : receive_buffer_bytes * (length numbers - 1) ≤ longest_frame
 
--- n frames were taken off the ring, the oldest first, each with its pieces, and shown to the receiver, which keeps those in `kept`. The
--- accesses `later` follow.
-pub record Takes {B R : Type 0} (bus : Ghosts B) (receivers : OfReceiver R) (later : List Access) (n : ℕ) (up : Bool)
-    (old new : Scene B R) : Type 0 where
+-- n frames, each with its pieces, were shown to the receiver, in order. It keeps those in `kept`.
+pub record ShowsFrames {R : Type 0} (receivers : OfReceiver R) (n : ℕ) (before after : R) : Type 0 where
   pub taken : List (List HandedOut)
   pub kept : List (List HandedOut)
-  pub shown : receivers.took old.receiver new.receiver (map received_of taken) (map received_of kept)
+  pub shown : receivers.took before after (map received_of taken) (map received_of kept)
   pub part : IsPart kept taken
   pub count : length taken ≡ n
   pub groups : All AreOfOneFrame (map numbers_of taken)
-  pub oldest : old.driver.buffers ≡ numbers_of (pieces_of taken) ++ new.driver.buffers
+
+-- n frames were taken off the ring, the oldest first, and shown to the receiver. The accesses `later` follow.
+pub record Takes {B R : Type 0} (bus : Ghosts B) (receivers : OfReceiver R) (later : List Access) (n : ℕ) (up : Bool)
+    (old new : Scene B R) : Type 0 where
+  pub frames : ShowsFrames receivers n old.receiver new.receiver
+  pub oldest : old.driver.buffers ≡ numbers_of (pieces_of frames.taken) ++ new.driver.buffers
   pub bad : new.driver.bad ≡ old.driver.bad
   pub ran :
-      Ran bus up (call_did (takes_from old.driver.layout old.driver.oldest_receive (map numbers_of taken) ++ later) (frames_of taken) [])
-      (moment old) (held_at (old.driver.handed_out ++ pieces_of kept) (moment new))
+      Ran bus up (call_did (takes_from old.driver.layout old.driver.oldest_receive (map numbers_of frames.taken) ++ later)
+      (joined_frames frames.taken) [])
+      (moment old) (held_at (old.driver.handed_out ++ pieces_of frames.kept) (moment new))
 
 -- Over any bus: n frames were shown, some runs were bad, and the slots of both left the ring. A run has one to six slots.
 pub record TakesSlots {R : Type 0} (receivers : OfReceiver R) (n : ℕ) (before after : R) (d d' : DriverState) : Type 0 where
@@ -197,23 +206,38 @@ abbrev pub IfNotMine : Handled → Type 0 → Type 0
 IfNotMine NotMine P = P
 IfNotMine (answers.Handled taken) P = ⊤
 
--- After the read of ICR: MPC is read; frames in the buffers `taken` are taken, the oldest first; the descriptors of the next slots are
--- loaded, as many as `loads`; and then slots are offered with the buffers `offered`, by a write of `tail` to RDT.
-abbrev pub handled_accesses : DriverState → (misses : ℕ) → (taken : List (List ℕ)) → (loads : ℕ) → (offered : List ℕ) → (tail : ℕ)
-    → List Access
-handled_accesses d misses taken loads offered tail =
+-- After the read of ICR: MPC is read; frames in the buffers `taken` are taken, the oldest first; and then the descriptors of the next slots
+-- are loaded, as many as `loads`.
+abbrev pub taking_accesses : DriverState → (misses : ℕ) → (taken : List (List ℕ)) → (loads : ℕ) → List Access
+taking_accesses d misses taken loads =
     Reads MPC misses ∷
     (takes_from d.layout d.oldest_receive taken
     ++ receive_loads d.layout (place d.layout.rx d.oldest_receive (length (concat taken))) loads)
-    ++ (stores_from d.layout (next_receive d) offered ++ tail_write tail (d.staged ++ offered))
 
--- How many descriptors the last look loaded, if these buffers are outstanding then: those of the finished slots that no end of a frame
--- follows (`parts`), and of the next slot, if there is one. The pieces in these slots fill their buffers, and are no longer together than the
--- longest frame. So if a buffer has room for such a frame, there is no such slot.
-pub record IsLook (loads : ℕ) (rest : List ℕ) : Type 0 where
-  pub parts : ℕ
-  pub short : receive_buffer_bytes * parts ≤ longest_frame
-  pub loads_are : loads ≡ min (suc parts) (length rest)
+-- Then slots are offered with the buffers `offered`, after those that are staged, by a write of `tail` to RDT.
+abbrev pub offering_accesses : DriverState → (offered : List ℕ) → (tail : ℕ) → List Access
+offering_accesses d offered tail = stores_from d.layout (next_receive d) offered ++ tail_write tail (d.staged ++ offered)
+
+-- The last look, in the world right after its last load, if these buffers are outstanding then, and the oldest slot is at this place. No
+-- frame ends in finished slots. The descriptors of the finished slots, which contain the beginning of a frame, were loaded, and that of the
+-- next outstanding slot, if there is one.
+pub record IsLook (oldest : ℕ) (rest : List ℕ) (world : World) (loads : ℕ) : Type 0 where
+  pub none_left : frames_of (finished_pieces oldest world) ≡ []
+  -- Their pieces are full, and no longer together than the longest frame. So with buffers of 256 bytes they are at most five.
+  pub short : receive_buffer_bytes * length (finished_pieces oldest world) ≤ longest_frame
+  pub loads_are : loads ≡ min (suc (length (finished_pieces oldest world))) (length rest)
+
+-- An interval of a run is split at a moment: these accesses were made before it, and those after it.
+pub record IsSplit {B : Type 0} {bus : Ghosts B} {up : Bool} {did : Did} {old new : Moment B} (ran : Ran bus up did old new)
+    (first later : List Access) : Type 0 where
+  pub middle : B
+  pub before : Past
+  pub behind : Past
+  pub reaches : bus.happened old.bus middle before
+  pub leaves : bus.happened middle new.bus behind
+  pub whole : ran.past ≡ joined before behind
+  pub first_made : before.accesses ≡ first
+  pub later_made : behind.accesses ≡ later
 
 -- The value `misses` was added to the driver's sum of missed frames. The accesses of `Works` say that it was read from MPC.
 pub record ReadsMisses (d d' : DriverState) : Type 0 where
@@ -231,22 +255,20 @@ pub record TakesAndOffers (d d' : DriverState) (taken : List ℕ) : Type 0 where
   pub newest : d'.buffers ≡ rest ++ (d.staged ++ offered)
   pub no_bad : d'.bad ≡ d.bad
 
--- n frames are taken, each with its pieces, and shown to the receiver, in order. It keeps those in `kept`.
+-- n frames are taken and shown to the receiver, and then slots are offered. The run is split right after the last load of a descriptor.
 pub record Works {B R : Type 0} (bus : Ghosts B) (receivers : OfReceiver R) (n : ℕ) (up : Bool) (old new : Scene B R) : Type 0 where
-  pub taken : List (List HandedOut)
-  pub kept : List (List HandedOut)
-  pub shown : receivers.took old.receiver new.receiver (map received_of taken) (map received_of kept)
-  pub part : IsPart kept taken
-  pub count : length taken ≡ n
-  pub groups : All AreOfOneFrame (map numbers_of taken)
+  pub frames : ShowsFrames receivers n old.receiver new.receiver
   pub misses : ReadsMisses old.driver new.driver
-  pub served : TakesAndOffers old.driver new.driver (numbers_of (pieces_of taken))
+  pub served : TakesAndOffers old.driver new.driver (numbers_of (pieces_of frames.taken))
   pub loads : ℕ
-  pub look : IsLook loads served.rest
   pub ran :
       Ran bus up (call_did
-      (handled_accesses old.driver misses.misses (map numbers_of taken) loads served.offered (next_receive new.driver))
-      (frames_of taken) []) (moment old) (held_at (old.driver.handed_out ++ pieces_of kept) (moment new))
+      (taking_accesses old.driver misses.misses (map numbers_of frames.taken) loads
+      ++ offering_accesses old.driver served.offered (next_receive new.driver))
+      (joined_frames frames.taken) []) (moment old) (held_at (old.driver.handed_out ++ pieces_of frames.kept) (moment new))
+  pub split : IsSplit ran (taking_accesses old.driver misses.misses (map numbers_of frames.taken) loads)
+      (offering_accesses old.driver served.offered (next_receive new.driver))
+  pub look : IsLook new.driver.oldest_receive served.rest (bus.world split.middle) loads
 
 -- The first access, a read of ICR: the causes that it returned, and the bus after it.
 pub record Asked {B : Type 0} (bus : Ghosts B) (up : Bool) (old : Moment B) : Type 0 where
@@ -271,8 +293,8 @@ pub record HandlesIt {B R : Type 0} (bus : Ghosts B) (receivers : OfReceiver R) 
   pub work : HasBit (bus.world old.bus).adapter.causes.mask rxt0 → HasNoForgottenWork new.driver (bus.world new.bus)
   -- both parts together
   pub flows : FlowsTo up (in_world_of bus (moment old))
-      (in_world_of bus (held_at (old.driver.handed_out ++ pieces_of works.kept) (moment new)))
-      (driver_did (frames_of works.taken) []) (joined asked.reads.past works.ran.past)
+      (in_world_of bus (held_at (old.driver.handed_out ++ pieces_of works.frames.kept) (moment new)))
+      (driver_did (joined_frames works.frames.taken) []) (joined asked.reads.past works.ran.past)
 
 -- by the answer
 abbrev pub HandlesBy : {B R : Type 0} (bus : Ghosts B) → OfReceiver R → Handled → {up : Bool} → (old new : Scene B R)

@@ -77,8 +77,8 @@ abbrev pub received_of : List HandedOut → Received
 received_of pieces = record { parts = parts_of pieces; length = length (frame_of pieces); ether_type = ether_type (frame_of pieces) }
 
 -- the frames of which each list has the pieces
-abbrev pub frames_of : List (List HandedOut) → List (List ℕ)
-frames_of taken = map frame_of taken
+abbrev pub joined_frames : List (List HandedOut) → List (List ℕ)
+joined_frames taken = map frame_of taken
 
 -- all these pieces, in order
 abbrev pub pieces_of : List (List HandedOut) → List HandedOut

@@ -70,12 +70,18 @@ pub record IsAccepted {B : Type 0} (bus : Ghosts B) (old new : Moment B) : Type 
   -- At least one slot is outstanding.
   pub some : 0 < new.driver.sending
 
--- What an answer says of the ring. RingFull: the ring was full at entry, and it is full at the return, after the last load.
-abbrev pub IsAnswer : {B : Type 0} → Ghosts B → SendAnswer → (old new : Moment B) → Type 0
-IsAnswer bus (Ok u) old new = IsAccepted bus old new
-IsAnswer bus (Err TooShort) old new = ⊤
-IsAnswer bus (Err TooLong) old new = ⊤
-IsAnswer bus (Err RingFull) old new = IsFull bus old × IsFull bus new
+-- The ring was full at entry, and it is full at the return, after the last load. The driver is as it was.
+pub record StaysFull {B : Type 0} (bus : Ghosts B) (old new : Moment B) : Type 0 where
+  pub at_entry : IsFull bus old
+  pub at_return : IsFull bus new
+  pub same : new.driver ≡ old.driver
+
+-- What an answer says of the ring.
+abbrev pub IsTransmitAnswer : {B : Type 0} → Ghosts B → SendAnswer → (old new : Moment B) → Type 0
+IsTransmitAnswer bus (Ok u) old new = IsAccepted bus old new
+IsTransmitAnswer bus (Err TooShort) old new = ⊤
+IsTransmitAnswer bus (Err TooLong) old new = ⊤
+IsTransmitAnswer bus (Err RingFull) old new = StaysFull bus old new
 
 -- The answer is the error TooShort or TooLong. The contract of `transmit` states for which frames (`too_short`, `too_long`).
 abbrev pub HasWrongLength : SendAnswer → Type 0
@@ -112,7 +118,7 @@ FreesFirst bus frame (Err RingFull) old new = Reclaims bus old new
 -- What `transmit` does, by its answer. For Ok, `frees_first` states most, and `ran` and `answer` follow from it; they are kept for users.
 pub record Sends {B : Type 0} (bus : Ghosts B) (frame : List ℕ) (result : SendAnswer) (old new : Moment B) : Type 0 where
   pub ran : Ran bus true (sent_by result old.driver new.driver frame) old new
-  pub answer : IsAnswer bus result old new
+  pub answer : IsTransmitAnswer bus result old new
   pub frees_first : FreesFirst bus frame result old new
 
 -- This holds if the driver is ready, with its transmit side set up.

@@ -117,7 +117,7 @@ ran_by-acts {up} bus old new access effect d d' taken accepted acts sets ready s
     }
 
 -- One interval, and then another.
-pub ran_by-join : {first_up up : Bool} {B : Type 0} (bus : Ghosts B)
+unfoldable pub ran_by-join : {first_up up : Bool} {B : Type 0} (bus : Ghosts B)
     → ((a b c : B) (first later : Past) → bus.happened a b first → bus.happened b c later → bus.happened a c (joined first later))
     → (xs ys : List Access) (a b c : B) (d1 d2 d3 : DriverState) (t1 t2 g1 g2 : List (List ℕ))
     → Ran bus first_up (call_did xs t1 g1) (at a d1) (at b d2) → Ran bus up (call_did ys t2 g2) (at b d2) (at c d3)

@@ -11,7 +11,7 @@ abbrev pub both : Did → Did → Did
 both one two =
     call_did (one.accesses ++ two.accesses) (one.frames.taken ++ two.frames.taken) (one.frames.accepted ++ two.frames.accepted)
 
-pub ran-on : {B : Type 0} (bus : Ghosts B)
+unfoldable pub ran-on : {B : Type 0} (bus : Ghosts B)
     → ((a b c : B) (first later : Past) → bus.happened a b first → bus.happened b c later → bus.happened a c (joined first later))
     → {first_up up : Bool} {one two : Did} {a b c : Moment B} → Ran bus first_up one a b → Ran bus up two b c
     → Ran bus up (both one two) a c

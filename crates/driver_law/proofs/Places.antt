@@ -3,7 +3,7 @@ use Rattle.std.proofs.Common.{◌≡◌, ◌≢◌, ◌≤◌, ◌<◌, ◌+◌,
 use Rattle.std.specs.List.{All}
 use Rattle.std.proofs.lemmas.Bool.{cases_lt}
 use Rattle.std.proofs.lemmas.List.Elements.{All-map}
-use Rattle.std.proofs.Math.Nat.{mod-add-mod, mod-eq-sub-mod, mod-eq_of_lt}
+use Rattle.std.proofs.Math.Nat.{add-mod_right, mod-add-mod, mod-eq-sub-mod, mod-eq_of_lt}
 use Rattle.descriptors.specs.declared.ring.Ring.{Ring}
 use Rattle.descriptors.specs.Ring.{address_of, count_of, distance_of, offered_places, slots_from}
 use Rattle.descriptors.specs.RingLaws.{distance-around, distance-forward, next-below, place}
@@ -34,6 +34,18 @@ place-sum n from zero slot =
 place-sum n from (suc i) slot =
     let sum : from + 1 + i ≡ from + suc i = omega arith in
     place-sum n ((from + 1) % n) i (next-below n from slot) ∙ mod-add-mod (from + 1) n i ∙ ap (λ (index : ℕ). index % n) sum
+
+-- One walk around the ring.
+place-around : (n from : ℕ) → from < n → place n from n ≡ from
+place-around n from slot = place-sum n from n slot ∙ add-mod_right from n ∙ mod-eq_of_lt slot
+
+-- Walks of one length that end at one place began at one place.
+pub place-same : (n i from other : ℕ) → from < n → other < n → i ≤ n → place n from i ≡ place n other i → from ≡ other
+place-same n i from other slot other_slot short same =
+    let whole : i + (n - i) ≡ n = omega (arith, short) in
+    let back : (index : ℕ) → index < n → place n (place n index i) (n - i) ≡ index = λ index below.
+    sym (place-add n index i (n - i)) ∙ ap (place n index) whole ∙ place-around n index below in
+    sym (back from slot) ∙ ap (λ (end : ℕ). place n end (n - i)) same ∙ back other other_slot
 
 -- A place is as far away as was walked.
 pub distance-place : (n from i : ℕ) → from < n → i < n → (place n from i + n - from) % n ≡ i

@@ -14,7 +14,7 @@ use Rattle.bus.specs.declared.event.Access.TheVariants.{Loads, Reads, Stores, Wr
 use Rattle.driver_law.specs.Calls.{ether_type_load, receive_loads, send_accesses, stores_from, tail_buffer, tail_slot, tail_write}
 use Rattle.driver_law.specs.Calls.{takes_from, transmit_loads, whole_descriptor}
 use Rattle.driver_law.specs.DriverState.{DriverState, buffer_at, next_receive, receive_slot, transmit_slot, transmit_tail}
-use Rattle.driver.specs.HandlerSteps.{handled_accesses}
+use Rattle.driver.specs.HandlerSteps.{offering_accesses, taking_accesses}
 use Rattle.driver.specs.Parts.{part_loads}
 use Rattle.driver.specs.SendSteps.{SendAnswer, accesses_by, slots_looked_at}
 use Rattle.driver.specs.declared.parts.Part.{Part}
@@ -177,13 +177,13 @@ handled-memory d taken loads =
     (takes-memory d.layout d.oldest_receive taken) (looks-memory d.layout slot loads)
 
 pub handles-of_driver : (own : Counts) (d : DriverState) (misses : ℕ) (taken : List (List ℕ)) (loads : ℕ) (offered : List ℕ) (last : ℕ)
-    → last < own.rx → All (IsOfDriver own) (handled_accesses d misses taken loads offered last)
+    → last < own.rx → All (IsOfDriver own) (taking_accesses d misses taken loads ++ offering_accesses d offered last)
 handles-of_driver own d misses taken loads offered last below =
     All-cons (IsOfDriver own) (Reads MPC misses) _ (inr refl)
     (offers-of_driver own d.layout _ (next_receive d) last offered (d.staged ++ offered) (handled-memory d taken loads) below)
 
 pub handles-last : (d : DriverState) (misses : ℕ) (taken : List (List ℕ)) (loads : ℕ) (offered : List ℕ) (last : ℕ)
-    → OnlyLastWrites (handled_accesses d misses taken loads offered last)
+    → OnlyLastWrites (taking_accesses d misses taken loads ++ offering_accesses d offered last)
 handles-last d misses taken loads offered last =
     offers-last d.layout _ (next_receive d) last offered (d.staged ++ offered) (handled-memory d taken loads)
 

@@ -23,7 +23,8 @@ use Rattle.driver_law.proofs.Stretches.{goes_join}
 use Rattle.driver_law.specs.Calls.{GoesTo, IsRefilled, Moment, driver_did, driver_in, send_accesses, transmit_buffer, whole_descriptor}
 use Rattle.driver_law.specs.DriverState.{DriverState, transmit_slot, transmit_tail}
 use Rattle.driver_law.specs.ReadyDrivers.{Ready}
-use Rattle.driver.specs.SendSteps.{SendAnswer, IsAnswer, HasWrongLength, accepted_by, accesses_by, loads_to_free, with_transmit_slots}
+use Rattle.driver.specs.SendSteps.{HasWrongLength, IsTransmitAnswer, SendAnswer, accepted_by, accesses_by}
+use Rattle.driver.specs.SendSteps.{loads_to_free, with_transmit_slots}
 use Rattle.driver.specs.declared.transmit.SendError.{SendError}
 use Rattle.driver.specs.declared.transmit.SendError.TheVariants.{RingFull, TooLong, TooShort}
 use Rattle.packet_socket.specs.HostCalls.{Accounts, HostGoesTo, HostReady, HostSends, did, driver_at, driver_of, host_at, in_world}
@@ -199,29 +200,29 @@ sent-call a m b h h' frame (Err TooLong) zero ready others sent finished =
     (refused-call a m b h h' frame TooLong zero ready others sent finished, tt)
 sent-call a m b h h' frame (Err RingFull) zero ready others sent finished = full-call a m b h h' frame zero ready others sent finished
 
-full-count : (old new : Moment LentBus) (result : SendAnswer) → result ≡ Err RingFull → IsAnswer lent result old new
+full-count : (old new : Moment LentBus) (result : SendAnswer) → result ≡ Err RingFull → IsTransmitAnswer lent result old new
     → length (frames_to_send (world_here old.bus)) + length (written_back old.driver.oldest_transmit (world_here old.bus))
     ≡ old.driver.sending
     → length (frames_to_send (world_here old.bus)) + 1 ≡ old.driver.layout.tx
 full-count old new result is answer count =
-    let full : IsAnswer lent (Err RingFull) old new = subst (λ (r : SendAnswer). IsAnswer lent r old new) is answer in
-    omega (arith, full.0.0, ap length full.0.1, count)
+    let full : IsTransmitAnswer lent (Err RingFull) old new = subst (λ (r : SendAnswer). IsTransmitAnswer lent r old new) is answer in
+    omega (arith, full.at_entry.0, ap length full.at_entry.1, count)
 
-still-full : (old new : Moment LentBus) (result : SendAnswer) → result ≡ Err RingFull → IsAnswer lent result old new
+still-full : (old new : Moment LentBus) (result : SendAnswer) → result ≡ Err RingFull → IsTransmitAnswer lent result old new
     → new.driver.layout ≡ old.driver.layout → new.driver.sending + 1 ≡ old.driver.layout.tx
 still-full old new result is answer same =
-    let full : IsAnswer lent (Err RingFull) old new = subst (λ (r : SendAnswer). IsAnswer lent r old new) is answer in
-    full.1.0 ∙ ap (λ (layout : Counts). layout.tx) same
+    let full : IsTransmitAnswer lent (Err RingFull) old new = subst (λ (r : SendAnswer). IsTransmitAnswer lent r old new) is answer in
+    full.at_return.0 ∙ ap (λ (layout : Counts). layout.tx) same
 
 frees-by : (a m : LentBus) (h h' : HostState) (result : SendAnswer)
-    → IsAnswer lent result (driver_at lent (host_at a h)) (driver_at lent (host_at m h')) → FreesBy result h h' (world_here a)
+    → IsTransmitAnswer lent result (driver_at lent (host_at a h)) (driver_at lent (host_at m h')) → FreesBy result h h' (world_here a)
 frees-by a m h h' (Ok u) answer = record { freed = answer.freed; some = answer.some }
 frees-by a m h h' (Err error) answer = tt
 
 pub send-answers : (a m : LentBus) (h h' : HostState) (frame : List ℕ) (result : SendAnswer) → HostReady h (world_here a)
     → ((result ≡ Err TooShort) ↔ (length frame < shortest_sent)) → ((result ≡ Err TooLong) ↔ (longest_frame < length frame))
     → h'.driver.layout ≡ h.driver.layout
-    → IsAnswer lent result (driver_at lent (host_at a h)) (driver_at lent (host_at m h'))
+    → IsTransmitAnswer lent result (driver_at lent (host_at a h)) (driver_at lent (host_at m h'))
     → AnswersSend result frame h h' (world_here a)
 send-answers a m h h' frame result ready short long same answer = record {
   too_short = short;

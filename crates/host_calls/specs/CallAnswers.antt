@@ -11,7 +11,8 @@ use Rattle.bus.specs.declared.event.Access.{Access}
 use Rattle.bus.specs.declared.event.Access.TheVariants.{Reads}
 use Rattle.driver_law.specs.Calls.{driver_in, frames_ended, send_accesses}
 use Rattle.driver_law.specs.DriverState.{next_receive, with_owners}
-use Rattle.driver.specs.HandlerSteps.{AreOfOneFrame, GrowsBy, IsLook, OnlyReceives, ReadsMisses, TakesAndOffers, handled_accesses}
+use Rattle.driver.specs.HandlerSteps.{AreOfOneFrame, GrowsBy, IsLook, OnlyReceives, ReadsMisses, TakesAndOffers, offering_accesses}
+use Rattle.driver.specs.HandlerSteps.{taking_accesses}
 use Rattle.driver.specs.SendSteps.{SendAnswer, HasWrongLength, accepted_by, accesses_by, loads_to_free, with_transmit_slots}
 use Rattle.driver.specs.declared.transmit.SendError.TheVariants.{TooShort, TooLong, RingFull}
 use Rattle.driver.specs.declared.interrupt.Handled.{Handled}
@@ -154,7 +155,7 @@ MakesRecv (Err error) socket h h' accesses = accesses ≡ []
 
 -- Handling an interrupt for which it takes n frames: it reads ICR, then MPC, whose value it adds to the driver's sum. It takes the frames
 -- from the oldest slots of the ring, each in these buffers, and no run of slots is bad. It loads the descriptors of the next slots, as many
--- as `loads`. Then it offers slots with the buffers `offered`.
+-- as `loads`, of which `HandlingLooks` says more. Then it offers slots with the buffers `offered`.
 pub record MakesHandling (n : ℕ) (h h' : HostState) (accesses : List Access) : Type 0 where
   pub causes : ℕ
   pub missed : ReadsMisses h.driver h'.driver
@@ -164,13 +165,27 @@ pub record MakesHandling (n : ℕ) (h h' : HostState) (accesses : List Access) :
   pub groups : All AreOfOneFrame taken
   pub served : TakesAndOffers h.driver h'.driver (concat taken)
   pub loads : ℕ
-  pub look : IsLook loads served.rest
-  pub exact : accesses ≡ Reads ICR causes ∷ handled_accesses h.driver missed.misses taken loads served.offered (next_receive h'.driver)
+  pub exact : accesses ≡ Reads ICR causes ∷ taking_accesses h.driver missed.misses taken loads
+      ++ offering_accesses h.driver served.offered (next_receive h'.driver)
 
 -- if no cause was this host's, it reads ICR only
 abbrev pub MakesInterrupt : Handled → (h h' : HostState) → (accesses : List Access) → Type 0
 MakesInterrupt NotMine h h' accesses = (causes : ℕ) × (accesses ≡ Reads ICR causes ∷ [])
 MakesInterrupt (answers.Handled n) h h' accesses = MakesHandling n h h' accesses
+
+-- The last look of an interrupt of host k. Right after its last load no frame ends in finished slots. The descriptors of the finished
+-- slots, which contain the beginning of a frame, were loaded, and that of the next outstanding slot, if there is one.
+pub record HandlingLooks (n k : ℕ) (steps : List AtomicStep) (old new : ConnectedHost) : Type 0 where
+  pub makes : MakesHandling n old.host new.host (past_at k steps).accesses
+  pub loads : StepsUpTo k (Reads ICR makes.causes ∷ taking_accesses old.host.driver makes.missed.misses makes.taken makes.loads) steps
+      old.stations
+  pub others : (past_at k loads.later).accesses ≡ offering_accesses old.host.driver makes.served.offered (next_receive new.host.driver)
+  pub look : IsLook new.host.driver.oldest_receive makes.served.rest (world_at loads.middle k) makes.loads
+
+-- by the answer
+abbrev pub LooksBy : Handled → (k : ℕ) → List AtomicStep → (old new : ConnectedHost) → Type 0
+LooksBy NotMine k steps old new = ⊤
+LooksBy (answers.Handled n) k steps old new = HandlingLooks n k steps old new
 
 -- The three calls, each with its ticks.
 
@@ -196,4 +211,5 @@ pub record InterruptRuns (call : PlayedCall) (result : Handled) (old new : Conne
   pub causes : ℕ
   -- the answer follows from the adapter when the call began, and from the ticks played before that read
   pub tells : TellsCauses call.caller runs.steps causes (world_at old.stations call.caller).adapter result
+  pub looks : LooksBy result call.caller runs.steps old new
   pub answer : AnswersInterrupt result old.host new.host (world_at old.stations call.caller) taken

@@ -11,7 +11,7 @@ use Rattle.stations.specs.AtomicRuns.{LeadsTo, counted_of, is_go, noted_of, past
 use Rattle.driver_law.specs.Calls.{HasNoForgottenWork, IsRefilled}
 use Rattle.packet_socket.specs.HostCalls.{HostDid, HostFlowsTo, in_world}
 use Rattle.delivery.specs.Happenings.{happened_in, told}
-use Rattle.delivery.specs.TickNumbers.{numbers, numbers_of}
+use Rattle.delivery.specs.TickNumbers.{numbers, noted_numbers}
 use Rattle.host_calls.specs.ConnectedHosts.{ConnectedHost, PlayedCall}
 
 -- RDT or TDT is written with the number of a slot of its ring
@@ -58,7 +58,7 @@ pub record StepsOfCall (call : PlayedCall) (steps : List AtomicStep) (old new : 
   pub played : without_go is_go (map tick_of steps) ≡ without_go is_go call.ticks
   pub noted : call.noted_after.list ≡ call.noted_before.list ++ noted_of 0 steps
   pub said : told call.ticks (noted_of 0 steps) ≡ happened_in steps
-  pub numbered : numbers_of (noted_of 0 steps) ≡ numbers call.ticks 0 call.accesses
+  pub numbered : noted_numbers (noted_of 0 steps) ≡ numbers call.ticks 0 call.accesses
   pub counted : call.accesses ≡ counted_of 0 steps
 
 -- What a host does meanwhile. It is the host with number k.

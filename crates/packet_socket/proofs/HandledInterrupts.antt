@@ -18,7 +18,7 @@ use Rattle.driver_law.specs.DriverState.{DriverState, HandedOut, frame_of, holdi
 use Rattle.driver_law.specs.ReadyDrivers.{ReadyWith, Stands}
 use Rattle.driver.specs.HandlerSteps.{Asked, DoesNothing, GrowsBy, Handles, HandlesIt, IfHandled, IfNotMine, IsPart, Scene, Serves}
 use Rattle.driver.specs.HandlerSteps.{held_in}
-use Rattle.driver.specs.Parts.{buffers_of, frames_of, pieces_of, received_of}
+use Rattle.driver.specs.Parts.{buffers_of, joined_frames, pieces_of, received_of}
 use Rattle.driver.specs.declared.interrupt.Handled.{Handled}
 use Rattle.driver.specs.declared.interrupt.Handled.TheVariants.{NotMine}
 use Rattle.driver.specs.declared.interrupt.Handled.TheVariants as answers
@@ -93,7 +93,7 @@ pub record Sorted (up : Bool) (driver driver' : DriverState) (before after : Soc
   pub ready : ReadyWith up (driver_of (host_with driver' after) b) b
   pub frames : (socket : ℕ)
       → waiting_frames (host_with driver' after) socket b ≡ waiting_frames (host_with driver before) socket a
-      ++ socket_frames before.kinds socket (frames_of taken)
+      ++ socket_frames before.kinds socket (joined_frames taken)
 
 pub sorted : {up : Bool} (driver driver' : DriverState) (before after : SocketsState) (a b : World) (taken kept : List (List HandedOut))
     → IsHost driver before → IsHost driver' after
@@ -178,22 +178,29 @@ works {up} bus old new n sound sound' is asked it serves =
     let d = driver_of h a in
     let e = holding d.handed_out driver' in
     let w = it.works in
-    let last = holding (d.handed_out ++ pieces_of w.kept) e in
-    let frames = frames_of w.taken in
+    let last = holding (d.handed_out ++ pieces_of w.frames.kept) e in
+    let frames = joined_frames w.frames.taken in
     let past = joined asked.reads.past w.ran.past in
     let count : serves.takes.slots + length serves.between.buffers ≡ length old.driver.buffers = serves.takes.count in
-    let few : length w.taken ≤ length old.driver.buffers = omega (arith, w.count, serves.takes.least, count) in
-    let all = sorted old.driver driver' before after a b w.taken w.kept sound sound' is.ready it.flows.layout
-    w.ran.goes.flows.ready w.part few w.shown in
+    let few : length w.frames.taken ≤ length old.driver.buffers = omega (arith, w.frames.count, serves.takes.least, count) in
+    let all = sorted old.driver driver' before after a b w.frames.taken w.frames.kept sound sound' is.ready it.flows.layout
+    w.ran.goes.flows.ready w.frames.part few w.frames.shown in
     let list = (driver_of h' b).handed_out in
     let grows : GrowsBy before.unclaimed after.unclaimed (without_socket before.kinds frames) = subst
-    (GrowsBy before.unclaimed after.unclaimed) (unclaimed-frames before.kinds w.taken) w.shown.unclaimed in
+    (GrowsBy before.unclaimed after.unclaimed) (unclaimed-frames before.kinds w.frames.taken) w.frames.shown.unclaimed in
     record {
       some = it.some;
       works = record {
-        taken = w.taken;
-        count = w.count;
-        groups = w.groups;
+        taken = w.frames.taken;
+        frames = record {
+          count = w.frames.count;
+          groups = w.frames.groups;
+          sorted = record {
+            kinds = w.frames.shown.kinds;
+            queues = subst (Queues before.kinds before.queues after.queues) w.frames.shown.claimed all.queues;
+            unclaimed = w.frames.shown.unclaimed;
+          };
+        };
         misses = record { misses = w.misses.misses; missed = w.misses.missed; exact = w.misses.exact };
         served = record {
           rest = w.served.rest;
@@ -203,12 +210,6 @@ works {up} bus old new n sound sound' is asked it serves =
           no_bad = w.served.no_bad;
         };
         loads = w.loads;
-        look = w.look;
-        sorted = record {
-          kinds = w.shown.kinds;
-          queues = subst (Queues before.kinds before.queues after.queues) w.shown.claimed all.queues;
-          unclaimed = w.shown.unclaimed;
-        };
         ran = record {
           past = w.ran.past;
           reports = w.ran.reports;
@@ -216,13 +217,24 @@ works {up} bus old new n sound sound' is asked it serves =
           goes = goes-hold d (bus.world asked.after_read) last b frames [] w.ran.past list w.ran.goes all.ready;
           follows = w.ran.follows;
         };
+        split = record {
+          middle = w.split.middle;
+          before = w.split.before;
+          behind = w.split.behind;
+          reaches = w.split.reaches;
+          leaves = w.split.leaves;
+          whole = w.split.whole;
+          first_made = w.split.first_made;
+          later_made = w.split.later_made;
+        };
+        look = record { none_left = w.look.none_left; short = w.look.short; loads_are = w.look.loads_are };
       };
       least = it.least;
       work = λ enabled. let behind = it.work enabled in record { enabled = behind.enabled; asked = behind.asked };
       flows = record {
         sizes = sound'.sizes;
         driver = flows-hold d a last b frames [] past list it.flows all.ready;
-        accounts = accounts h a h' b [] frames past.stored w.shown.kinds it.flows.holds all.frames grows;
+        accounts = accounts h a h' b [] frames past.stored w.frames.shown.kinds it.flows.holds all.frames grows;
       };
     }
 

@@ -10,7 +10,7 @@ use Rattle.rx_engine.specs.Addresses.{ether_type}
 use Rattle.bus.proofs.Lists.{all-head, all-tail, all-unmapped}
 use Rattle.driver_law.specs.DriverState.{HandedOut, frame_of}
 use Rattle.driver.specs.HandlerSteps.{IsPart, part_none, part_with, part_without}
-use Rattle.driver.specs.Parts.{frames_of, received_of}
+use Rattle.driver.specs.Parts.{joined_frames, received_of}
 use Rattle.driver.specs.declared.receiver.Received.{Received}
 use Rattle.packet_socket.specs.HostCalls.{claimed_of, socket_entries, socket_frames, unclaimed_of, without_socket}
 use Rattle.packet_socket.specs.SocketKinds.{goes_to, has_none, has_socket, is_at, socket_of}
@@ -106,17 +106,17 @@ kept-is kinds kept taken part is =
 -- Their frames, by sockets.
 kept-frames : (kinds : List SocketKind) (socket : ℕ) (frame : Received → List ℕ) (kept : List (List HandedOut))
     → All (λ (one : List HandedOut). frame (received_of one) ≡ frame_of one) kept
-    → map frame (socket_entries kinds socket (map received_of kept)) ≡ frames_of (filter (goes kinds socket) kept)
+    → map frame (socket_entries kinds socket (map received_of kept)) ≡ joined_frames (filter (goes kinds socket) kept)
 kept-frames kinds socket frame [] same = refl
 kept-frames kinds socket frame (one ∷ later) same =
     at (goes kinds socket one) (all-head (λ (x : List HandedOut). frame (received_of x) ≡ frame_of x) one later same)
     (kept-frames kinds socket frame later (all-tail (λ (x : List HandedOut). frame (received_of x) ≡ frame_of x) one later same))
   where
     at : (b : Bool) → frame (received_of one) ≡ frame_of one
-        → map frame (socket_entries kinds socket (map received_of later)) ≡ frames_of (filter (goes kinds socket) later)
+        → map frame (socket_entries kinds socket (map received_of later)) ≡ joined_frames (filter (goes kinds socket) later)
         → map frame (cond b (received_of one ∷ socket_entries kinds socket (map received_of later))
         (socket_entries kinds socket (map received_of later)))
-        ≡ frames_of (cond b (one ∷ filter (goes kinds socket) later) (filter (goes kinds socket) later))
+        ≡ joined_frames (cond b (one ∷ filter (goes kinds socket) later) (filter (goes kinds socket) later))
     at true first rest =
         ap (λ (bytes : List ℕ). bytes ∷ map frame (socket_entries kinds socket (map received_of later))) first
         ∙ ap (λ (list : List (List ℕ)). frame_of one ∷ list) rest
@@ -130,22 +130,22 @@ pub queue-frames : (kinds : List SocketKind) (socket : ℕ) (frame : Received �
     → IsPart kept taken
     → map received_of kept ≡ claimed_of kinds (map received_of taken)
     → All (λ (one : List HandedOut). frame (received_of one) ≡ frame_of one) kept
-    → map frame (socket_entries kinds socket (map received_of kept)) ≡ socket_frames kinds socket (frames_of taken)
+    → map frame (socket_entries kinds socket (map received_of kept)) ≡ socket_frames kinds socket (joined_frames taken)
 queue-frames kinds socket frame kept taken part is same =
     kept-frames kinds socket frame kept same
-    ∙ ap (λ (list : List (List HandedOut)). frames_of (filter (goes kinds socket) list)) (kept-is kinds kept taken part is)
-    ∙ ap frames_of (filter-stronger (goes kinds socket) (has kinds)
+    ∙ ap (λ (list : List (List HandedOut)). joined_frames (filter (goes kinds socket) list)) (kept-is kinds kept taken part is)
+    ∙ ap joined_frames (filter-stronger (goes kinds socket) (has kinds)
     (λ one none. no-socket socket (socket_of kinds (ether_type (frame_of one))) none) taken)
     ∙ sym (filter-mapped frame_of (λ (f : List ℕ). goes_to kinds socket (ether_type f)) taken)
 
 -- How many have no socket.
 pub unclaimed-frames : (kinds : List SocketKind) (taken : List (List HandedOut))
-    → unclaimed_of kinds (map received_of taken) ≡ without_socket kinds (frames_of taken)
+    → unclaimed_of kinds (map received_of taken) ≡ without_socket kinds (joined_frames taken)
 unclaimed-frames kinds [] = refl
 unclaimed-frames kinds (one ∷ later) =
     omega (
       arith,
       unclaimed-frames kinds later,
       sum_by-cons (λ (r : Received). cond (has_none kinds r.ether_type) 1 0) (received_of one) (map received_of later),
-      sum_by-cons (λ (f : List ℕ). cond (has_none kinds (ether_type f)) 1 0) (frame_of one) (frames_of later),
+      sum_by-cons (λ (f : List ℕ). cond (has_none kinds (ether_type f)) 1 0) (frame_of one) (joined_frames later),
     )

@@ -13,7 +13,7 @@ use Rattle.bus.specs.declared.bus.Bus.{Ghosts}
 use Rattle.driver_law.specs.Calls.{DriverDid, DriverInWorld, FlowsTo, GoesTo, Moment, Ran, at, call_did, driver_did, driver_in, held_at}
 use Rattle.driver_law.specs.DriverState.{DriverState, HandedOut, holding}
 use Rattle.driver_law.specs.ReadyDrivers.{ReadyWith, Stands}
-use Rattle.driver.specs.SendSteps.{FreesFirst, IsAnswer, SendAnswer, Sends, accepted_by, accesses_by}
+use Rattle.driver.specs.SendSteps.{FreesFirst, IsTransmitAnswer, SendAnswer, Sends, accepted_by, accesses_by}
 use Rattle.packet_socket.specs.HostCalls.{Accounts, HostDid, HostGoesTo, HostInWorld, HostInterval, HostMoment, HostReadyWith, HostSends}
 use Rattle.packet_socket.specs.HostCalls.{IsReadyHost, did_both, did_nothing, driver_at, driver_of, host_at, in_world, waiting_frame}
 use Rattle.packet_socket.specs.HostCalls.{waiting_frames}
@@ -119,7 +119,7 @@ host-transmits bus old new frame result is sends =
         accounts = accounts-stay h new.driver (bus.world old.bus) (bus.world new.bus) sends.ran.past.stored is.ready flows.layout
             flows.ready.stand flows.holds;
       };
-      answer = subst (λ (s : DriverState). IsAnswer bus result (driver_at bus old) (at new.bus s)) end sends.answer;
+      answer = subst (λ (s : DriverState). IsTransmitAnswer bus result (driver_at bus old) (at new.bus s)) end sends.answer;
       frees_first = subst (λ (s : DriverState). FreesFirst bus frame result (driver_at bus old) (at new.bus s)) end sends.frees_first;
     }
 

@@ -20,10 +20,11 @@ use Rattle.driver_law.specs.Calls.{call_did, driver_did, driver_in, frames_ended
 use Rattle.driver_law.specs.DriverState.{DriverState, HandedOut, buffer_at, frame_of, holding, next_receive, numbers_of, with_owners}
 use Rattle.driver_law.specs.ReadyDrivers.{ReadyWith}
 use Rattle.bring_up.specs.WrittenRegisters.{handled_causes}
-use Rattle.driver.specs.HandlerSteps.{AreOfOneFrame, Asked, DoesNothing, GrowsBy, IsLook, ReadsMisses, TakesAndOffers, handled_accesses}
-use Rattle.driver.specs.Parts.{AreFrames, IsFrameSize, frames_of, part_loads, pieces_of, received_of}
+use Rattle.driver.specs.HandlerSteps.{AreOfOneFrame, Asked, DoesNothing, GrowsBy, IsLook, IsSplit, ReadsMisses, TakesAndOffers}
+use Rattle.driver.specs.HandlerSteps.{offering_accesses, taking_accesses}
+use Rattle.driver.specs.Parts.{AreFrames, IsFrameSize, joined_frames, part_loads, pieces_of, received_of}
 use Rattle.driver.specs.declared.parts.Part.{Part}
-use Rattle.driver.specs.SendSteps.{FreesFirst, IsAnswer, SendAnswer, sent_by}
+use Rattle.driver.specs.SendSteps.{FreesFirst, IsTransmitAnswer, SendAnswer, sent_by}
 use Rattle.driver.specs.declared.interrupt.Handled.{Handled}
 use Rattle.driver.specs.declared.interrupt.Handled.TheVariants.{NotMine}
 use Rattle.driver.specs.declared.interrupt.Handled.TheVariants as answers
@@ -188,7 +189,7 @@ pub record HostRan {B : Type 0} (bus : Ghosts B) (up : Bool) (done : Did) (given
 -- are those of `old.host.driver` and `new.host.driver`, too.
 pub record HostSends {B : Type 0} (bus : Ghosts B) (frame : List ℕ) (result : SendAnswer) (old new : HostMoment B) : Type 0 where
   pub ran : HostRan bus true (sent_by result (driver_at bus old).driver (driver_at bus new).driver frame) [] old new
-  pub answer : IsAnswer bus result (driver_at bus old) (driver_at bus new)
+  pub answer : IsTransmitAnswer bus result (driver_at bus old) (driver_at bus new)
   -- For Ok and RingFull, slots are freed first, up to one that isn't written back, or until none is left. For Ok, the frame is sent then.
   -- The drivers here hold the queued frames (`driver_at`). So for Ok, `slots` and `more` also state that the bytes of the queued frames
   -- don't change. For RingFull, this follows from `ran.accounts` and `ran.ran.goes.flows.holds`.
@@ -298,22 +299,29 @@ pub record HostServes (h h' : HostState) (n : ℕ) : Type 0 where
   pub refilled : IsRefilled h'.driver
   pub offered : h'.driver.staged ≡ []
 
--- The work after the read of ICR: n frames are taken, each with its pieces, and sorted. Then slots are offered. `ran` has the accesses, in
--- order.
+-- n frames were taken, each with its pieces, and sorted.
+pub record AreSorted (n : ℕ) (h h' : HostState) (taken : List (List HandedOut)) : Type 0 where
+  pub count : length taken ≡ n
+  pub groups : All AreOfOneFrame (map numbers_of taken)
+  pub sorted : SortsFrames h h' (map received_of taken)
+
+-- The work after the read of ICR: n frames are taken and sorted. Then slots are offered. `ran` has the accesses, in order, and is split
+-- right after the last load of a descriptor.
 pub record HostWorks {B : Type 0} (bus : Ghosts B) (n : ℕ) {up : Bool} (old new : HostMoment B) (asked : Asked bus up (driver_at bus old))
     : Type 0 where
   pub taken : List (List HandedOut)
-  pub count : length taken ≡ n
-  pub groups : All AreOfOneFrame (map numbers_of taken)
+  pub frames : AreSorted n old.host new.host taken
   pub misses : ReadsMisses old.host.driver new.host.driver
   pub served : TakesAndOffers old.host.driver new.host.driver (numbers_of (pieces_of taken))
   pub loads : ℕ
-  pub look : IsLook loads served.rest
-  pub sorted : SortsFrames old.host new.host (map received_of taken)
   pub ran :
       Ran bus up (call_did
-      (handled_accesses old.host.driver misses.misses (map numbers_of taken) loads served.offered (next_receive new.host.driver))
-      (frames_of taken) []) (at asked.after_read (driver_at bus old).driver) (driver_at bus new)
+      (taking_accesses old.host.driver misses.misses (map numbers_of taken) loads
+      ++ offering_accesses old.host.driver served.offered (next_receive new.host.driver))
+      (joined_frames taken) []) (at asked.after_read (driver_at bus old).driver) (driver_at bus new)
+  pub split : IsSplit ran (taking_accesses old.host.driver misses.misses (map numbers_of taken) loads)
+      (offering_accesses old.host.driver served.offered (next_receive new.host.driver))
+  pub look : IsLook new.host.driver.oldest_receive served.rest (bus.world split.middle) loads
 
 -- It handles the interrupt: ICR had one of its causes.
 pub record HostHandlesIt {B : Type 0} (bus : Ghosts B) (n : ℕ) {up : Bool} (old new : HostMoment B)
@@ -327,7 +335,7 @@ pub record HostHandlesIt {B : Type 0} (bus : Ghosts B) (n : ℕ) {up : Bool} (ol
   -- the read of ICR and the work together
   pub flows :
       HostFlowsTo up (in_world old.host (bus.world old.bus)) (in_world new.host (bus.world new.bus))
-      (did (frames_of works.taken) [] []) (joined asked.reads.past works.ran.past)
+      (did (joined_frames works.taken) [] []) (joined asked.reads.past works.ran.past)
 
 -- It does nothing more: ICR had none of its causes.
 pub record HostDoesNothing {B : Type 0} (bus : Ghosts B) {up : Bool} (old new : HostMoment B) (asked : Asked bus up (driver_at bus old))

@@ -84,7 +84,7 @@ call-played caller ticks old stations before behind h h' taken given accepted ma
         no_host = (λ none. absurd (some none), λ low. absurd (omega (arith, low, below)));
         counted = runs.of_call.counted;
         outcomes = noted;
-        numbered = ap Rattle.delivery.specs.TickNumbers.numbers_of noted ∙ runs.of_call.numbered;
+        numbered = ap Rattle.delivery.specs.TickNumbers.noted_numbers noted ∙ runs.of_call.numbered;
         others = λ k other. slice_get-set_other old.hosts caller k h' other;
       };
       answer = λ was is then now.
@@ -146,7 +146,7 @@ absent-played caller ticks old stations before reply happened answers stands pas
         counted = zero ∙ sym tells.counted;
         outcomes = noted;
         numbered =
-            ap Rattle.delivery.specs.TickNumbers.numbers_of noted ∙ sym tells.numbered
+            ap Rattle.delivery.specs.TickNumbers.noted_numbers noted ∙ sym tells.numbered
             ∙ ap (Rattle.delivery.specs.TickNumbers.numbers ticks 0) (sym zero);
         others = λ k other. refl;
       };

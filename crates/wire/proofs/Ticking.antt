@@ -15,7 +15,7 @@ use Rattle.stations.specs.declared.tick.Tick.TheVariants.{Deliver, Go, Step}
 use Rattle.stations.specs.AtomicRuns.{IsTick, counted_of, is_go, noted_of}
 use Rattle.delivery.proofs.Telling.{leads-alone, said-alone}
 use Rattle.delivery.specs.Happenings.{told_alone}
-use Rattle.delivery.specs.TickNumbers.{numbers_of}
+use Rattle.delivery.specs.TickNumbers.{noted_numbers}
 use Rattle.host_calls.proofs.HostTrails.{none-alone}
 use Rattle.network_plan.specs.declared.reply.Answer.TheVariants.{Ticked}
 use Rattle.network_plan.specs.declared.reply.Reply.{Reply}
@@ -61,7 +61,7 @@ tick-played tick old new before reply empty not answer zero plays =
             alone tick (step ∷ []) reply.outcomes.list not
             (one ∙ ap (λ (o : FrameOutcome). record { accesses = 0; outcome = o } ∷ []) (sym plays.plays.outcome_is)
             ∙ sym (noted-tick step leads.is_tick));
-        numbered = ap numbers_of one;
+        numbered = ap noted_numbers one;
         answer = answer;
         others = refl;
       };
@@ -84,7 +84,7 @@ go-played old before reply empty answer zero noted =
         accesses = λ k. none-alone k [] (all-none IsTick);
         counted = zero;
         outcomes = (refl, one);
-        numbered = ap numbers_of one;
+        numbered = ap noted_numbers one;
         answer = answer;
         others = refl;
       };

@@ -14,14 +14,14 @@ use Rattle.stations.specs.declared.tick.Tick.{Tick}
 use Rattle.stations.specs.declared.tick.Tick.TheVariants.{Deliver, Go, Step}
 use Rattle.stations.specs.AtomicRuns.{IsTick, LeadsTo, counted_of, is_go, noted_of, past_at}
 use Rattle.delivery.specs.Happenings.{Happening, happened_in, told_alone}
-use Rattle.delivery.specs.TickNumbers.{numbers, numbers_of}
+use Rattle.delivery.specs.TickNumbers.{numbers, noted_numbers}
 use Rattle.network_plan.specs.declared.reply.Answer.{Answer}
 use Rattle.network_plan.specs.declared.reply.Answer.TheVariants.{Interrupted, NoHost, Received, Sent, Ticked}
 use Rattle.network_plan.specs.declared.reply.Reply.{Reply}
 use Rattle.packet_socket.specs.HostCalls.{socket_frames, waiting_frames}
 use Rattle.host_calls.specs.InterruptCauses.{TellsCauses}
 use Rattle.host_calls.specs.CallsOfHosts.{IsOfDriver, OnlyLastWrites}
-use Rattle.host_calls.specs.CallAnswers.{AnswersInterrupt, AnswersRecv, AnswersSend, FreesFirstBy, LeavesRecv, LeavesSend}
+use Rattle.host_calls.specs.CallAnswers.{AnswersInterrupt, AnswersRecv, AnswersSend, FreesFirstBy, LeavesRecv, LeavesSend, LooksBy}
 use Rattle.host_calls.specs.CallAnswers.{MakesInterrupt, MakesRecv, MakesSend}
 use Rattle.delivery.specs.Counts.{counts_of}
 use Rattle.delivery.specs.StepAnswers.{AreAnswered, OfEachTick, counts_at}
@@ -88,6 +88,8 @@ pub record IsInterruptAnswer (host : ℕ) (answer : Answer) (steps : List Atomic
   pub takes : TakesFrames host steps taken old new
   -- the accesses of its driver are exactly these, in order
   pub makes : MakesInterrupt result old.host new.host (past_at host steps).accesses
+  -- Right after its last load of a descriptor no frame ends in finished slots.
+  pub looks : LooksBy result host steps old new
 
 -- A call, and its reply.
 
@@ -114,7 +116,7 @@ pub record IsCallReply (reply : Reply) (steps : List AtomicStep) (old new : Netw
   pub counted : reply.accesses ≡ counted_of 0 steps
   pub outcomes : reply.outcomes.list ≡ noted_of 0 steps
   -- an outcome's number is the lesser of its group's number and the number of accesses
-  pub numbered : numbers_of reply.outcomes.list ≡ numbers call.ticks 0 reply.accesses
+  pub numbered : noted_numbers reply.outcomes.list ≡ numbers call.ticks 0 reply.accesses
   -- of a host that isn't called neither driver nor queues change
   pub others : (k : ℕ) → k ≢ call.host → slice_get new.hosts k ≡ slice_get old.hosts k
 
@@ -143,7 +145,7 @@ pub record IsTickReply (reply : Reply) (steps : List AtomicStep) (old new : Netw
   -- so the reply's number of accesses is 0
   pub counted : reply.accesses ≡ counted_of 0 steps
   pub outcomes : AreOutcomesAlone tick steps reply.outcomes.list
-  pub numbered : numbers_of reply.outcomes.list ≡ 0 ∷ []
+  pub numbered : noted_numbers reply.outcomes.list ≡ 0 ∷ []
   pub answer : reply.answer ≡ Ticked
   pub others : new.hosts ≡ old.hosts
 

@@ -48,4 +48,5 @@ returns c =
       takes = takes-frames c.args.host runs.steps c.args.stations.now c.interrupt-called.new.stations host c.interrupt-called.new.host
           c.interrupt-called.ensures.taken runs.runs;
       makes = runs.makes;
+      looks = c.interrupt-called.ensures.looks;
     })

@@ -46,7 +46,7 @@ returns-clause-handles g c up held is =
     let counts = c.count_missed.ensures.ran up held (record { honest = asking; ready = reads.flows.ready }) in
     let counting = c.count_missed.ensures.keeps.honest asking in
     let all = c.take_finished-taken.ensures.takes up held (record { honest = counting; ready = counts.goes.flows.ready }) in
-    let refills = c.refill.ensures.refills up (held ++ pieces_of all.takes.kept)
+    let refills = c.refill.ensures.refills up (held ++ pieces_of all.takes.frames.kept)
     (record { honest = c.take_finished-taken.ensures.keeps.honest counting; ready = all.takes.ran.goes.flows.ready }) in
     let from = scene c.read.new.self d1 c.args.receiver.now in
     let last = scene c.refill.new.bus c.refill.new.self c.take_finished-taken.new.receiver in

@@ -75,7 +75,7 @@ returns-clause-takes g c up held is =
     let l = c.loop-run.invariant in
     let d = c.args.self.now in
     let before = l.walks.takes up held is in
-    let look = c.in_default.ensures.looks up (held ++ pieces_of before.kept)
+    let look = c.in_default.ensures.looks up (held ++ pieces_of before.frames.kept)
     (record { honest = l.keeps.honest is.honest; ready = before.ran.goes.flows.ready }) in
     record {
       none_left = look.none;

@@ -29,7 +29,12 @@ returns-then-self-tx-clause-transmits g c held is =
     let sending = ap (λ (state : DriverState). state.sending) c.self.view_is in
     let full : c.reclaim.new.self.sending + 1 ≡ c.args.self.now.layout.tx =
     omega (arith, c.if-self-tx.true, c.tx.ensures.count, count, inside, sending) in
-    record { ran = reclaims.ran; answer = was-full g.B.Bus _ _ is reclaims full; frees_first = reclaims }
+    record {
+      ran = reclaims.ran;
+      answer = was-full g.B.Bus _ _ is reclaims
+          (ap (holding held) c.reclaim.ensures.others) c.reclaim.ensures.tail full;
+      frees_first = reclaims;
+    }
 
 pub returns-clause-transmits : goal.returns-clause-transmits
 returns-clause-transmits g c held is =
