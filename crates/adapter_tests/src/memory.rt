@@ -14,7 +14,7 @@ fn same(rt: &impl Abort, shown: &str, wanted: &str) {
 fn a_new_memory_is_zeros(rt: HostRuntime) {
     if let Ok(memory) = HostMemory::new(rt.alloc(), 22_528) {
         assert!(rt; memory.size() == 22_528);
-        assert!(rt; memory.view(51_196, 4) == Ok([0; 4].as_slice()));
+        assert!(rt; memory.view(22_524, 4) == Ok([0; 4].as_slice()));
     }
 }
 
