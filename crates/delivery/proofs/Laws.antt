@@ -3,6 +3,7 @@ use Rattle.std.proofs.Common.{◌≡◌, ◌++◌, ℕ, List, append_assoc, sym,
 use Rattle.bus.specs.PastOfStretch.{Past}
 use Rattle.bus.specs.TickGroups.{without_go}
 use Rattle.bus.specs.declared.event.Access.{Access}
+use Rattle.stations.proofs.Lengths.{length-stays}
 use Rattle.stations.specs.AtomicSteps.{AtomicStep}
 use Rattle.stations.specs.Stations.{StationState}
 use Rattle.stations.specs.declared.tick.Tick.{Tick}
@@ -16,7 +17,7 @@ use Rattle.delivery.proofs.Joining.{accepted-append, given-append, marks-append,
 use Rattle.delivery.proofs.Joining.{toward-append}
 use Rattle.delivery.proofs.Numbering.{counted-all, numbered-all}
 use Rattle.delivery.proofs.Telling.{said-all, same-ticks}
-use Rattle.delivery.proofs.Waiting.{length-stays, waits-on, wires-stay}
+use Rattle.delivery.proofs.Waiting.{waits-on, wires-stay}
 use Rattle.delivery.specs.DeliveryLaws.{IsToldByOutcomes, IsToldCall, ListsJoin, MovesFrames, PlaysCall}
 use Rattle.delivery.specs.Happenings.{Happening}
 

@@ -1,5 +1,5 @@
 -- Frames that wait at a host's end of its wire.
-use Rattle.std.proofs.Common.{◌≡◌, ◌++◌, ◌∷◌, [], ◌==◌, ◌&&◌, not, suc, ℕ, Bool, true, false, Option, Some, None, List, drop, length}
+use Rattle.std.proofs.Common.{◌≡◌, ◌++◌, ◌∷◌, [], ◌==◌, ◌&&◌, not, ℕ, Bool, true, false, Option, Some, None, List, drop}
 use Rattle.std.proofs.Common.{append_assoc, if◌then◌else◌, inl, inr, option_map, refl, slice_get, subst, sym, ap, ◌∙◌}
 use Rattle.std.proofs.lemmas.Bool.{cases_Bool}
 use Rattle.std.proofs.lemmas.Bool.Decides.{eqb_tells}
@@ -12,31 +12,11 @@ use Rattle.bus.specs.declared.event.Event.{Event}
 use Rattle.bus.specs.declared.event.Event.TheVariants.{Accesses, Arrives, Steps}
 use Rattle.stations.proofs.Places.{after-is, get-at_each}
 use Rattle.stations.specs.AtomicSteps.{At, AtomicStep, CanHappen, Idles, OccursAt, SuitsWire, after, outcome_of_event}
-use Rattle.stations.specs.Stations.{StationState, all_after, at_each, backlog_after, backlog_at, backlog_of, each_after, station_after}
+use Rattle.stations.specs.Stations.{StationState, backlog_after, backlog_at, backlog_of, each_after, station_after}
 use Rattle.stations.specs.Stations.{stations_after, wire_at, wire_of, with_frames, world_at}
 use Rattle.stations.specs.AtomicRuns.{LeadsTo, events_at}
 use Rattle.delivery.proofs.HostLists.{arrived_in, frames_in, none-chosen, put-chosen, put-occurs, reached-told, step-told}
 use Rattle.delivery.specs.Happenings.{happened_in, reached, share_wire, told_of, toward, toward_by}
-
--- How many hosts there are stays.
-
-length-at_each : (change : ℕ → StationState → StationState) (from : ℕ) (ss : List StationState)
-    → length (at_each change from ss) ≡ length ss
-length-at_each change from [] = refl
-length-at_each change from (s ∷ ss) = ap suc (length-at_each change (suc from) ss)
-
-length-all_after : (o : Option StationState) (host : ℕ) (event : Event) (ss : List StationState)
-    → length (all_after o host event ss) ≡ length ss
-length-all_after None host event ss = refl
-length-all_after (Some s) host event ss = length-at_each (each_after host s.wire event) 0 ss
-
-length-after : (step : AtomicStep) (ss : List StationState) → length (after step ss) ≡ length ss
-length-after (At host event) ss = length-all_after (slice_get ss host) host event ss
-length-after (Idles tick) ss = refl
-
-pub length-stays : (caller : ℕ) (steps : List AtomicStep) (a b : List StationState) → LeadsTo caller steps a b → length b ≡ length a
-length-stays caller [] a b leads = ap length leads
-length-stays caller (step ∷ later) a b leads = length-stays caller later (after step a) b leads.2 ∙ length-after step a
 
 -- Where a host is, what it has is found at its place.
 record Stands (ss : List StationState) (host wire : ℕ) : Type 0 where

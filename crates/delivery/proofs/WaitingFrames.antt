@@ -11,7 +11,8 @@ use Rattle.bus.specs.declared.event.Event.{Event}
 use Rattle.bus.specs.declared.event.Event.TheVariants.{Accesses, Arrives, Steps}
 use Rattle.stations.proofs.Places.{after-is, get-at_each}
 use Rattle.stations.specs.AtomicSteps.{At, AtomicStep, CanHappen, Idles, after}
-use Rattle.stations.specs.Stations.{HasRoomFrom, StationState, WireHasRoom, backlog_after, backlog_at, backlog_of, each_after, end_frames}
+use Rattle.stations.specs.Ends.{end_frames}
+use Rattle.stations.specs.Stations.{HasRoomFrom, StationState, WireHasRoom, backlog_after, backlog_at, backlog_of, each_after}
 use Rattle.stations.specs.Stations.{station_after, stations_after, wire_at, wire_of}
 use Rattle.stations.specs.AtomicRuns.{LeadsTo}
 use Rattle.delivery.specs.WaitingFrames.{WireIsFull, come_to, is_same_wire, waiting_after, waiting_at, waiting_behind}

@@ -48,7 +48,7 @@ OutcomesTellSteps =
 
 -- A call over a lent bus whose ticks are played to the end is such a call, and what is noted of it stands behind the outcomes before.
 pub record IsToldCall (a m b : LentBus) (past : Past) (first last : List AtomicStep) : Type 0 where
-  pub plays : PlaysCall a.host a.ticks.now past.accesses first last a.stations.now m.stations.now b.stations.now
+  pub plays : PlaysCall a.host a.ticks.now past.accesses first last a.network.now m.network.now b.network.now
   pub noted : b.outcomes.now.list ≡ a.outcomes.now.list ++ noted_of 0 (first ++ last)
   pub count : b.accesses ≡ counted_of 0 first
 

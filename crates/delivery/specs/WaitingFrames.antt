@@ -3,7 +3,8 @@ use Rattle.std.specs.Prelude.{◌≡◌, ◌≢◌, ◌≤◌, ◌==◌, ◌++�
 use Rattle.std.specs.Prelude.{if◌then◌else◌}
 use Rattle.bus.specs.Trails.{past_of_event}
 use Rattle.stations.specs.AtomicSteps.{At, AtomicStep, Idles}
-use Rattle.stations.specs.Stations.{StationState, backlog_after, backlog_at, end_frames, wire_at}
+use Rattle.stations.specs.Ends.{end_frames}
+use Rattle.stations.specs.Stations.{StationState, backlog_after, backlog_at, wire_at}
 
 -- two hosts that are there are on one wire
 abbrev pub is_same_wire : Option ℕ → Option ℕ → Bool

@@ -95,13 +95,13 @@ mine-answer caller early a b causes run some =
 by-answer : (a m : LentBus) (h h' : HostState) (asked : Asked lent true (driver_at lent (host_at a h))) (result : Handled)
     (early : List AtomicStep) (b : List StationState)
     → HostReady h (world_here a) → HostHandlesBy lent result (host_at a h) (host_at m h') asked
-    → EarlyRun a.host early a.stations.now b asked.causes
+    → EarlyRun a.host early a.network.now b asked.causes
     → AnswersCauses result a.host (world_here a).adapter early
 by-answer a m h h' asked NotMine early b ready behind run =
-    quiet-answer a.host early a.stations.now b asked.causes _ _ run ready.ready.law.sound
+    quiet-answer a.host early a.network.now b asked.causes _ _ run ready.ready.law.sound
     behind.leaves.none
 by-answer a m h h' asked (answers.Handled taken) early b ready behind run =
-    mine-answer a.host early a.stations.now b asked.causes run behind.some
+    mine-answer a.host early a.network.now b asked.causes run behind.some
 
 -- The answer is that of the causes read.
 by-causes : (a m : LentBus) (h h' : HostState) (asked : Asked lent true (driver_at lent (host_at a h))) (result : Handled)
@@ -117,7 +117,7 @@ pub calls-tell_causes : (a m b : LentBus) (h h' : HostState) (result : Handled) 
 calls-tell_causes a m b h h' result past more ready handles retells reads =
     let only = sym (ap (λ (p : Past). p.accesses) retells.past_is) ∙ reads in
     let causes = handles.asked.causes in
-    let first = first-access a.host retells.steps a.stations.now b.stations.now (Reads ICR causes) more retells.leads only in
+    let first = first-access a.host retells.steps a.network.now b.network.now (Reads ICR causes) more retells.leads only in
     record {
       early = first.early;
       first = record { later = first.later; split = first.split; ticks = first.ticks };

@@ -71,7 +71,7 @@ tells-on caller first last steps causes adapter result tells is =
 
 leaves-runs : (a m b : LentBus) (h h' : HostState) → a.accesses ≡ 0 → HostReady h (world_here a)
     → HostHandles lent NotMine true (host_at a h) (host_at m h') → Finished m b
-    → InterruptRuns (lent_call a b) NotMine (connected h a.stations.now) (connected h' b.stations.now)
+    → InterruptRuns (lent_call a b) NotMine (connected h a.network.now) (connected h' b.network.now)
 leaves-runs a m b h h' zero ready handles finished =
     let leaves = handles.then_does in
     let past = handles.asked.reads.past in
@@ -107,7 +107,7 @@ numbers-joined (pieces ∷ later) =
 works-runs : (a m b : LentBus) (h h' : HostState) (n : ℕ) → a.accesses ≡ 0 → HostReady h (world_here a) → IsRefilled h'.driver
     → h'.driver.staged ≡ [] → OnlyReceives h.driver h'.driver → HostHandles lent (answers.Handled n) true (host_at a h) (host_at m h')
     → Finished m b
-    → InterruptRuns (lent_call a b) (answers.Handled n) (connected h a.stations.now) (connected h' b.stations.now)
+    → InterruptRuns (lent_call a b) (answers.Handled n) (connected h a.network.now) (connected h' b.network.now)
 works-runs a m b h h' n zero ready refilled offered only_receives handles finished =
     let it = handles.then_does in
     let works = it.works in
@@ -197,14 +197,14 @@ works-runs a m b h h' n zero ready refilled offered only_receives handles finish
               ∙ ap (λ (list : List Access). list ++ split.before.accesses) only
               ∙ ap (λ (list : List Access). Reads ICR handles.asked.causes ∷ list) split.first_made;
           ends = retelling-ends a split.middle (joined past split.before) first.0;
-          middle = split.middle.stations.now;
+          middle = split.middle.network.now;
           leads = first.0.leads;
         };
         others =
             whole-accesses a.host split.leaves.steps last (none-alone a.host last finished.plays.are)
             ∙ ap (λ (k : ℕ). (past_at k split.leaves.steps).accesses) (sym first.0.lent.host)
             ∙ ap (λ (p : Past). p.accesses) (sym split.leaves.past_is) ∙ split.later_made;
-        look = subst (λ (k : ℕ). IsLook h'.driver.oldest_receive served.rest (world_at split.middle.stations.now k) works.loads)
+        look = subst (λ (k : ℕ). IsLook h'.driver.oldest_receive served.rest (world_at split.middle.network.now k) works.loads)
             first.0.lent.host works.look;
       };
       answer = record {
@@ -218,7 +218,7 @@ works-runs a m b h h' n zero ready refilled offered only_receives handles finish
 pub interrupt-runs : (a m b : LentBus) (h h' : HostState) (result : Handled) → a.accesses ≡ 0 → HostReady h (world_here a)
     → OnlyReceives h.driver h'.driver → IfHandled result (HostServes h h')
     → HostHandles lent result true (host_at a h) (host_at m h') → Finished m b
-    → InterruptRuns (lent_call a b) result (connected h a.stations.now) (connected h' b.stations.now)
+    → InterruptRuns (lent_call a b) result (connected h a.network.now) (connected h' b.network.now)
 interrupt-runs a m b h h' NotMine zero ready only_receives serves handles finished = leaves-runs a m b h h' zero ready handles finished
 interrupt-runs a m b h h' (answers.Handled n) zero ready only_receives serves handles finished =
     works-runs a m b h h' n zero ready serves.refilled serves.offered only_receives handles finished

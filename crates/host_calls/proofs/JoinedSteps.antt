@@ -1,5 +1,5 @@
 -- Steps of a drain, one after the other.
-use Rattle.std.proofs.Common.{◌≡◌, ◌+◌, ◌++◌, [], ℕ, zero, suc, Bool, false, List, replicate, refl, sym, ap, subst, ◌∙◌}
+use Rattle.std.proofs.Common.{◌≡◌, ◌<◌, length, ◌+◌, ◌++◌, [], ℕ, zero, suc, Bool, false, List, replicate, refl, sym, ap, subst, ◌∙◌}
 use Rattle.std.proofs.Common.{arith, length-append}
 use Rattle.std.proofs.lemmas.List.{replicate-append-replicate}
 use Rattle.std.proofs.lemmas.List.Elements.{All-append}
@@ -11,6 +11,7 @@ use Rattle.bus.proofs.Lists.{all-none}
 use Rattle.bus.specs.declared.event.Event.{Event}
 use Rattle.stations.specs.AtomicSteps.{AtomicStep}
 use Rattle.stations.specs.Stations.{StationState, world_at}
+use Rattle.stations.proofs.Lengths.{length-stays}
 use Rattle.stations.specs.AtomicRunLaws.{leads_join}
 use Rattle.stations.specs.AtomicRuns.{IsTick, LeadsTo, events_at, events_by, past_at}
 use Rattle.delivery.proofs.Laws.{frames-move}
@@ -149,3 +150,8 @@ into-join m n place a b c h1 h2 h3 x y z p q r one two = record {
   room = omega (arith, one.room, two.room, length-append one.given two.given);
   on = steps-join m n place a b c h1 h2 h3 one.given two.given one.on two.on;
 }
+
+-- a host that is there is there after steps of a drain
+pub steps-there : (steps place : ℕ) (given : List Given) (a b : List StationState) (h h' : HostState)
+    → StepsOn steps place given (connected h a) (connected h' b) → place < length a → place < length b
+steps-there steps place given a b h h' on there = omega (arith, there, length-stays place on.played a b on.leads)

@@ -33,8 +33,8 @@ use Rattle.host_calls.proofs.DriversAccesses.{receives-last, receives-of_driver}
 pub recv-runs : (a m b : LentBus) (h h' : HostState) (socket size : ℕ) (bytes : List ℕ) → a.accesses ≡ 0 → HostReady h (world_here a)
     → length bytes ≡ size → Receives lent (record { socket = socket; frame = bytes }) size true (host_at a h) (host_at m h')
     → IsRefilled h'.driver → h'.driver.staged ≡ [] → Finished m b
-    → CallRuns (lent_call a b) (did [] (given_by socket (Ok bytes)) []) (MakesRecv (Ok bytes) socket h h') (connected h a.stations.now)
-    (connected h' b.stations.now)
+    → CallRuns (lent_call a b) (did [] (given_by socket (Ok bytes)) []) (MakesRecv (Ok bytes) socket h h') (connected h a.network.now)
+    (connected h' b.network.now)
 recv-runs a m b h h' socket size bytes zero ready long receives refilled offered finished =
     let ran = receives.ran.ran in
     let given = given_by socket (Ok bytes) in
@@ -65,12 +65,12 @@ recv-runs a m b h h' socket size bytes zero ready long receives refilled offered
 -- If no frame is given, only ticks are played.
 pub none-runs : (a m b : LentBus) (h h' : HostState) (socket : ℕ) (error : RecvError) → a.accesses ≡ 0 → HostReady h (world_here a)
     → m ≡ a → h' ≡ h → Finished m b
-    → CallRuns (lent_call a b) (did [] (given_by socket (Err error)) []) (MakesRecv (Err error) socket h h') (connected h a.stations.now)
-    (connected h' b.stations.now)
+    → CallRuns (lent_call a b) (did [] (given_by socket (Err error)) []) (MakesRecv (Err error) socket h h') (connected h a.network.now)
+    (connected h' b.network.now)
 none-runs a m b h h' socket error zero ready same stays finished =
     let goes = host-happens h (world_here a) (world_here a) nothing ready (happens_none (world_here a)) in
     subst (λ (host : HostState). CallRuns (lent_call a b) (did [] [] []) (λ (accesses : List Access). accesses ≡ [])
-    (connected h a.stations.now) (connected host b.stations.now))
+    (connected h a.network.now) (connected host b.network.now))
     (sym stays)
     (call-runs a a b nothing h h [] [] [] (λ (accesses : List Access). accesses ≡ []) zero (retells_none a)
     (flows-of h (world_here a) h (world_here a) [] [] [] nothing goes)
@@ -155,7 +155,7 @@ pub any-runs : (a m b : LentBus) (h h' : HostState) (socket : ℕ) (result : Res
     → length into ≡ 1518 → HostReady h (world_here a) → ReturnsBy lent socket into result true (host_at a h) (host_at m h')
     → IfOk result (Returns h h' socket before into) → IfErr result (λ error. (m ≡ a) × (h' ≡ h) × (into ≡ before)) → Finished m b
     → CallRuns (lent_call a b) (did [] (given_by socket (frame_in into result)) []) (MakesRecv (frame_in into result) socket h h')
-    (connected h a.stations.now) (connected h' b.stations.now)
+    (connected h a.network.now) (connected h' b.network.now)
 any-runs a m b h h' socket (Ok size) before into zero long ready receives ok err finished =
     recv-runs a m b h h' socket size (take size into) zero ready
     (front-long size into (let most = ok.legal.most in omega (arith, long, most))) receives ok.refilled

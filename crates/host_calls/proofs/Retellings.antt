@@ -29,8 +29,8 @@ retellings-join a b c first later one two =
         lent = whole.lent;
         steps = one.steps ++ two.steps;
         leads =
-            leads_join a.host one.steps two.steps a.stations.now b.stations.now c.stations.now one.leads
-            (subst (λ (h : ℕ). LeadsTo h two.steps b.stations.now c.stations.now) host two.leads);
+            leads_join a.host one.steps two.steps a.network.now b.network.now c.network.now one.leads
+            (subst (λ (h : ℕ). LeadsTo h two.steps b.network.now c.network.now) host two.leads);
         past_is =
             ap (λ (p : Past). joined p later) one.past_is
             ∙ ap (joined (past_at a.host one.steps)) (two.past_is ∙ ap (λ (h : ℕ). past_at h two.steps) host)
@@ -94,5 +94,5 @@ steps-end caller (step ∷ next ∷ later) a b leads ends = steps-end caller (ne
 
 pub retelling-ends : (a b : LentBus) (past : Past) (retells : Retells a b past) → EndsWithAccess retells.steps
 retelling-ends a b past retells =
-    steps-end a.host retells.steps a.stations.now b.stations.now retells.leads
+    steps-end a.host retells.steps a.network.now b.network.now retells.leads
     (subst EndsWithGo (sym retells.played) (played-ends past.accesses a.ticks.now))

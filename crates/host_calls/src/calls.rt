@@ -10,7 +10,7 @@ ghost use Rattle.host_calls.specs.CallAnswers.{InterruptRuns, RecvRuns, SendRuns
 use descriptors::Frame;
 use driver::{Handled, SendError};
 use packet_socket::{Host, RecvError};
-use stations::{LentBus, Outcomes, Station, Tick};
+use stations::{LentBus, Network, Outcomes, Tick};
 
 /// What a call answered, and how many accesses it made.
 #[derive(Debug, Drop)]
@@ -21,27 +21,27 @@ pub struct Called<T> {
     pub accesses: u64,
 }
 
-/// A host sends a frame, while ticks are played on all stations. `place` is the host's number.
+/// A host sends a frame, while ticks are played on all hosts. `place` is the host's number.
 ///
 /// # Errors
 ///
 /// The answer is that of [`Host::send`].
 pub fn send(
     host: &mut Host,
-    stations: &mut [Station],
+    network: &mut Network,
     place: usize,
     frame: &[u8],
     ticks: &[Tick],
     outcomes: &mut Outcomes,
 ) -> Called<Result<(), SendError>>
-    requires there { place < length stations.old }
-    requires ready { HostReady host.old (world_at stations.old place) }
+    requires there { place < length network.old }
+    requires ready { HostReady host.old (world_at network.old place) }
     requires room { length ticks.now ≤ outcomes.old.room }
     ensures { SendRuns (played_call place ticks.now outcomes.old outcomes.new result.accesses) frame.now result.answer
-        (connected host.old stations.old) (connected host.new stations.new) }
+        (connected host.old network.old) (connected host.new network.new) }
 {
     let mut bus = LentBus {
-        stations,
+        network,
         ticks,
         host: place,
         accesses: 0,
@@ -55,7 +55,7 @@ pub fn send(
     }
 }
 
-/// A host asks for the oldest frame of a socket, while ticks are played on all stations. It is copied into the front of
+/// A host asks for the oldest frame of a socket, while ticks are played on all hosts. It is copied into the front of
 /// `into`, and the answer is how many bytes it has.
 ///
 /// # Errors
@@ -63,22 +63,22 @@ pub fn send(
 /// The answer is that of [`Host::recv`].
 pub fn recv_into(
     host: &mut Host,
-    stations: &mut [Station],
+    network: &mut Network,
     place: usize,
     socket: usize,
     ticks: &[Tick],
     outcomes: &mut Outcomes,
     into: &mut [u8; 1518],
 ) -> Called<Result<usize, RecvError>>
-    requires there { place < length stations.old }
-    requires ready { HostReady host.old (world_at stations.old place) }
+    requires there { place < length network.old }
+    requires ready { HostReady host.old (world_at network.old place) }
     requires room { length ticks.now ≤ outcomes.old.room }
     ensures gives { RecvRuns (played_call place ticks.now outcomes.old outcomes.new result.accesses) socket
-        (frame_in into.new result.answer) (connected host.old stations.old) (connected host.new stations.new) }
+        (frame_in into.new result.answer) (connected host.old network.old) (connected host.new network.new) }
     ensures size { IfOk result.answer IsFrameSize }
 {
     let mut bus = LentBus {
-        stations,
+        network,
         ticks,
         host: place,
         accesses: 0,
@@ -99,20 +99,20 @@ pub fn recv_into(
 /// The answer is that of [`Host::recv`].
 pub fn recv(
     host: &mut Host,
-    stations: &mut [Station],
+    network: &mut Network,
     place: usize,
     socket: usize,
     ticks: &[Tick],
     outcomes: &mut Outcomes,
 ) -> Called<Result<Frame, RecvError>>
-    requires there { place < length stations.old }
-    requires ready { HostReady host.old (world_at stations.old place) }
+    requires there { place < length network.old }
+    requires ready { HostReady host.old (world_at network.old place) }
     requires room { length ticks.now ≤ outcomes.old.room }
     ensures { RecvRuns (played_call place ticks.now outcomes.old outcomes.new result.accesses) socket result.answer
-        (connected host.old stations.old) (connected host.new stations.new) }
+        (connected host.old network.old) (connected host.new network.new) }
 {
     let mut bytes = [0; 1518];
-    let called = recv_into(host, stations, place, socket, ticks, outcomes, &mut bytes);
+    let called = recv_into(host, network, place, socket, ticks, outcomes, &mut bytes);
     Called {
         answer: frame_of(&bytes, called.answer),
         accesses: called.accesses,
@@ -130,22 +130,22 @@ fn frame_of(bytes: &[u8; 1518], answer: Result<usize, RecvError>) -> Result<Fram
     }
 }
 
-/// A host handles an interrupt, while ticks are played on all stations.
+/// A host handles an interrupt, while ticks are played on all hosts.
 pub fn interrupt(
     host: &mut Host,
-    stations: &mut [Station],
+    network: &mut Network,
     place: usize,
     ticks: &[Tick],
     outcomes: &mut Outcomes,
 ) -> Called<Handled>
-    requires there { place < length stations.old }
-    requires ready { HostReady host.old (world_at stations.old place) }
+    requires there { place < length network.old }
+    requires ready { HostReady host.old (world_at network.old place) }
     requires room { length ticks.now ≤ outcomes.old.room }
     ensures { InterruptRuns (played_call place ticks.now outcomes.old outcomes.new result.accesses) result.answer
-        (connected host.old stations.old) (connected host.new stations.new) }
+        (connected host.old network.old) (connected host.new network.new) }
 {
     let mut bus = LentBus {
-        stations,
+        network,
         ticks,
         host: place,
         accesses: 0,

@@ -12,7 +12,7 @@ ghost use Rattle.host_calls.specs.DrainSteps.{StepsInto, StepsOn, outlet, steps_
 use crate::Outlet;
 use adapter::{Outcome, StepKind};
 use packet_socket::Host;
-use stations::{Outcomes, Station, line_at, step_at};
+use stations::{Network, Outcomes};
 
 /// Drains a host: gives each frame that it holds for its sockets to `sink`, and returns the number of steps. `place` is
 /// the host's number. No outcome is noted, since no tick is played in its calls. `sink` keeps the room that it doesn't
@@ -24,20 +24,20 @@ use stations::{Outcomes, Station, line_at, step_at};
 /// of its oldest to the ring.
 pub fn drain<S: Outlet>(
     host: &mut Host,
-    stations: &mut [Station],
+    network: &mut Network,
     place: usize,
     outcomes: &mut Outcomes,
     sink: &mut S,
 ) -> u64
-    requires there { place < length stations.old }
-    requires stands { CanBeDrained host.old (world_at stations.old place) }
+    requires there { place < length network.old }
+    requires stands { CanBeDrained host.old (world_at network.old place) }
     requires room { host.old.driver.layout.buffers + 24 ≤ S.places sink.old }
     ensures drains { DrainsInto result place (S.frames sink.old) (S.frames sink.new)
-        (connected host.old stations.old) (connected host.new stations.new) }
+        (connected host.old network.old) (connected host.new network.new) }
     ensures left { length (S.frames sink.old) + S.places sink.old ≤ length (S.frames sink.new) + S.places sink.new }
 {
     let mut steps = 0;
-    while step(host, stations, place, outcomes, sink) {
+    while step(host, network, place, outcomes, sink) {
         steps += 1;
     }
     steps
@@ -46,56 +46,56 @@ pub fn drain<S: Outlet>(
 /// The next step, if one applies: else nothing is held. The room may rest on what holds of every adapter.
 fn step<S: Outlet>(
     host: &mut Host,
-    stations: &mut [Station],
+    network: &mut Network,
     place: usize,
     outcomes: &mut Outcomes,
     sink: &mut S,
 ) -> bool
-    requires there { place < length stations.old }
-    requires stands { CanBeDrained host.old (world_at stations.old place) }
-    requires room { IsAdapter (world_at stations.old place).adapter
-        → count_frames host.old (world_at stations.old place) ≤ S.places sink.old }
-    ensures adapter { IsAdapter (world_at stations.old place).adapter }
+    requires there { place < length network.old }
+    requires stands { CanBeDrained host.old (world_at network.old place) }
+    requires room { IsAdapter (world_at network.old place).adapter
+        → count_frames host.old (world_at network.old place) ≤ S.places sink.old }
+    ensures adapter { IsAdapter (world_at network.old place).adapter }
     ensures steps { StepsInto (steps_of result) place (outlet (S.frames sink.old) (S.places sink.old))
         (outlet (S.frames sink.new) (S.places sink.new))
-        (connected host.old stations.old) (connected host.new stations.new) }
-    ensures ends { result ≡ false → HoldsNothing host.new (world_at stations.new place) }
+        (connected host.old network.old) (connected host.new network.new) }
+    ensures ends { result ≡ false → HoldsNothing host.new (world_at network.new place) }
 {
-    if finish(stations, place) {
+    if finish(network, place) {
         return true;
     }
-    if line_at(stations, place) {
-        handle(host, stations, place, outcomes);
+    if network.line(place) {
+        handle(host, network, place, outcomes);
         return true;
     }
     if let Some(socket) = first_waiting(host) {
-        give(host, stations, place, socket, outcomes, sink);
+        give(host, network, place, socket, outcomes, sink);
         return true;
     }
-    move_piece(host, stations, place)
+    move_piece(host, network, place)
 }
 
 /// The adapter writes back the descriptor of the piece in progress, if there is one.
-fn finish(stations: &mut [Station], place: usize) -> bool
-    requires there { place < length stations.old }
-    ensures adapter { IsAdapter (world_at stations.old place).adapter }
-    ensures steps { (host : HostState) → CanBeDrained host (world_at stations.old place)
-        → StepsOn (steps_of result) place [] (connected host stations.old) (connected host stations.new) }
-    ensures free { (world_at stations.new place).adapter.receiver.work ≡ None }
+fn finish(network: &mut Network, place: usize) -> bool
+    requires there { place < length network.old }
+    ensures adapter { IsAdapter (world_at network.old place).adapter }
+    ensures steps { (host : HostState) → CanBeDrained host (world_at network.old place)
+        → StepsOn (steps_of result) place [] (connected host network.old) (connected host network.new) }
+    ensures free { (world_at network.new place).adapter.receiver.work ≡ None }
 {
-    matches!(step_at(stations, place, StepKind::RxDone), Outcome::Done)
+    matches!(network.step(place, StepKind::RxDone), Outcome::Done)
 }
 
 /// The host handles an interrupt.
-fn handle(host: &mut Host, stations: &mut [Station], place: usize, outcomes: &mut Outcomes)
-    requires there { place < length stations.old }
-    requires stands { CanBeDrained host.old (world_at stations.old place) }
-    requires free { (world_at stations.old place).adapter.receiver.work ≡ None }
-    requires asserted { Meet (world_at stations.old place).adapter.causes.recorded
-        (world_at stations.old place).adapter.causes.mask }
-    ensures { StepsOn 1 place [] (connected host.old stations.old) (connected host.new stations.new) }
+fn handle(host: &mut Host, network: &mut Network, place: usize, outcomes: &mut Outcomes)
+    requires there { place < length network.old }
+    requires stands { CanBeDrained host.old (world_at network.old place) }
+    requires free { (world_at network.old place).adapter.receiver.work ≡ None }
+    requires asserted { Meet (world_at network.old place).adapter.causes.recorded
+        (world_at network.old place).adapter.causes.mask }
+    ensures { StepsOn 1 place [] (connected host.old network.old) (connected host.new network.new) }
 {
-    crate::calls::interrupt(host, stations, place, &[], outcomes);
+    crate::calls::interrupt(host, network, place, &[], outcomes);
 }
 
 /// The first socket for which a frame waits.
@@ -115,44 +115,44 @@ fn first_waiting(host: &Host) -> Option<usize>
 /// The host gives the oldest frame that waits for a socket.
 fn give<S: Outlet>(
     host: &mut Host,
-    stations: &mut [Station],
+    network: &mut Network,
     place: usize,
     socket: usize,
     outcomes: &mut Outcomes,
     sink: &mut S,
 )
-    requires there { place < length stations.old }
-    requires stands { CanBeDrained host.old (world_at stations.old place) }
-    requires free { (world_at stations.old place).adapter.receiver.work ≡ None }
+    requires there { place < length network.old }
+    requires stands { CanBeDrained host.old (world_at network.old place) }
+    requires free { (world_at network.old place).adapter.receiver.work ≡ None }
     requires known { socket < length host.old.kinds }
     requires waits { queue_at host.old.queues socket ≢ [] }
     requires room { 0 < S.places sink.old }
     ensures { StepsInto 1 place (outlet (S.frames sink.old) (S.places sink.old))
         (outlet (S.frames sink.new) (S.places sink.new))
-        (connected host.old stations.old) (connected host.new stations.new) }
+        (connected host.old network.old) (connected host.new network.new) }
 {
-    if let Ok(frame) = crate::calls::recv(host, stations, place, socket, &[], outcomes).answer {
+    if let Ok(frame) = crate::calls::recv(host, network, place, socket, &[], outcomes).answer {
         sink.take(socket, &frame);
     }
 }
 
 /// The adapter moves the next piece of the oldest frame out of the packet buffer, if there is one.
-fn move_piece(host: &Host, stations: &mut [Station], place: usize) -> bool
-    requires there { place < length stations.old }
-    requires stands { CanBeDrained host.now (world_at stations.old place) }
-    requires free { (world_at stations.old place).adapter.receiver.work ≡ None }
-    requires quiet { ¬ (Meet (world_at stations.old place).adapter.causes.recorded
-        (world_at stations.old place).adapter.causes.mask) }
+fn move_piece(host: &Host, network: &mut Network, place: usize) -> bool
+    requires there { place < length network.old }
+    requires stands { CanBeDrained host.now (world_at network.old place) }
+    requires free { (world_at network.old place).adapter.receiver.work ≡ None }
+    requires quiet { ¬ (Meet (world_at network.old place).adapter.causes.recorded
+        (world_at network.old place).adapter.causes.mask) }
     requires given { all_of host.now.queues ≡ [] }
-    ensures steps { StepsOn (steps_of result) place [] (connected host.now stations.old)
-        (connected host.now stations.new) }
-    ensures ends { result ≡ false → HoldsNothing host.now (world_at stations.new place) }
+    ensures steps { StepsOn (steps_of result) place [] (connected host.now network.old)
+        (connected host.now network.new) }
+    ensures ends { result ≡ false → HoldsNothing host.now (world_at network.new place) }
 {
     // Calls of the layout, so that the clauses may rest on its sizes: at least one slot is offered.
     let layout = host.layout();
     let _sizes = (layout.rx(), layout.buffers());
     matches!(
-        step_at(stations, place, StepKind::RxData),
+        network.step(place, StepKind::RxData),
         Outcome::Part | Outcome::Moved
     )
 }

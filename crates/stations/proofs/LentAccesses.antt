@@ -60,7 +60,7 @@ load-leaves ss new host address size below same =
       | inr none ↦ absurd (omega (arith, below, none.0))
     ]
 
--- What the access leaves beside the stations.
+-- What the access leaves beside the network.
 pub record LeavesRest (p b : LentBus) : Type 0 where
   pub lent : SameLent p b
   pub ticks : b.ticks.now ≡ p.ticks.now
@@ -73,8 +73,8 @@ never_lively bus = ⊥
 -- the calling host's trail up to the access
 trail-here : (a p : LentBus) (prepared : Prepared a p) → Trail (events_at a.host prepared.plays.steps) (world_here a) (world_here p)
 trail-here a p prepared =
-    subst (λ (h : ℕ). Trail (events_at a.host prepared.plays.steps) (world_here a) (world_at p.stations.now h)) (sym prepared.lent.host)
-    (trail-of a.host a.host prepared.plays.steps a.stations.now p.stations.now (prepared.plays.leads a.host))
+    subst (λ (h : ℕ). Trail (events_at a.host prepared.plays.steps) (world_here a) (world_at p.network.now h)) (sym prepared.lent.host)
+    (trail-of a.host a.host prepared.plays.steps a.network.now p.network.now (prepared.plays.leads a.host))
 
 -- The size of memory stays while ticks are played.
 pub size-prepared : (a p : LentBus) → Prepared a p → bytes_here p ≡ bytes_here a
@@ -96,7 +96,7 @@ access-keeps a p b prepared same size = record {
 
 -- The access behind what comes before it is as the law says.
 pub acted : (a p b : LentBus) (access : Access) (effect : World → World → Type 0) → Prepared a p → LeavesRest p b
-    → p.host < length p.stations.now → b.stations.now ≡ stations_after p.host (Accesses access) p.stations.now
+    → p.host < length p.network.now → b.network.now ≡ stations_after p.host (Accesses access) p.network.now
     → IsAnswered access (world_here p) → IsAdapter (world_here p).adapter → effect (world_here p) (world_here b)
     → Acts world_here Retells never_lively a b access effect
 acted a p b access effect prepared leaves below state answered adapter does =
@@ -107,10 +107,10 @@ acted a p b access effect prepared leaves below state answered adapter does =
     let last = At a.host (Accesses access) in
     let host = prepared.lent.host in
     let still = counted-ticks a.accesses steps plays.are in
-    let occurs : OccursAt a.host (Accesses access) p.stations.now =
-    subst (λ (h : ℕ). OccursAt h (Accesses access) p.stations.now) host (occurs-access p.stations.now p.host access below answered) in
-    let behind : b.stations.now ≡ stations_after a.host (Accesses access) p.stations.now =
-    state ∙ ap (λ (h : ℕ). stations_after h (Accesses access) p.stations.now) host in
+    let occurs : OccursAt a.host (Accesses access) p.network.now =
+    subst (λ (h : ℕ). OccursAt h (Accesses access) p.network.now) host (occurs-access p.network.now p.host access below answered) in
+    let behind : b.network.now ≡ stations_after a.host (Accesses access) p.network.now =
+    state ∙ ap (λ (h : ℕ). stations_after h (Accesses access) p.network.now) host in
     let noted : noted_of a.accesses (steps ++ last ∷ []) ≡ noted_of a.accesses steps =
     noted_join a.accesses steps (last ∷ []) ∙ append-nil (noted_of a.accesses steps) in
     let count : counted_of a.accesses (steps ++ last ∷ []) ≡ min (a.accesses + 1) most_accesses =
@@ -122,7 +122,7 @@ acted a p b access effect prepared leaves below state answered adapter does =
       told = record {
         lent = same_lent_on a p b prepared.lent leaves.lent;
         steps = steps ++ last ∷ [];
-        leads = leads_join a.host steps (last ∷ []) a.stations.now p.stations.now b.stations.now (plays.leads a.host)
+        leads = leads_join a.host steps (last ∷ []) a.network.now p.network.now b.network.now (plays.leads a.host)
             (occurs, refl, behind);
         past_is =
             past-with_access events access are

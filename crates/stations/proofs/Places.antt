@@ -1,9 +1,8 @@
 -- Stations by their places, and what an event at one of them leaves of all.
 use Rattle.std.proofs.Common.{◌≡◌, ◌<◌, ◌+◌, ◌==◌, ◌&&◌, not, zero, suc, ℕ, Bool, true, false, List, [], ◌∷◌, ◌++◌, Option, Some, None}
-use Rattle.std.proofs.Common.{length, slice_get, slice_set, slice_index_or, option_map, if◌then◌else◌, inl, inr, refl, sym, ap, ◌∙◌, arith}
+use Rattle.std.proofs.Common.{length, slice_get, slice_set, option_map, if◌then◌else◌, inl, inr, refl, sym, ap, ◌∙◌, arith}
 use Rattle.std.proofs.lemmas.Bool.Decides.{eqb_tells}
 use Rattle.std.proofs.lemmas.List.{append-nil}
-use Rattle.std.proofs.lemmas.Option.{slice_get-get_or}
 use Rattle.circular_buffer.proofs.Places.{slice_get-set_other, slice_get-set_same}
 use Rattle.bus.specs.Trails.{past_of_event}
 use Rattle.bus.specs.declared.event.Event.{Event}
@@ -82,13 +81,6 @@ set-after host event ss s new below there is none =
     spread-after host event ss (slice_set ss host new) s new below there is
     (λ k. sym (ap (λ (put : List (List ℕ)). option_map (with_frames host s.wire put k) (slice_get (slice_set ss host new) k)) none
     ∙ none-anywhere host s.wire k (slice_get (slice_set ss host new) k)))
-
--- The same, of a station that code has by its place.
-pub here-after : (host : ℕ) (event : Event) (ss : List StationState) (default new : StationState) → host < length ss
-    → new ≡ station_after event (slice_index_or ss host default) → (past_of_event event).put ≡ []
-    → slice_set ss host new ≡ stations_after host event ss
-here-after host event ss default new below is none =
-    set-after host event ss (slice_index_or ss host default) new below (slice_get-get_or ss host default below) is none
 
 -- what stands at a place, set there again, changes nothing
 pub set-same : (ss : List StationState) (host : ℕ) (s : StationState) → host < length ss → slice_get ss host ≡ Some s → slice_set ss host s

@@ -1,9 +1,8 @@
 -- A tick is played.
-use Rattle.std.proofs.Common.{◌≡◌, ◌≢◌, ◌<◌, ◌↔◌, [], ◌∷◌}
+use Rattle.std.proofs.Common.{◌≡◌, ◌≢◌, ◌<◌, ◌↔◌, []}
 use Rattle.std.proofs.Common.{IsNone, IsTrue, ℕ, Bool, true, false, List, Option, Some, length, slice_get}
 use Rattle.std.proofs.Common.{slice_set}
 use Rattle.std.proofs.Common.{option_map, refl, sym, ap, subst, ◌∙◌}
-use Rattle.circular_buffer.proofs.Places.{slice_get-set_other}
 use Rattle.rx_engine.specs.declared.arrival.Fate.{Fate}
 use Rattle.eeprom.specs.Eerd.{is_pending}
 use Rattle.mdic_phy.specs.Mdic.{has_work}
@@ -18,9 +17,8 @@ use Rattle.adapter.specs.declared.outcome.Outcome.TheVariants as stepped
 use Rattle.bus.specs.Trails.{Occurs, past_of_event}
 use Rattle.bus.specs.declared.event.Event.{Event}
 use Rattle.bus.specs.declared.event.Event.TheVariants.{Arrives, Steps}
-use Rattle.stations.specs.AtomicSteps.{At, DeliversNoted, FindsNothing, Idles, IsDelivered, OccursAt, Plays, PlaysNoted, SuitsWire}
-use Rattle.stations.specs.Outcomes.{IsNoted, OutcomeList}
-use Rattle.stations.specs.Stations.{StationState, WireHasRoom, backlog_of, station_after, wire_at, wire_of, with_frames, world_of}
+use Rattle.stations.specs.AtomicSteps.{At, FindsNothing, Idles, IsDelivered, OccursAt, Plays, SuitsWire}
+use Rattle.stations.specs.Stations.{StationState, WireHasRoom, backlog_of, station_after, wire_of, with_frames, world_of}
 use Rattle.adapter.specs.declared.outcome.Outcome.TheVariants.{Delivered, Nothing, WireFull}
 use Rattle.stations.specs.declared.tick.Tick.{Tick}
 use Rattle.stations.specs.declared.tick.Tick.TheVariants.{Deliver, Step}
@@ -96,16 +94,6 @@ puts-oldest adapter _ some answers = absurd answers
 pub not-none : {A : Type 0} (found : Option A) (one : A) → found ≡ Some one → IsNone found → ⊥
 not-none found one is none = let no : true ≡ false = subst IsNone is none in cc
 
--- the wire that a station is on
-pub on-wire : (ss : List StationState) (host wire : ℕ) (s : StationState) → slice_get ss host ≡ Some s → wire_at ss host ≡ Some wire
-    → wire ≡ s.wire
-on-wire ss host wire s there on = let same : Some wire ≡ Some s.wire = sym on ∙ ap wire_of there in cc
-
--- room at the other ends stays where the sender's station changes
-pub still-room : (ss : List StationState) (host wire : ℕ) (new : StationState) → WireHasRoom ss host wire
-    → WireHasRoom (slice_set ss host new) host wire
-still-room ss host wire new room k s there other same = room k s (sym (slice_get-set_other ss host k new other) ∙ there) other same
-
 -- Ticks.
 
 occurs-at : (ss : List StationState) (host : ℕ) (s : StationState) (event : Event) → slice_get ss host ≡ Some s → Occurs event s.world
@@ -132,19 +120,6 @@ plays-delivery ss host s new frame fate below there is = record {
       (subst (λ (o : Option StationState). slice_get (backlog_of o) 0 ≡ Some frame) (sym there) is.oldest);
   leaves = set-after host (Arrives frame fate) ss s new below there is.leaves refl;
 }
-
-pub plays-no_delivery : (ss : List StationState) (host : ℕ) (s new : StationState) → host < length ss → slice_get ss host ≡ Some s → new ≡ s
-    → s.backlog ≡ [] → Plays ss (Deliver host) Nothing (slice_set ss host new)
-plays-no_delivery ss host s new below there same none =
-    let stays : slice_set ss host new ≡ ss = ap (slice_set ss host) same ∙ set-same ss host s below there in
-    record {
-      step = Idles (Deliver host);
-      tick_is = refl;
-      outcome_is = refl;
-      no_access = tt;
-      happens = ap backlog_of there ∙ none;
-      leaves = stays;
-    }
 
 -- a step whose frame, if it put one, then waits at each other end
 pub plays-step : (ss final : List StationState) (host wire : ℕ) (s new : StationState) (kind : StepKind) (free : Bool)
@@ -207,26 +182,3 @@ pub plays-wire_full : (ss : List StationState) (host wire : ℕ) (s : StationSta
     → s.world.adapter.transmitter.buffer ≢ [] → free ≡ false → Plays ss (Step host TxPut) WireFull ss
 plays-wire_full ss host wire s free below there on finds adapter some full =
     plays-no_put ss host wire s free stepped.WireFull below there on finds adapter (some, full) refl refl
-
--- The oldest frame that waits at a host's end is delivered and noted, or that none waits.
-pub notes-delivery : (ss : List StationState) (host : ℕ) (s new : StationState) (accesses : ℕ) (before behind : OutcomeList)
-    → host < length ss → slice_get ss host ≡ Some s
-    → (s.backlog ≡ [] → (new ≡ s) × IsNoted accesses Nothing before behind)
-    → (s.backlog ≢ [] → DeliversNoted s accesses before behind new)
-    → PlaysNoted ss (Deliver host) accesses before behind (slice_set ss host new)
-notes-delivery ss host s new accesses before behind below there none some = by_case s.backlog refl
-  where
-    by_case : (frames : List (List ℕ)) → s.backlog ≡ frames → PlaysNoted ss (Deliver host) accesses before behind (slice_set ss host new)
-    by_case [] is = record {
-      outcome = Nothing;
-      plays = plays-no_delivery ss host s new below there (none is).0 is;
-      noted = (none is).1;
-    }
-    by_case (first ∷ later) is =
-        let waits : s.backlog ≢ [] = λ empty. cc in
-        let given : DeliversNoted s accesses before behind new = some waits in
-        record {
-          outcome = Delivered given.frame given.fate;
-          plays = plays-delivery ss host s new given.frame given.fate below there given.delivered;
-          noted = given.noted;
-        }

@@ -59,13 +59,6 @@ pub record IsDelivered (old : StationState) (frame : List ℕ) (fate : Fate) (ne
   pub fated : IsFate old.world.adapter frame fate
   pub leaves : new ≡ station_after (Arrives frame fate) old
 
--- And it is noted, behind so many accesses.
-pub record DeliversNoted (old : StationState) (accesses : ℕ) (before behind : OutcomeList) (new : StationState) : Type 0 where
-  pub frame : List ℕ
-  pub fate : Fate
-  pub delivered : IsDelivered old frame fate new
-  pub noted : IsNoted accesses (Delivered frame fate) before behind
-
 -- The tick finds nothing: Go, a host that isn't there, or no frame that waits.
 abbrev pub FindsNothing : Tick → List StationState → Type 0
 FindsNothing Go stations = ⊤

@@ -1,5 +1,7 @@
 pub mod Stations
-pub mod StationView
+pub mod Ends
+pub mod EndView
+pub mod NetworkView
 pub mod FrameRoom
 pub mod Outcomes
 pub mod AtomicSteps

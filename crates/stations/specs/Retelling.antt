@@ -12,14 +12,14 @@ use Rattle.stations.specs.declared.lent_bus.LentBus.{LentBus}
 
 -- the world of the host whose call it is
 abbrev pub world_here : LentBus → World
-world_here bus = world_at bus.stations.now bus.host
+world_here bus = world_at bus.network.now bus.host
 
 abbrev pub bytes_here : LentBus → ℕ
 bytes_here bus = length (world_here bus).memory
 
--- The same stations and the same outcomes are lent, to the call of the same host.
+-- The same network and the same outcomes are lent, to the call of the same host.
 pub record SameLent (a b : LentBus) : Type 0 where
-  pub stations : b.stations.ghost_name ≡ a.stations.ghost_name
+  pub network : b.network.ghost_name ≡ a.network.ghost_name
   pub outcomes : b.outcomes.ghost_name ≡ a.outcomes.ghost_name
   pub host : b.host ≡ a.host
 
@@ -28,7 +28,7 @@ pub record SameLent (a b : LentBus) : Type 0 where
 pub record Retells (a b : LentBus) (past : Past) : Type 0 where
   pub lent : SameLent a b
   pub steps : List AtomicStep
-  pub leads : LeadsTo a.host steps a.stations.now b.stations.now
+  pub leads : LeadsTo a.host steps a.network.now b.network.now
   pub past_is : past ≡ past_at a.host steps
   pub played : map tick_of steps ≡ played_in is_go Go [] past.accesses a.ticks.now
   pub waiting : b.ticks.now ≡ waiting_after is_go past.accesses a.ticks.now
@@ -39,13 +39,13 @@ pub record Retells (a b : LentBus) (past : Past) : Type 0 where
 -- What comes before an access: the next group of ticks is played, and the access is counted.
 pub record Prepared (a b : LentBus) : Type 0 where
   pub lent : SameLent a b
-  pub plays : PlaysTicks a.stations.now (group_of is_go a.ticks.now) a.accesses a.outcomes.now b.outcomes.now b.stations.now
+  pub plays : PlaysTicks a.network.now (group_of is_go a.ticks.now) a.accesses a.outcomes.now b.outcomes.now b.network.now
   pub waiting : b.ticks.now ≡ behind_group is_go a.ticks.now
   pub count : b.accesses ≡ min (a.accesses + 1) most_accesses
 
 -- What comes behind the last access: all ticks that are left are played.
 pub record Finished (a b : LentBus) : Type 0 where
   pub lent : SameLent a b
-  pub plays : PlaysTicks a.stations.now (without_go is_go a.ticks.now) a.accesses a.outcomes.now b.outcomes.now b.stations.now
+  pub plays : PlaysTicks a.network.now (without_go is_go a.ticks.now) a.accesses a.outcomes.now b.outcomes.now b.network.now
   pub none : b.ticks.now ≡ []
   pub count : b.accesses ≡ a.accesses

@@ -7,6 +7,7 @@ use Rattle.adapter.specs.World.{World}
 use Rattle.bus.specs.Trails.{past_of_event, world_after}
 use Rattle.bus.specs.declared.event.Event.{Event}
 use Rattle.bus.specs.declared.event.Event.TheVariants.{Accesses, Arrives, Steps}
+use Rattle.stations.specs.Ends.{end_frames}
 
 -- a host's adapter and memory, and its end of a wire
 pub record StationState : Type 0 where
@@ -15,10 +16,6 @@ pub record StationState : Type 0 where
   pub wire : ℕ
   -- the frames that wait at its end of the wire to be delivered, the oldest first
   pub backlog : List (List ℕ)
-
--- at most so many frames wait at an end (our choice)
-abbrev pub end_frames : ℕ
-end_frames = 64
 
 -- What is known of a host, also of one that isn't there: that one is on no wire, and no frame waits at its end.
 

@@ -3,7 +3,6 @@
 ghost use Rattle.std.specs.Prelude.{◌≡◌, length, min};
 
 use crate::lent_bus::LentBus;
-use crate::playing::{load_at, read_at, size_at, store_at, write_at};
 use bus::{Bus, HonestBus};
 
 impl<'a> Bus for LentBus<'a> {
@@ -34,27 +33,27 @@ impl<'a> Bus for LentBus<'a> {
     ghost sized = { λ bus honest. refl };
 
     fn size(&self) -> u64 {
-        size_at(self.stations, self.host)
+        self.network.size(self.host)
     }
 
     fn read(&mut self, offset: u32) -> u32 {
         self.prepare();
-        read_at(self.stations, self.host, offset)
+        self.network.read(self.host, offset)
     }
 
     fn write(&mut self, offset: u32, value: u32) {
         self.prepare();
-        write_at(self.stations, self.host, offset, value);
+        self.network.write(self.host, offset, value);
     }
 
     fn load(&mut self, address: u64, into: &mut [u8]) {
         self.prepare();
-        load_at(self.stations, self.host, address, into);
+        self.network.load(self.host, address, into);
     }
 
     fn store(&mut self, address: u64, bytes: &[u8]) {
         self.prepare();
-        store_at(self.stations, self.host, address, bytes);
+        self.network.store(self.host, address, bytes);
     }
 }
 

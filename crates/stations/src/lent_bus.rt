@@ -2,19 +2,18 @@
 
 ghost use Rattle.std.specs.Prelude.{◌<◌, ◌≤◌, length};
 
-use crate::groups::{play_group, play_rest};
+use crate::network::Network;
 use crate::outcomes::Outcomes;
-use crate::station::Station;
 use crate::tick::Tick;
 
-/// All stations, lent to the call of one host, and the ticks that are to be played before its accesses.
+/// A network, lent to the call of one host, and the ticks that are to be played before its accesses.
 ///
-/// Before an access the ticks up to the next `Go` are played, and none where there are none left.
+/// Before an access the ticks up to the next `Go` are played, and none if none are left.
 #[derive(Drop)]
 pub struct LentBus<'a> {
-    /// The stations of all hosts.
-    pub stations: &'a mut [Station],
-    /// The ticks that are still to be played, with a `Go` where the next access comes.
+    /// The network.
+    pub network: &'a mut Network,
+    /// The ticks that are still to be played, with a `Go` for the next access.
     pub ticks: &'a [Tick],
     /// The host whose call it is.
     pub host: usize,
@@ -22,27 +21,28 @@ pub struct LentBus<'a> {
     pub accesses: u64,
     /// What came of the ticks that were played, each with the number of accesses before it.
     pub outcomes: &'a mut Outcomes,
-    ghost there: { host < length stations.now },
+    ghost there: { host < length network.now },
     ghost room: { length ticks.now ≤ outcomes.now.room },
 }
 
 impl<'a> LentBus<'a> {
     ghost use Rattle.stations.specs.Retelling.{Finished, Prepared};
 
-    /// Plays the next group of ticks, and counts the access behind it.
+    /// Plays the next group of ticks, and counts the access after it.
     pub(crate) fn prepare(&mut self)
         ensures { Prepared self.old self.new }
     {
         let accesses = self.accesses;
-        self.ticks = play_group(self.stations, self.ticks, accesses, self.outcomes);
+        self.ticks = self.network.play_group(self.ticks, accesses, self.outcomes);
         self.accesses = accesses.saturating_add(1);
     }
 
-    /// Plays the ticks that are left, behind the call's last access, with each `Go` skipped.
+    /// Plays the ticks that are left, after the call's last access, and skips each `Go`.
     pub fn finish(&mut self)
         ensures { Finished self.old self.new }
     {
-        play_rest(self.stations, self.ticks, self.accesses, self.outcomes);
+        self.network
+            .play_rest(self.ticks, self.accesses, self.outcomes);
         self.ticks = &[];
     }
 }

@@ -7,18 +7,17 @@
 #![tactic(auto)]
 
 mod accesses;
-mod groups;
 mod heap_frame;
 mod lent_bus;
+mod network;
 mod outcomes;
 mod playing;
-mod station;
 mod tick;
+mod wires;
 
-pub use groups::play_rest;
 pub use heap_frame::HeapFrame;
 pub use lent_bus::LentBus;
+pub use network::Network;
 pub use outcomes::{Numbered, Outcomes};
-pub use playing::{line_at, load_at, play, read_at, size_at, step_at, store_at, write_at};
-pub use station::{END_FRAMES, Station};
 pub use tick::Tick;
+pub use wires::END_FRAMES;

@@ -83,23 +83,6 @@ impl Outcomes {
         }
     }
 
-    /// The frame of the last outcome, if it has one; otherwise no byte.
-    pub(crate) fn last_frame(&self) -> &[u8]
-        ensures frame { (accesses : ℕ) (frame : List ℕ) (before : OutcomeList)
-            → IsNoted accesses (Put frame) before self.now → result.now ≡ frame }
-        ensures fits { length result.now ≤ longest_frame }
-    {
-        match self.list.as_slice().last() {
-            Some(
-                Numbered {
-                    outcome: Outcome::Put(frame),
-                    ..
-                },
-            ) => frame.as_slice(),
-            _ => &[],
-        }
-    }
-
     /// The outcomes, in order.
     pub fn as_slice(&self) -> &[Numbered]
         ensures { result.now ≡ self.now.list }

@@ -26,7 +26,7 @@ use Rattle.driver_law.proofs.FramesCounted.{slots_have_frames}
 use Rattle.driver_law.specs.Calls.{HasNoForgottenWork, IsRefilled}
 use Rattle.packet_socket.specs.HostCalls.{Given, HostReady, did, driver_of}
 use Rattle.packet_socket.specs.HostState.{HostState}
-use Rattle.delivery.proofs.Waiting.{length-stays}
+use Rattle.stations.proofs.Lengths.{length-stays}
 use Rattle.delivery.specs.Happenings.{Happening, of_host}
 use Rattle.delivery.proofs.HostSteps.{trail-goes}
 use Rattle.delivery.proofs.Ticks.{absent-nothing, counts-go, ticks-answered}

@@ -6,7 +6,6 @@ use Rattle.packet_socket.specs.HostState.{HostState}
 use Rattle.stations.specs.AtomicSteps.{AtomicStep}
 use Rattle.stations.specs.Stations.{StationState}
 use Rattle.stations.specs.declared.tick.Tick.{Tick}
-use Rattle.delivery.proofs.Waiting.{length-stays}
 use Rattle.delivery.specs.Happenings.{Happening, told}
 use Rattle.network_plan.specs.declared.event.Event.{Event}
 use Rattle.network_plan.specs.declared.event.Event.TheVariants.{Interrupt, Recv, Send, Tick as Alone}
@@ -17,22 +16,17 @@ use Rattle.wire.specs.Runs.{EventRuns, accepted_of, given_of}
 use Rattle.wire.specs.declared.lan.Lan.TheInside.{Inside}
 use Rattle.wire.proofs.Running.{interrupt-event, recv-event, send-event, tick-event}
 
--- the network whose lists are written back
+-- the network whose list of hosts is written back
 abbrev pub written : Inside → List HostState → List StationState → NetworkState
 written inside hosts stations =
-    record { hosts = (with_items inside.hosts hosts).items; stations = (with_items inside.stations stations).items }
+    record { hosts = (with_items inside.hosts hosts).items; stations = stations }
 
 -- What is written back is what the network is now.
 pub network-now : (inside : Inside) (caller : ℕ) (happened : List Happening) (steps : List AtomicStep) (old new : NetworkState)
-    → HostsGo caller happened steps old new → length old.hosts ≡ inside.hosts.len → length old.stations ≡ inside.stations.len
-    → written inside new.hosts new.stations ≡ new
-network-now inside caller happened steps old new go hosts stations =
-    let one = with_items_is inside.hosts new.hosts (go.hosts ∙ hosts) in
-    let two = with_items_is inside.stations new.stations
-    (length-stays caller steps old.stations new.stations go.leads ∙ stations) in
-    ap (λ (list : List HostState). let network : NetworkState = record
-    { hosts = list; stations = (with_items inside.stations new.stations).items } in network) one
-    ∙ ap (λ (list : List StationState). let network : NetworkState = record { hosts = new.hosts; stations = list } in network) two
+    → HostsGo caller happened steps old new → length old.hosts ≡ inside.hosts.len → written inside new.hosts new.stations ≡ new
+network-now inside caller happened steps old new go hosts =
+    ap (λ (list : List HostState). let network : NetworkState = record { hosts = list; stations = new.stations } in network)
+    (with_items_is inside.hosts new.hosts (go.hosts ∙ hosts))
 
 event-as : (args old new now : NetworkState) (event was : Event) (reply : Reply) → old ≡ args → event ≡ was
     → now ≡ new → EventRuns old was reply new → EventRuns args event reply now
@@ -78,15 +72,12 @@ interrupt-event-as args old new now event host ticks reply list old_is event_is 
 
 -- A tick by itself.
 pub tick-now : (inside : Inside) (tick : Tick) (reply : Reply) (old : NetworkState) (stations : List StationState)
-    → TickPlayed tick reply old.stations stations → length old.hosts ≡ inside.hosts.len → length old.stations ≡ inside.stations.len
+    → TickPlayed tick reply old.stations stations → length old.hosts ≡ inside.hosts.len
     → (let network : NetworkState = record { hosts = old.hosts; stations = stations } in
     written inside old.hosts stations ≡ network)
-tick-now inside tick reply old stations played hosts len =
-    let one = with_items_is inside.hosts old.hosts hosts in
-    let two = with_items_is inside.stations stations (length-stays 0 played.steps old.stations stations (played.leads 0) ∙ len) in
-    ap (λ (list : List HostState). let network : NetworkState = record
-    { hosts = list; stations = (with_items inside.stations stations).items } in network) one
-    ∙ ap (λ (list : List StationState). let network : NetworkState = record { hosts = old.hosts; stations = list } in network) two
+tick-now inside tick reply old stations played hosts =
+    ap (λ (list : List HostState). let network : NetworkState = record { hosts = list; stations = stations } in network)
+    (with_items_is inside.hosts old.hosts hosts)
 
 pub tick-event-as : (args old : NetworkState) (stations : List StationState) (now : NetworkState) (event : Event) (tick : Tick)
     (reply : Reply)

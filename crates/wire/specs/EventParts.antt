@@ -5,6 +5,7 @@ use Rattle.driver.specs.declared.interrupt.Handled.{Handled}
 use Rattle.packet_socket.specs.HostState.{HostState}
 use Rattle.packet_socket.specs.declared.receive.RecvError.{RecvError}
 use Rattle.adapter.specs.HostFrames.{frames_held}
+use Rattle.adapter.specs.State.{AdapterState}
 use Rattle.bus.specs.TickGroups.{without_go}
 use Rattle.stations.specs.AtomicSteps.{AtomicStep, tick_of}
 use Rattle.stations.specs.Stations.{StationState, world_at}
@@ -76,12 +77,15 @@ pub record TakesFrames (host : ℕ) (steps : List AtomicStep) (taken : List (Lis
   pub queues : (socket : ℕ) → waiting_frames new.host socket (world_at new.stations host)
       ≡ waiting_frames old.host socket (world_at old.stations host) ++ socket_frames old.host.kinds socket taken
 
+-- ICR was read first, and showed these causes. By them the answer is NotMine or Handled.
+pub record ReadsIcr (host : ℕ) (steps : List AtomicStep) (adapter : AdapterState) (result : Handled) : Type 0 where
+  pub causes : ℕ
+  pub tells : TellsCauses host steps causes adapter result
+
 pub record IsInterruptAnswer (host : ℕ) (answer : Answer) (steps : List AtomicStep) (old new : ConnectedHost) : Type 0 where
   pub result : Handled
   pub is : answer ≡ Interrupted result
-  -- ICR was read first, and showed these causes. By them the answer is NotMine or Handled.
-  pub causes : ℕ
-  pub tells : TellsCauses host steps causes (world_at old.stations host).adapter result
+  pub reads : ReadsIcr host steps (world_at old.stations host).adapter result
   -- the frames that were taken off the receive ring: none if the answer is NotMine
   pub taken : List (List ℕ)
   pub answers : AnswersInterrupt result old.host new.host (world_at old.stations host) taken

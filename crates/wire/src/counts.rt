@@ -37,7 +37,7 @@ impl Lan {
         ensures stands { NetworkStands self.now }
     {
         let (sum, read_exactly) = self.hosts.get(host)?.missed();
-        let registers = self.stations.get(host)?.counts();
+        let registers = self.network.counts(host);
         let missed = sum.checked_add(u64::from(registers.missed));
         Some(Counts {
             missed: missed.unwrap_or(u64::MAX),

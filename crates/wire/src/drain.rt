@@ -10,7 +10,7 @@ ghost use Rattle.wire.specs.Networks.{IsHost, NetworkStands};
 use crate::Lan;
 use host_calls::Outlet;
 use packet_socket::Host;
-use stations::{Outcomes, Station};
+use stations::{Network, Outcomes};
 
 /// How many frames a receive packet buffer has room for, at most.
 const MOST_BUFFERED: usize = 24;
@@ -46,30 +46,30 @@ impl Lan {
         ensures drains { NetworkDrains self.old host result (S.frames sink.old) (S.frames sink.new) self.new }
         ensures left { length (S.frames sink.old) + S.places sink.old ≤ length (S.frames sink.new) + S.places sink.new }
     {
-        let outcomes = Outcomes::new(*self.stations.allocator());
+        let outcomes = Outcomes::new(*self.hosts.allocator());
         let hosts = self.hosts.as_mut_slice();
-        drain(hosts, self.stations.as_mut_slice(), host, outcomes, sink)
+        drain(hosts, &mut self.network, host, outcomes, sink)
     }
 }
 
 /// The same, over the parts of a network. No outcome is noted.
 fn drain<S: Outlet>(
     hosts: &mut [Host],
-    stations: &mut [Station],
+    network: &mut Network,
     host: usize,
     outcomes: Outcomes,
     sink: &mut S,
 ) -> u64
-    requires stands { NetworkStands (record { hosts = hosts.old; stations = stations.old }) }
-    requires room { (state : HostState) → IsHost (record { hosts = hosts.old; stations = stations.old }) host state
+    requires stands { NetworkStands (record { hosts = hosts.old; stations = network.old }) }
+    requires room { (state : HostState) → IsHost (record { hosts = hosts.old; stations = network.old }) host state
         → state.driver.layout.buffers + 24 ≤ S.places sink.old }
-    ensures drains { NetworkDrains (record { hosts = hosts.old; stations = stations.old }) host result
-        (S.frames sink.old) (S.frames sink.new) (record { hosts = hosts.new; stations = stations.new }) }
+    ensures drains { NetworkDrains (record { hosts = hosts.old; stations = network.old }) host result
+        (S.frames sink.old) (S.frames sink.new) (record { hosts = hosts.new; stations = network.new }) }
     ensures left { length (S.frames sink.old) + S.places sink.old ≤ length (S.frames sink.new) + S.places sink.new }
 {
     if host >= hosts.len() {
         return 0;
     }
     let mut outcomes = outcomes;
-    host_calls::drain(&mut hosts[host], stations, host, &mut outcomes, sink)
+    host_calls::drain(&mut hosts[host], network, host, &mut outcomes, sink)
 }

@@ -16,17 +16,17 @@ use adapter::Outcome;
 use host_calls::recv_into;
 use network_plan::{Answer, Reply};
 use packet_socket::{Host, RecvError};
-use stations::{HeapFrame, Outcomes, Station, Tick, play, play_rest};
+use stations::{HeapFrame, Network, Outcomes, Tick};
 
 /// A call for a host that isn't there: its ticks are played.
-fn no_host(stations: &mut [Station], ticks: &[Tick], outcomes: Outcomes) -> Reply
+fn no_host(network: &mut Network, ticks: &[Tick], outcomes: Outcomes) -> Reply
     requires room { length ticks.now ≤ outcomes.room }
     ensures answer { result.answer ≡ NoHost }
     ensures none { result.accesses ≡ 0 }
-    ensures plays { PlaysTicks stations.old (without_go is_go ticks.now) 0 outcomes result.outcomes stations.new }
+    ensures plays { PlaysTicks network.old (without_go is_go ticks.now) 0 outcomes result.outcomes network.new }
 {
     let mut outcomes = outcomes;
-    play_rest(stations, ticks, 0, &mut outcomes);
+    network.play_rest(ticks, 0, &mut outcomes);
     Reply {
         answer: Answer::NoHost,
         accesses: 0,
@@ -38,32 +38,25 @@ fn no_host(stations: &mut [Station], ticks: &[Tick], outcomes: Outcomes) -> Repl
 #[inline(never)]
 pub(crate) fn send(
     hosts: &mut [Host],
-    stations: &mut [Station],
+    network: &mut Network,
     host: usize,
     frame: &[u8],
     ticks: &[Tick],
     outcomes: Outcomes,
 ) -> Reply
-    requires stands { NetworkStands (record { hosts = hosts.old; stations = stations.old }) }
+    requires stands { NetworkStands (record { hosts = hosts.old; stations = network.old }) }
     requires empty { outcomes.list ≡ [] }
     requires room { length ticks.now ≤ outcomes.room }
     ensures { CallPlayed (ticked host ticks.now)
         (accepted_of host frame.now result.answer ++ told ticks.now result.outcomes.list) result
-        (IsSendAnswer host frame.now) (record { hosts = hosts.old; stations = stations.old })
-        (record { hosts = hosts.new; stations = stations.new }) }
+        (IsSendAnswer host frame.now) (record { hosts = hosts.old; stations = network.old })
+        (record { hosts = hosts.new; stations = network.new }) }
 {
     if host >= hosts.len() {
-        return no_host(stations, ticks, outcomes);
+        return no_host(network, ticks, outcomes);
     }
     let mut outcomes = outcomes;
-    let called = host_calls::send(
-        &mut hosts[host],
-        stations,
-        host,
-        frame,
-        ticks,
-        &mut outcomes,
-    );
+    let called = host_calls::send(&mut hosts[host], network, host, frame, ticks, &mut outcomes);
     Reply {
         answer: Answer::Sent(called.answer),
         accesses: called.accesses,
@@ -101,29 +94,29 @@ fn shown(
 #[inline(never)]
 pub(crate) fn recv(
     hosts: &mut [Host],
-    stations: &mut [Station],
+    network: &mut Network,
     host: usize,
     socket: usize,
     ticks: &[Tick],
     outcomes: Outcomes,
     room: FrameRoom,
 ) -> Reply
-    requires stands { NetworkStands (record { hosts = hosts.old; stations = stations.old }) }
+    requires stands { NetworkStands (record { hosts = hosts.old; stations = network.old }) }
     requires empty { outcomes.list ≡ [] }
     requires room { length ticks.now ≤ outcomes.room }
     ensures { CallPlayed (ticked host ticks.now)
         (told ticks.now result.outcomes.list ++ given_of host socket result.answer) result
-        (IsRecvAnswer host socket) (record { hosts = hosts.old; stations = stations.old })
-        (record { hosts = hosts.new; stations = stations.new }) }
+        (IsRecvAnswer host socket) (record { hosts = hosts.old; stations = network.old })
+        (record { hosts = hosts.new; stations = network.new }) }
 {
     if host >= hosts.len() {
-        return no_host(stations, ticks, outcomes);
+        return no_host(network, ticks, outcomes);
     }
     let FrameRoom { bytes, frame } = room;
     let mut outcomes = outcomes;
     let called = recv_into(
         &mut hosts[host],
-        stations,
+        network,
         host,
         socket,
         ticks,
@@ -141,23 +134,23 @@ pub(crate) fn recv(
 #[inline(never)]
 pub(crate) fn interrupt(
     hosts: &mut [Host],
-    stations: &mut [Station],
+    network: &mut Network,
     host: usize,
     ticks: &[Tick],
     outcomes: Outcomes,
 ) -> Reply
-    requires stands { NetworkStands (record { hosts = hosts.old; stations = stations.old }) }
+    requires stands { NetworkStands (record { hosts = hosts.old; stations = network.old }) }
     requires empty { outcomes.list ≡ [] }
     requires room { length ticks.now ≤ outcomes.room }
     ensures { CallPlayed (ticked host ticks.now) (told ticks.now result.outcomes.list) result (IsInterruptAnswer host)
-        (record { hosts = hosts.old; stations = stations.old })
-        (record { hosts = hosts.new; stations = stations.new }) }
+        (record { hosts = hosts.old; stations = network.old })
+        (record { hosts = hosts.new; stations = network.new }) }
 {
     if host >= hosts.len() {
-        return no_host(stations, ticks, outcomes);
+        return no_host(network, ticks, outcomes);
     }
     let mut outcomes = outcomes;
-    let called = host_calls::interrupt(&mut hosts[host], stations, host, ticks, &mut outcomes);
+    let called = host_calls::interrupt(&mut hosts[host], network, host, ticks, &mut outcomes);
     Reply {
         answer: Answer::Interrupted(called.answer),
         accesses: called.accesses,
@@ -166,15 +159,15 @@ pub(crate) fn interrupt(
 }
 
 /// A tick by itself. `Go` does nothing.
-pub(crate) fn tick(stations: &mut [Station], tick: Tick, outcomes: Outcomes) -> Reply
+pub(crate) fn tick(network: &mut Network, tick: Tick, outcomes: Outcomes) -> Reply
     requires empty { outcomes.list ≡ [] }
     requires room { 1 ≤ outcomes.room }
-    ensures { TickPlayed tick result stations.old stations.new }
+    ensures { TickPlayed tick result network.old network.new }
 {
     let mut outcomes = outcomes;
     match tick {
         Tick::Go => outcomes.note(0, Outcome::Nothing, &[]),
-        _ => play(stations, tick, 0, &mut outcomes),
+        _ => network.play(tick, 0, &mut outcomes),
     }
     Reply {
         answer: Answer::Ticked,

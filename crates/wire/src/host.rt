@@ -17,30 +17,24 @@ use dma_memory::HostMemory;
 use eeprom::Image;
 use network_plan::{HostPlan, MOST_SOCKETS};
 use packet_socket::{Host, SocketKind};
-use stations::Station;
 use std::alloc::Global;
 
 /// Makes a host's adapter, and its memory of the layout's size, and initializes the adapter. Before each access of this
-/// its EEPROM and its PHY take a step, and no frame arrives. Then the host is on its wire.
+/// its EEPROM and its PHY take a step, and no frame arrives. Then the host can be connected to any wire.
 ///
 /// # Errors
 ///
 /// [`Memory`](InitError::Memory); [`Checksum`](InitError::Checksum) if the EEPROM's checksum is wrong;
 /// [`NoLink`](InitError::NoLink) if the link needs more than 2,000 ticks or never comes up.
-pub fn bring_up_host(
-    alloc: Global,
-    plan: &HostPlan,
-    wire: usize,
-) -> Result<(Host, Station), InitError>
+pub fn bring_up_host(alloc: Global, plan: &HostPlan) -> Result<(Host, Machine), InitError>
     requires { HasConfig plan.now }
-    ensures comes_up { IfOk result (λ made. ComesUp plan.now made.0 made.1) }
-    ensures wire { IfOk result (λ made. made.1.wire ≡ wire) }
+    ensures comes_up { IfOk result (λ made. (wire : ℕ)
+        → ComesUp plan.now made.0 (record { world = made.1.world; wire = wire; backlog = [] })) }
     ensures why { IfErr result (IsReason plan.now) }
 {
     let mut machine = machine_of(alloc, plan)?;
     let host = host_over(alloc, plan, &mut machine)?;
-    let station = Station::new(alloc, machine, wire)?;
-    Ok((host, station))
+    Ok((host, machine))
 }
 
 /// Initializes the adapter of a new machine. Before each access of this its EEPROM and its PHY take a step, and no

@@ -1,6 +1,6 @@
 // All hosts of a plan are brought up.
 
-ghost use Rattle.std.specs.Prelude.{◌≡◌, ◌≢◌, ◌<◌, ◌++◌, ◌∷◌, [], IfErr, IfOk, Some, length, position, slice_get};
+ghost use Rattle.std.specs.Prelude.{◌≡◌, ◌≢◌, ◌<◌, ◌++◌, ◌∷◌, ℕ, [], IfErr, IfOk, Some, length, position, slice_get};
 ghost use Rattle.std.specs.Prelude.{string_eq};
 ghost use Rattle.bring_up.specs.declared.init_error.InitError.TheVariants as InitError;
 ghost use Rattle.network_plan.specs.Plans.{HasConfigs};
@@ -11,9 +11,10 @@ ghost use Rattle.wire.specs.HostsUp as up;
 
 use crate::host::bring_up_host;
 use bring_up::InitError;
+use bus::Machine;
 use network_plan::{HostPlan, Plan, PlanError};
 use packet_socket::Host;
-use stations::Station;
+use stations::Network;
 use std::alloc::{AllocError, Global};
 
 /// Initializes all hosts of a plan, in order, each with its own adapter and memory. Hosts that name one wire are on it.
@@ -23,42 +24,39 @@ use std::alloc::{AllocError, Global};
 ///
 /// [`Memory`](PlanError::Memory) if memory is refused. [`Init`](PlanError::Init) with the number of the first host
 /// whose EEPROM's checksum is wrong, or whose link needs more than 2,000 ticks or never comes up.
-pub fn bring_up(alloc: Global, plan: &Plan) -> Result<(Vec<Host>, Vec<Station>), PlanError>
+pub fn bring_up(alloc: Global, plan: &Plan) -> Result<(Vec<Host>, Network), PlanError>
     requires { HasConfigs plan.now.hosts.items }
-    ensures up { IfOk result (λ made.
-        AreUp plan.now.hosts.items (length plan.now.hosts.items) made.0.items made.1.items) }
-    ensures wires { IfOk result (λ made. ShareWires plan.now.hosts.items made.1.items) }
+    ensures up { IfOk result (λ made. AreUp plan.now.hosts.items (length plan.now.hosts.items) made.0.items made.1) }
+    ensures wires { IfOk result (λ made. ShareWires plan.now.hosts.items made.1) }
     ensures refuses { IfErr result (IsRefusal plan.now.hosts.items) }
 {
     let plans = plan.hosts.as_slice();
     let mut hosts = Vec::new(alloc);
-    let mut stations = Vec::new(alloc);
+    let mut network = Network::new(alloc);
     for number in 0..plans.len() {
         let made = bring_up_one(alloc, plans, number)?;
-        let Ok(()) = keep(made, &mut hosts, &mut stations) else {
+        let wire = wire_number(plans, &plans[number].wire);
+        let Ok(()) = connect(alloc, made, wire, &mut hosts, &mut network) else {
             return Err(PlanError::Memory);
         };
     }
-    Ok((hosts, stations))
+    Ok((hosts, network))
 }
 
-/// Initializes one host of a plan on its wire, after those before it.
+/// Initializes one host of a plan, after those before it.
 fn bring_up_one(
     alloc: Global,
     plans: &[HostPlan],
     number: usize,
-) -> Result<(Host, Station), PlanError>
+) -> Result<(Host, Machine), PlanError>
     requires there { number < length plans.now }
     requires configs { HasConfigs plans.now }
     requires earlier { CanComeUp plans.now number }
-    ensures up { (plan : HostPlan) → slice_get plans.now number ≡ Some plan
-        → IfOk result (λ made. ComesUp plan made.0 made.1) }
-    ensures wire { (plan : HostPlan) → slice_get plans.now number ≡ Some plan
-        → IfOk result (λ made. made.1.wire ≡ up.wire_number plans.now plan.wire) }
+    ensures up { (plan : HostPlan) → slice_get plans.now number ≡ Some plan → IfOk result (λ made. (wire : ℕ)
+        → ComesUp plan made.0 (record { world = made.1.world; wire = wire; backlog = [] })) }
     ensures refuses { IfErr result (IsRefusal plans.now) }
 {
-    let plan = &plans[number];
-    match bring_up_host(alloc, plan, wire_number(plans, &plan.wire)) {
+    match bring_up_host(alloc, &plans[number]) {
         Ok(made) => Ok(made),
         Err(error) => Err(refusal(number, error)),
     }
@@ -89,17 +87,23 @@ fn wire_number(plans: &[HostPlan], wire: &String) -> usize
     first_on(plans, wire).unwrap_or(plans.len())
 }
 
-/// Appends a host and its station to the others.
-fn keep(
-    made: (Host, Station),
+/// Appends a host to the others, and connects its machine to its wire.
+fn connect(
+    alloc: Global,
+    made: (Host, Machine),
+    wire: usize,
     hosts: &mut Vec<Host>,
-    stations: &mut Vec<Station>,
+    network: &mut Network,
 ) -> Result<(), AllocError>
     ensures host { IfOk result (λ done. hosts.new.items ≡ hosts.old.items ++ made.0 ∷ []) }
-    ensures station { IfOk result (λ done. stations.new.items ≡ stations.old.items ++ made.1 ∷ []) }
+    ensures connected { IfOk result (λ done. network.new ≡ network.old ++ record {
+      world = made.1.world;
+      wire = wire;
+      backlog = [];
+    } ∷ []) }
 {
-    let (host, station) = made;
+    let (host, machine) = made;
     hosts.push(host)?;
-    stations.push(station)?;
+    network.connect(alloc, machine, wire)?;
     Ok(())
 }

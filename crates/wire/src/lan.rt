@@ -3,7 +3,7 @@
 use crate::events::{self, FrameRoom};
 use network_plan::{Event, Reply, Stopped};
 use packet_socket::Host;
-use stations::{HeapFrame, Outcomes, Station};
+use stations::{HeapFrame, Network, Outcomes};
 use std::alloc::{AllocError, Global};
 use std::marker::Model;
 
@@ -13,7 +13,7 @@ use std::marker::Model;
 #[derive(Drop)]
 pub struct Lan {
     pub(crate) hosts: Vec<Host>,
-    pub(crate) stations: Vec<Station>,
+    pub(crate) network: Network,
     /// The bytes of the last frame that a socket gave, before they are copied into its reply.
     pub(crate) given: [u8; 1518],
 }
@@ -40,12 +40,12 @@ impl Lan {
         ensures err { OnErr result (self.new ≡ self.old) }
     {
         let hosts = self.hosts.as_mut_slice();
-        let stations = self.stations.as_mut_slice();
+        let network = &mut self.network;
         match event {
             Event::Send { host, frame, ticks } => {
                 let outcomes = Outcomes::with_room(alloc, ticks.len())?;
                 let frame = frame.as_slice();
-                Ok(events::send(hosts, stations, *host, frame, ticks.as_slice(), outcomes))
+                Ok(events::send(hosts, network, *host, frame, ticks.as_slice(), outcomes))
             }
             Event::Recv {
                 host,
@@ -58,15 +58,15 @@ impl Lan {
                     frame: HeapFrame::with_room(alloc)?,
                 };
                 let ticks = ticks.as_slice();
-                Ok(events::recv(hosts, stations, *host, *socket, ticks, outcomes, room))
+                Ok(events::recv(hosts, network, *host, *socket, ticks, outcomes, room))
             }
             Event::Interrupt { host, ticks } => {
                 let outcomes = Outcomes::with_room(alloc, ticks.len())?;
-                Ok(events::interrupt(hosts, stations, *host, ticks.as_slice(), outcomes))
+                Ok(events::interrupt(hosts, network, *host, ticks.as_slice(), outcomes))
             }
             Event::Tick(tick) => {
                 let outcomes = Outcomes::with_room(alloc, 1)?;
-                Ok(events::tick(stations, *tick, outcomes))
+                Ok(events::tick(network, *tick, outcomes))
             }
         }
     }

@@ -21,10 +21,10 @@ impl Lan {
         ensures { IsLanAnswer plan.now.hosts.items result }
     {
         plan.check()?;
-        let (hosts, stations) = bring_up(alloc, plan)?;
+        let (hosts, network) = bring_up(alloc, plan)?;
         Ok(Lan {
             hosts,
-            stations,
+            network,
             given: [0; 1518],
         })
     }

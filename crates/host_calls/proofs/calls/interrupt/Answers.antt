@@ -15,8 +15,8 @@ returns c =
     let ends = c.finish.new.self in
     lent-back (λ (stations : List StationState) (noted : OutcomeList). InterruptRuns
     (played_call c.args.place c.args.ticks.now c.args.outcomes.now noted ends.accesses) result
-    (connected h c.args.stations.now) (connected h' stations))
-    ends.stations.now _ ends.outcomes.now _ (search rules) (search rules)
+    (connected h c.args.network.now) (connected h' stations))
+    ends.network.now _ ends.outcomes.now _ (search rules) (search rules)
     (interrupt-runs _ c.interrupt-answer.new.bus ends h h' result refl c.requires.ready
     c.interrupt-answer.ensures.only_receives c.interrupt-answer.ensures.serves
     (c.interrupt-answer.ensures.handles true (record { honest = tt; ready = c.requires.ready })) c.finish.ensures)

@@ -10,5 +10,5 @@ returns c =
     let called = c.recv_into-called in
     subst (λ (answer : Result (List ℕ) RecvError). RecvRuns
     (played_call c.args.place c.args.ticks.now c.args.outcomes.now called.new.outcomes called.result.accesses) c.args.socket answer
-    (connected c.args.host.now c.args.stations.now) (connected called.new.host called.new.stations)) (sym c.frame_of.ensures)
+    (connected c.args.host.now c.args.network.now) (connected called.new.host called.new.network)) (sym c.frame_of.ensures)
     called.ensures.gives

@@ -19,8 +19,8 @@ returns-clause-gives c =
     let receives = ensures.receives true (record { honest = tt; ready = c.requires.ready }) in
     lent-back (λ (stations : List StationState) (noted : OutcomeList). RecvRuns
     (played_call c.args.place c.args.ticks.now c.args.outcomes.now noted ends.accesses) c.args.socket (frame_in into result)
-    (connected h c.args.stations.now) (connected h' stations))
-    ends.stations.now _ ends.outcomes.now _ (search rules) (search rules)
+    (connected h c.args.network.now) (connected h' stations))
+    ends.network.now _ ends.outcomes.now _ (search rules) (search rules)
     (record {
       runs = any-runs _ m ends h h' c.args.socket result c.args.into.now into refl (search rules) c.requires.ready receives ensures.ok
           ensures.err c.finish.ensures;

@@ -20,8 +20,8 @@ returns c =
     let call = sent-call _ c.send-answer.new.bus ends h h' frame result refl c.requires.ready others sent c.finish.ensures in
     lent-back (λ (stations : List StationState) (noted : OutcomeList). SendRuns
     (played_call c.args.place c.args.ticks.now c.args.outcomes.now noted ends.accesses) frame result
-    (connected h c.args.stations.now) (connected h' stations))
-    ends.stations.now _ ends.outcomes.now _ (search rules) (search rules)
+    (connected h c.args.network.now) (connected h' stations))
+    ends.network.now _ ends.outcomes.now _ (search rules) (search rules)
     (record {
       runs = call.0;
       frees_first = call.1;

@@ -1,5 +1,6 @@
 use Rattle.std.proofs.Common.{◌≡◌, ◌+◌, ℕ, Bool, true, ap, arith, length, length-append, subst}
 use Rattle.stations.specs.Stations.{world_at}
+use Rattle.stations.proofs.Lengths.{length-stays}
 use Rattle.host_calls.specs.ConnectedHosts.{connected}
 use Rattle.host_calls.specs.DrainSteps.{StepsInto, outlet, steps_of}
 use Rattle.host_calls.proofs.Endings.{drains-into, held-at_most, steps-fit}
@@ -8,17 +9,22 @@ use Rattle.host_calls.proofs.draining.drain.Goals as goal
 
 pub loop-steps-init : goal.loop-steps-init
 loop-steps-init g c = record {
-  into = into-none c.args.place c.args.stations.now c.args.stations.now c.args.host.now c.args.host.now
+  into = into-none c.args.place c.args.network.now c.args.network.now c.args.host.now c.args.host.now
       (g.S.Outlet.frames c.args.sink.now) (g.S.Outlet.places c.args.sink.now) 0
-      (steps-none c.args.place c.args.stations.now c.args.host.now c.requires.stands);
+      (steps-none c.args.place c.args.network.now c.args.host.now c.requires.stands);
   stands = c.requires.stands;
   adapter = λ adapter. adapter;
 }
 
+pub step-requires-clause-there : goal.step-requires-clause-there
+step-requires-clause-there g c =
+    let on = c.loop-steps.invariant.into.on in
+    omega (arith, c.requires.there, length-stays c.args.place on.played c.args.network.now c.loop-steps.network on.leads)
+
 pub step-requires-clause-room : goal.step-requires-clause-room
 step-requires-clause-room g c = λ adapter.
     let into = c.loop-steps.invariant.into in
-    let most = held-at_most c.args.host.now (world_at c.args.stations.now c.args.place) c.requires.stands
+    let most = held-at_most c.args.host.now (world_at c.args.network.now c.args.place) c.requires.stands
     (c.loop-steps.invariant.adapter adapter) in
     omega (arith, into.room, into.on.counts.held, most, c.requires.room)
 
@@ -29,9 +35,9 @@ overflow_add-steps g c =
     subst (λ (stepped : Bool). StepsInto (steps_of stepped) c.args.place
     (outlet (g.S.Outlet.frames c.loop-steps.sink) (g.S.Outlet.places c.loop-steps.sink))
     (outlet (g.S.Outlet.frames c.step.new.sink) (g.S.Outlet.places c.step.new.sink))
-    (connected c.loop-steps.host c.loop-steps.stations)
-    (connected c.step.new.host c.step.new.stations)) c.loop-steps-test.true c.step.ensures.steps in
-    let fit = steps-fit c.args.host.now (world_at c.args.stations.now c.args.place) c.requires.stands
+    (connected c.loop-steps.host c.loop-steps.network)
+    (connected c.step.new.host c.step.new.network)) c.loop-steps-test.true c.step.ensures.steps in
+    let fit = steps-fit c.args.host.now (world_at c.args.network.now c.args.place) c.requires.stands
     (c.loop-steps.invariant.adapter c.step.ensures.adapter) in
     omega (arith, into.on.counts.most, step.on.counts.most, fit)
 
@@ -42,14 +48,14 @@ loop-steps-preserved g c =
     subst (λ (stepped : Bool). StepsInto (steps_of stepped) c.args.place
     (outlet (g.S.Outlet.frames c.loop-steps.sink) (g.S.Outlet.places c.loop-steps.sink))
     (outlet (g.S.Outlet.frames c.step.new.sink) (g.S.Outlet.places c.step.new.sink))
-    (connected c.loop-steps.host c.loop-steps.stations)
-    (connected c.step.new.host c.step.new.stations)) c.loop-steps-test.true c.step.ensures.steps in
+    (connected c.loop-steps.host c.loop-steps.network)
+    (connected c.step.new.host c.step.new.network)) c.loop-steps-test.true c.step.ensures.steps in
     record {
-      into = into-join c.loop-steps.steps 1 c.args.place c.args.stations.now c.loop-steps.stations c.step.new.stations c.args.host.now
+      into = into-join c.loop-steps.steps 1 c.args.place c.args.network.now c.loop-steps.network c.step.new.network c.args.host.now
           c.loop-steps.host c.step.new.host (g.S.Outlet.frames c.args.sink.now) (g.S.Outlet.frames c.loop-steps.sink)
           (g.S.Outlet.frames c.step.new.sink) (g.S.Outlet.places c.args.sink.now) (g.S.Outlet.places c.loop-steps.sink)
           (g.S.Outlet.places c.step.new.sink) into step;
-      stands = stands-on 1 c.args.place c.loop-steps.stations c.step.new.stations c.loop-steps.host c.step.new.host step.given step.on
+      stands = stands-on 1 c.args.place c.loop-steps.network c.step.new.network c.loop-steps.host c.step.new.host step.given step.on
           c.loop-steps.invariant.stands;
       adapter = λ adapter. c.loop-steps.invariant.adapter c.step.ensures.adapter;
     }
@@ -61,14 +67,14 @@ returns-clause-drains g c =
     let more = steps_of c.step.result in
     let none : n + more ≡ n =
     subst (λ (stepped : Bool). n + steps_of stepped ≡ n) (Rattle.std.proofs.Common.sym c.loop-steps-test.false) (omega arith) in
-    drains-into n c.args.place c.args.stations.now c.step.new.stations c.args.host.now c.step.new.host
+    drains-into n c.args.place c.args.network.now c.step.new.network c.args.host.now c.step.new.host
     (g.S.Outlet.frames c.args.sink.now) (g.S.Outlet.frames c.step.new.sink) (g.S.Outlet.places c.args.sink.now)
     (g.S.Outlet.places c.step.new.sink)
     (subst (λ (k : ℕ). StepsInto k c.args.place
     (outlet (g.S.Outlet.frames c.args.sink.now) (g.S.Outlet.places c.args.sink.now))
     (outlet (g.S.Outlet.frames c.step.new.sink) (g.S.Outlet.places c.step.new.sink))
-    (connected c.args.host.now c.args.stations.now) (connected c.step.new.host c.step.new.stations)) none
-    (into-join n more c.args.place c.args.stations.now c.loop-steps.stations c.step.new.stations c.args.host.now
+    (connected c.args.host.now c.args.network.now) (connected c.step.new.host c.step.new.network)) none
+    (into-join n more c.args.place c.args.network.now c.loop-steps.network c.step.new.network c.args.host.now
     c.loop-steps.host c.step.new.host (g.S.Outlet.frames c.args.sink.now) (g.S.Outlet.frames c.loop-steps.sink)
     (g.S.Outlet.frames c.step.new.sink) (g.S.Outlet.places c.args.sink.now) (g.S.Outlet.places c.loop-steps.sink)
     (g.S.Outlet.places c.step.new.sink) into c.step.ensures.steps))

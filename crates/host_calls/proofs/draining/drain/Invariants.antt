@@ -9,10 +9,10 @@ use Rattle.host_calls.proofs.draining.drain.Given as goal
 abbrev pub invariant-loop-steps : goal.invariant-loop-steps
 invariant-loop-steps g l = record {
   into : StepsInto l.steps l.place (outlet (g.S.Outlet.frames l.fn.sink) (g.S.Outlet.places l.fn.sink))
-      (outlet (g.S.Outlet.frames l.sink) (g.S.Outlet.places l.sink)) (connected l.fn.host l.fn.stations) (connected l.host l.stations);
-  stands : CanBeDrained l.host (world_at l.stations l.place);
-  adapter : IsAdapter (world_at l.stations l.place).adapter → IsAdapter (world_at l.fn.stations l.place).adapter;
+      (outlet (g.S.Outlet.frames l.sink) (g.S.Outlet.places l.sink)) (connected l.fn.host l.fn.network) (connected l.host l.network);
+  stands : CanBeDrained l.host (world_at l.network l.place);
+  adapter : IsAdapter (world_at l.network l.place).adapter → IsAdapter (world_at l.fn.network l.place).adapter;
 }
 
 abbrev pub decreases-loop-steps : goal.decreases-loop-steps
-decreases-loop-steps g l = count_steps l.host (world_at l.stations l.place)
+decreases-loop-steps g l = count_steps l.host (world_at l.network l.place)

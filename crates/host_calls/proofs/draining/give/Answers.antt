@@ -16,17 +16,17 @@ returns-in-Ok g c =
       given = given_by c.args.socket (Ok c.in-Ok.frame);
       appended = search rules;
       room = omega arith;
-      on = given-steps c.args.place c.args.socket c.in-Ok.frame c.args.stations.now c.recv.new.stations c.args.outcomes.now
+      on = given-steps c.args.place c.args.socket c.in-Ok.frame c.args.network.now c.recv.new.network c.args.outcomes.now
           c.recv.new.outcomes c.recv.result.accesses c.args.host.now c.recv.new.host
           (MakesRecv (Ok c.in-Ok.frame) c.args.socket c.args.host.now c.recv.new.host) c.requires.stands.ready
           (subst (λ (answer : Result (List ℕ) RecvError). CallRuns
           (played_call c.args.place [] c.args.outcomes.now c.recv.new.outcomes c.recv.result.accesses)
           (did [] (given_by c.args.socket answer) []) (MakesRecv answer c.args.socket c.args.host.now c.recv.new.host)
-          (connected c.args.host.now c.args.stations.now) (connected c.recv.new.host c.recv.new.stations)) c.in-Ok.is
+          (connected c.args.host.now c.args.network.now) (connected c.recv.new.host c.recv.new.network)) c.in-Ok.is
           c.recv.ensures.runs) c.requires.free;
     }
 
 pub returns-in_default : goal.returns-in_default
 returns-in_default g c =
     absurd (not-refused c.recv.result.answer c.in_default.field-0 c.args.socket c.args.host.now
-    (world_at c.args.stations.now c.args.place) c.recv.ensures.answers c.requires.known c.requires.waits c.in_default.is)
+    (world_at c.args.network.now c.args.place) c.recv.ensures.answers c.requires.known c.requires.waits c.in_default.is)

@@ -12,8 +12,8 @@ use Rattle.wire.proofs.events.interrupt.Goals as goal
 
 pub returns-then-host-hosts : goal.returns-then-host-hosts
 returns-then-host-hosts c =
-    absent-played c.args.host c.args.ticks.now (record { hosts = c.args.hosts.now; stations = c.args.stations.now })
-    c.no_host.new.stations c.args.outcomes c.no_host.result
+    absent-played c.args.host c.args.ticks.now (record { hosts = c.args.hosts.now; stations = c.args.network.now })
+    c.no_host.new.network c.args.outcomes c.no_host.result
     (told c.args.ticks.now c.no_host.result.outcomes.list)
     (IsInterruptAnswer c.args.host) c.requires.stands c.if-host-hosts.true c.requires.empty c.no_host.ensures.answer
     c.no_host.ensures.none c.no_host.ensures.plays refl
@@ -28,24 +28,23 @@ pub returns : goal.returns
 returns c =
     let host = slice_index_or c.args.hosts.now c.args.host c.index-hosts-host.result in
     let runs = c.interrupt-called.ensures.runs in
-    call-played c.args.host c.args.ticks.now (record { hosts = c.args.hosts.now; stations = c.args.stations.now })
-    c.interrupt-called.new.stations c.args.outcomes c.interrupt-called.new.outcomes host c.interrupt-called.new.host
+    call-played c.args.host c.args.ticks.now (record { hosts = c.args.hosts.now; stations = c.args.network.now })
+    c.interrupt-called.new.network c.args.outcomes c.interrupt-called.new.outcomes host c.interrupt-called.new.host
     c.interrupt-called.ensures.taken [] [] (MakesInterrupt c.interrupt-called.result.answer host c.interrupt-called.new.host)
     (told c.args.ticks.now c.interrupt-called.new.outcomes.list) _ (IsInterruptAnswer c.args.host) c.requires.stands
     (slice_get-get_or c.args.hosts.now c.args.host c.index-hosts-host.result c.if-host-hosts.false) c.if-host-hosts.false
     c.requires.empty refl (λ none. absurd (cc)) runs
     (λ k said.
-    subst (λ (list : List Happening). Tells k list runs.steps (wire_at c.args.stations.now)
+    subst (λ (list : List Happening). Tells k list runs.steps (wire_at c.args.network.now)
     (of_host k c.args.host []) (of_host k c.args.host [])) (sym said)
-    (tells-call k c.args.host runs.steps (wire_at c.args.stations.now)))
+    (tells-call k c.args.host runs.steps (wire_at c.args.network.now)))
     (record {
       result = c.interrupt-called.result.answer;
       is = refl;
-      causes = c.interrupt-called.ensures.causes;
-      tells = c.interrupt-called.ensures.tells;
+      reads = record { causes = c.interrupt-called.ensures.causes; tells = c.interrupt-called.ensures.tells };
       taken = c.interrupt-called.ensures.taken;
       answers = c.interrupt-called.ensures.answer;
-      takes = takes-frames c.args.host runs.steps c.args.stations.now c.interrupt-called.new.stations host c.interrupt-called.new.host
+      takes = takes-frames c.args.host runs.steps c.args.network.now c.interrupt-called.new.network host c.interrupt-called.new.host
           c.interrupt-called.ensures.taken runs.runs;
       makes = runs.makes;
       looks = c.interrupt-called.ensures.looks;

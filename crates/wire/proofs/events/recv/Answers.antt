@@ -18,8 +18,8 @@ use Rattle.wire.proofs.events.recv.Goals as goal
 
 pub returns-then-host-hosts : goal.returns-then-host-hosts
 returns-then-host-hosts c =
-    absent-played c.args.host c.args.ticks.now (record { hosts = c.args.hosts.now; stations = c.args.stations.now })
-    c.no_host.new.stations c.args.outcomes c.no_host.result
+    absent-played c.args.host c.args.ticks.now (record { hosts = c.args.hosts.now; stations = c.args.network.now })
+    c.no_host.new.network c.args.outcomes c.no_host.result
     (told c.args.ticks.now c.no_host.result.outcomes.list ++ given_of c.args.host c.args.socket c.no_host.result.answer)
     (IsRecvAnswer c.args.host c.args.socket) c.requires.stands c.if-host-hosts.true c.requires.empty c.no_host.ensures.answer
     c.no_host.ensures.none c.no_host.ensures.plays (ap (λ (answer : Answer). told c.args.ticks.now c.no_host.result.outcomes.list
@@ -38,12 +38,12 @@ returns c =
     let answer = c.shown.result in
     let called = c.recv_into-called in
     let call = played_call c.args.host c.args.ticks.now c.args.outcomes called.new.outcomes called.result.accesses in
-    let recv : RecvRuns call c.args.socket answer (connected host c.args.stations.now) (connected called.new.host called.new.stations) =
-    subst (λ (shown : Result (List ℕ) RecvError). RecvRuns call c.args.socket shown (connected host c.args.stations.now)
-    (connected called.new.host called.new.stations)) (sym c.shown.ensures) called.ensures.gives in
+    let recv : RecvRuns call c.args.socket answer (connected host c.args.network.now) (connected called.new.host called.new.network) =
+    subst (λ (shown : Result (List ℕ) RecvError). RecvRuns call c.args.socket shown (connected host c.args.network.now)
+    (connected called.new.host called.new.network)) (sym c.shown.ensures) called.ensures.gives in
     let runs = recv.runs in
-    call-played c.args.host c.args.ticks.now (record { hosts = c.args.hosts.now; stations = c.args.stations.now })
-    c.recv_into-called.new.stations c.args.outcomes c.recv_into-called.new.outcomes host c.recv_into-called.new.host []
+    call-played c.args.host c.args.ticks.now (record { hosts = c.args.hosts.now; stations = c.args.network.now })
+    c.recv_into-called.new.network c.args.outcomes c.recv_into-called.new.outcomes host c.recv_into-called.new.host []
     (given_by c.args.socket answer) [] (MakesRecv answer c.args.socket host c.recv_into-called.new.host)
     (told c.args.ticks.now c.recv_into-called.new.outcomes.list ++ given_of c.args.host c.args.socket (Received answer)) _
     (IsRecvAnswer c.args.host c.args.socket) c.requires.stands
@@ -51,9 +51,9 @@ returns c =
     c.requires.empty refl (λ none. absurd (cc)) runs
     (λ k said.
     subst (λ (list : List Happening). Tells k
-    (list ++ given_of c.args.host c.args.socket (Received answer)) runs.steps (wire_at c.args.stations.now)
+    (list ++ given_of c.args.host c.args.socket (Received answer)) runs.steps (wire_at c.args.network.now)
     (of_host k c.args.host (given_by c.args.socket answer)) (of_host k c.args.host [])) (sym said)
-    (tells-recv k c.args.host c.args.socket answer runs.steps (wire_at c.args.stations.now)))
+    (tells-recv k c.args.host c.args.socket answer runs.steps (wire_at c.args.network.now)))
     (record {
       result = answer;
       is = refl;

@@ -15,8 +15,8 @@ use Rattle.wire.proofs.events.send.Goals as goal
 
 pub returns-then-host-hosts : goal.returns-then-host-hosts
 returns-then-host-hosts c =
-    absent-played c.args.host c.args.ticks.now (record { hosts = c.args.hosts.now; stations = c.args.stations.now })
-    c.no_host.new.stations c.args.outcomes c.no_host.result
+    absent-played c.args.host c.args.ticks.now (record { hosts = c.args.hosts.now; stations = c.args.network.now })
+    c.no_host.new.network c.args.outcomes c.no_host.result
     (accepted_of c.args.host c.args.frame.now c.no_host.result.answer ++ told c.args.ticks.now c.no_host.result.outcomes.list)
     (IsSendAnswer c.args.host c.args.frame.now) c.requires.stands c.if-host-hosts.true c.requires.empty c.no_host.ensures.answer
     c.no_host.ensures.none c.no_host.ensures.plays (ap (λ (answer : Answer). accepted_of c.args.host c.args.frame.now answer
@@ -32,8 +32,8 @@ pub returns : goal.returns
 returns c =
     let host = slice_index_or c.args.hosts.now c.args.host c.index-hosts-host.result in
     let runs = c.send-called.ensures.runs in
-    call-played c.args.host c.args.ticks.now (record { hosts = c.args.hosts.now; stations = c.args.stations.now })
-    c.send-called.new.stations c.args.outcomes c.send-called.new.outcomes host c.send-called.new.host [] []
+    call-played c.args.host c.args.ticks.now (record { hosts = c.args.hosts.now; stations = c.args.network.now })
+    c.send-called.new.network c.args.outcomes c.send-called.new.outcomes host c.send-called.new.host [] []
     (accepted_by c.send-called.result.answer c.args.frame.now)
     (MakesSend c.send-called.result.answer c.args.frame.now host c.send-called.new.host)
     (accepted_of c.args.host c.args.frame.now
@@ -43,9 +43,9 @@ returns c =
     c.requires.empty refl (λ none. absurd (cc)) runs
     (λ k said.
     subst (λ (list : List Happening). Tells k
-    (accepted_of c.args.host c.args.frame.now (Sent c.send-called.result.answer) ++ list) runs.steps (wire_at c.args.stations.now)
+    (accepted_of c.args.host c.args.frame.now (Sent c.send-called.result.answer) ++ list) runs.steps (wire_at c.args.network.now)
     (of_host k c.args.host []) (of_host k c.args.host (accepted_by c.send-called.result.answer c.args.frame.now))) (sym said)
-    (tells-send k c.args.host c.args.frame.now c.send-called.result.answer runs.steps (wire_at c.args.stations.now)))
+    (tells-send k c.args.host c.args.frame.now c.send-called.result.answer runs.steps (wire_at c.args.network.now)))
     (record {
       result = c.send-called.result.answer;
       is = refl;

@@ -14,17 +14,17 @@ use Rattle.wire.proofs.events.tick.Goals as goal
 pub returns : goal.returns
 returns c =
     let reply : Reply = record { answer = Ticked; accesses = 0; outcomes = c.match-tick.outcomes } in
-    let old = c.args.stations.now in
+    let old = c.args.network.now in
     elim c.match-tick.branch [
       | in-Go w ↦
-          subst (λ (t : Tick). TickPlayed t reply old c.match-tick.stations) (sym w.in-Go.is)
-          (subst (λ (ss : List StationState). TickPlayed Go reply old ss) (sym w.stations-is)
+          subst (λ (t : Tick). TickPlayed t reply old c.match-tick.network) (sym w.in-Go.is)
+          (subst (λ (ss : List StationState). TickPlayed Go reply old ss) (sym w.network-is)
           (go-played old c.args.outcomes reply c.requires.empty refl refl
           (ap (λ (o : OutcomeList). o.list) w.outcomes-is ∙ w.note.ensures.list)))
       | in_default w ↦
-          subst (λ (ss : List StationState). TickPlayed c.args.tick reply old ss) (sym w.stations-is)
-          (tick-played c.args.tick old w.play.new.stations c.args.outcomes reply c.requires.empty
+          subst (λ (ss : List StationState). TickPlayed c.args.tick reply old ss) (sym w.network-is)
+          (tick-played c.args.tick old w.play.new.self c.args.outcomes reply c.requires.empty
           (not-go c.args.tick w.in_default.not-Go) refl refl
-          (subst (λ (o : OutcomeList). PlaysNoted old c.args.tick 0 c.args.outcomes o w.play.new.stations) (sym w.outcomes-is)
+          (subst (λ (o : OutcomeList). PlaysNoted old c.args.tick 0 c.args.outcomes o w.play.new.self) (sym w.outcomes-is)
           w.play.ensures))
     ]

@@ -3,19 +3,30 @@ use Rattle.adapter.specs.World.{World}
 use Rattle.bus.specs.declared.event.Access.TheVariants.{Stores}
 use Rattle.dma_memory.specs.Laws.{length-with_bytes}
 use Rattle.stations.specs.Retelling.{world_here}
+use Rattle.std.proofs.Common.{List, arith, ◌∙◌}
+use Rattle.bus.specs.declared.event.Event.TheVariants.{Accesses}
+use Rattle.stations.specs.Stations.{StationState}
+use Rattle.stations.proofs.Lengths.{length-event}
 use Rattle.stations.proofs.LentAccesses.{access-keeps, acted, size-prepared, world-there}
 use Rattle.stations.proofs.accesses.LentBusBus.store.Goals as goal
 
-pub store_at-requires-clause-lies : goal.store_at-requires-clause-lies
-store_at-requires-clause-lies c = omega (arith, c.requires, size-prepared c.args.self.now c.prepare.new.self c.prepare.ensures)
+pub invariant_of-self : goal.invariant_of-self
+invariant_of-self c =
+    let p = c.prepare.new.self in
+    let stays = ap (λ (list : List StationState). length list) c.store.ensures.state
+    ∙ length-event p.host (Accesses (Stores c.args.address c.args.bytes.now)) p.network.now in
+    record { there = omega (arith, p.there, stays); room = p.room }
+
+pub store-requires-clause-lies : goal.store-requires-clause-lies
+store-requires-clause-lies c = omega (arith, c.requires, size-prepared c.args.self.now c.prepare.new.self c.prepare.ensures)
 
 pub returns-clause-keeps : goal.returns-clause-keeps
 returns-clause-keeps c =
     let p = c.prepare.new.self in
     let there =
-    world-there p.stations.now c.store_at.new.stations p.host
-    (Stores c.args.address c.args.bytes.now) p.there tt c.store_at.ensures.state in
-    access-keeps c.args.self.now p _ c.prepare.ensures (record { stations = refl; outcomes = refl; host = refl })
+    world-there p.network.now c.store.new.self p.host
+    (Stores c.args.address c.args.bytes.now) p.there tt c.store.ensures.state in
+    access-keeps c.args.self.now p _ c.prepare.ensures (record { network = refl; outcomes = refl; host = refl })
     (ap (λ (w : World). length w.memory) there
     ∙ length-with_bytes (world_here p).memory c.args.bytes.now c.args.address
     (omega (arith, c.requires, size-prepared c.args.self.now p c.prepare.ensures)))
@@ -24,8 +35,8 @@ pub returns-clause-acts : goal.returns-clause-acts
 returns-clause-acts c = λ honest.
     let p = c.prepare.new.self in
     let there =
-    world-there p.stations.now c.store_at.new.stations p.host
-    (Stores c.args.address c.args.bytes.now) p.there tt c.store_at.ensures.state in
+    world-there p.network.now c.store.new.self p.host
+    (Stores c.args.address c.args.bytes.now) p.there tt c.store.ensures.state in
     acted c.args.self.now p _ (Stores c.args.address c.args.bytes.now) _ c.prepare.ensures
-    (record { lent = record { stations = refl; outcomes = refl; host = refl }; ticks = refl; accesses = refl; outcomes = refl })
-    p.there c.store_at.ensures.state tt c.store_at.ensures.adapter there
+    (record { lent = record { network = refl; outcomes = refl; host = refl }; ticks = refl; accesses = refl; outcomes = refl })
+    p.there c.store.ensures.state tt c.store.ensures.adapter there

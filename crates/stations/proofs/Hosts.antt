@@ -1,0 +1,138 @@
+-- Machines and their ends of wires, side by side.
+use Rattle.std.proofs.Common.{◌≡◌, ◌<◌, zero, suc, ℕ, List, [], ◌∷◌, ◌++◌, Option, Some, None}
+use Rattle.std.proofs.Common.{length, slice_get, slice_set, slice_index_or, refl, sym, ap, ◌∙◌, arith}
+use Rattle.std.proofs.lemmas.Option.{slice_get-get_or}
+use Rattle.circular_buffer.proofs.Places.{slice_get-some}
+use Rattle.bus.specs.Machines.{MachineState, after_event}
+use Rattle.bus.specs.Trails.{past_of_event}
+use Rattle.bus.specs.declared.event.Event.{Event}
+use Rattle.stations.specs.Ends.{EndState}
+use Rattle.stations.specs.NetworkView.{station_of, stations_of}
+use Rattle.stations.specs.Stations.{StationState, backlog_after, stations_after, world_at, world_of}
+use Rattle.stations.proofs.Places.{set-after}
+
+-- the host at a place
+abbrev pub both : Option MachineState → Option EndState → Option StationState
+both None end = None
+both (Some machine) None = None
+both (Some machine) (Some end) = Some (station_of machine end)
+
+pub get-both : (ms : List MachineState) (es : List EndState) (k : ℕ)
+    → slice_get (stations_of ms es) k ≡ both (slice_get ms k) (slice_get es k)
+get-both [] es k = refl
+get-both (m ∷ ms) [] zero = refl
+get-both (m ∷ ms) [] (suc k) = none (slice_get ms k)
+  where
+    none : (o : Option MachineState) → None ≡ both o None
+    none None = refl
+    none (Some m) = refl
+get-both (m ∷ ms) (e ∷ es) zero = refl
+get-both (m ∷ ms) (e ∷ es) (suc k) = get-both ms es k
+
+pub length-both : (ms : List MachineState) (es : List EndState) → length es ≡ length ms → length (stations_of ms es) ≡ length ms
+length-both [] es same = refl
+length-both (m ∷ ms) [] same = absurd (omega (arith, same))
+length-both (m ∷ ms) (e ∷ es) same =
+    let later : length es ≡ length ms = omega (arith, same) in
+    let rest = length-both ms es later in
+    omega (arith, rest)
+
+-- A host that is there has a machine and an end.
+pub record IsThere (ms : List MachineState) (es : List EndState) (host : ℕ) : Type 0 where
+  pub machine : MachineState
+  pub end : EndState
+  pub has_machine : slice_get ms host ≡ Some machine
+  pub has_end : slice_get es host ≡ Some end
+  pub is : slice_get (stations_of ms es) host ≡ Some (station_of machine end)
+
+pub is-there : (ms : List MachineState) (es : List EndState) (host : ℕ) → length es ≡ length ms → host < length ms → IsThere ms es host
+is-there ms es host same below =
+    let there : host < length es = omega (arith, same, below) in
+    let machine = slice_get-some ms host below in
+    let end = slice_get-some es host there in
+    record {
+      machine = machine.0;
+      end = end.0;
+      has_machine = machine.1;
+      has_end = end.1;
+      is = get-both ms es host ∙ (ap (λ (o : Option MachineState). both o (slice_get es host)) machine.1
+          ∙ ap (both (Some machine.0)) end.1);
+    }
+
+-- A machine changed, and its end with it.
+pub set-both : (ms : List MachineState) (es : List EndState) (host : ℕ) (m : MachineState) (e : EndState)
+    → stations_of (slice_set ms host m) (slice_set es host e) ≡ slice_set (stations_of ms es) host (station_of m e)
+set-both [] es host m e = refl
+set-both (x ∷ ms) [] zero m e = refl
+set-both (x ∷ ms) [] (suc host) m e = refl
+set-both (x ∷ ms) (y ∷ es) zero m e = refl
+set-both (x ∷ ms) (y ∷ es) (suc host) m e = ap (λ (rest : List StationState). station_of x y ∷ rest) (set-both ms es host m e)
+
+-- what an end is set to is what it was
+pub set-end_same : (es : List EndState) (host : ℕ) (e : EndState) → slice_get es host ≡ Some e → slice_set es host e ≡ es
+set-end_same [] host e is = refl
+set-end_same (y ∷ es) zero e is = let same : y ≡ e = cc in ap (λ (x : EndState). x ∷ es) (sym same)
+set-end_same (y ∷ es) (suc host) e is = ap (λ (rest : List EndState). y ∷ rest) (set-end_same es host e is)
+
+-- An event at one machine, after which its end is this.
+pub host-after : (ms : List MachineState) (es : List EndState) (host : ℕ) (event : Event) (new : MachineState) (end : EndState)
+    → (there : IsThere ms es host) → host < length (stations_of ms es)
+    → new ≡ after_event event there.machine → end ≡ record there.end { line = backlog_after event there.end.line }
+    → (past_of_event event).put ≡ []
+    → stations_of (slice_set ms host new) (slice_set es host end) ≡ stations_after host event (stations_of ms es)
+host-after ms es host event new end there inside is line none =
+    set-both ms es host new end
+    ∙ set-after host event (stations_of ms es) (station_of there.machine there.end) (station_of new end) inside there.is
+    (ap (λ (machine : MachineState). station_of machine end) is
+    ∙ ap (station_of (after_event event there.machine)) line) none
+
+-- What a network shows of a machine that code has by its place.
+pub record Shows (ms : List MachineState) (es : List EndState) (ss : List StationState) (host : ℕ) (m : MachineState) : Type 0 where
+  pub there : IsThere ms es host
+  pub inside : host < length (stations_of ms es)
+  pub machine : m ≡ there.machine
+  pub world : m.world ≡ world_at ss host
+
+pub below-machines : (ms : List MachineState) (es : List EndState) (ss : List StationState) (host : ℕ) → stations_of ms es ≡ ss
+    → length es ≡ length ms → host < length ss → host < length ms
+below-machines ms es ss host shown same below =
+    omega (arith, below, ap (λ (list : List StationState). length list) shown, length-both ms es same)
+
+pub shows : (ms : List MachineState) (es : List EndState) (ss : List StationState) (host : ℕ) (m : MachineState) → stations_of ms es ≡ ss
+    → length es ≡ length ms → host < length ss → m ≡ slice_index_or ms host m → Shows ms es ss host m
+shows ms es ss host m shown same below value =
+    let inside = below-machines ms es ss host shown same below in
+    let there = is-there ms es host same inside in
+    let found : Some m ≡ Some there.machine = ap Some value ∙ sym (slice_get-get_or ms host m inside) ∙ there.has_machine in
+    let is : m ≡ there.machine = cc in
+    record {
+      there = there;
+      inside = omega (arith, inside, length-both ms es same);
+      machine = is;
+      world =
+          ap (λ (machine : MachineState). machine.world) is
+          ∙ sym (ap world_of there.is)
+          ∙ ap (λ (list : List StationState). world_at list host) shown;
+    }
+
+-- An event at one machine that leaves the ends as they are.
+pub machine-after : (ms : List MachineState) (es : List EndState) (ss : List StationState) (host : ℕ) (event : Event)
+    (m new : MachineState) → stations_of ms es ≡ ss → Shows ms es ss host m → new ≡ after_event event m
+    → ((line : List (List ℕ)) → backlog_after event line ≡ line) → (past_of_event event).put ≡ []
+    → stations_of (slice_set ms host new) es ≡ stations_after host event ss
+machine-after ms es ss host event m new shown shows is stays none =
+    let there = shows.there in
+    ap (stations_of (slice_set ms host new)) (sym (set-end_same es host there.end there.has_end))
+    ∙ host-after ms es host event new there.end there shows.inside
+    (is ∙ ap (after_event event) shows.machine)
+    (ap (λ (line : List (List ℕ)). let e : EndState = record there.end { line = line } in e) (sym (stays there.end.line))) none
+    ∙ ap (stations_after host event) shown
+
+-- one host more
+pub append-both : (ms : List MachineState) (es : List EndState) (m : MachineState) (e : EndState) → length es ≡ length ms
+    → stations_of (ms ++ m ∷ []) (es ++ e ∷ []) ≡ stations_of ms es ++ station_of m e ∷ []
+append-both [] [] m e same = refl
+append-both [] (y ∷ es) m e same = absurd (omega (arith, same))
+append-both (x ∷ ms) [] m e same = absurd (omega (arith, same))
+append-both (x ∷ ms) (y ∷ es) m e same =
+    ap (λ (rest : List StationState). station_of x y ∷ rest) (append-both ms es m e (omega (arith, same)))

@@ -1,0 +1,203 @@
+-- A frame that is put onto a wire, seen at machines and ends.
+use Rattle.std.proofs.Common.{◌≡◌, ◌≢◌, ◌<◌, ◌↔◌, ◌==◌, ◌&&◌, not, suc, ℕ, Bool, true, false, List, [], ◌∷◌, ◌++◌, Option, Some, None}
+use Rattle.std.proofs.Common.{length, option_map, slice_get, slice_set, if◌then◌else◌, refl, sym, ap, subst, ◌∙◌, arith}
+use Rattle.std.proofs.lemmas.Option.{slice_get_within}
+use Rattle.circular_buffer.proofs.Places.{slice_get-some}
+use Rattle.bus.specs.Machines.{MachineState}
+use Rattle.stations.specs.Ends.{EndState, HaveRoom, with_line}
+use Rattle.stations.specs.NetworkView.{station_of, stations_of}
+use Rattle.stations.specs.Stations.{StationState, WireHasRoom, with_frames}
+use Rattle.rx_engine.specs.declared.arrival.Fate.{Fate}
+use Rattle.adapter.specs.Outcomes.{FrameOutcome, framed, oldest, put_by}
+use Rattle.adapter.specs.State.{IsAdapter}
+use Rattle.adapter.specs.Steps.{Answers}
+use Rattle.adapter.specs.declared.outcome.Outcome.{Outcome}
+use Rattle.adapter.specs.declared.outcome.Outcome.TheVariants.{Delivered, Nothing, Put, WireFull}
+use Rattle.adapter.specs.declared.step.StepKind.{StepKind}
+use Rattle.adapter.specs.declared.step.StepKind.TheVariants.{TxPut}
+use Rattle.bus.specs.Machines.{after_event}
+use Rattle.bus.specs.Trails.{Occurs}
+use Rattle.bus.specs.declared.event.Event.TheVariants.{Arrives, Steps}
+use Rattle.stations.specs.AtomicSteps.{Plays}
+use Rattle.stations.specs.Stations.{backlog_at, backlog_of}
+use Rattle.stations.specs.declared.tick.Tick.TheVariants.{Deliver, Step}
+use Rattle.std.proofs.Common.{IsTrue, drop}
+use Rattle.stations.proofs.Hosts.{IsThere, Shows, both, get-both, set-both, set-end_same}
+use Rattle.stations.proofs.PlayedTicks.{plays-delivery, plays-no_frame, plays-nothing, plays-stays, plays-step, plays-wire_full}
+use Rattle.stations.proofs.PlayedTicks.{puts-oldest}
+
+-- lists of which each place is made of the other's are as long
+pub same-length : {X Y : Type 0} (change : ℕ → X → Y) (xs : List X) (ys : List Y)
+    → ((k : ℕ) → slice_get ys k ≡ option_map (change k) (slice_get xs k)) → length ys ≡ length xs
+same-length change [] [] same = refl
+same-length change [] (y ∷ ys) same = let first = same 0 in absurd (cc)
+same-length change (x ∷ xs) [] same = let first = same 0 in absurd (cc)
+same-length change (x ∷ xs) (y ∷ ys) same =
+    ap suc (same-length (λ (k : ℕ). change (suc k)) xs ys (λ k. same (suc k)))
+
+-- Room.
+
+pub room-seen : (ms : List MachineState) (es : List EndState) (sender wire : ℕ) → length es ≡ length ms
+    → HaveRoom es sender wire ↔ WireHasRoom (stations_of ms es) sender wire
+room-seen ms es sender wire same = (forth, back)
+  where
+    forth : HaveRoom es sender wire → WireHasRoom (stations_of ms es) sender wire
+    forth room k s there other on = of_both (slice_get ms k) (slice_get es k) refl (sym (get-both ms es k) ∙ there)
+      where
+        of_both : (m : Option MachineState) (e : Option EndState) → slice_get es k ≡ e → both m e ≡ Some s → length s.backlog < 64
+        of_both None e is found = absurd (cc)
+        of_both (Some m) None is found = absurd (cc)
+        of_both (Some m) (Some e) is found =
+            let same : station_of m e ≡ s = cc in
+            subst (λ (station : StationState). length station.backlog < 64) same
+            (room k e is other (ap (λ (station : StationState). station.wire) same ∙ on))
+
+    back : WireHasRoom (stations_of ms es) sender wire → HaveRoom es sender wire
+    back room k e there other on =
+        let below : k < length ms = omega (arith, same, slice_get_within es k e there) in
+        let machine = slice_get-some ms k below in
+        room k (station_of machine.0 e)
+        (get-both ms es k ∙ (ap (λ (o : Option MachineState). both o (slice_get es k)) machine.1
+        ∙ ap (both (Some machine.0)) there)) other on
+
+-- One machine changed, and each other end of its wire got a frame.
+waits-there : (sender wire k : ℕ) (frames : List (List ℕ)) (m : Option MachineState) (e : Option EndState)
+    → both m (option_map (with_line sender wire frames k) e) ≡ option_map (with_frames sender wire frames k) (both m e)
+waits-there sender wire k frames None e = refl
+waits-there sender wire k frames (Some m) None = refl
+waits-there sender wire k frames (Some m) (Some e) = ap Some (by_case (not (k == sender) && (e.wire == wire)))
+  where
+    by_case : (b : Bool) → station_of m (if b then record e { line = e.line ++ frames } else e)
+        ≡ (if b then (let s : StationState = record (station_of m e) { backlog = e.line ++ frames } in s) else station_of m e)
+    by_case true = refl
+    by_case false = refl
+
+pub spread-both : (ms : List MachineState) (es es' : List EndState) (host wire : ℕ) (frames : List (List ℕ)) (new : MachineState)
+    → (there : IsThere ms es host)
+    → ((k : ℕ) → slice_get es' k ≡ option_map (with_line host wire frames k) (slice_get es k)) → (k : ℕ)
+    → slice_get (stations_of (slice_set ms host new) es') k
+    ≡ option_map (with_frames host wire frames k) (slice_get (slice_set (stations_of ms es) host (station_of new there.end)) k)
+spread-both ms es es' host wire frames new there each k =
+    get-both (slice_set ms host new) es' k
+    ∙ ap (both (slice_get (slice_set ms host new) k)) (each k)
+    ∙ waits-there host wire k frames (slice_get (slice_set ms host new) k) (slice_get es k)
+    ∙ ap (option_map (with_frames host wire frames k))
+    (sym (get-both (slice_set ms host new) es k)
+    ∙ ap (λ (list : List StationState). slice_get list k)
+    (ap (stations_of (slice_set ms host new)) (sym (set-end_same es host there.end there.has_end))
+    ∙ set-both ms es host new there.end))
+
+-- Ticks of a network.
+
+final-is : (ms : List MachineState) (es : List EndState) (host : ℕ) (new : MachineState) (there : IsThere ms es host)
+    → stations_of (slice_set ms host new) es ≡ slice_set (stations_of ms es) host (station_of new there.end)
+final-is ms es host new there =
+    ap (stations_of (slice_set ms host new)) (sym (set-end_same es host there.end there.has_end)) ∙ set-both ms es host new there.end
+
+-- a step of another kind than TxPut
+pub machine-steps : (ms : List MachineState) (es : List EndState) (ss : List StationState) (host : ℕ) (m new : MachineState)
+    (kind : StepKind) (answer : FrameOutcome) → stations_of ms es ≡ ss → Shows ms es ss host m → kind ≢ TxPut
+    → IsAdapter m.world.adapter → put_by answer ≡ [] → Answers kind true m.world.memory m.world.adapter answer
+    → new ≡ after_event (Steps kind true answer) m → Plays ss (Step host kind) answer (stations_of (slice_set ms host new) es)
+machine-steps ms es ss host m new kind answer shown seen other adapter none answers is =
+    let there = seen.there in
+    let all = stations_of ms es in
+    subst (λ (list : List StationState). Plays list (Step host kind) answer (stations_of (slice_set ms host new) es)) shown
+    (subst (λ (final : List StationState). Plays all (Step host kind) answer final) (sym (final-is ms es host new there))
+    (plays-stays all host (station_of there.machine there.end) (station_of new there.end) kind answer seen.inside there.is other
+    (subst (λ (x : MachineState). IsAdapter x.world.adapter) seen.machine adapter) none
+    (subst (λ (x : MachineState). Answers kind true x.world.memory x.world.adapter answer) seen.machine answers)
+    (ap (λ (x : MachineState). station_of x there.end) (is ∙ ap (after_event (Steps kind true answer)) seen.machine))))
+
+-- What TxPut finds, where code has the host's machine, its wire, and whether the wire is free.
+pub record FindsWire (ms : List MachineState) (es : List EndState) (ss : List StationState) (host wire : ℕ) (free : Bool) (m : MachineState)
+    : Type 0 where
+  pub shown : stations_of ms es ≡ ss
+  pub seen : Shows ms es ss host m
+  pub on : wire ≡ seen.there.end.wire
+  pub finds : IsTrue free ↔ WireHasRoom (stations_of ms es) host wire
+  pub adapter : IsAdapter seen.there.machine.world.adapter
+
+pub finds-wire : (ms : List MachineState) (es : List EndState) (ss : List StationState) (host wire : ℕ) (free : Bool) (m : MachineState)
+    → stations_of ms es ≡ ss → length es ≡ length ms → Shows ms es ss host m
+    → ((end : EndState) → slice_get es host ≡ Some end → wire ≡ end.wire)
+    → IsTrue free ↔ HaveRoom es host wire → IsAdapter m.world.adapter → FindsWire ms es ss host wire free m
+finds-wire ms es ss host wire free m shown same seen on room adapter =
+    let both = room-seen ms es host wire same in
+    record {
+      shown = shown;
+      seen = seen;
+      on = on seen.there.end seen.there.has_end;
+      finds = ((λ yes. both.0 (room.0 yes)), (λ has. room.1 (both.1 has)));
+      adapter = subst (λ (x : MachineState). IsAdapter x.world.adapter) seen.machine adapter;
+    }
+
+pub finds-no_frame : (ms : List MachineState) (es : List EndState) (ss : List StationState) (host wire : ℕ) (free : Bool) (m : MachineState)
+    → FindsWire ms es ss host wire free m → m.world.adapter.transmitter.buffer ≡ [] → Plays ss (Step host TxPut) Nothing ss
+finds-no_frame ms es ss host wire free m found empty =
+    subst (λ (list : List StationState). Plays list (Step host TxPut) Nothing list) found.shown
+    (plays-no_frame (stations_of ms es) host wire (station_of found.seen.there.machine found.seen.there.end) free
+    found.seen.inside found.seen.there.is found.on found.finds found.adapter
+    (ap (λ (x : MachineState). x.world.adapter.transmitter.buffer) (sym found.seen.machine) ∙ empty))
+
+pub finds-wire_full : (ms : List MachineState) (es : List EndState) (ss : List StationState) (host wire : ℕ) (free : Bool)
+    (m : MachineState)
+    → FindsWire ms es ss host wire free m → m.world.adapter.transmitter.buffer ≢ [] → free ≡ false → Plays ss (Step host TxPut) WireFull ss
+finds-wire_full ms es ss host wire free m found some full =
+    subst (λ (list : List StationState). Plays list (Step host TxPut) WireFull list) found.shown
+    (plays-wire_full (stations_of ms es) host wire (station_of found.seen.there.machine found.seen.there.end) free
+    found.seen.inside found.seen.there.is found.on found.finds found.adapter
+    (λ empty. some (ap (λ (x : MachineState). x.world.adapter.transmitter.buffer) found.seen.machine ∙ empty)) full)
+
+-- The oldest frame is put onto the wire.
+pub puts-frame : (ms : List MachineState) (es es' : List EndState) (ss : List StationState) (host wire : ℕ) (m new : MachineState)
+    (frame : List ℕ) (outcome : Outcome (Unit {0})) → (found : FindsWire ms es ss host wire true m)
+    → m.world.adapter.transmitter.buffer ≢ [] → frame ≡ oldest m.world.adapter.transmitter.buffer
+    → Occurs (Steps TxPut true (framed outcome m.world.adapter)) m.world
+    → new ≡ after_event (Steps TxPut true (framed outcome m.world.adapter)) m
+    → ((k : ℕ) → slice_get es' k ≡ option_map (with_line host wire (frame ∷ []) k) (slice_get es k))
+    → Plays ss (Step host TxPut) (Put frame) (stations_of (slice_set ms host new) es')
+puts-frame ms es es' ss host wire m new frame outcome found some first occurs is each =
+    let there = found.seen.there in
+    let all = stations_of ms es in
+    let puts : framed outcome m.world.adapter ≡ Put frame =
+    puts-oldest m.world.adapter outcome some occurs.1 ∙ ap Put (sym first) in
+    subst (λ (list : List StationState). Plays list (Step host TxPut) (Put frame) (stations_of (slice_set ms host new) es')) found.shown
+    (plays-step all (stations_of (slice_set ms host new) es') host wire (station_of there.machine there.end) (station_of new there.end)
+    TxPut true (Put frame) found.seen.inside there.is found.on (λ kind. found.finds) found.adapter
+    (subst (λ (x : MachineState). Answers TxPut true x.world.memory x.world.adapter (Put frame)) found.seen.machine
+    (subst (λ (o : FrameOutcome). Answers TxPut true m.world.memory m.world.adapter o) puts occurs.1))
+    (ap (λ (x : MachineState). station_of x there.end)
+    (is ∙ (ap (λ (o : FrameOutcome). after_event (Steps TxPut true o) m) puts
+    ∙ ap (after_event (Steps TxPut true (Put frame))) found.seen.machine)))
+    (spread-both ms es es' host wire (frame ∷ []) new there each))
+
+-- The oldest frame that waits is delivered.
+pub delivers-frame : (ms : List MachineState) (es es' : List EndState) (ss : List StationState) (host : ℕ) (m new : MachineState)
+    (frame : List ℕ) (fate : Fate) → stations_of ms es ≡ ss → Shows ms es ss host m
+    → ((end : EndState) → slice_get es host ≡ Some end → slice_get end.line 0 ≡ Some frame)
+    → Occurs (Arrives frame fate) m.world → new ≡ after_event (Arrives frame fate) m
+    → ((end : EndState) → slice_get es host ≡ Some end → es' ≡ slice_set es host (record end { line = drop 1 end.line }))
+    → Plays ss (Deliver host) (Delivered frame fate) (stations_of (slice_set ms host new) es')
+delivers-frame ms es es' ss host m new frame fate shown seen oldest occurs is pops =
+    let there = seen.there in
+    let all = stations_of ms es in
+    let popped : EndState = record there.end { line = drop 1 there.end.line } in
+    let final : stations_of (slice_set ms host new) es' ≡ slice_set all host (station_of new popped) =
+    ap (stations_of (slice_set ms host new)) (pops there.end there.has_end) ∙ set-both ms es host new popped in
+    let here = subst (λ (x : MachineState). Occurs (Arrives frame fate) x.world) seen.machine occurs in
+    subst (λ (list : List StationState). Plays list (Deliver host) (Delivered frame fate) (stations_of (slice_set ms host new) es')) shown
+    (subst (λ (list : List StationState). Plays all (Deliver host) (Delivered frame fate) list) (sym final)
+    (plays-delivery all host (station_of there.machine there.end) (station_of new popped) frame fate seen.inside there.is
+    (record {
+      oldest = oldest there.end there.has_end;
+      adapter = here.0;
+      fated = here.1;
+      leaves = ap (λ (x : MachineState). station_of x popped) (is ∙ ap (after_event (Arrives frame fate)) seen.machine);
+    })))
+
+-- None waits.
+pub delivers-none : (ms : List MachineState) (es : List EndState) (ss : List StationState) (host : ℕ) → stations_of ms es ≡ ss
+    → (there : IsThere ms es host) → there.end.line ≡ [] → Plays ss (Deliver host) Nothing ss
+delivers-none ms es ss host shown there none =
+    plays-nothing ss (Deliver host) (ap (λ (list : List StationState). backlog_at list host) (sym shown) ∙ (ap backlog_of there.is ∙ none))

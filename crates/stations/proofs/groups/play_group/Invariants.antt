@@ -1,9 +1,0 @@
-use Rattle.std.proofs.Common.{length}
-use Rattle.stations.proofs.TickLoops.{GroupPlayed}
-use Rattle.stations.proofs.groups.play_group.Given as goal
-
-abbrev pub invariant-loop-tick : goal.invariant-loop-tick
-invariant-loop-tick l = GroupPlayed l.fn.stations l.fn.ticks l.accesses l.fn.outcomes l.outcomes l.rest l.stations
-
-abbrev pub decreases-loop-tick : goal.decreases-loop-tick
-decreases-loop-tick l = length l.rest

@@ -1,9 +1,0 @@
-use Rattle.std.proofs.Common.{length}
-use Rattle.stations.proofs.TickLoops.{AllPlayed}
-use Rattle.stations.proofs.groups.play_rest.Given as goal
-
-abbrev pub invariant-loop-tick : goal.invariant-loop-tick
-invariant-loop-tick l = AllPlayed l.fn.stations l.fn.ticks l.accesses l.fn.outcomes l.outcomes l.rest l.stations
-
-abbrev pub decreases-loop-tick : goal.decreases-loop-tick
-decreases-loop-tick l = length l.rest

@@ -1,0 +1,25 @@
+-- The ends of wires as plain data: one for each host of a network.
+use Rattle.std.specs.Prelude.{◌≡◌, ◌≢◌, ◌<◌, ◌==◌, ◌&&◌, not, ℕ, Some, List, ◌++◌, length, slice_get, if◌then◌else◌}
+
+pub record EndState : Type 0 where
+  -- the wire that it is an end of
+  pub wire : ℕ
+  -- the frames that wait there to be delivered, the oldest first
+  pub line : List (List ℕ)
+
+-- at most so many frames wait at an end (our choice)
+abbrev pub end_frames : ℕ
+end_frames = 64
+
+-- this end has room for a frame more, unless it is the sender's or of another wire
+abbrev pub HasRoomFor : (sender wire k : ℕ) → EndState → Type 0
+HasRoomFor sender wire k end = k ≢ sender → end.wire ≡ wire → length end.line < end_frames
+
+-- Each other end of the wire has.
+abbrev pub HaveRoom : List EndState → (sender wire : ℕ) → Type 0
+HaveRoom ends sender wire = (k : ℕ) (end : EndState) → slice_get ends k ≡ Some end → HasRoomFor sender wire k end
+
+-- frames that a sender puts onto a wire wait at this end, if it is another end of that wire
+abbrev pub with_line : (sender wire : ℕ) → List (List ℕ) → (k : ℕ) → EndState → EndState
+with_line sender wire frames k end =
+    if not (k == sender) && (end.wire == wire) then record end { line = end.line ++ frames } else end
