@@ -43,7 +43,7 @@ handled-timer causes fits bit = (Meet-places causes handled_causes fits).1 (7, b
 pub record Follows (misses slots : ℕ) (d1 d2 d3 d4 : DriverState) : Type 0 where
   pub counted : d2 ≡ with_missed misses d1
   pub taken : d3 ≡ record d2 { oldest_receive = d3.oldest_receive; buffers = d3.buffers; pool = d3.pool; bad = d3.bad }
-  pub place : d3.oldest_receive ≡ place d3.layout.rx d2.oldest_receive slots
+  pub place : d3.oldest_receive ≡ place d2.layout.rx d2.oldest_receive slots
   pub count : slots + length d3.buffers ≡ length d2.buffers
   pub refilled : d4 ≡ with_owners d3 d4.buffers [] d4.pool []
 
@@ -61,8 +61,7 @@ oldest-after {misses} {slots} d1 d2 d3 d4 numbers follows oldest =
     let same = ap (λ (d : DriverState). length d.buffers) follows.counted in
     let many : slots ≡ length numbers = omega (arith, follows.count, same, ap length oldest, length-append numbers d3.buffers) in
     follows.place
-    ∙ ap (λ (d : DriverState). place d.layout.rx d2.oldest_receive slots) (changed d1 d2 d3 d4 follows)
-    ∙ ap (λ (d : DriverState). place d1.layout.rx d.oldest_receive slots) follows.counted
+    ∙ ap (λ (d : DriverState). place d.layout.rx d.oldest_receive slots) follows.counted
     ∙ ap (place d1.layout.rx d1.oldest_receive) many
 
 -- The next place to store a descriptor stays.
@@ -143,7 +142,7 @@ works {up} bus receivers joins a b c e misses n slots held follows counts all re
     ap (λ (d : DriverState). stores_from d.layout (next_receive d3) xs ++ tail_write (next_receive d4) (d.staged ++ xs)) same
     ∙ ap (λ (slot : ℕ). stores_from d1.layout slot xs ++ tail_write (next_receive d4) (d1.staged ++ xs))
     (next-same d1 d2 d3 d4 numbers follows oldest) in
-    let up_to = ran-on bus joins counts takes.ran in
+    let up_to = ran-on bus joins (ran-on bus joins counts takes.ran) all.looks in
     let ran = ran-on bus joins up_to refills.ran in
     record {
       frames = takes.frames;
@@ -164,7 +163,7 @@ works {up} bus receivers joins a b c e misses n slots held follows counts all re
           ran-same bus
           (ap (λ (list : List Access). list ++ offers) taking
           ∙ ap (λ (list : List Access). taking_accesses d1 misses lists all.loads ++ list) offering)
-          (append-nil (joined_frames takes.frames.taken)) ran;
+          (append-nil (joined_frames takes.frames.taken ++ []) ∙ append-nil (joined_frames takes.frames.taken)) ran;
       split = record {
         middle = c.bus;
         before = up_to.past;
@@ -176,7 +175,7 @@ works {up} bus receivers joins a b c e misses n slots held follows counts all re
         later_made = refills.ran.only ∙ offering;
       };
       look = last-look (holding (held ++ pieces_of takes.frames.kept) d3) (bus.world c.bus) d4.oldest_receive all.loads
-          takes.ran.goes.flows.ready all.none_left all.loads_are (ap (λ (d : DriverState). d.oldest_receive) follows.refilled);
+          all.looks.goes.flows.ready all.none_left all.loads_are (ap (λ (d : DriverState). d.oldest_receive) follows.refilled);
     }
 
 -- After the read of ICR, if that had a cause.
@@ -206,12 +205,13 @@ handles-it {up} bus receivers joins o a b c e causes misses n slots held follows
             reads.flows.least,
             counts.goes.flows.least,
             takes.ran.goes.flows.least,
+            taking.looks.goes.flows.least,
             ap length taking.none_left,
             length-map takes.frames.taken frame_of,
             takes.frames.count,
           );
       work = λ enabled.
-          let mask = takes.ran.goes.flows.mask ∙ counts.goes.flows.mask ∙ reads.flows.mask in
+          let mask = taking.looks.goes.flows.mask ∙ takes.ran.goes.flows.mask ∙ counts.goes.flows.mask ∙ reads.flows.mask in
           let before : HasNoForgottenWork (holding held2 c.driver) (bus.world c.bus) = record
           { enabled = subst (λ (m : ℕ). HasBit m 7) (sym mask) enabled; asked = inl taking.none_left } in
           let behind = work_kept (holding held2 c.driver) (holding held2 e.driver) (bus.world c.bus) (bus.world e.bus) [] []

@@ -189,10 +189,12 @@ finds-ring bus b0 b1 b2 b3 config size image had room found filter ring =
       up = ring.sets.link (all-left LeavesPhy receive (behind-receive config) phy.1) (filter.sets.link phy.0 found.up);
       groups = groups;
       vlans = vlans;
-      has_groups = filter.has_groups;
-      has_vlans = filter.has_vlans;
-      groups_are = filter.groups_are;
-      vlans_are = filter.vlans_are;
+      tables = record {
+        has_groups = filter.has_groups;
+        has_vlans = filter.has_vlans;
+        groups_are = filter.groups_are;
+        vlans_are = filter.vlans_are;
+      };
       settings =
           ring.sets.settings ∙ ap (settings_after_all receive) set
           ∙ sym (settings-append (writes_before_rings config address groups vlans) receive old)
@@ -356,8 +358,9 @@ initialises bus joins b0 b1 b2 b3 b4 b5 config size pool numbers d past had told
     (ap writes_in sends.only ∙ transmit-writes counts))
     (masks.accessed.follows.set ∙ ap (λ (writes : List Write). settings_after_all writes (settings_of (bus.world b4).adapter))
     (ap writes_in masks.accessed.only)) in
-    let set = writes-configure config words found.groups found.vlans size (settings_of device.adapter) had found.address found.groups_are
-    found.vlans_are found.has_groups found.has_vlans in
+    let tables = found.tables in
+    let set = writes-configure config words found.groups found.vlans size (settings_of device.adapter) had found.address tables.groups_are
+    tables.vlans_are tables.has_groups tables.has_vlans in
     let start = joined past (joined first.past lets.ran.past) in
     record {
       middle = b3;
@@ -401,7 +404,7 @@ initialises bus joins b0 b1 b2 b3 b4 b5 config size pool numbers d past had told
         sum = found.sum;
         image = ap (λ (settings : Settings). settings.image) all ∙ set.1;
         configured = subst (IsConfigured config words) (sym all) set.0;
-        up = link-up config words found.groups found.vlans found.has_groups.words found.has_vlans.words (bus.world b1) (bus.world b2)
+        up = link-up config words found.groups found.vlans tables.has_groups.words tables.has_vlans.words (bus.world b1) (bus.world b2)
             (bus.world b3) (bus.world b4) (bus.world b5) first.past lets.ran.past sends.past masks.accessed.past
             (ap writes_in first.only ∙ first-writes counts numbers) (ap writes_in lets.ran.only)
             (ap writes_in sends.only ∙ transmit-writes counts) (ap writes_in masks.accessed.only)

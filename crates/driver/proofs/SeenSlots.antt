@@ -369,10 +369,12 @@ finds-frame {up} bus run run' desc d a c next shown added last whole =
       last = frame.last;
       later = frame.later;
       pieces = frame.is;
-      count = frame.count;
-      lengths = frame.lengths;
-      length_is = frame.length_is;
-      whole = whole (frame-legal d world run' next.ran.goes.flows.ready frame);
+      is_run = record {
+        count = frame.count;
+        lengths = frame.lengths;
+        length_is = frame.length_is;
+        whole = whole (frame-legal d world run' next.ran.goes.flows.ready frame);
+      };
       ran = subst (λ (n : ℕ). Ran bus up (only (receive_loads d.layout d.oldest_receive n)) (at a d) (at c d)) (sym added.count) next.ran;
     }
 

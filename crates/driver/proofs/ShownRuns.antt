@@ -1,23 +1,27 @@
 -- Runs are passed on, one after the other: each is shown to the receiver, or its buffers go back to the pool.
-use Rattle.std.proofs.Common.{Bool, true, false, not, inl, inr, ◌≡◌, ◌<◌, ◌+◌, ◌++◌, ◌∷◌, [], ℕ, List, refl, sym, ap}
-use Rattle.std.proofs.Common.{subst, ◌∙◌, length-append, arith}
-use Rattle.std.specs.List.{All}
+use Rattle.std.proofs.Common.{Bool, true, false, not, cond, inl, inr, ◌≡◌, ◌≤◌, ◌<◌, ◌+◌, ◌⊎◌, ◌++◌, ◌∷◌, [], ℕ, List, length, map}
+use Rattle.std.proofs.Common.{refl, sym, ap, subst, ◌∙◌, append_assoc, length-append, arith}
+use Rattle.std.specs.List.{All, filter}
 use Rattle.std.proofs.lemmas.Grind.{flat_map-append}
-use Rattle.std.proofs.lemmas.List.{append-nil}
-use Rattle.std.proofs.lemmas.List.Elements.{All-append, All-cons}
+use Rattle.std.proofs.lemmas.List.{append-nil, length-map, map-append}
+use Rattle.std.proofs.lemmas.List.Elements.{All-append, All-cons, filter-append}
+use Rattle.std.proofs.lemmas.List.Sums.{count_by-le-length, length-filter, sum_by-append}
+use Rattle.descriptors.specs.RingLaws.{place}
+use Rattle.driver_law.proofs.Places.{place-add}
 use Rattle.dma_memory.specs.Layout.{Counts}
 use Rattle.dma_memory.specs.Owners.{HasNoSecondOwner, HaveSameNumbers, copies}
 use Rattle.dma_memory.specs.OwnersLaws.{copies-append, known_from_no_second}
-use Rattle.bus.proofs.Lists.{all-none}
+use Rattle.bus.proofs.Lists.{all-head, all-none, all-tail}
 use Rattle.driver_law.proofs.Owners.{all-copies, owners-count}
 use Rattle.driver_law.specs.DriverState.{DriverState, owners}
-use Rattle.driver_law.specs.ReceiveSteps.{after_slots}
 use Rattle.driver.specs.Answers.{Answers}
-use Rattle.driver.specs.HandlerSteps.{GrowsBy, HandsOn, LeavesRing, Shows, ShowsAll, count_if}
+use Rattle.driver.specs.HandlerSteps.{GrowsBy, HandsOn, HasOneToSixSlots, IsPart, LeavesRing, RunOfSlots, Shows, ShowsAll, TakesSlots}
+use Rattle.driver.specs.HandlerSteps.{bad_runs, part_none, part_with, part_without, run_buffers, run_of, whole_frames}
 use Rattle.driver.specs.Parts.{IsWholeFrame, buffers_in, buffers_of}
 use Rattle.driver.specs.declared.look.Run.{Run}
 use Rattle.driver.specs.declared.parts.Part.{Part}
 use Rattle.driver.specs.declared.receiver.Received.{Received}
+use Rattle.driver.specs.declared.receiver.Receiver.{Ghosts as OfReceiver}
 
 -- What a receiver answers.
 
@@ -62,30 +66,43 @@ answer-shown took before after received back pool pool' (inr returned) given = r
 
 -- A run is passed on.
 
+-- A frame is kept, or it isn't.
+kept-part : (received : Received) (kept : List Received) → (kept ≡ []) ⊎ (kept ≡ received ∷ []) → IsPart kept (received ∷ [])
+kept-part received kept (inl none) = subst (λ (list : List Received). IsPart list (received ∷ [])) (sym none) (part_without part_none)
+kept-part received kept (inr one) = subst (λ (list : List Received). IsPart list (received ∷ [])) (sym one) (part_with part_none)
+
 pub hands-shown : {R : Type 0} (took : R → R → List Received → List Received → Type 0) (before after : R) (received : Received)
     (d d' : DriverState) → IsWholeFrame received → Shows took before after received d.pool d'.pool → d'.bad ≡ d.bad
-    → HandsOn took before after received.parts true d d'
+    → HandsOn took before after (run_of received.parts true) d d'
 hands-shown took before after received d d' whole shows bad = record {
-  received = received ∷ [];
-  kept = shows.kept;
-  shown = shows.shown;
-  one = refl;
-  sizes = All-cons IsWholeFrame received [] whole (all-none IsWholeFrame);
+  shows = record {
+    received = received ∷ [];
+    kept = shows.kept;
+    shown = shows.shown;
+    frames = refl;
+    sizes = All-cons IsWholeFrame received [] whole (all-none IsWholeFrame);
+    part = kept-part received shows.kept shows.whether;
+    buffers = λ k. ap (λ (list : List ℕ). copies k (list ++ d.pool)) (append-nil (buffers_in received.parts)) ∙ shows.buffers k;
+  };
   bad = record { least = omega (arith, bad); most = omega (arith, bad); exactly = λ below. omega (arith, bad) };
-  buffers = shows.buffers;
 }
 
 pub hands-bad : {R : Type 0} (took : R → R → List Received → List Received → Type 0) → ((r : R) → took r r [] []) → (r : R)
     (parts : List Part) (d d' : DriverState) → GrowsBy d.bad d'.bad 1 → HaveSameNumbers (buffers_in parts ++ d.pool) d'.pool
-    → HandsOn took r r parts false d d'
+    → HandsOn took r r (run_of parts false) d d'
 hands-bad took stays r parts d d' bad back = record {
-  received = [];
-  kept = [];
-  shown = stays r;
-  one = refl;
-  sizes = all-none IsWholeFrame;
+  shows = record {
+    received = [];
+    kept = [];
+    shown = stays r;
+    frames = refl;
+    sizes = all-none IsWholeFrame;
+    part = part_none;
+    buffers = λ k.
+        ap (λ (list : List ℕ). copies k (list ++ d.pool)) (append-nil (buffers_in parts)) ∙ back k
+        ∙ ap (copies k) (sym (append-nil d'.pool));
+  };
   bad = bad;
-  buffers = λ k. back k ∙ ap (copies k) (sym (append-nil d'.pool));
 }
 
 -- The buffers of a run are known.
@@ -108,62 +125,212 @@ grows a b c m n one two = record {
 }
 
 pub shows-none : {R : Type 0} (took : R → R → List Received → List Received → Type 0) → ((r : R) → took r r [] []) → (r : R)
-    (d : DriverState) → ShowsAll took r r d d 0 0
-shows-none took stays r d = record {
+    (pool : List ℕ) → ShowsAll took r r [] pool pool
+shows-none took stays r pool = record {
   received = [];
   kept = [];
   shown = stays r;
-  count = refl;
+  frames = refl;
   sizes = all-none IsWholeFrame;
-  bad = record { least = omega arith; most = omega arith; exactly = λ below. omega arith };
-  buffers = λ k. ap (copies k) (sym (append-nil (owners d)));
+  part = part_none;
+  buffers = λ k. ap (copies k) (sym (append-nil pool));
 }
 
--- A run leaves the ring, from d2 to d3, and is passed on, from d3 to d4.
-pub shows-next : {R : Type 0} (took : R → R → List Received → List Received → Type 0)
+-- The buffers of runs, one run after the other.
+run-buffers-append : (runs later : List RunOfSlots) → run_buffers (runs ++ later) ≡ run_buffers runs ++ run_buffers later
+run-buffers-append runs later = flat_map-append (λ (run : RunOfSlots). buffers_in run.parts) runs later
+
+-- Their whole frames.
+whole-frames-append : (runs later : List RunOfSlots) → whole_frames (runs ++ later) ≡ whole_frames runs ++ whole_frames later
+whole-frames-append runs later =
+    let whole : RunOfSlots → Bool = λ run. run.whole in
+    let parts : RunOfSlots → List Part = λ run. run.parts in
+    ap (map parts) (filter-append whole runs later) ∙ map-append parts (filter whole runs) (filter whole later)
+
+-- Parts of two lists, one after the other.
+pub part-append : {X : Type 0} {some all later more : List X} → IsPart some all → IsPart later more → IsPart (some ++ later) (all ++ more)
+part-append part_none behind = behind
+part-append (part_with first) behind = part_with (part-append first behind)
+part-append (part_without first) behind = part_without (part-append first behind)
+
+shows-more : {R : Type 0} (took : R → R → List Received → List Received → Type 0)
     → ((a b c : R) (shown kept later more : List Received) → took a b shown kept → took b c later more
     → took a c (shown ++ later) (kept ++ more))
-    → (r s t : R) (d1 d2 d3 d4 : DriverState) (n bad_runs : ℕ) (run : Run) (parts : List Part) (whole : Bool)
-    → ShowsAll took r s d1 d2 n bad_runs → LeavesRing run parts d2 d3 → d4 ≡ record d3 { pool = d4.pool; bad = d4.bad }
-    → HandsOn took s t parts whole d3 d4 → ShowsAll took r t d1 d4 (n + count_if whole) (bad_runs + count_if (not whole))
-shows-next took also r s t d1 d2 d3 d4 n bad_runs run parts whole all leaves given hands =
-    let d3' = after_slots d2 run.count d3.buffers d2.handed_out in
-    let d4' : DriverState = record d3 { pool = d4.pool; bad = d4.bad } in
-    let same : d3.bad ≡ d2.bad = ap (λ (d : DriverState). d.bad) leaves.others in
-    let more = count_if (not whole) in
+    → (r s t : R) (runs later : List RunOfSlots) (pool1 pool2 pool3 : List ℕ) → ShowsAll took r s runs pool1 pool2
+    → ShowsAll took s t later pool2 pool3 → ShowsAll took r t (runs ++ later) pool1 pool3
+shows-more took also r s t runs later pool1 pool2 pool3 one two =
+    let parts : Received → List Part = λ r. r.parts in
     record {
-      received = all.received ++ hands.received;
-      kept = all.kept ++ hands.kept;
-      shown = also r s t all.received all.kept hands.received hands.kept all.shown hands.shown;
-      count = omega (arith, length-append all.received hands.received, all.count, hands.one);
-      sizes = All-append IsWholeFrame all.received hands.received all.sizes hands.sizes;
-      bad = grows d1.bad d2.bad d4.bad bad_runs more all.bad (subst (λ (k : ℕ). GrowsBy k d4.bad more) same hands.bad);
+      received = one.received ++ two.received;
+      kept = one.kept ++ two.kept;
+      shown = also r s t one.received one.kept two.received two.kept one.shown two.shown;
+      frames =
+          map-append parts one.received two.received
+          ∙ ap (λ (list : List (List Part)). list ++ map parts two.received) one.frames
+          ∙ ap (λ (list : List (List Part)). whole_frames runs ++ list) two.frames
+          ∙ sym (whole-frames-append runs later);
+      sizes = All-append IsWholeFrame one.received two.received one.sizes two.sizes;
+      part = part-append one.part two.part;
       buffers = λ k.
           omega (
             arith,
-            all.buffers k,
-            hands.buffers k,
-            copies-append k (owners d2) (buffers_of all.kept),
-            owners-count k d2,
-            owners-count k d3',
-            owners-count k d3,
-            owners-count k d4',
-            ap (λ (d : DriverState). copies k (owners d)) leaves.others,
-            ap (λ (d : DriverState). copies k (owners d)) given,
-            ap (copies k) leaves.first,
-            copies-append k (buffers_in parts) d3.buffers,
-            copies-append k (buffers_in parts) d3.pool,
-            copies-append k d4.pool (buffers_of hands.kept),
-            copies-append k (owners d4) (buffers_of (all.kept ++ hands.kept)),
-            ap (copies k) (flat_map-append (λ (x : Received). buffers_in x.parts) all.kept hands.kept),
-            copies-append k (buffers_of all.kept) (buffers_of hands.kept),
+            one.buffers k,
+            two.buffers k,
+            copies-append k (run_buffers runs) pool1,
+            copies-append k pool2 (buffers_of one.kept),
+            copies-append k (run_buffers later) pool2,
+            copies-append k pool3 (buffers_of two.kept),
+            ap (copies k) (run-buffers-append runs later),
+            copies-append k (run_buffers runs) (run_buffers later),
+            copies-append k (run_buffers (runs ++ later)) pool1,
+            ap (copies k) (flat_map-append (λ (x : Received). buffers_in x.parts) one.kept two.kept),
+            copies-append k (buffers_of one.kept) (buffers_of two.kept),
+            copies-append k pool3 (buffers_of (one.kept ++ two.kept)),
           );
     }
 
+-- Runs leave the ring.
+
+pub slots-none : {R : Type 0} (receivers : OfReceiver R) → ((r : R) → receivers.took r r [] []) → (r : R) (d : DriverState)
+    → TakesSlots receivers 0 r r d d
+slots-none receivers stays r d = record {
+  others = refl;
+  runs = [];
+  sizes = all-none HasOneToSixSlots;
+  oldest = refl;
+  next = refl;
+  count = refl;
+  bad = record { least = omega arith; most = omega arith; exactly = λ below. omega arith };
+  shows = shows-none receivers.took stays r d.pool;
+}
+
+-- A run leaves the ring, from d2 to d3, and is passed on, from d3 to d4.
+pub slots-next : {R : Type 0} (receivers : OfReceiver R)
+    → ((a b c : R) (shown kept later more : List Received) → receivers.took a b shown kept → receivers.took b c later more
+    → receivers.took a c (shown ++ later) (kept ++ more))
+    → (r s t : R) (d1 d2 d3 d4 : DriverState) (n m : ℕ) (run : Run) (parts : List Part) (whole : Bool)
+    → n + length (whole_frames (run_of parts whole ∷ [])) ≡ m → length (buffers_in parts) ≡ run.count → 1 ≤ run.count → run.count ≤ 6
+    → TakesSlots receivers n r s d1 d2 → LeavesRing run parts d2 d3 → d4 ≡ record d3 { pool = d4.pool; bad = d4.bad }
+    → HandsOn receivers.took s t (run_of parts whole) d3 d4 → TakesSlots receivers m r t d1 d4
+slots-next receivers also r s t d1 d2 d3 d4 n m run parts whole more size some few slots leaves given hands =
+    let rx = d1.layout.rx in
+    let o = d1.oldest_receive in
+    let one = run_of parts whole in
+    let runs = slots.runs ++ one ∷ [] in
+    let before = length (run_buffers slots.runs) in
+    let shape : ℕ → List ℕ
+    → DriverState = λ oldest buffers. record d1 { oldest_receive = oldest; buffers = buffers; pool = d4.pool; bad = d4.bad } in
+    let left : d4.buffers ≡ d3.buffers = ap (λ (d : DriverState). d.buffers) given in
+    let pool : d3.pool ≡ d2.pool = ap (λ (d : DriverState). d.pool) leaves.others in
+    let bad : d3.bad ≡ d2.bad = ap (λ (d : DriverState). d.bad) leaves.others in
+    let numbers : run_buffers runs ≡ run_buffers slots.runs ++ buffers_in parts =
+    run-buffers-append slots.runs (one ∷ []) ∙ ap (λ (list : List ℕ). run_buffers slots.runs ++ list) (append-nil (buffers_in parts)) in
+    let many : before + run.count ≡ length (run_buffers runs) =
+    omega (arith, size, ap length numbers, length-append (run_buffers slots.runs) (buffers_in parts)) in
+    let place_is : d4.oldest_receive ≡ place rx o (length (run_buffers runs)) =
+    ap (λ (d : DriverState). d.oldest_receive) given
+    ∙ ap (λ (d : DriverState). d.oldest_receive) leaves.others
+    ∙ ap (λ (d : DriverState). place d.layout.rx d2.oldest_receive run.count) slots.others
+    ∙ ap (λ (slot : ℕ). place rx slot run.count) slots.next
+    ∙ sym (place-add rx o before run.count)
+    ∙ ap (place rx o) many in
+    record {
+      others =
+          given
+          ∙ ap (λ (d : DriverState). let s : DriverState = record d { pool = d4.pool; bad = d4.bad } in s) leaves.others
+          ∙ ap (λ (d : DriverState). let s : DriverState = record d
+          { oldest_receive = place d2.layout.rx d2.oldest_receive run.count; buffers = d3.buffers; pool = d4.pool; bad = d4.bad } in s)
+          slots.others
+          ∙ ap (λ (oldest : ℕ). shape oldest d3.buffers)
+          (sym (ap (λ (d : DriverState). d.oldest_receive) given ∙ ap (λ (d : DriverState). d.oldest_receive) leaves.others))
+          ∙ ap (shape d4.oldest_receive) (sym left);
+      runs = runs;
+      sizes =
+          All-append HasOneToSixSlots slots.runs (one ∷ []) slots.sizes
+          (All-cons HasOneToSixSlots one [] (record { least = omega (arith, long, some); most = omega (arith, long, few) })
+          (all-none HasOneToSixSlots));
+      oldest =
+          slots.oldest
+          ∙ ap (λ (list : List ℕ). run_buffers slots.runs ++ list)
+          (leaves.first ∙ ap (λ (list : List ℕ). buffers_in parts ++ list) (sym left))
+          ∙ sym (append_assoc (run_buffers slots.runs) (buffers_in parts) d4.buffers)
+          ∙ ap (λ (list : List ℕ). list ++ d4.buffers) (sym numbers);
+      next = place_is;
+      count =
+          omega (
+            arith,
+            more,
+            slots.count,
+            ap length (whole-frames-append slots.runs (one ∷ [])),
+            length-append (whole_frames slots.runs) (whole_frames (one ∷ [])),
+          );
+      bad = subst (GrowsBy d1.bad d4.bad) (sym (sum_by-append (λ (x : RunOfSlots). cond (not x.whole) 1 0) slots.runs (one ∷ [])))
+          (grows d1.bad d2.bad d4.bad (bad_runs slots.runs) (bad_runs (one ∷ [])) slots.bad
+          (subst (λ (k : ℕ). GrowsBy k d4.bad (bad_runs (one ∷ []))) bad hands.bad));
+      shows = shows-more receivers.took also r s t slots.runs (one ∷ []) d1.pool d2.pool d4.pool slots.shows
+          (subst (λ (list : List ℕ). ShowsAll receivers.took s t (one ∷ []) list d4.pool) pool hands.shows);
+    }
+  where
+    long : length parts ≡ run.count
+    long = omega (arith, size, length-map parts (λ (part : Part). part.buffer))
+
+-- Each whole frame has a slot.
+runs-few : (runs : List RunOfSlots) → All HasOneToSixSlots runs → length runs ≤ length (run_buffers runs)
+runs-few [] all = omega arith
+runs-few (run ∷ later) all =
+    let one = all-head HasOneToSixSlots run later all in
+    omega (
+      arith,
+      one.least,
+      runs-few later (all-tail HasOneToSixSlots run later all),
+      length-append (buffers_in run.parts) (run_buffers later),
+      length-map run.parts (λ (part : Part). part.buffer),
+    )
+
+pub slots-few : {R : Type 0} (receivers : OfReceiver R) (n : ℕ) (before after : R) (d d' : DriverState)
+    → TakesSlots receivers n before after d d' → n + length d'.buffers ≤ length d.buffers
+slots-few receivers n before after d d' slots =
+    let whole : RunOfSlots → Bool = λ run. run.whole in
+    omega (
+      arith,
+      slots.count,
+      length-map (filter whole slots.runs) (λ (run : RunOfSlots). run.parts),
+      length-filter whole slots.runs,
+      count_by-le-length whole slots.runs,
+      runs-few slots.runs slots.sizes,
+      ap length slots.oldest,
+      length-append (run_buffers slots.runs) d'.buffers,
+    )
+
+-- Each buffer has the same number of owners as before, with the receiver among them.
+pub slots-owners : {R : Type 0} (receivers : OfReceiver R) (n : ℕ) (before after : R) (d d' : DriverState)
+    → (slots : TakesSlots receivers n before after d d') → HaveSameNumbers (owners d) (owners d' ++ buffers_of slots.shows.kept)
+slots-owners receivers n before after d d' slots = λ k.
+    let later : DriverState = record d { oldest_receive = d'.oldest_receive; buffers = d'.buffers; pool = d'.pool; bad = d'.bad } in
+    let kept = buffers_of slots.shows.kept in
+    omega (
+      arith,
+      owners-count k d,
+      owners-count k later,
+      ap (λ (s : DriverState). copies k (owners s)) slots.others,
+      ap (copies k) slots.oldest,
+      copies-append k (run_buffers slots.runs) d'.buffers,
+      slots.shows.buffers k,
+      copies-append k (run_buffers slots.runs) d.pool,
+      copies-append k d'.pool kept,
+      copies-append k (owners d') kept,
+    )
+
 -- No buffer has a second owner then.
-pub shows-owners : {R : Type 0} (took : R → R → List Received → List Received → Type 0) (before after : R) (d d' : DriverState)
-    (n bad_runs : ℕ) → d'.layout ≡ d.layout → ShowsAll took before after d d' n bad_runs → HasNoSecondOwner d.layout.buffers (owners d)
+pub slots-one_owner : {R : Type 0} (receivers : OfReceiver R) (n : ℕ) (before after : R) (d d' : DriverState)
+    → TakesSlots receivers n before after d d' → HasNoSecondOwner d.layout.buffers (owners d)
     → HasNoSecondOwner d'.layout.buffers (owners d')
-shows-owners took before after d d' n bad_runs same shows once =
-    subst (λ (layout : Counts). HasNoSecondOwner layout.buffers (owners d')) (sym same)
-    (λ k. omega (arith, once k, shows.buffers k, copies-append k (owners d') (buffers_of shows.kept)))
+slots-one_owner receivers n before after d d' slots once =
+    subst (λ (layout : Counts). HasNoSecondOwner layout.buffers (owners d')) (sym (ap (λ (s : DriverState). s.layout) slots.others))
+    (λ k.
+    omega (
+      arith,
+      once k,
+      slots-owners receivers n before after d d' slots k,
+      copies-append k (owners d') (buffers_of slots.shows.kept),
+    ))

@@ -1,6 +1,6 @@
 -- Frames are taken one after the other.
-use Rattle.std.proofs.Common.{◌≡◌, ◌≤◌, ◌+◌, ◌*◌, ◌++◌, ◌∷◌, [], ◌∙◌}
-use Rattle.std.proofs.Common.{Bool, true, false, not, ℕ, List, length, map, refl, sym, ap, subst}
+use Rattle.std.proofs.Common.{◌≡◌, ◌≤◌, ◌+◌, ◌++◌, ◌∷◌, [], ◌∙◌}
+use Rattle.std.proofs.Common.{Bool, true, ℕ, List, length, map, refl, sym, ap, subst}
 use Rattle.std.proofs.Common.{append_assoc, length-append, length-take, arith}
 use Rattle.std.specs.List.{concat}
 use Rattle.std.proofs.lemmas.Grind.{flat_map-append}
@@ -18,51 +18,33 @@ use Rattle.bus.specs.declared.bus.Bus.{Ghosts}
 use Rattle.bus.specs.declared.event.Access.{Access}
 use Rattle.driver_law.proofs.Accesses.{ran_by-itself, ran_by-join, ran_by-same, ran_by-stays}
 use Rattle.driver_law.proofs.Calls.{ready-on}
-use Rattle.driver_law.proofs.Places.{place-add}
 use Rattle.driver_law.proofs.ReceiveAccesses.{takes-push}
 use Rattle.driver_law.proofs.TakenSlots.{buffers_can_come_back}
 use Rattle.driver_law.specs.Calls.{Ran, WhereReady, at, ether_type_load, only, receive_loads, takes_from}
 use Rattle.driver_law.specs.DriverState.{DriverState, HandedOut, frame_of, holding, numbers_of}
 use Rattle.driver_law.specs.ReadyDrivers.{ReadyWith, Stands}
 use Rattle.driver_law.specs.ReceiveSteps.{after_slots}
-use Rattle.driver.specs.HandlerSteps.{AreOfOneFrame, HandsOn, HandsOver, HasEtherType, LeavesRing, Scene, ShowsAll, Takes}
-use Rattle.driver.specs.HandlerSteps.{WhereReadyIn, WhereTaken, count_if, part_none, scene}
+use Rattle.driver.specs.HandlerSteps.{AreOfOneFrame, HandsOn, HandsOver, HasEtherType, LeavesRing, Scene, Takes, TakesSlots}
+use Rattle.driver.specs.HandlerSteps.{WhereReadyIn, WhereTaken, part_none, run_buffers, run_of, scene, whole_frames}
 use Rattle.driver.specs.Looks.{FindsFrame}
 use Rattle.driver.specs.Parts.{buffers_in, buffers_of, joined_frames, parts_of, pieces_of, received_of}
 use Rattle.driver.specs.declared.look.Run.{Run}
 use Rattle.driver.specs.declared.parts.Part.{Part}
 use Rattle.driver.specs.declared.receiver.Received.{Received}
 use Rattle.driver.specs.declared.receiver.Receiver.{Ghosts as OfReceiver}
-use Rattle.driver.proofs.ShownRuns.{shows-next, shows-none}
-use Rattle.driver.proofs.TakenRuns.{buffers-pieces, concat-numbers, is-kept, part-append, takes-run}
+use Rattle.driver.proofs.ShownRuns.{part-append, slots-next, slots-none}
+use Rattle.driver.proofs.TakenRuns.{buffers-pieces, concat-numbers, is-kept, takes-run}
 
 -- So many frames were taken, and shown to the receiver.
 pub record Walks {B R : Type 0} (bus : Ghosts B) (receivers : OfReceiver R) (n : ℕ) (old new : Scene B R) : Type 0 where
-  pub slots : ℕ
-  pub bad_runs : ℕ
-  pub others : new.driver ≡ record old.driver {
-    oldest_receive = place old.driver.layout.rx old.driver.oldest_receive slots;
-    buffers = new.driver.buffers;
-    pool = new.driver.pool;
-    bad = new.driver.bad;
-  }
-  pub count : slots + length new.driver.buffers ≡ length old.driver.buffers
-  pub least : n + bad_runs ≤ slots
-  pub most : slots ≤ 6 * (n + bad_runs)
-  pub shows : ShowsAll receivers.took old.receiver new.receiver old.driver new.driver n bad_runs
-  pub takes : WhereReadyIn bus old new (Takes bus receivers [] n)
+  pub slots : TakesSlots receivers n old.receiver new.receiver old.driver new.driver
+  pub takes : WhereReadyIn bus old new (Takes bus receivers n)
 
 pub walks-none : {B R : Type 0} (bus : Ghosts B) (receivers : OfReceiver R)
     → ((b : B) → bus.happened b b nothing) → ((r : R) → receivers.took r r [] []) → (b : B) (r : R) (d : DriverState)
     → Walks bus receivers 0 (scene b d r) (scene b d r)
 walks-none bus receivers stays waits b r d = record {
-  slots = 0;
-  bad_runs = 0;
-  others = refl;
-  count = omega arith;
-  least = omega arith;
-  most = omega arith;
-  shows = shows-none receivers.took waits r d;
+  slots = slots-none receivers waits r d;
   takes = λ up held is. record {
     frames = record { taken = []; kept = []; shown = waits r; part = part_none; count = refl; groups = all-none AreOfOneFrame };
     oldest = refl;
@@ -85,14 +67,14 @@ takes-next : {up : Bool} {B R : Type 0} (bus : Ghosts B) (receivers : OfReceiver
     → d2.oldest_receive ≡ place d1.layout.rx d1.oldest_receive slots → slots + length d2.buffers ≡ length d1.buffers
     → d2.layout ≡ d1.layout → length (buffers_in parts) ≡ run.count → LeavesRing run parts d2 d3
     → d4 ≡ record d3 { pool = d4.pool; bad = d4.bad }
-    → (before : Takes bus receivers [] n up (scene a (holding held d1) r) (scene b (holding held d2) s))
+    → (before : Takes bus receivers n up (scene a (holding held d1) r) (scene b (holding held d2) s))
     → FindsFrame bus run up (at b (holding (held ++ pieces_of before.frames.kept) d2))
     (at c (holding (held ++ pieces_of before.frames.kept) d2))
     → ((pieces : List HandedOut) → ReadyWith up (holding ((held ++ pieces_of before.frames.kept) ++ pieces) d3) (bus.world c)
     → parts_of pieces ≡ parts → HasEtherType pieces
     → HandsOver bus receivers pieces up (scene c (holding ((held ++ pieces_of before.frames.kept) ++ pieces) d3) s)
     (scene e (holding ((held ++ pieces_of before.frames.kept) ++ pieces) d4) t))
-    → Takes bus receivers [] (n + 1) up (scene a (holding held d1) r) (scene e (holding held d4) t)
+    → Takes bus receivers (n + 1) up (scene a (holding held d1) r) (scene e (holding held d4) t)
 takes-next {up} bus receivers stays joins also a b c e r s t d1 d2 d3 d4 n slots run parts held oldest_is outstanding known size leaves
     given before finds over =
     let held2 = held ++ pieces_of before.frames.kept in
@@ -145,11 +127,9 @@ takes-next {up} bus receivers stays joins also a b c e r s t d1 d2 d3 d4 n slots
     let from = place d1.layout.rx d1.oldest_receive (length (concat lists)) in
     let loads = receive_loads d2.layout d2.oldest_receive run.count in
     let load = ether_type_load d3.layout (numbers_of pieces) in
-    let accesses : (((((all lists ++ []) ++ loads) ++ []) ++ load) ++ [])
-    ≡ all (map numbers_of (before.frames.taken ++ pieces ∷ [])) ++ [] =
-    ap (λ (list : List Access). list ++ [])
-    (ap (λ (list : List Access). list ++ load) (append-nil ((all lists ++ []) ++ loads))
-    ∙ ap (λ (list : List Access). (list ++ loads) ++ load) (append-nil (all lists))
+    let accesses : ((((all lists ++ loads) ++ []) ++ load) ++ []) ≡ all (map numbers_of (before.frames.taken ++ pieces ∷ [])) =
+    append-nil (((all lists ++ loads) ++ []) ++ load)
+    ∙ ap (λ (list : List Access). list ++ load) (append-nil (all lists ++ loads))
     ∙ append_assoc (all lists) loads load
     ∙ ap (λ (layout : Counts). all lists ++ (receive_loads layout d2.oldest_receive run.count ++ load)) known
     ∙ ap (λ (place : ℕ). all lists ++ (receive_loads d1.layout place run.count ++ load)) slot
@@ -157,7 +137,7 @@ takes-next {up} bus receivers stays joins also a b c e r s t d1 d2 d3 d4 n slots
     ∙ ap (λ (layout : Counts). all lists ++ (receive_loads d1.layout from (length (numbers_of pieces))
     ++ ether_type_load layout (numbers_of pieces))) counts
     ∙ sym (takes-push d1.layout d1.oldest_receive lists (numbers_of pieces))
-    ∙ ap all (sym (map-append numbers_of before.frames.taken (pieces ∷ [])))) in
+    ∙ ap all (sym (map-append numbers_of before.frames.taken (pieces ∷ []))) in
     let shape : ℕ → DriverState = λ bad. record d3 { pool = d4.pool; bad = bad } in
     let last : holding held4 (shape d3.bad) ≡ holding (held ++ pieces_of (before.frames.kept ++ kept.entries)) d4 =
     ap (λ (bad : ℕ). holding held4 (shape bad)) (sym hands.bad) ∙ ap (holding held4) (sym given)
@@ -202,31 +182,21 @@ takes-next {up} bus receivers stays joins also a b c e r s t d1 d2 d3 d4 n slots
       ran = ran_by-same bus _ _ a e (holding held d1) (holding held4 (shape d3.bad)) _ _ _ [] accesses last frames five;
     }
 
--- It is either shown or bad.
-one-run : (whole : Bool) → count_if whole + count_if (not whole) ≡ 1
-one-run true = refl
-one-run false = refl
-
 pub walks-next : {B R : Type 0} (bus : Ghosts B) (receivers : OfReceiver R)
     → ((b : B) → bus.happened b b nothing)
     → ((a b c : B) (first later : Past) → bus.happened a b first → bus.happened b c later → bus.happened a c (joined first later))
     → ((a b c : R) (shown kept later more : List Received) → receivers.took a b shown kept → receivers.took b c later more
     → receivers.took a c (shown ++ later) (kept ++ more))
     → (a b c e : B) (r s t : R) (d1 d2 d3 d4 : DriverState) (n m : ℕ) (run : Run) (parts : List Part) (whole : Bool)
-    → n + count_if whole ≡ m → Keeps bus a b → Keeps bus b c → Walks bus receivers n (scene a d1 r) (scene b d2 s)
+    → n + length (whole_frames (run_of parts whole ∷ [])) ≡ m → Keeps bus a b → Keeps bus b c
+    → Walks bus receivers n (scene a d1 r) (scene b d2 s)
     → 1 ≤ run.count → run.count ≤ 6 → length run.lengths ≡ 6
     → WhereReady bus (at b d2) (at c d2) (FindsFrame bus run) → LeavesRing run parts d2 d3
-    → d4 ≡ record d3 { pool = d4.pool; bad = d4.bad } → HandsOn receivers.took s t parts whole d3 d4 → whole ≡ run.whole
+    → d4 ≡ record d3 { pool = d4.pool; bad = d4.bad } → HandsOn receivers.took s t (run_of parts whole) d3 d4 → whole ≡ run.whole
     → WhereTaken bus parts whole (scene c d3 s) (scene e d4 t) (HandsOver bus receivers)
     → Walks bus receivers m (scene a d1 r) (scene e d4 t)
-walks-next bus receivers stays joins also a b c e r s t d1 d2 d3 d4 n m run parts whole more keeps1 keeps2 walks some few six finds leaves given hands
-    whole_is over =
-    let rx = d1.layout.rx in
-    let o = d1.oldest_receive in
-    let slots = walks.slots + run.count in
-    let shape : ℕ → List ℕ
-    → DriverState = λ oldest buffers. record d1 { oldest_receive = oldest; buffers = buffers; pool = d4.pool; bad = d4.bad } in
-    let left : d4.buffers ≡ d3.buffers = ap (λ (d : DriverState). d.buffers) given in
+walks-next bus receivers stays joins also a b c e r s t d1 d2 d3 d4 n m run parts whole more keeps1 keeps2 walks some few six finds leaves
+    given hands whole_is over =
     let size : length (buffers_in parts) ≡ run.count = omega (
       arith,
       length-map parts (λ (part : Part). part.buffer),
@@ -236,55 +206,22 @@ walks-next bus receivers stays joins also a b c e r s t d1 d2 d3 d4 n m run part
       few,
       six,
     ) in
-    let fewer : run.count + length d4.buffers ≡ length d2.buffers =
-    omega (arith, size, ap length leaves.first, length-append (buffers_in parts) d3.buffers, ap length left) in
-    let runs = one-run whole in
+    let slots = walks.slots in
+    let others = slots.others in
     record {
-      slots = slots;
-      bad_runs = walks.bad_runs + count_if (not whole);
-      others =
-          given
-          ∙ ap (λ (d : DriverState). let s : DriverState = record d { pool = d4.pool; bad = d4.bad } in s) leaves.others
-          ∙ ap (λ (d : DriverState). let s : DriverState = record d
-          { oldest_receive = place d.layout.rx d.oldest_receive run.count; buffers = d3.buffers; pool = d4.pool; bad = d4.bad } in s)
-          walks.others
-          ∙ ap (λ (oldest : ℕ). shape oldest d3.buffers) (sym (place-add rx o walks.slots run.count))
-          ∙ ap (shape (place rx o slots)) (sym left);
-      count = omega (arith, walks.count, fewer);
-      least = omega (arith, more, walks.least, runs, some);
-      most = omega (arith, more, walks.most, runs, few);
-      shows = subst (λ (k : ℕ). ShowsAll receivers.took r t d1 d4 k (walks.bad_runs + count_if (not whole))) more
-          (shows-next receivers.took also r s t d1 d2 d3 d4 n walks.bad_runs run parts whole walks.shows leaves given hands);
+      slots = slots-next receivers also r s t d1 d2 d3 d4 n m run parts whole more size some few slots leaves given hands;
       takes = λ up held is.
           let before = walks.takes up held is in
           let later = held ++ pieces_of before.frames.kept in
           let there = ready-on bus (at a (holding held d1)) (at b (holding later d2)) keeps1 is before.ran in
           let found = finds up later there in
-          let shown : whole ≡ true = whole_is ∙ found.whole in
-          subst (λ (k : ℕ). Takes bus receivers [] k up (scene a (holding held d1) r) (scene e (holding held d4) t))
-          (ap (λ (b : Bool). n + count_if b) (sym shown) ∙ more)
-          (takes-next bus receivers stays joins also a b c e r s t d1 d2 d3 d4 n walks.slots run parts held
-          (ap (λ (d : DriverState). d.oldest_receive) walks.others) walks.count (ap (λ (d : DriverState). d.layout) walks.others)
+          let shown : whole ≡ true = whole_is ∙ found.is_run.whole in
+          subst (λ (k : ℕ). Takes bus receivers k up (scene a (holding held d1) r) (scene e (holding held d4) t))
+          (ap (λ (b : Bool). n + length (whole_frames (run_of parts b ∷ []))) (sym shown) ∙ more)
+          (takes-next bus receivers stays joins also a b c e r s t d1 d2 d3 d4 n (length (run_buffers slots.runs)) run parts held
+          slots.next (omega (arith, ap length slots.oldest, length-append (run_buffers slots.runs) d2.buffers))
+          (ap (λ (d : DriverState). d.layout) others)
           size leaves given before found
           (λ pieces ready same type_is. over up later pieces shown same type_is
           (record { honest = keeps2.honest there.honest; ready = ready })));
-    }
-
--- A last look, which finds no frame.
-pub walks-look : {up : Bool} {B R : Type 0} (bus : Ghosts B) (receivers : OfReceiver R)
-    → ((a b c : B) (first later : Past) → bus.happened a b first → bus.happened b c later → bus.happened a c (joined first later))
-    → (ys : List Access) (a b c : B) (r s : R) (d d' : DriverState) (n : ℕ)
-    → (takes : Takes bus receivers [] n up (scene a d r) (scene b d' s))
-    → Ran bus up (only ys) (at b (holding (d.handed_out ++ pieces_of takes.frames.kept) d'))
-    (at c (holding (d.handed_out ++ pieces_of takes.frames.kept) d'))
-    → Takes bus receivers ys n up (scene a d r) (scene c d' s)
-walks-look bus receivers joins ys a b c r s d d' n takes looks =
-    let held = d.handed_out ++ pieces_of takes.frames.kept in
-    record {
-      frames = takes.frames;
-      oldest = takes.oldest;
-      bad = takes.bad;
-      ran =
-          ran_by-same bus _ _ a c d (holding held d') _ _ _ [] (append_assoc _ [] ys) refl (append-nil _)
-          (ran_by-join bus joins _ ys a b c d (holding held d') (holding held d') _ _ [] [] takes.ran looks);
     }

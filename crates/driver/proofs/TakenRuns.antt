@@ -133,7 +133,7 @@ takes-run {up} bus stays b c d1 d2 d run list many leaves same finds ready =
     let taken = ran_by-takes bus stays c d seen last finds.later ready finds.pieces in
     let pieces = taken.pieces in
     let numbers = buffers_in list in
-    let count : run.count ≡ k = omega (arith, finds.count) in
+    let count : run.count ≡ k = omega (arith, finds.is_run.count) in
     let size : k ≡ length numbers = omega (arith, many, count) in
     let split : d.buffers ≡ numbers ++ d2.buffers = same ∙ leaves.first in
     let front : take k d.buffers ≡ numbers =
@@ -142,7 +142,7 @@ takes-run {up} bus stays b c d1 d2 d run list many leaves same finds ready =
     ap (drop k) split ∙ ap (λ (i : ℕ). drop i (numbers ++ d2.buffers)) size ∙ drop-append_seam numbers d2.buffers in
     let held = d.handed_out ++ pieces in
     let sizes : map length (bytes_of pieces) ≡ lengths_in list =
-    ap (map length) taken.bytes ∙ sym finds.lengths ∙ sym leaves.lengths in
+    ap (map length) taken.bytes ∙ sym finds.is_run.lengths ∙ sym leaves.lengths in
     record {
       pieces = pieces;
       same = parts-same pieces list (taken.numbers ∙ front) sizes;
@@ -186,13 +186,6 @@ is-kept P held pieces received kept is whether stand =
       stand = subst (λ (list : List HandedOut). All P (held ++ list)) (sym (append-nil pieces)) stand;
     }))
     whether
-
--- Parts of two lists, one after the other.
-pub part-append : {some all later more : List (List HandedOut)} → IsPart some all → IsPart later more
-    → IsPart (some ++ later) (all ++ more)
-part-append part_none behind = behind
-part-append (part_with first) behind = part_with (part-append first behind)
-part-append (part_without first) behind = part_without (part-append first behind)
 
 -- The buffers of all frames, one after the other.
 pub concat-numbers : (taken : List (List HandedOut)) → concat (map numbers_of taken) ≡ numbers_of (pieces_of taken)

@@ -2,7 +2,7 @@
 -- records from `Handles` and `Serves` down; those under "Taking frames" and "With a receiver" that these don't name are for the private
 -- functions that it calls.
 use Rattle.std.specs.Prelude.{⊤, ◌≡◌, ◌≤◌, ◌<◌, ◌⊎◌, ◌+◌, ◌-◌, ◌*◌, ◌^◌, ◌++◌, ◌∷◌, []}
-use Rattle.std.specs.Prelude.{ℕ, suc, Bool, true, false, not, All, List, length, map}
+use Rattle.std.specs.Prelude.{ℕ, suc, Bool, not, All, List, count_by, filter, flat_map, length, map}
 use Rattle.std.specs.Prelude.{IsTrue, min, take}
 use Rattle.std.specs.List.{concat}
 use Rattle.dma_memory.specs.Layout.{receive_buffer_bytes}
@@ -22,6 +22,7 @@ use Rattle.driver_law.specs.Calls.{ether_type_load, frames_ended, held_at, in_wo
 use Rattle.driver_law.specs.Calls.{takes_from, with_missed}
 use Rattle.driver_law.specs.DriverState.{DriverState, HandedOut, frame_of, holding, next_receive, numbers_of, owners}
 use Rattle.driver_law.specs.ReceiveSteps.{after_slots}
+use Rattle.driver.specs.RefillSteps.{OffersAfter}
 use Rattle.driver.specs.Parts.{AreFrames, buffers_in, buffers_of, joined_frames, lengths_in, parts_of, pieces_of, received_of}
 use Rattle.driver.specs.declared.look.Run.{Run}
 use Rattle.driver.specs.declared.parts.Part.{Part}
@@ -39,10 +40,10 @@ use Rattle.driver.specs.declared.interrupt.Handled.TheVariants as answers
 -- Taking frames.
 
 -- Some of a list, in the same order.
-pub data IsPart : List (List HandedOut) → List (List HandedOut) → Type 0 where
+pub data IsPart {X : Type 0} : List X → List X → Type 0 where
   part_none : IsPart [] []
-  part_with : {one : List HandedOut} {some all : List (List HandedOut)} → IsPart some all → IsPart (one ∷ some) (one ∷ all)
-  part_without : {one : List HandedOut} {some all : List (List HandedOut)} → IsPart some all → IsPart some (one ∷ all)
+  part_with : {one : X} {some all : List X} → IsPart some all → IsPart (one ∷ some) (one ∷ all)
+  part_without : {one : X} {some all : List X} → IsPart some all → IsPart some (one ∷ all)
 
 -- A count grew by `more`, but saturates at the greatest u64.
 pub record GrowsBy (before after more : ℕ) : Type 0 where
@@ -58,33 +59,49 @@ pub record Shows {R : Type 0} (took : R → R → List Received → List Receive
   pub whether : (kept ≡ []) ⊎ (kept ≡ received ∷ [])
   pub buffers : HaveSameNumbers (buffers_in received.parts ++ pool) (pool' ++ buffers_of kept)
 
--- 1 or 0
-abbrev pub count_if : Bool → ℕ
-count_if true = 1
-count_if false = 0
+-- A run of slots that left the ring: the buffer and the length of each slot, in order, and whether they were shown as a whole frame. The
+-- other runs are bad.
+pub record RunOfSlots : Type 0 where
+  pub parts : List Part
+  pub whole : Bool
 
--- A run's whole frame was shown to the receiver (`whole`); or its buffers went back to the pool, and the run counts as bad.
-pub record HandsOn {R : Type 0} (took : R → R → List Received → List Received → Type 0) (before after : R) (parts : List Part)
-    (whole : Bool) (d d' : DriverState) : Type 0 where
+abbrev pub run_of : List Part → (whole : Bool) → RunOfSlots
+run_of parts whole = record { parts = parts; whole = whole }
+
+-- It has one to six slots.
+pub record HasOneToSixSlots (run : RunOfSlots) : Type 0 where
+  pub least : 1 ≤ length run.parts
+  pub most : length run.parts ≤ 6
+
+-- the buffers of these runs, one run after the other
+abbrev pub run_buffers : List RunOfSlots → List ℕ
+run_buffers runs = flat_map (λ (run : RunOfSlots). buffers_in run.parts) runs
+
+-- the parts of each whole frame, in order
+abbrev pub whole_frames : List RunOfSlots → List (List Part)
+whole_frames runs = map (λ (run : RunOfSlots). run.parts) (filter (λ (run : RunOfSlots). run.whole) runs)
+
+-- the number of bad runs
+abbrev pub bad_runs : List RunOfSlots → ℕ
+bad_runs runs = count_by (λ (run : RunOfSlots). not run.whole) runs
+
+-- The whole frames of these runs were shown to the receiver, one after the other, each with the buffers and lengths of its run. The
+-- receiver kept some of them. The buffers of the others, and those of the bad runs, went to the pool.
+pub record ShowsAll {R : Type 0} (took : R → R → List Received → List Received → Type 0) (before after : R) (runs : List RunOfSlots)
+    (pool pool' : List ℕ) : Type 0 where
   pub received : List Received
   pub kept : List Received
   pub shown : took before after received kept
-  pub one : length received ≡ count_if whole
+  pub frames : map (λ (one : Received). one.parts) received ≡ whole_frames runs
   pub sizes : AreFrames received
-  pub bad : GrowsBy d.bad d'.bad (count_if (not whole))
-  pub buffers : HaveSameNumbers (buffers_in parts ++ d.pool) (d'.pool ++ buffers_of kept)
+  pub part : IsPart kept received
+  pub buffers : HaveSameNumbers (run_buffers runs ++ pool) (pool' ++ buffers_of kept)
 
--- n frames were shown, one after the other, and the receiver kept some of them; and some runs were bad. Each buffer has the same number of
--- owners as before, with the receiver among them.
-pub record ShowsAll {R : Type 0} (took : R → R → List Received → List Received → Type 0) (before after : R) (d d' : DriverState)
-    (n bad_runs : ℕ) : Type 0 where
-  pub received : List Received
-  pub kept : List Received
-  pub shown : took before after received kept
-  pub count : length received ≡ n
-  pub sizes : AreFrames received
-  pub bad : GrowsBy d.bad d'.bad bad_runs
-  pub buffers : HaveSameNumbers (owners d) (owners d' ++ buffers_of kept)
+-- A run was passed on: its whole frame was shown to the receiver; or it counts as bad, and its buffers went to the pool.
+pub record HandsOn {R : Type 0} (took : R → R → List Received → List Received → Type 0) (before after : R) (run : RunOfSlots)
+    (d d' : DriverState) : Type 0 where
+  pub shows : ShowsAll took before after (run ∷ []) d.pool d'.pool
+  pub bad : GrowsBy d.bad d'.bad (bad_runs (run ∷ []))
 
 -- A run of the oldest slots left the ring: its buffers, the first of the list, have no owner then.
 pub record LeavesRing (run : Run) (parts : List Part) (d d' : DriverState) : Type 0 where
@@ -152,35 +169,42 @@ pub record ShowsFrames {R : Type 0} (receivers : OfReceiver R) (n : ℕ) (before
   pub count : length taken ≡ n
   pub groups : All AreOfOneFrame (map numbers_of taken)
 
--- n frames were taken off the ring, the oldest first, and shown to the receiver. The accesses `later` follow.
-pub record Takes {B R : Type 0} (bus : Ghosts B) (receivers : OfReceiver R) (later : List Access) (n : ℕ) (up : Bool)
-    (old new : Scene B R) : Type 0 where
+-- n frames were taken off the ring, the oldest first, and shown to the receiver.
+pub record Takes {B R : Type 0} (bus : Ghosts B) (receivers : OfReceiver R) (n : ℕ) (up : Bool) (old new : Scene B R) : Type 0 where
   pub frames : ShowsFrames receivers n old.receiver new.receiver
   pub oldest : old.driver.buffers ≡ numbers_of (pieces_of frames.taken) ++ new.driver.buffers
   pub bad : new.driver.bad ≡ old.driver.bad
   pub ran :
-      Ran bus up (call_did (takes_from old.driver.layout old.driver.oldest_receive (map numbers_of frames.taken) ++ later)
+      Ran bus up (call_did (takes_from old.driver.layout old.driver.oldest_receive (map numbers_of frames.taken))
       (joined_frames frames.taken) [])
       (moment old) (held_at (old.driver.handed_out ++ pieces_of frames.kept) (moment new))
 
--- Over any bus: n frames were shown, some runs were bad, and the slots of both left the ring. A run has one to six slots.
+-- Over any bus: these runs left the ring, the oldest first, and n of them were shown as whole frames. Which runs are bad, and where a bad
+-- run ends, is open here: what a load returns is known only over a bus that obeys the law.
 pub record TakesSlots {R : Type 0} (receivers : OfReceiver R) (n : ℕ) (before after : R) (d d' : DriverState) : Type 0 where
   pub others : d' ≡ record d { oldest_receive = d'.oldest_receive; buffers = d'.buffers; pool = d'.pool; bad = d'.bad }
-  pub slots : ℕ
-  pub next : d'.oldest_receive ≡ place d'.layout.rx d.oldest_receive slots
-  pub count : slots + length d'.buffers ≡ length d.buffers
-  pub bad_runs : ℕ
-  pub least : n + bad_runs ≤ slots
-  pub most : slots ≤ 6 * (n + bad_runs)
-  pub shows : ShowsAll receivers.took before after d d' n bad_runs
+  pub runs : List RunOfSlots
+  pub sizes : All HasOneToSixSlots runs
+  pub oldest : d.buffers ≡ run_buffers runs ++ d'.buffers
+  pub next : d'.oldest_receive ≡ place d.layout.rx d.oldest_receive (length (run_buffers runs))
+  pub count : length (whole_frames runs) ≡ n
+  -- Each bad run is counted once.
+  pub bad : GrowsBy d.bad d'.bad (bad_runs runs)
+  pub shows : ShowsAll receivers.took before after runs d.pool d'.pool
 
--- Over one that obeys the law: they were all the frames that ended in finished slots. After the last one, the descriptors of the finished
--- slots that remain, and of the next outstanding one if there is one, were loaded.
+-- Over one that obeys the law: they were all the frames that ended in finished slots. Then, after the last of them, the descriptors of the
+-- finished slots that remain, and of the next outstanding one if there is one, were loaded.
 pub record TakesAll {B R : Type 0} (bus : Ghosts B) (receivers : OfReceiver R) (n : ℕ) (up : Bool) (old new : Scene B R) : Type 0 where
+  -- the bus after the last frame
+  pub middle : B
+  pub takes : Takes bus receivers n up old (record new { bus = middle })
   pub none_left : frames_ended (in_world_of bus (moment new)) ≡ []
   pub loads : ℕ
   pub loads_are : loads ≡ min (suc (length (finished_pieces new.driver.oldest_receive (bus.world new.bus)))) (length new.driver.buffers)
-  pub takes : Takes bus receivers (receive_loads new.driver.layout new.driver.oldest_receive loads) n up old new
+  pub looks :
+      Ran bus up (only (receive_loads new.driver.layout new.driver.oldest_receive loads))
+      (held_at (old.driver.handed_out ++ pieces_of takes.frames.kept) (at middle new.driver))
+      (held_at (old.driver.handed_out ++ pieces_of takes.frames.kept) (moment new))
 
 -- What is read as bytes 12 and 13 of a frame that is held in buffers, over a bus that obeys the law.
 abbrev pub ReadsEtherType : {B : Type 0} → Ghosts B → List Part → Moment B → (read : ℕ) → Type 0
@@ -218,9 +242,9 @@ taking_accesses d misses taken loads =
 abbrev pub offering_accesses : DriverState → (offered : List ℕ) → (tail : ℕ) → List Access
 offering_accesses d offered tail = stores_from d.layout (next_receive d) offered ++ tail_write tail (d.staged ++ offered)
 
--- The last look, in the world right after its last load, if these buffers are outstanding then, and the oldest slot is at this place. No
--- frame ends in finished slots. The descriptors of the finished slots, which contain the beginning of a frame, were loaded, and that of the
--- next outstanding slot, if there is one.
+-- The last look, in the world at a moment after its last load and before the next access, if these buffers are outstanding then, and the
+-- oldest slot is at this place. No frame ends in finished slots. The descriptors of the finished slots, which contain the beginning of a
+-- frame, were loaded, and that of the next outstanding slot, if there is one.
 pub record IsLook (oldest : ℕ) (rest : List ℕ) (world : World) (loads : ℕ) : Type 0 where
   pub none_left : frames_of (finished_pieces oldest world) ≡ []
   -- Their pieces are full, and no longer together than the longest frame. So with buffers of 256 bytes they are at most five.
@@ -255,7 +279,8 @@ pub record TakesAndOffers (d d' : DriverState) (taken : List ℕ) : Type 0 where
   pub newest : d'.buffers ≡ rest ++ (d.staged ++ offered)
   pub no_bad : d'.bad ≡ d.bad
 
--- n frames are taken and shown to the receiver, and then slots are offered. The run is split right after the last load of a descriptor.
+-- n frames are taken and shown to the receiver, and then slots are offered. The run is split at a moment after the last load of a
+-- descriptor and before the next access.
 pub record Works {B R : Type 0} (bus : Ghosts B) (receivers : OfReceiver R) (n : ℕ) (up : Bool) (old new : Scene B R) : Type 0 where
   pub frames : ShowsFrames receivers n old.receiver new.receiver
   pub misses : ReadsMisses old.driver new.driver
@@ -316,7 +341,8 @@ pub record OnlyReceives (d d' : DriverState) : Type 0 where
   pub oldest : d'.oldest_transmit ≡ d.oldest_transmit
   pub sending : d'.sending ≡ d.sending
 
--- A value is added to the driver's sum of missed frames, n frames are taken, and then the ring is refilled.
+-- A value is added to the driver's sum of missed frames, runs of slots leave the ring, of which n are shown as whole frames, and then the
+-- ring is refilled.
 pub record Serves {R : Type 0} (receivers : OfReceiver R) (before after : R) (d d' : DriverState) (n : ℕ) : Type 0 where
   -- This record says nothing else of this value. Over a bus that obeys the law, `Handles` says that it was read from MPC.
   pub misses : ℕ
@@ -324,6 +350,8 @@ pub record Serves {R : Type 0} (receivers : OfReceiver R) (before after : R) (d 
   pub between : DriverState
   pub takes : TakesSlots receivers n before after (with_missed misses d) between
   pub offers : OffersAll between d'
-  -- The refill loses no buffer, and none has another number of owners. `takes` says the same of the taking (`shows.buffers`), with the
-  -- receiver as an owner.
+  -- The slots offered are after those that were outstanding, and after those that were staged.
+  pub order : OffersAfter between d'
+  -- The refill loses no buffer, and none has another number of owners. `takes` says the same of the taking (`oldest`, `shows.buffers`),
+  -- with the receiver as an owner.
   pub owners : HaveSameNumbers (owners between) (owners d')

@@ -51,19 +51,22 @@ pub record Refuses {B : Type 0} (bus : Ghosts B) (old new : B) (error : InitErro
 
 -- Its steps.
 
+-- The tables of the filter: words that have the configuration's groups and VLANs.
+pub record AreFilterTables (config : Config) (groups vlans : List ℕ) : Type 0 where
+  pub has_groups : HasNumbers groups (numbers_of_groups config.groups.items)
+  pub has_vlans : HasNumbers vlans (vlans_of config.vlans)
+  pub groups_are : AreWords groups
+  pub vlans_are : AreWords vlans
+
 -- The device is found, its filter set up, and its receive ring with no slot offered.
 pub record HasFoundRing {B : Type 0} (bus : Ghosts B) (config : Config) (old new : B) : Type 0 where
   pub sum : HasRightSum (bus.world old).adapter.image
   pub address : IsAddress (address_bytes (bus.world old).adapter.image)
   pub ring : HasReceiveRing config.rx (bus.world new)
   pub up : HasLink (bus.world new)
-  -- the tables of the filter
   pub groups : List ℕ
   pub vlans : List ℕ
-  pub has_groups : HasNumbers groups (numbers_of_groups config.groups.items)
-  pub has_vlans : HasNumbers vlans (vlans_of config.vlans)
-  pub groups_are : AreWords groups
-  pub vlans_are : AreWords vlans
+  pub tables : AreFilterTables config groups vlans
   pub settings : settings_of (bus.world new).adapter ≡ settings_after_all
       (writes_before_rings config (address_bytes (bus.world old).adapter.image) groups vlans ++ ring_writes RDBAL 0 (16 * config.rx))
       (settings_of (bus.world old).adapter)

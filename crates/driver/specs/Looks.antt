@@ -46,16 +46,20 @@ pub record FindsNoFrame {B : Type 0} (bus : Ghosts B) (up : Bool) (old new : Mom
   pub loads_are : loads ≡ min (suc (length (finished_pieces new.driver.oldest_receive (bus.world new.bus)))) (length new.driver.buffers)
   pub ran : Ran bus up (only (receive_loads old.driver.layout old.driver.oldest_receive loads)) old new
 
+-- The run is that of a whole frame with these parts and this last piece.
+pub record IsRunOf (run : Run) (seen : List (List ℕ)) (last : List ℕ) : Type 0 where
+  pub count : run.count ≡ length seen + 1
+  pub lengths : take run.count run.lengths ≡ map length (seen ++ last ∷ [])
+  pub length_is : run.length ≡ length (concat seen ++ last)
+  pub whole : IsTrue run.whole
+
 -- The oldest finished slots contain a whole frame: parts, and then its last piece. Their descriptors were loaded.
 pub record FindsFrame {B : Type 0} (bus : Ghosts B) (run : Run) (up : Bool) (old new : Moment B) : Type 0 where
   pub seen : List (List ℕ)
   pub last : List ℕ
   pub later : List Piece
   pub pieces : finished_pieces new.driver.oldest_receive (bus.world new.bus) ≡ parts seen ++ Last last ∷ later
-  pub count : run.count ≡ length seen + 1
-  pub lengths : take run.count run.lengths ≡ map length (seen ++ last ∷ [])
-  pub length_is : run.length ≡ length (concat seen ++ last)
-  pub whole : IsTrue run.whole
+  pub is_run : IsRunOf run seen last
   pub ran : Ran bus up (only (receive_loads old.driver.layout old.driver.oldest_receive run.count)) old new
 
 abbrev pub LooksAt : {B : Type 0} → Ghosts B → Option Run → (up : Bool) → (old new : Moment B) → Type 0

@@ -3,7 +3,7 @@ use Rattle.std.specs.Prelude.{◌≡◌, ◌++◌, ℕ, Bool, List}
 use Rattle.dma_memory.specs.Owners.{HaveSameNumbers}
 use Rattle.driver_law.specs.Calls.{IsReady, Moment, Ran, Runs, held_at, only, stores_from, tail_write}
 use Rattle.bus.specs.declared.bus.Bus.{Ghosts}
-use Rattle.driver_law.specs.DriverState.{HandedOut, next_receive, numbers_of, with_owners}
+use Rattle.driver_law.specs.DriverState.{DriverState, HandedOut, next_receive, numbers_of, with_owners}
 use Rattle.driver.specs.Parts.{buffers_in}
 use Rattle.driver.specs.declared.parts.Part.{Part}
 
@@ -28,6 +28,12 @@ pub record Refills {B : Type 0} (bus : Ghosts B) (up : Bool) (old new : Moment B
   pub ran :
       Ran bus up (only (stores_from old.driver.layout (next_receive old.driver) numbers
       ++ tail_write (next_receive new.driver) (old.driver.staged ++ numbers))) old new
+
+-- Over any bus: slots are offered with these buffers of the pool, after those that were outstanding and those that were staged.
+pub record OffersAfter (d d' : DriverState) : Type 0 where
+  pub offered : List ℕ
+  pub newest : d'.buffers ≡ d.buffers ++ (d.staged ++ offered)
+  pub pool : HaveSameNumbers d.pool (offered ++ d'.pool)
 
 -- A call takes back the buffers of a frame's pieces. If the bus obeys the law, and the driver is ready before the call with pieces held in
 -- those buffers, `Holds` relates the moments before and after it.

@@ -8,7 +8,7 @@ ghost use Rattle.bus.specs.Keeping.{Keeps};
 ghost use Rattle.driver_law.specs.Calls.{Runs, at, ether_type_load, only};
 ghost use Rattle.driver_law.specs.DriverState.{owners};
 ghost use Rattle.driver.specs.HandlerSteps.{HandsOn, HandsOver, LeavesRing, ReadsEtherType, Shows, TakesAll};
-ghost use Rattle.driver.specs.HandlerSteps.{TakesSlots, WhereReadyIn, WhereTaken, scene};
+ghost use Rattle.driver.specs.HandlerSteps.{TakesSlots, WhereReadyIn, WhereTaken, run_of, scene};
 ghost use Rattle.driver.specs.Parts.{FitIntoBuffers, IsFrameSize, buffers_in, lengths_in};
 
 use crate::look::Run;
@@ -84,8 +84,8 @@ impl Driver {
         self.put_back(back);
     }
 
-    /// Passes on a run that was taken, and returns whether it contains a whole frame. Then the receiver takes the frame.
-    /// Otherwise the run's buffers go back to the pool, and it counts as bad, once.
+    /// Passes on a run that was taken, and returns whether it contains a whole frame. Then the receiver takes the
+    /// frame. Otherwise the run's buffers go back to the pool, and it counts as bad, once.
     fn hand_on<B: Bus, R: Receiver>(
         &mut self,
         bus: &mut B,
@@ -102,7 +102,7 @@ impl Driver {
         ensures keeps { Keeps B.Bus bus.old bus.new }
         ensures whole { result ≡ run.now.whole }
         ensures others { self.new ≡ record self.old { pool = self.new.pool; bad = self.new.bad } }
-        ensures hands { HandsOn R.took receiver.old receiver.new parts result self.old self.new }
+        ensures hands { HandsOn R.took receiver.old receiver.new (run_of parts result) self.old self.new }
         ensures over { WhereTaken B.Bus parts result
             (scene bus.old self.old receiver.old) (scene bus.new self.new receiver.new)
             (HandsOver B.Bus R.Receiver) }
@@ -122,10 +122,10 @@ impl Driver {
         true
     }
 
-    /// Takes the frames of finished receive slots, from the oldest slot on up to the first that isn't finished, each as
-    /// a run of slots up to one with EOP, or of six without. It shows each whole frame to the receiver, and returns their
-    /// number. Finished slots that no end of a frame follows remain in the ring. Over a bus that obeys the law, each
-    /// descriptor is loaded once, and after those of a frame bytes 12 and 13 of the frame.
+    /// Takes the frames of finished receive slots, from the oldest slot on up to the first that isn't finished, each
+    /// as a run of slots up to one with EOP, or of six without. It shows each whole frame to the receiver, and returns
+    /// their number. Finished slots that no end of a frame follows remain in the ring. Over a bus that obeys the law,
+    /// each descriptor is loaded once, and after those of a frame bytes 12 and 13 of the frame.
     pub fn take_finished<B: Bus, R: Receiver>(&mut self, bus: &mut B, receiver: &mut R) -> usize
         requires memory { size_of self.old.layout ≤ B.extent bus.old }
         ensures keeps { Keeps B.Bus bus.old bus.new }

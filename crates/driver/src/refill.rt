@@ -10,7 +10,7 @@ ghost use Rattle.driver_law.specs.Calls.{OffersAll, Runs, WhereReady, at, only, 
 ghost use Rattle.driver_law.specs.DriverState.{next_receive, owners, with_owners};
 ghost use Rattle.driver_law.specs.ReadyDrivers.{empty_descriptor};
 ghost use Rattle.driver.specs.Parts.{buffers_in};
-ghost use Rattle.driver.specs.RefillSteps.{Refills, Stages, StagesSome, WhereHeld};
+ghost use Rattle.driver.specs.RefillSteps.{OffersAfter, Refills, Stages, StagesSome, WhereHeld};
 
 use crate::{Driver, Parts};
 use adapter::offsets::RDT;
@@ -125,6 +125,7 @@ impl Driver {
         requires memory { size_of self.old.layout ≤ B.extent bus.old }
         ensures keeps { Keeps B.Bus bus.old bus.new }
         ensures offers { OffersAll self.old self.new }
+        ensures order { OffersAfter self.old self.new }
         ensures owners { HaveSameNumbers (owners self.old) (owners self.new) }
         ensures refills { WhereReady B.Bus (at bus.old self.old) (at bus.new self.new) (Refills B.Bus) }
     {

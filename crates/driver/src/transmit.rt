@@ -36,7 +36,8 @@ pub enum SendError {
     /// It has more than 1,518 bytes.
     #[error("E21 TooLong")]
     TooLong,
-    /// All slots but one are outstanding, and none of them is written back.
+    /// All slots but one are outstanding after the call has freed those whose descriptors have DD. If the bus obeys the
+    /// law, and the driver is ready with its transmit side up, none of them is written back.
     #[error("E22 RingFull")]
     RingFull,
 }
@@ -143,8 +144,8 @@ impl Driver {
     /// E20 [`TooShort`](SendError::TooShort) if the frame has fewer than 14 bytes, E21
     /// [`TooLong`](SendError::TooLong) if it has more than 1,518; both without an access. E22
     /// [`RingFull`](SendError::RingFull) if all slots of the transmit ring but one are still outstanding after the call
-    /// has freed those that are written back. If the bus obeys the law and the driver is ready with its transmit side
-    /// up, E22 means exactly one load and an unchanged driver.
+    /// has freed those whose descriptors have DD. If the bus obeys the law and the driver is ready with its transmit
+    /// side up, E22 means exactly one load and an unchanged driver.
     pub fn transmit<B: Bus>(&mut self, bus: &mut B, frame: &[u8]) -> Result<(), SendError>
         requires memory { size_of self.old.layout ≤ B.extent bus.old }
         ensures keeps { Keeps B.Bus bus.old bus.new }
@@ -154,6 +155,7 @@ impl Driver {
         ensures too_short { (result ≡ Err SendError.TooShort) ↔ (length frame.now < shortest_sent) }
         ensures too_long { (result ≡ Err SendError.TooLong) ↔ (longest_frame < length frame.now) }
         ensures nothing { HasWrongLength result → (bus.new ≡ bus.old) × (self.new ≡ self.old) }
+        ensures full { result ≡ Err SendError.RingFull → self.new.sending + 1 ≡ self.new.layout.tx }
 
         // And over one that obeys the law.
         ensures transmits { Transmits B.Bus frame.now result (at bus.old self.old) (at bus.new self.new) }

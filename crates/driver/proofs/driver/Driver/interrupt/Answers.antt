@@ -1,9 +1,9 @@
-use Rattle.std.proofs.Common.{◌≡◌, true, false, ◌++◌, refl, subst}
+use Rattle.std.proofs.Common.{◌≡◌, true, false, ◌++◌, length, length-append, ap, refl, subst, arith}
 use Rattle.registers.specs.Bits.{Meet}
 use Rattle.driver_law.proofs.RegisterAccesses.{reads-causes}
 use Rattle.driver_law.specs.DriverState.{DriverState, holding}
 use Rattle.bring_up.specs.WrittenRegisters.{handled_causes}
-use Rattle.driver.specs.HandlerSteps.{TakesSlots, scene}
+use Rattle.driver.specs.HandlerSteps.{TakesSlots, run_buffers, scene}
 use Rattle.driver.specs.Parts.{pieces_of}
 use Rattle.driver.proofs.HandlerSteps.{Follows, handled-timer, handles-it}
 use Rattle.driver.proofs.driver.Driver.interrupt.Goals as goal
@@ -34,6 +34,7 @@ returns-clause-serves g c = record {
       c.take_finished-taken.new.self) c.count_missed.ensures.others
       c.take_finished-taken.ensures.slots;
   offers = c.refill.ensures.offers;
+  order = c.refill.ensures.order;
   owners = c.refill.ensures.owners;
 }
 
@@ -47,15 +48,16 @@ returns-clause-handles g c up held is =
     let counting = c.count_missed.ensures.keeps.honest asking in
     let all = c.take_finished-taken.ensures.takes up held (record { honest = counting; ready = counts.goes.flows.ready }) in
     let refills = c.refill.ensures.refills up (held ++ pieces_of all.takes.frames.kept)
-    (record { honest = c.take_finished-taken.ensures.keeps.honest counting; ready = all.takes.ran.goes.flows.ready }) in
+    (record { honest = c.take_finished-taken.ensures.keeps.honest counting; ready = all.looks.goes.flows.ready }) in
+    let slots = c.take_finished-taken.ensures.slots in
     let from = scene c.read.new.self d1 c.args.receiver.now in
     let last = scene c.refill.new.bus c.refill.new.self c.take_finished-taken.new.receiver in
-    let follows : Follows c.count_missed.result c.take_finished-taken.ensures.slots.slots d1 c.count_missed.new.self c.take_finished-taken.new.self
+    let follows : Follows c.count_missed.result (length (run_buffers slots.runs)) d1 c.count_missed.new.self c.take_finished-taken.new.self
     c.refill.new.self = record {
       counted = c.count_missed.ensures.others;
-      taken = c.take_finished-taken.ensures.slots.others;
-      place = c.take_finished-taken.ensures.slots.next;
-      count = c.take_finished-taken.ensures.slots.count;
+      taken = slots.others;
+      place = slots.next;
+      count = omega (arith, ap length slots.oldest, length-append (run_buffers slots.runs) c.take_finished-taken.new.self.buffers);
       refilled = c.refill.ensures.offers.others;
     } in
     record {

@@ -1,7 +1,21 @@
-use Rattle.std.proofs.Common.{◌∙◌}
+use Rattle.std.proofs.Common.{◌++◌, ap, sym, ◌∙◌}
+use Rattle.dma_memory.specs.Owners.{copies}
 use Rattle.driver_law.specs.Calls.{at}
+use Rattle.driver_law.specs.DriverState.{DriverState}
 use Rattle.driver.proofs.RefillSteps.{owners-staged, refills}
 use Rattle.driver.proofs.driver.Driver.refill.Goals as goal
+
+pub returns-clause-order : goal.returns-clause-order
+returns-clause-order g c =
+    let stages = c.stage_all.ensures.stages.stages in
+    let numbers = c.stage_all.ensures.stages.numbers in
+    record {
+      offered = numbers;
+      newest =
+          ap (λ (s : DriverState). s.buffers) c.offer.ensures.others
+          ∙ ap (λ (s : DriverState). s.buffers ++ s.staged) stages.others;
+      pool = λ k. stages.pool k ∙ ap (λ (s : DriverState). copies k (numbers ++ s.pool)) (sym c.offer.ensures.others);
+    }
 
 pub returns-clause-owners : goal.returns-clause-owners
 returns-clause-owners g c k =

@@ -1,10 +1,9 @@
-use Rattle.std.proofs.Common.{Bool, ◌≡◌, ◌+◌, ◌++◌, ap, ◌∙◌, arith}
+use Rattle.std.proofs.Common.{Bool, ◌≡◌, ◌+◌, ◌++◌, ◌∷◌, [], length, ap, ◌∙◌, arith}
 use Rattle.bus.proofs.Keeping.{keeps-here, keeps-on}
-use Rattle.driver_law.specs.DriverState.{DriverState, holding}
-use Rattle.driver.specs.HandlerSteps.{count_if}
+use Rattle.driver.specs.HandlerSteps.{run_of, whole_frames}
 use Rattle.driver.specs.Parts.{pieces_of}
-use Rattle.driver.proofs.ShownRuns.{shows-owners}
-use Rattle.driver.proofs.TakenFrames.{walks-look, walks-next, walks-none}
+use Rattle.driver.proofs.ShownRuns.{slots-few, slots-one_owner}
+use Rattle.driver.proofs.TakenFrames.{walks-next, walks-none}
 use Rattle.driver.proofs.driver.Driver.take_finished.Goals as goal
 
 pub loop-run-init : goal.loop-run-init
@@ -21,8 +20,8 @@ loop-run-preserved-then-hand_on g c =
     let l = c.loop-run.invariant in
     let look = c.in-Some.ensures in
     let h = c.hand_on.ensures in
-    let same : c.loop-run.taken + count_if c.hand_on.result ≡ c.loop-run.taken + 1 =
-    ap (λ (b : Bool). c.loop-run.taken + count_if b) c.if-hand_on.true ∙ omega arith in
+    let same : c.loop-run.taken + length (whole_frames (run_of c.take_run-parts.result c.hand_on.result ∷ [])) ≡ c.loop-run.taken + 1 =
+    ap (λ (b : Bool). c.loop-run.taken + length (whole_frames (run_of c.take_run-parts.result b ∷ []))) c.if-hand_on.true ∙ omega arith in
     record {
       keeps = keeps-on g.B.Bus g.met.B.Bus.composes.lent_stays_on _ _ _ l.keeps
           (keeps-on g.B.Bus g.met.B.Bus.composes.lent_stays_on _ _ _ look.keeps h.keeps);
@@ -38,8 +37,9 @@ loop-run-preserved g c =
     let l = c.loop-run.invariant in
     let look = c.in-Some.ensures in
     let h = c.hand_on.ensures in
-    let same : c.loop-run.taken + count_if c.hand_on.result ≡ c.loop-run.taken =
-    ap (λ (b : Bool). c.loop-run.taken + count_if b) c.if-hand_on.false ∙ omega arith in
+    let same : c.loop-run.taken + length (whole_frames (run_of c.take_run-parts.result c.hand_on.result ∷ [])) ≡ c.loop-run.taken =
+    ap (λ (b : Bool). c.loop-run.taken + length (whole_frames (run_of c.take_run-parts.result b ∷ []))) c.if-hand_on.false
+    ∙ omega arith in
     record {
       keeps = keeps-on g.B.Bus g.met.B.Bus.composes.lent_stays_on _ _ _ l.keeps
           (keeps-on g.B.Bus g.met.B.Bus.composes.lent_stays_on _ _ _ look.keeps h.keeps);
@@ -53,11 +53,10 @@ loop-run-preserved g c =
 -- Each frame had a slot that was outstanding at the beginning.
 pub overflow_add-taken : goal.overflow_add-taken
 overflow_add-taken g c =
-    let walks = c.loop-run.invariant.walks in
     omega (
       arith,
-      walks.least,
-      walks.count,
+      slots-few g.R.Receiver c.loop-run.taken c.args.receiver.now c.loop-run.receiver c.args.self.now c.loop-run.self
+          c.loop-run.invariant.walks.slots,
       c.in-Some.ensures.some,
       c.in-Some.ensures.outstanding,
       c.receiving.ensures.count,
@@ -66,22 +65,20 @@ overflow_add-taken g c =
 
 pub returns-clause-one_owner : goal.returns-clause-one_owner
 returns-clause-one_owner g c =
-    let walks = c.loop-run.invariant.walks in
-    shows-owners g.R.Receiver.took c.args.receiver.now c.loop-run.receiver c.args.self.now c.loop-run.self c.loop-run.taken walks.bad_runs
-    (ap (λ (d : DriverState). d.layout) walks.others) walks.shows c.receiving.ensures.one_owner
+    slots-one_owner g.R.Receiver c.loop-run.taken c.args.receiver.now c.loop-run.receiver c.args.self.now c.loop-run.self
+    c.loop-run.invariant.walks.slots c.receiving.ensures.one_owner
 
 pub returns-clause-takes : goal.returns-clause-takes
 returns-clause-takes g c up held is =
     let l = c.loop-run.invariant in
-    let d = c.args.self.now in
     let before = l.walks.takes up held is in
     let look = c.in_default.ensures.looks up (held ++ pieces_of before.frames.kept)
     (record { honest = l.keeps.honest is.honest; ready = before.ran.goes.flows.ready }) in
     record {
+      middle = c.loop-run.bus;
+      takes = record { frames = before.frames; oldest = before.oldest; bad = before.bad; ran = before.ran };
       none_left = look.none;
       loads = look.loads;
       loads_are = look.loads_are;
-      takes = walks-look g.B.Bus g.R.Receiver g.met.B.Bus.composes.joins _ c.args.bus.now c.loop-run.bus
-          c.look.new.bus c.args.receiver.now c.loop-run.receiver (holding held d) (holding held c.loop-run.self) c.loop-run.taken before
-          look.ran;
+      looks = look.ran;
     }
