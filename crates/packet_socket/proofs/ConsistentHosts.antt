@@ -8,18 +8,19 @@ use Rattle.std.proofs.lemmas.List.Sorted.{All-permutation, sum_by-IsPermutation}
 use Rattle.dma_memory.specs.Owners.{HasNoSecondOwner, HaveSameNumbers, copies}
 use Rattle.dma_memory.specs.OwnersLaws.{copies-append, known_from_no_second, length-no_second}
 use Rattle.dma_memory.specs.Layout.{Counts}
-use Rattle.descriptors.specs.RingLaws.{place}
 use Rattle.adapter.specs.World.{World}
 use Rattle.bus.proofs.Lists.{all-head, all-none, all-right, all-without}
 use Rattle.driver_law.proofs.Owners.{all-copies}
+use Rattle.driver_law.specs.Calls.{with_missed}
 use Rattle.driver_law.specs.DriverState.{DriverState, HandedOut, holding, owners}
 use Rattle.driver_law.specs.ReadyDrivers.{ReadyWith}
-use Rattle.driver.specs.HandlerSteps.{GrowsBy, IfHandled, IfNotMine, Serves, ShowsAll}
+use Rattle.driver.specs.HandlerSteps.{GrowsBy, IfHandled, IfNotMine, Serves, bad_runs}
 use Rattle.driver.specs.Parts.{AreFrames, IsWholeFrame, buffers_in, buffers_of}
 use Rattle.driver.specs.declared.interrupt.Handled.{Handled}
 use Rattle.driver.specs.declared.interrupt.Handled.TheVariants.{NotMine}
 use Rattle.driver.specs.declared.interrupt.Handled.TheVariants as answers
 use Rattle.driver.specs.declared.receiver.Received.{Received}
+use Rattle.driver.proofs.ShownRuns.{slots-owners}
 use Rattle.packet_socket.specs.HostCalls.{HostReadyWith, HostServes, Queues, driver_of, waiting_pieces}
 use Rattle.packet_socket.specs.HostState.{SocketsState, all_of, host_owners, queue_at}
 use Rattle.packet_socket.specs.InsideHost.{IsHost, host_with}
@@ -153,37 +154,45 @@ has-room driver driver' before kept host sizes numbers =
       host.room,
     )
 
-pub shown-queues : (driver driver' : DriverState) (before after : SocketsState) (n bad : ℕ) → IsHost driver before
-    → (shows : ShowsAll Sorts before after driver driver' n bad)
+-- What was shown to the sockets, and where each buffer is then.
+pub record WasShown (driver driver' : DriverState) (before after : SocketsState) : Type 0 where
+  pub received : List Received
+  pub kept : List Received
+  pub shown : Sorts before after received kept
+  pub sizes : AreFrames received
+  pub buffers : HaveSameNumbers (owners driver) (owners driver' ++ buffers_of kept)
+
+pub shown-queues : (driver driver' : DriverState) (before after : SocketsState) → IsHost driver before
+    → (shows : WasShown driver driver' before after)
     → Queues before.kinds before.queues after.queues shows.kept
-shown-queues driver driver' before after n bad host shows =
+shown-queues driver driver' before after host shows =
     shows.shown.queues (has-room driver driver' before shows.kept host
     (kept-are-frames before after shows.received shows.kept shows.shown shows.sizes) shows.buffers)
 
 -- No buffer has another number of owners then.
-pub shown-owners : (driver driver' : DriverState) (before after : SocketsState) (n bad : ℕ) → IsHost driver before
-    → ShowsAll Sorts before after driver driver' n bad
+pub shown-owners : (driver driver' : DriverState) (before after : SocketsState) → IsHost driver before
+    → WasShown driver driver' before after
     → HaveSameNumbers (host_owners (host_with driver before)) (host_owners (host_with driver' after))
-shown-owners driver driver' before after n bad host shows = λ k.
+shown-owners driver driver' before after host shows = λ k.
     omega (
       arith,
       shows.buffers k,
       copies-append k (owners driver) (buffers_of (all_of before.queues)),
       copies-append k (owners driver') (buffers_of shows.kept),
       copies-append k (owners driver') (buffers_of (all_of after.queues)),
-      kept-copies k before.kinds before.queues after.queues shows.kept (shown-queues driver driver' before after n bad host shows),
+      kept-copies k before.kinds before.queues after.queues shows.kept (shown-queues driver driver' before after host shows),
     )
 
-pub shown-host : (driver driver' : DriverState) (before after : SocketsState) (n bad : ℕ) → IsHost driver before
-    → ShowsAll Sorts before after driver driver' n bad → driver'.layout ≡ driver.layout
+pub shown-host : (driver driver' : DriverState) (before after : SocketsState) → IsHost driver before
+    → WasShown driver driver' before after → driver'.layout ≡ driver.layout
     → IsHost driver' after
-shown-host driver driver' before after n bad host shows counts =
-    let queues = shown-queues driver driver' before after n bad host shows in
+shown-host driver driver' before after host shows counts =
+    let queues = shown-queues driver driver' before after host shows in
     record {
       room = shows.shown.room ∙ host.room ∙ ap (λ (c : Counts). c.buffers) (sym counts);
       count = shows.shown.count ∙ host.count ∙ ap (λ (kinds : List SocketKind). length kinds) (sym shows.shown.kinds);
       owners = subst (λ (c : Counts). HasNoSecondOwner c.buffers (owners driver' ++ buffers_of (all_of after.queues))) (sym counts) (λ k.
-          omega (arith, host.owners k, shown-owners driver driver' before after n bad host shows k));
+          omega (arith, host.owners k, shown-owners driver driver' before after host shows k));
       sizes =
           All-permutation IsWholeFrame (all_of before.queues ++ shows.kept) (all_of after.queues) queues.all
           (All-append IsWholeFrame (all_of before.queues) shows.kept host.sizes
@@ -192,25 +201,17 @@ shown-host driver driver' before after n bad host shows counts =
 
 -- MPC is read before frames are taken, and then the ring is refilled: neither changes what was shown.
 pub served-shows : (n : ℕ) (driver driver' : DriverState) (before after : SocketsState)
-    → (serves : Serves (record { took = Sorts }) before after driver driver' n)
-    → ShowsAll Sorts before after driver driver' n serves.takes.bad_runs
+    → Serves (record { took = Sorts }) before after driver driver' n → WasShown driver driver' before after
 served-shows n driver driver' before after serves =
     let shows = serves.takes.shows in
-    let bad : GrowsBy driver.bad serves.between.bad serves.takes.bad_runs = shows.bad in
-    let last : driver'.bad ≡ serves.between.bad = ap (λ (d : DriverState). d.bad) serves.offers.others in
     record {
       received = shows.received;
       kept = shows.kept;
       shown = shows.shown;
-      count = shows.count;
       sizes = shows.sizes;
-      bad = record {
-        least = omega (arith, bad.least, last);
-        most = omega (arith, bad.most, last);
-        exactly = λ below. let same = bad.exactly (omega (arith, below, last)) in omega (arith, same, last);
-      };
       buffers = λ k.
-          let numbers : copies k (owners driver) ≡ copies k (owners serves.between ++ buffers_of shows.kept) = shows.buffers k in
+          let numbers : copies k (owners driver) ≡ copies k (owners serves.between ++ buffers_of shows.kept) =
+          slots-owners (record { took = Sorts }) n before after (with_missed serves.misses driver) serves.between serves.takes k in
           omega (
             arith,
             numbers,
@@ -226,8 +227,8 @@ pub handled-host : (result : Handled) (driver driver' : DriverState) (before aft
     → IsHost driver' after
 handled-host NotMine driver driver' before after host stays serves counts = subst (λ (s : SocketsState). IsHost driver' s)
     (sym stays.1) (subst (λ (d : DriverState). IsHost d before) (sym stays.0) host)
-handled-host (answers.Handled taken) driver driver' before after host stays serves counts = shown-host driver driver' before after
-    taken serves.takes.bad_runs host (served-shows taken driver driver' before after serves) counts
+handled-host (answers.Handled taken) driver driver' before after host stays serves counts = shown-host driver driver' before after host
+    (served-shows taken driver driver' before after serves) counts
 
 -- At first nothing waits.
 pub new-host : (driver : DriverState) (sockets : SocketsState) (kinds : List SocketKind) (room : ℕ)
@@ -254,41 +255,41 @@ new-host driver sockets kinds room is size owns =
 pub sorts-all : (result : Handled) (driver driver' : DriverState) (before after : SocketsState) → IsHost driver before
     → IfHandled result (Serves (record { took = Sorts }) before after driver driver')
     → IfHandled result (HostServes (host_with driver before) (host_with driver' after))
+unfolding served-shows
 sorts-all NotMine driver driver' before after host serves = tt
 sorts-all (answers.Handled taken) driver driver' before after host serves =
     let shows = served-shows taken driver driver' before after serves in
-    let bad = serves.takes.bad_runs in
-    let count : serves.takes.slots + length serves.between.buffers ≡ length driver.buffers = serves.takes.count in
+    let last : driver'.bad ≡ serves.between.bad = ap (λ (d : DriverState). d.bad) serves.offers.others in
     record {
       misses = record {
         misses = serves.misses;
         missed = ap (λ (d : DriverState). d.missed) serves.offers.others ∙ ap (λ (d : DriverState). d.missed) serves.takes.others;
         exact = ap (λ (d : DriverState). d.exact) serves.offers.others ∙ ap (λ (d : DriverState). d.exact) serves.takes.others;
       };
+      runs = serves.takes.runs;
+      count = serves.takes.count;
+      leave = record {
+        sizes = serves.takes.sizes;
+        rest = serves.between.buffers;
+        offered = serves.order.offered;
+        oldest = serves.takes.oldest;
+        newest = serves.order.newest
+            ∙ ap (λ (d : DriverState). serves.between.buffers ++ (d.staged ++ serves.order.offered)) serves.takes.others;
+        next = ap (λ (d : DriverState). d.oldest_receive) serves.offers.others ∙ serves.takes.next;
+      };
       sorts = record {
         shown = shows.received;
-        count = shows.count;
+        frames = serves.takes.shows.frames;
         sizes = shows.sizes;
         sorted = record {
           kinds = shows.shown.kinds;
           queues = subst (Queues before.kinds before.queues after.queues) shows.shown.claimed
-              (shown-queues driver driver' before after taken bad host shows);
+              (shown-queues driver driver' before after host shows);
           unclaimed = shows.shown.unclaimed;
         };
-        bad = shows.bad;
+        bad = subst (λ (k : ℕ). GrowsBy driver.bad k (bad_runs serves.takes.runs)) (sym last) serves.takes.bad;
       };
-      bad_runs = bad;
-      leave = record {
-        slots = serves.takes.slots;
-        least = serves.takes.least;
-        most = serves.takes.most;
-        outstanding = omega (arith, count);
-        next =
-            ap (λ (d : DriverState). d.oldest_receive) serves.offers.others
-            ∙ serves.takes.next
-            ∙ ap (λ (d : DriverState). place d.layout.rx driver.oldest_receive serves.takes.slots) serves.takes.others;
-      };
-      owners = shown-owners driver driver' before after taken bad host shows;
+      owners = shown-owners driver driver' before after host shows;
       refilled = serves.offers.refilled;
       offered = ap (λ (d : DriverState). d.staged) serves.offers.others;
     }

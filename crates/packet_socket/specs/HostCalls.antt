@@ -1,5 +1,5 @@
 -- What a host holds for its sockets, and what it does in its calls (our choice).
-use Rattle.std.specs.Prelude.{⊤, ◌≡◌, ◌==◌, ◌≤◌, ◌<◌, ◌+◌, ◌-◌, ◌*◌, ◌^◌, ◌++◌, ◌∷◌, []}
+use Rattle.std.specs.Prelude.{⊤, ◌≡◌, ◌==◌, ◌≤◌, ◌<◌, ◌+◌, ◌-◌, ◌^◌, ◌++◌, ◌∷◌, []}
 use Rattle.std.specs.Prelude.{ℕ, Bool, true, List, Result, Ok, Err, count_by}
 use Rattle.std.specs.Prelude.{All, drop, filter, flat_map, length, map, slice_set, take}
 use Rattle.std.specs.List.Sorted.{IsPermutation}
@@ -20,8 +20,8 @@ use Rattle.driver_law.specs.Calls.{call_did, driver_did, driver_in, frames_ended
 use Rattle.driver_law.specs.DriverState.{DriverState, HandedOut, buffer_at, frame_of, holding, next_receive, numbers_of, with_owners}
 use Rattle.driver_law.specs.ReadyDrivers.{ReadyWith}
 use Rattle.bring_up.specs.WrittenRegisters.{handled_causes}
-use Rattle.driver.specs.HandlerSteps.{AreOfOneFrame, Asked, DoesNothing, GrowsBy, IsLook, IsSplit, ReadsMisses, TakesAndOffers}
-use Rattle.driver.specs.HandlerSteps.{offering_accesses, taking_accesses}
+use Rattle.driver.specs.HandlerSteps.{AreOfOneFrame, Asked, DoesNothing, GrowsBy, HasOneToSixSlots, IsLook, IsSplit, ReadsMisses}
+use Rattle.driver.specs.HandlerSteps.{RunOfSlots, TakesAndOffers, bad_runs, offering_accesses, run_buffers, taking_accesses, whole_frames}
 use Rattle.driver.specs.Parts.{AreFrames, IsFrameSize, joined_frames, part_loads, pieces_of, received_of}
 use Rattle.driver.specs.declared.parts.Part.{Part}
 use Rattle.driver.specs.SendSteps.{FreesFirst, IsTransmitAnswer, SendAnswer, sent_by}
@@ -271,28 +271,32 @@ pub record SortsFrames (h h' : HostState) (shown : List Received) : Type 0 where
   pub queues : Queues h.kinds h.queues h'.queues (claimed_of h.kinds shown)
   pub unclaimed : GrowsBy h.unclaimed h'.unclaimed (unclaimed_of h.kinds shown)
 
--- n frames were taken and sorted, and some runs of slots had no whole frame and were counted as bad.
-pub record SortsAll (h h' : HostState) (n bad_runs : ℕ) : Type 0 where
+-- The whole frames of these runs of slots were sorted, each with the buffers and lengths of its run. The other runs were counted as bad.
+pub record SortsAll (h h' : HostState) (runs : List RunOfSlots) : Type 0 where
   pub shown : List Received
-  pub count : length shown ≡ n
+  pub frames : map (λ (one : Received). one.parts) shown ≡ whole_frames runs
   pub sizes : AreFrames shown
   pub sorted : SortsFrames h h' shown
-  pub bad : GrowsBy h.driver.bad h'.driver.bad bad_runs
+  pub bad : GrowsBy h.driver.bad h'.driver.bad (bad_runs runs)
 
--- The slots of these runs left the ring, the oldest first. A run has one to six slots.
-pub record LeaveRing (d d' : DriverState) (runs : ℕ) : Type 0 where
-  pub slots : ℕ
-  pub least : runs ≤ slots
-  pub most : slots ≤ 6 * runs
-  pub outstanding : slots ≤ length d.buffers
-  pub next : d'.oldest_receive ≡ place d.layout.rx d.oldest_receive slots
+-- These runs left the ring, the oldest first, each with one to six slots. Then slots were offered after the others: those that were staged,
+-- and new ones with the buffers `offered`.
+pub record LeaveRing (d d' : DriverState) (runs : List RunOfSlots) : Type 0 where
+  pub sizes : All HasOneToSixSlots runs
+  pub rest : List ℕ
+  pub offered : List ℕ
+  pub oldest : d.buffers ≡ run_buffers runs ++ rest
+  pub newest : d'.buffers ≡ rest ++ (d.staged ++ offered)
+  pub next : d'.oldest_receive ≡ place d.layout.rx d.oldest_receive (length (run_buffers runs))
 
--- A value was added to the driver's sum of missed frames, n frames were taken, the oldest first, and then slots were offered.
+-- A value was added to the driver's sum of missed frames, runs of slots left the ring, of which n were taken as whole frames, and then
+-- slots were offered. Which runs are bad, and where a bad run ends, is open here, as in `TakesSlots`.
 pub record HostServes (h h' : HostState) (n : ℕ) : Type 0 where
   pub misses : ReadsMisses h.driver h'.driver
-  pub bad_runs : ℕ
-  pub sorts : SortsAll h h' n bad_runs
-  pub leave : LeaveRing h.driver h'.driver (n + bad_runs)
+  pub runs : List RunOfSlots
+  pub count : length (whole_frames runs) ≡ n
+  pub leave : LeaveRing h.driver h'.driver runs
+  pub sorts : SortsAll h h' runs
   -- No buffer is lost or has another number of owners.
   pub owners : HaveSameNumbers (host_owners h) (host_owners h')
   -- No buffer is free, or all slots but one are outstanding; and each slot whose descriptor is stored is offered.
@@ -305,8 +309,8 @@ pub record AreSorted (n : ℕ) (h h' : HostState) (taken : List (List HandedOut)
   pub groups : All AreOfOneFrame (map numbers_of taken)
   pub sorted : SortsFrames h h' (map received_of taken)
 
--- The work after the read of ICR: n frames are taken and sorted. Then slots are offered. `ran` has the accesses, in order, and is split
--- right after the last load of a descriptor.
+-- The work after the read of ICR: n frames are taken and sorted. Then slots are offered. `ran` has the accesses, in order, and is split at
+-- a moment after the last load of a descriptor and before the next access.
 pub record HostWorks {B : Type 0} (bus : Ghosts B) (n : ℕ) {up : Bool} (old new : HostMoment B) (asked : Asked bus up (driver_at bus old))
     : Type 0 where
   pub taken : List (List HandedOut)

@@ -1,6 +1,6 @@
 // A host: a driver with sockets above it.
 
-ghost use Rattle.std.specs.Prelude.{◌≡◌, ◌↔◌, ◌≤◌, ◌<◌, ◌++◌, Err, IfErr, IfOk, IsTrue, length};
+ghost use Rattle.std.specs.Prelude.{◌≡◌, ◌↔◌, ◌≤◌, ◌<◌, ◌+◌, ◌++◌, Err, IfErr, IfOk, IsTrue, length};
 ghost use Rattle.dma_memory.specs.Layout.{size_of};
 ghost use Rattle.dma_memory.specs.Owners.{HasNoSecondOwner};
 ghost use Rattle.descriptors.specs.Frames.{longest_frame, shortest_sent};
@@ -131,7 +131,7 @@ impl Host {
     ///
     /// E20 [`TooShort`](SendError::TooShort) if the frame has fewer than 14 bytes, E21 [`TooLong`](SendError::TooLong)
     /// if it has more than 1,518; both without an access. E22 [`RingFull`](SendError::RingFull) if all slots of the
-    /// transmit ring but one are still outstanding after the call has freed those that are written back.
+    /// transmit ring but one are still outstanding after the call has freed those whose descriptors have DD.
     pub fn send<B: Bus>(&mut self, bus: &mut B, frame: &[u8]) -> Result<(), SendError>
         requires memory { size_of self.old.driver.layout ≤ B.extent bus.old }
         ensures keeps { Keeps B.Bus bus.old bus.new }
@@ -142,6 +142,7 @@ impl Host {
         ensures too_short { (result ≡ Err SendError.TooShort) ↔ (length frame.now < shortest_sent) }
         ensures too_long { (result ≡ Err SendError.TooLong) ↔ (longest_frame < length frame.now) }
         ensures nothing { HasWrongLength result → (bus.new ≡ bus.old) × (self.new ≡ self.old) }
+        ensures full { result ≡ Err SendError.RingFull → self.new.driver.sending + 1 ≡ self.new.driver.layout.tx }
 
         // And over one that obeys the law.
         ensures transmits { HostTransmits B.Bus frame.now result (host_at bus.old self.old) (host_at bus.new self.new) }
