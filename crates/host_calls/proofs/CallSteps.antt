@@ -21,6 +21,7 @@ use Rattle.bus.specs.declared.event.Event.TheVariants.{Accesses}
 use Rattle.dma_memory.specs.Layout.{Counts}
 use Rattle.driver.specs.declared.interrupt.Handled.{Handled}
 use Rattle.driver.specs.declared.receiver.Received.{Received}
+use Rattle.driver.specs.Parts.{joined_frames}
 use Rattle.stations.specs.AtomicSteps.{At, AtomicStep, tick_of}
 use Rattle.stations.specs.Outcomes.{OutcomeList}
 use Rattle.stations.specs.Stations.{StationState, world_at}
@@ -177,8 +178,8 @@ handled-steps result place a b before behind accesses h h' ready runs free meets
     let causes = (world_at b place).adapter.causes in
     let none : bit_and causes.recorded causes.mask ≡ 0 =
     ap (λ (r : ℕ). bit_and r causes.mask) recorded ∙ and_zero_l causes.mask in
-    one-call place (length h.queues + length h'.queues) runs.runs.steps a b h h' runs.taken [] ready of_call.leads of_call.played
-    runs.runs.runs (omega arith) (omega arith) (omega arith) free (omega arith) (omega (arith, none, meets))
+    one-call place (length h.queues + length h'.queues) runs.runs.steps a b h h' (joined_frames runs.taken) [] ready of_call.leads
+    of_call.played runs.runs.runs (omega arith) (omega arith) (omega arith) free (omega arith) (omega (arith, none, meets))
 
 -- A frame that is given.
 

@@ -2,7 +2,7 @@
 use Rattle.std.proofs.Common.{◌≡◌, ◌<◌, ◌+◌, ◌++◌, ◌∷◌, [], ℕ, true, cond, List, length, map, refl, sym}
 use Rattle.std.proofs.Common.{ap, subst, ◌∙◌, append_assoc, arith}
 use Rattle.std.specs.List.{All, concat}
-use Rattle.std.proofs.lemmas.List.{length-map, map-append}
+use Rattle.std.proofs.lemmas.List.{map-append}
 use Rattle.std.proofs.lemmas.List.Elements.{All-append}
 use Rattle.std.proofs.lemmas.List.Sums.{sum_by-cons}
 use Rattle.rx_engine.specs.Addresses.{ether_type}
@@ -77,7 +77,7 @@ leaves-runs a m b h h' zero ready handles finished =
     let past = handles.asked.reads.past in
     let only = handles.asked.reads.only in
     let retells = subst (λ (bus : LentBus). Retells a bus past) (sym leaves.leaves.still) handles.asked.reads.reports in
-    let made = call-runs_by a m b past h h' [] [] [] (MakesInterrupt NotMine h h') zero retells leaves.flows
+    let made = call-runs_by a m b past h h' [] [] [] (MakesInterrupt NotMine [] h h') zero retells leaves.flows
     (subst (λ (accesses : List Access). All (IsOfDriver h.driver.layout) accesses) (sym only)
     (causes-of_driver h.driver.layout handles.asked.causes))
     (subst OnlyLastWrites (sym only) tt)
@@ -144,19 +144,17 @@ works-runs a m b h h' n zero ready refilled offered only_receives handles finish
       newest = served.newest;
       no_bad = served.no_bad;
     } in
-    let makes : (list : List Access) → list ≡ Reads ICR handles.asked.causes ∷ taking ++ offering → MakesHandling n h h' list = λ list is.
+    let makes : (list : List Access) → list ≡ Reads ICR handles.asked.causes ∷ taking ++ offering
+    → MakesHandling numbers h h' list = λ list is.
     record {
       causes = handles.asked.causes;
       missed = works.misses;
-      taken = numbers;
-      count = length-map works.taken numbers_of ∙ works.frames.count;
-      groups = works.frames.groups;
       served = serves;
       loads = works.loads;
       exact = is;
     } in
     let made = call-runs_by a m b (joined past both) h h' (joined_frames works.taken) [] []
-    (MakesInterrupt (answers.Handled n) h h') zero whole.0
+    (MakesInterrupt (answers.Handled n) numbers h h') zero whole.0
     (subst (λ (p : Past). HostFlowsTo true (in_world h (world_here a)) (in_world h' (world_here m))
     (did (joined_frames works.taken) [] []) (joined past p)) split.whole it.flows)
     (subst (λ (list : List Access). All (IsOfDriver own) list) (sym all)
@@ -173,7 +171,7 @@ works-runs a m b h h' n zero ready refilled offered only_receives handles finish
     ∙ whole-accesses a.host whole.0.steps last (none-alone a.host last finished.plays.are)
     ∙ ap (λ (p : Past). p.accesses) (sym whole.0.past_is) ∙ all in
     record {
-      taken = joined_frames works.taken;
+      taken = works.taken;
       runs = made.0;
       causes = handles.asked.causes;
       tells = tells-on a.host whole.0.steps last steps handles.asked.causes (world_here a).adapter
@@ -208,7 +206,7 @@ works-runs a m b h h' n zero ready refilled offered only_receives handles finish
             first.0.lent.host works.look;
       };
       answer = record {
-        count = length-map works.taken frame_of ∙ works.frames.count;
+        frames = works.frames;
         least = it.least;
         unclaimed = taken-unclaimed h.kinds works.taken h.unclaimed h'.unclaimed works.frames.sorted.unclaimed;
         only_receives = only_receives;

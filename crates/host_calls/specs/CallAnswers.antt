@@ -1,6 +1,6 @@
 -- What a call of a host answers, and which accesses it makes (our choice).
 use Rattle.std.specs.Prelude.{⊤, ◌≡◌, ◌↔◌, ◌≤◌, ◌<◌, ◌+◌, ◌-◌, ◌++◌, ◌∷◌, []}
-use Rattle.std.specs.Prelude.{ℕ, All, List, Result, Ok, Err, length, take}
+use Rattle.std.specs.Prelude.{ℕ, List, Result, Ok, Err, length, map, take}
 use Rattle.descriptors.specs.Frames.{longest_frame, shortest_sent}
 use Rattle.adapter.specs.HostFrames.{frames_to_send}
 use Rattle.std.specs.List.{concat}
@@ -10,15 +10,15 @@ use Rattle.adapter.specs.declared.offsets.TheConstants.{ICR}
 use Rattle.bus.specs.declared.event.Access.{Access}
 use Rattle.bus.specs.declared.event.Access.TheVariants.{Reads}
 use Rattle.driver_law.specs.Calls.{driver_in, frames_ended, send_accesses}
-use Rattle.driver_law.specs.DriverState.{next_receive, with_owners}
-use Rattle.driver.specs.HandlerSteps.{AreOfOneFrame, GrowsBy, IsLook, OnlyReceives, ReadsMisses, TakesAndOffers, offering_accesses}
-use Rattle.driver.specs.HandlerSteps.{taking_accesses}
+use Rattle.driver_law.specs.DriverState.{HandedOut, next_receive, numbers_of, with_owners}
+use Rattle.driver.specs.HandlerSteps.{GrowsBy, IsLook, OnlyReceives, ReadsMisses, TakesAndOffers, offering_accesses, taking_accesses}
+use Rattle.driver.specs.Parts.{joined_frames}
 use Rattle.driver.specs.SendSteps.{SendAnswer, HasWrongLength, accepted_by, accesses_by, loads_to_free, with_transmit_slots}
 use Rattle.driver.specs.declared.transmit.SendError.TheVariants.{TooShort, TooLong, RingFull}
 use Rattle.driver.specs.declared.interrupt.Handled.{Handled}
 use Rattle.driver.specs.declared.interrupt.Handled.TheVariants.{NotMine}
 use Rattle.driver.specs.declared.interrupt.Handled.TheVariants as answers
-use Rattle.packet_socket.specs.HostCalls.{Given, LeavesQueue, did, receive_accesses, waiting_frames, without_socket}
+use Rattle.packet_socket.specs.HostCalls.{AreSorted, Given, LeavesQueue, did, receive_accesses, waiting_frames, without_socket}
 use Rattle.packet_socket.specs.HostState.{HostState, queue_at}
 use Rattle.driver.specs.declared.receiver.Received.{Received}
 use Rattle.packet_socket.specs.declared.receive.RecvError.{RecvError}
@@ -90,22 +90,22 @@ abbrev pub LeavesRecv : Result (List ℕ) RecvError → (socket : ℕ) → (h h'
 LeavesRecv (Ok frame) socket h h' accesses = LeavesReturned socket (length frame) h h'
 LeavesRecv (Err error) socket h h' accesses = (h' ≡ h) × (accesses ≡ 0)
 
--- Handling an interrupt took n frames, among them all that ended in finished slots when the call began. Those without a socket were
--- counted, up to the greatest u64.
-pub record HandlesFrames (h h' : HostState) (world : World) (taken : List (List ℕ)) (n : ℕ) : Type 0 where
-  pub count : length taken ≡ n
+-- Handling an interrupt took n frames, each in these pieces, among them all that ended in finished slots when the call began. Each went to
+-- the end of its socket's queue, as an entry with these pieces. Those without a socket were counted, up to the greatest u64.
+pub record HandlesFrames (h h' : HostState) (world : World) (taken : List (List HandedOut)) (n : ℕ) : Type 0 where
+  pub frames : AreSorted n h h' taken
   pub least : length (frames_ended (driver_in h.driver world)) ≤ n
-  pub unclaimed : GrowsBy h.unclaimed h'.unclaimed (without_socket h.kinds taken)
+  pub unclaimed : GrowsBy h.unclaimed h'.unclaimed (without_socket h.kinds (joined_frames taken))
   -- The transmit slots don't change.
   pub only_receives : OnlyReceives h.driver h'.driver
 
 -- No cause was this host's. It is unchanged, and no frame was taken.
-pub record HandlesNone (h h' : HostState) (taken : List (List ℕ)) : Type 0 where
+pub record HandlesNone (h h' : HostState) (taken : List (List HandedOut)) : Type 0 where
   pub stays : h' ≡ h
   pub none : taken ≡ []
 
 -- by the answer
-abbrev pub AnswersInterrupt : Handled → (h h' : HostState) → World → (taken : List (List ℕ)) → Type 0
+abbrev pub AnswersInterrupt : Handled → (h h' : HostState) → World → (taken : List (List HandedOut)) → Type 0
 AnswersInterrupt NotMine h h' world taken = HandlesNone h h' taken
 AnswersInterrupt (answers.Handled n) h h' world taken = HandlesFrames h h' world taken n
 
@@ -153,39 +153,37 @@ abbrev pub MakesRecv : Result (List ℕ) RecvError → (socket : ℕ) → (h h' 
 MakesRecv (Ok frame) socket h h' accesses = MakesReceipt socket (length frame) h h' accesses
 MakesRecv (Err error) socket h h' accesses = accesses ≡ []
 
--- Handling an interrupt for which it takes n frames: it reads ICR, then MPC, whose value it adds to the driver's sum. It takes the frames
--- from the oldest slots of the ring, each in these buffers, and no run of slots is bad. It loads the descriptors of the next slots, as many
--- as `loads`, of which `HandlingLooks` says more. Then it offers slots with the buffers `offered`.
-pub record MakesHandling (n : ℕ) (h h' : HostState) (accesses : List Access) : Type 0 where
+-- Handling an interrupt for which it takes frames, each in the buffers that `taken` has for it: it reads ICR, then MPC, whose value it adds
+-- to the driver's sum. It takes the frames from the oldest slots of the ring, and no run of slots is bad. It loads the descriptors of the
+-- next slots, as many as `loads`, of which `HandlingLooks` says more. Then it offers slots with the buffers `offered`.
+pub record MakesHandling (taken : List (List ℕ)) (h h' : HostState) (accesses : List Access) : Type 0 where
   pub causes : ℕ
   pub missed : ReadsMisses h.driver h'.driver
-  -- the buffers of each frame, and those that remain outstanding
-  pub taken : List (List ℕ)
-  pub count : length taken ≡ n
-  pub groups : All AreOfOneFrame taken
+  -- which buffers remain outstanding, and which are offered
   pub served : TakesAndOffers h.driver h'.driver (concat taken)
   pub loads : ℕ
   pub exact : accesses ≡ Reads ICR causes ∷ taking_accesses h.driver missed.misses taken loads
       ++ offering_accesses h.driver served.offered (next_receive h'.driver)
 
 -- if no cause was this host's, it reads ICR only
-abbrev pub MakesInterrupt : Handled → (h h' : HostState) → (accesses : List Access) → Type 0
-MakesInterrupt NotMine h h' accesses = (causes : ℕ) × (accesses ≡ Reads ICR causes ∷ [])
-MakesInterrupt (answers.Handled n) h h' accesses = MakesHandling n h h' accesses
+abbrev pub MakesInterrupt : Handled → (taken : List (List ℕ)) → (h h' : HostState) → (accesses : List Access) → Type 0
+MakesInterrupt NotMine taken h h' accesses = (causes : ℕ) × (accesses ≡ Reads ICR causes ∷ [])
+MakesInterrupt (answers.Handled n) taken h h' accesses = MakesHandling taken h h' accesses
 
--- The last look of an interrupt of host k. Right after its last load no frame ends in finished slots. The descriptors of the finished
--- slots, which contain the beginning of a frame, were loaded, and that of the next outstanding slot, if there is one.
-pub record HandlingLooks (n k : ℕ) (steps : List AtomicStep) (old new : ConnectedHost) : Type 0 where
-  pub makes : MakesHandling n old.host new.host (past_at k steps).accesses
-  pub loads : StepsUpTo k (Reads ICR makes.causes ∷ taking_accesses old.host.driver makes.missed.misses makes.taken makes.loads) steps
+-- The last look of an interrupt of host k. After the last access of `loads`, and before any tick after that, no frame ends in finished
+-- slots. The descriptors of the finished slots, which contain the beginning of a frame, were loaded, and that of the next outstanding slot,
+-- if there is one.
+pub record HandlingLooks (taken : List (List ℕ)) (k : ℕ) (steps : List AtomicStep) (old new : ConnectedHost) : Type 0 where
+  pub makes : MakesHandling taken old.host new.host (past_at k steps).accesses
+  pub loads : StepsUpTo k (Reads ICR makes.causes ∷ taking_accesses old.host.driver makes.missed.misses taken makes.loads) steps
       old.stations
   pub others : (past_at k loads.later).accesses ≡ offering_accesses old.host.driver makes.served.offered (next_receive new.host.driver)
   pub look : IsLook new.host.driver.oldest_receive makes.served.rest (world_at loads.middle k) makes.loads
 
 -- by the answer
-abbrev pub LooksBy : Handled → (k : ℕ) → List AtomicStep → (old new : ConnectedHost) → Type 0
-LooksBy NotMine k steps old new = ⊤
-LooksBy (answers.Handled n) k steps old new = HandlingLooks n k steps old new
+abbrev pub LooksBy : Handled → (taken : List (List ℕ)) → (k : ℕ) → List AtomicStep → (old new : ConnectedHost) → Type 0
+LooksBy NotMine taken k steps old new = ⊤
+LooksBy (answers.Handled n) taken k steps old new = HandlingLooks taken k steps old new
 
 -- The three calls, each with its ticks.
 
@@ -204,12 +202,12 @@ pub record RecvRuns (call : PlayedCall) (socket : ℕ) (result : Result (List �
 
 -- An interrupt is handled.
 pub record InterruptRuns (call : PlayedCall) (result : Handled) (old new : ConnectedHost) : Type 0 where
-  -- the frames that were taken off the receive ring
-  pub taken : List (List ℕ)
-  pub runs : CallRuns call (did taken [] []) (MakesInterrupt result old.host new.host) old new
+  -- the frames that were taken off the receive ring, each in its pieces
+  pub taken : List (List HandedOut)
+  pub runs : CallRuns call (did (joined_frames taken) [] []) (MakesInterrupt result (map numbers_of taken) old.host new.host) old new
   -- ICR was read first, and showed these causes
   pub causes : ℕ
   -- the answer follows from the adapter when the call began, and from the ticks played before that read
   pub tells : TellsCauses call.caller runs.steps causes (world_at old.stations call.caller).adapter result
-  pub looks : LooksBy result call.caller runs.steps old new
+  pub looks : LooksBy result (map numbers_of taken) call.caller runs.steps old new
   pub answer : AnswersInterrupt result old.host new.host (world_at old.stations call.caller) taken
