@@ -1,5 +1,7 @@
 -- What an event and its reply say of all hosts (our choice).
 use Rattle.std.specs.Prelude.{◌≡◌, ◌≢◌, ◌≤◌, ◌↔◌, ◌++◌, ◌∷◌, [], ℕ, All, List, Result, length, map, slice_get}
+use Rattle.driver_law.specs.DriverState.{HandedOut, numbers_of}
+use Rattle.driver.specs.Parts.{joined_frames}
 use Rattle.driver.specs.SendSteps.{SendAnswer}
 use Rattle.driver.specs.declared.interrupt.Handled.{Handled}
 use Rattle.packet_socket.specs.HostState.{HostState}
@@ -86,14 +88,14 @@ pub record IsInterruptAnswer (host : ℕ) (answer : Answer) (steps : List Atomic
   pub result : Handled
   pub is : answer ≡ Interrupted result
   pub reads : ReadsIcr host steps (world_at old.stations host).adapter result
-  -- the frames that were taken off the receive ring: none if the answer is NotMine
-  pub taken : List (List ℕ)
+  -- the frames that were taken off the receive ring, each in its pieces: none if the answer is NotMine
+  pub taken : List (List HandedOut)
   pub answers : AnswersInterrupt result old.host new.host (world_at old.stations host) taken
-  pub takes : TakesFrames host steps taken old new
+  pub takes : TakesFrames host steps (joined_frames taken) old new
   -- the accesses of its driver are exactly these, in order
-  pub makes : MakesInterrupt result old.host new.host (past_at host steps).accesses
-  -- Right after its last load of a descriptor no frame ends in finished slots.
-  pub looks : LooksBy result host steps old new
+  pub makes : MakesInterrupt result (map numbers_of taken) old.host new.host (past_at host steps).accesses
+  -- Right after its last look, before any further tick, no frame ends in finished slots.
+  pub looks : LooksBy result (map numbers_of taken) host steps old new
 
 -- A call, and its reply.
 

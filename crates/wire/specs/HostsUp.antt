@@ -75,8 +75,8 @@ pub record ComesUp (plan : HostPlan) (host : HostState) (station : StationState)
   pub no_frames : HasNoFrames host station
   pub adapter : IsAdapter station.world.adapter
 
--- Why a host isn't initialized, other than for want of memory: its EEPROM's checksum is wrong; or it is right, and the link needs more than
--- 2,000 ticks or never comes up.
+-- Why a host isn't initialized, other than that memory is refused: its EEPROM's checksum is wrong; or it is right, and the link needs more
+-- than 2,000 ticks or never comes up.
 abbrev pub IsDevices : HostPlan → InitError → Type 0
 IsDevices plan Checksum = ¬ (HasRightSum plan.image)
 IsDevices plan NoLink = HasRightSum plan.image × NeedsMoreThan (2 * most_reads) plan.link

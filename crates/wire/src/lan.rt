@@ -75,7 +75,8 @@ impl Lan {
     ///
     /// # Errors
     ///
-    /// Only want of memory, before an event. The events before it were run and answered, and it changed nothing.
+    /// Only if memory is refused, before an event. The events before that one were run and answered, and it changed
+    /// nothing.
     pub fn run(
         &mut self,
         alloc: Global,
