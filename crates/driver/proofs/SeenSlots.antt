@@ -22,7 +22,7 @@ use Rattle.rx_engine.specs.Pieces.Piece.{Last, Part}
 use Rattle.adapter.specs.HostFrames.{finished_pieces, piece_in, pieces_in_slots}
 use Rattle.adapter.specs.Slots.{finished, in_work as slot_in_work, offered}
 use Rattle.adapter.specs.World.{World, receive_ring}
-use Rattle.bus.proofs.Lists.{all-head, all-left, all-none, all-right}
+use Rattle.bus.proofs.Lists.{all-head, all-left, all-none, all-right, all-weaker}
 use Rattle.bus.specs.PastOfStretch.{Past, joined, nothing}
 use Rattle.bus.specs.declared.bus.Bus.{Ghosts}
 use Rattle.bus.specs.declared.event.Access.{Access}
@@ -36,7 +36,7 @@ use Rattle.driver_law.specs.DriverState.{DriverState, receive_slot}
 use Rattle.driver_law.specs.OldestSlot.{IsSeen, LooksAtSlot, ShowsSlot}
 use Rattle.driver_law.specs.ReadyDrivers.{ReadyWith}
 use Rattle.driver.specs.Looks.{FindsFrame, FindsNoFrame, IsPartSize, IsSoundPart, ends}
-use Rattle.driver.specs.Parts.{FitIntoBuffers, IsFrameSize}
+use Rattle.driver.specs.Parts.{AreFull, FillBuffers, FitIntoBuffers, IsFrameSize}
 use Rattle.driver.specs.declared.look.Run.{Run}
 
 -- Parts of a frame were seen, whose end wasn't seen yet.
@@ -156,22 +156,37 @@ sum-added run run' desc added is =
     added.length_is ∙ ap (λ (n : ℕ). n + desc.length) is
     ∙ sym (ap sum added.lengths ∙ sum_by_push (λ (n : ℕ). n) (take run.count run.lengths) desc.length)
 
--- A size that a piece of a whole frame may have is at most that of a buffer.
-part-fits : (last : Bool) (n : ℕ) → IsPartSize last n → n ≤ receive_buffer_bytes
-part-fits true n size = size.most
-part-fits false n size = omega (arith, size)
+-- Each slot of a whole frame before its last is full.
 
-pub fits-none : (run : Run) → run.count ≡ 0 → FitIntoBuffers (take run.count run.lengths)
-fits-none run none = subst (λ (n : ℕ). FitIntoBuffers (take n run.lengths)) (sym none)
-    (all-none (λ (size : ℕ). size ≤ receive_buffer_bytes))
+pub full-none : (run : Run) → run.count ≡ 0 → AreFull (take run.count run.lengths)
+full-none run none = subst (λ (n : ℕ). AreFull (take n run.lengths)) (sym none) (all-none (λ (size : ℕ). size ≡ receive_buffer_bytes))
 
-pub fits-added : (run run' : Run) (desc : RxDesc) → IsAdded run run' desc → IsSoundPart desc
-    → FitIntoBuffers (take run.count run.lengths) → FitIntoBuffers (take run'.count run'.lengths)
-fits-added run run' desc added sound fits =
+pub full-added : (run run' : Run) (desc : RxDesc) → IsAdded run run' desc → ends desc ≡ false → IsSoundPart desc
+    → AreFull (take run.count run.lengths) → AreFull (take run'.count run'.lengths)
+full-added run run' desc added part sound full =
+    let Full : ℕ → Type 0 = λ size. size ≡ receive_buffer_bytes in
+    let one : desc.length ≡ receive_buffer_bytes = subst (λ (last : Bool). IsPartSize last desc.length) part sound.size in
+    subst AreFull (sym added.lengths)
+    (All-append Full (take run.count run.lengths) (desc.length ∷ []) full (All-cons Full desc.length [] one (all-none Full)))
+
+pub fills-added : (run run' : Run) (desc : RxDesc) → IsAdded run run' desc → ends desc ≡ true → IsSoundPart desc
+    → AreFull (take run.count run.lengths) → FillBuffers (take run'.count run'.lengths)
+fills-added run run' desc added last sound full = record {
+  full = take run.count run.lengths;
+  last = desc.length;
+  sizes_are = added.lengths;
+  are_full = full;
+  last_is = subst (λ (ends : Bool). IsPartSize ends desc.length) last sound.size;
+}
+
+-- What fills its buffers fits into them.
+pub fills-fit : (sizes : List ℕ) → FillBuffers sizes → FitIntoBuffers sizes
+fills-fit sizes fills =
     let Fits : ℕ → Type 0 = λ size. size ≤ receive_buffer_bytes in
-    subst FitIntoBuffers (sym added.lengths)
-    (All-append Fits (take run.count run.lengths) (desc.length ∷ []) fits
-    (All-cons Fits desc.length [] (part-fits (ends desc) desc.length sound.size) (all-none Fits)))
+    subst FitIntoBuffers (sym fills.sizes_are)
+    (All-append Fits fills.full (fills.last ∷ [])
+    (all-weaker (λ (size : ℕ). size ≡ receive_buffer_bytes) Fits fills.full (λ size is. omega (arith, is)) fills.are_full)
+    (All-cons Fits fills.last [] fills.last_is.most (all-none Fits)))
 
 concat-push : (seen : List (List ℕ)) (bytes : List ℕ) → concat (seen ++ bytes ∷ []) ≡ concat seen ++ bytes
 concat-push [] bytes = append-nil bytes

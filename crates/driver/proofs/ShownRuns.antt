@@ -1,6 +1,6 @@
 -- Runs are passed on, one after the other: each is shown to the receiver, or its buffers go back to the pool.
 use Rattle.std.proofs.Common.{Bool, true, false, not, cond, inl, inr, ◌≡◌, ◌≤◌, ◌<◌, ◌+◌, ◌⊎◌, ◌++◌, ◌∷◌, [], ℕ, List, length, map}
-use Rattle.std.proofs.Common.{refl, sym, ap, subst, ◌∙◌, append_assoc, length-append, arith}
+use Rattle.std.proofs.Common.{IsTrue, refl, sym, ap, subst, ◌∙◌, append_assoc, length-append, arith}
 use Rattle.std.specs.List.{All, filter}
 use Rattle.std.proofs.lemmas.Grind.{flat_map-append}
 use Rattle.std.proofs.lemmas.List.{append-nil, length-map, map-append}
@@ -15,9 +15,9 @@ use Rattle.bus.proofs.Lists.{all-head, all-none, all-tail}
 use Rattle.driver_law.proofs.Owners.{all-copies, owners-count}
 use Rattle.driver_law.specs.DriverState.{DriverState, owners}
 use Rattle.driver.specs.Answers.{Answers}
-use Rattle.driver.specs.HandlerSteps.{GrowsBy, HandsOn, HasOneToSixSlots, IsPart, LeavesRing, RunOfSlots, Shows, ShowsAll, TakesSlots}
+use Rattle.driver.specs.HandlerSteps.{GrowsBy, HandsOn, IsRun, IsPart, LeavesRing, RunOfSlots, Shows, ShowsAll, TakesSlots}
 use Rattle.driver.specs.HandlerSteps.{bad_runs, part_none, part_with, part_without, run_buffers, run_of, whole_frames}
-use Rattle.driver.specs.Parts.{IsWholeFrame, buffers_in, buffers_of}
+use Rattle.driver.specs.Parts.{FillBuffers, IsWholeFrame, buffers_in, buffers_of, lengths_in}
 use Rattle.driver.specs.declared.look.Run.{Run}
 use Rattle.driver.specs.declared.parts.Part.{Part}
 use Rattle.driver.specs.declared.receiver.Received.{Received}
@@ -196,7 +196,7 @@ pub slots-none : {R : Type 0} (receivers : OfReceiver R) → ((r : R) → receiv
 slots-none receivers stays r d = record {
   others = refl;
   runs = [];
-  sizes = all-none HasOneToSixSlots;
+  are_runs = all-none IsRun;
   oldest = refl;
   next = refl;
   count = refl;
@@ -210,9 +210,10 @@ pub slots-next : {R : Type 0} (receivers : OfReceiver R)
     → receivers.took a c (shown ++ later) (kept ++ more))
     → (r s t : R) (d1 d2 d3 d4 : DriverState) (n m : ℕ) (run : Run) (parts : List Part) (whole : Bool)
     → n + length (whole_frames (run_of parts whole ∷ [])) ≡ m → length (buffers_in parts) ≡ run.count → 1 ≤ run.count → run.count ≤ 6
-    → TakesSlots receivers n r s d1 d2 → LeavesRing run parts d2 d3 → d4 ≡ record d3 { pool = d4.pool; bad = d4.bad }
+    → (IsTrue whole → FillBuffers (lengths_in parts)) → TakesSlots receivers n r s d1 d2 → LeavesRing run parts d2 d3
+    → d4 ≡ record d3 { pool = d4.pool; bad = d4.bad }
     → HandsOn receivers.took s t (run_of parts whole) d3 d4 → TakesSlots receivers m r t d1 d4
-slots-next receivers also r s t d1 d2 d3 d4 n m run parts whole more size some few slots leaves given hands =
+slots-next receivers also r s t d1 d2 d3 d4 n m run parts whole more size some few full slots leaves given hands =
     let rx = d1.layout.rx in
     let o = d1.oldest_receive in
     let one = run_of parts whole in
@@ -245,10 +246,10 @@ slots-next receivers also r s t d1 d2 d3 d4 n m run parts whole more size some f
           (sym (ap (λ (d : DriverState). d.oldest_receive) given ∙ ap (λ (d : DriverState). d.oldest_receive) leaves.others))
           ∙ ap (shape d4.oldest_receive) (sym left);
       runs = runs;
-      sizes =
-          All-append HasOneToSixSlots slots.runs (one ∷ []) slots.sizes
-          (All-cons HasOneToSixSlots one [] (record { least = omega (arith, long, some); most = omega (arith, long, few) })
-          (all-none HasOneToSixSlots));
+      are_runs =
+          All-append IsRun slots.runs (one ∷ []) slots.are_runs
+          (All-cons IsRun one [] (record { least = omega (arith, long, some); most = omega (arith, long, few); full = full })
+          (all-none IsRun));
       oldest =
           slots.oldest
           ∙ ap (λ (list : List ℕ). run_buffers slots.runs ++ list)
@@ -275,14 +276,14 @@ slots-next receivers also r s t d1 d2 d3 d4 n m run parts whole more size some f
     long = omega (arith, size, length-map parts (λ (part : Part). part.buffer))
 
 -- Each whole frame has a slot.
-runs-few : (runs : List RunOfSlots) → All HasOneToSixSlots runs → length runs ≤ length (run_buffers runs)
+runs-few : (runs : List RunOfSlots) → All IsRun runs → length runs ≤ length (run_buffers runs)
 runs-few [] all = omega arith
 runs-few (run ∷ later) all =
-    let one = all-head HasOneToSixSlots run later all in
+    let one = all-head IsRun run later all in
     omega (
       arith,
       one.least,
-      runs-few later (all-tail HasOneToSixSlots run later all),
+      runs-few later (all-tail IsRun run later all),
       length-append (buffers_in run.parts) (run_buffers later),
       length-map run.parts (λ (part : Part). part.buffer),
     )
@@ -297,7 +298,7 @@ slots-few receivers n before after d d' slots =
       length-map (filter whole slots.runs) (λ (run : RunOfSlots). run.parts),
       length-filter whole slots.runs,
       count_by-le-length whole slots.runs,
-      runs-few slots.runs slots.sizes,
+      runs-few slots.runs slots.are_runs,
       ap length slots.oldest,
       length-append (run_buffers slots.runs) d'.buffers,
     )

@@ -1,7 +1,7 @@
 -- Frames are taken one after the other.
 use Rattle.std.proofs.Common.{◌≡◌, ◌≤◌, ◌+◌, ◌++◌, ◌∷◌, [], ◌∙◌}
-use Rattle.std.proofs.Common.{Bool, true, ℕ, List, length, map, refl, sym, ap, subst}
-use Rattle.std.proofs.Common.{append_assoc, length-append, length-take, arith}
+use Rattle.std.proofs.Common.{Bool, IsTrue, true, ℕ, List, length, map, refl, sym, ap, subst}
+use Rattle.std.proofs.Common.{append_assoc, length-append, length-take, take, arith}
 use Rattle.std.specs.List.{concat}
 use Rattle.std.proofs.lemmas.Grind.{flat_map-append}
 use Rattle.std.proofs.lemmas.List.{append-nil, length-map, map-append}
@@ -27,7 +27,7 @@ use Rattle.driver_law.specs.ReceiveSteps.{after_slots}
 use Rattle.driver.specs.HandlerSteps.{AreOfOneFrame, HandsOn, HandsOver, HasEtherType, LeavesRing, Scene, Takes, TakesSlots}
 use Rattle.driver.specs.HandlerSteps.{WhereReadyIn, WhereTaken, part_none, run_buffers, run_of, scene, whole_frames}
 use Rattle.driver.specs.Looks.{FindsFrame}
-use Rattle.driver.specs.Parts.{buffers_in, buffers_of, joined_frames, parts_of, pieces_of, received_of}
+use Rattle.driver.specs.Parts.{FillBuffers, buffers_in, buffers_of, joined_frames, parts_of, pieces_of, received_of}
 use Rattle.driver.specs.declared.look.Run.{Run}
 use Rattle.driver.specs.declared.parts.Part.{Part}
 use Rattle.driver.specs.declared.receiver.Received.{Received}
@@ -190,13 +190,13 @@ pub walks-next : {B R : Type 0} (bus : Ghosts B) (receivers : OfReceiver R)
     → (a b c e : B) (r s t : R) (d1 d2 d3 d4 : DriverState) (n m : ℕ) (run : Run) (parts : List Part) (whole : Bool)
     → n + length (whole_frames (run_of parts whole ∷ [])) ≡ m → Keeps bus a b → Keeps bus b c
     → Walks bus receivers n (scene a d1 r) (scene b d2 s)
-    → 1 ≤ run.count → run.count ≤ 6 → length run.lengths ≡ 6
+    → 1 ≤ run.count → run.count ≤ 6 → length run.lengths ≡ 6 → (IsTrue run.whole → FillBuffers (take run.count run.lengths))
     → WhereReady bus (at b d2) (at c d2) (FindsFrame bus run) → LeavesRing run parts d2 d3
     → d4 ≡ record d3 { pool = d4.pool; bad = d4.bad } → HandsOn receivers.took s t (run_of parts whole) d3 d4 → whole ≡ run.whole
     → WhereTaken bus parts whole (scene c d3 s) (scene e d4 t) (HandsOver bus receivers)
     → Walks bus receivers m (scene a d1 r) (scene e d4 t)
-walks-next bus receivers stays joins also a b c e r s t d1 d2 d3 d4 n m run parts whole more keeps1 keeps2 walks some few six finds leaves
-    given hands whole_is over =
+walks-next bus receivers stays joins also a b c e r s t d1 d2 d3 d4 n m run parts whole more keeps1 keeps2 walks some few six full finds
+    leaves given hands whole_is over =
     let size : length (buffers_in parts) ≡ run.count = omega (
       arith,
       length-map parts (λ (part : Part). part.buffer),
@@ -209,7 +209,8 @@ walks-next bus receivers stays joins also a b c e r s t d1 d2 d3 d4 n m run part
     let slots = walks.slots in
     let others = slots.others in
     record {
-      slots = slots-next receivers also r s t d1 d2 d3 d4 n m run parts whole more size some few slots leaves given hands;
+      slots = slots-next receivers also r s t d1 d2 d3 d4 n m run parts whole more size some few
+          (λ is. subst FillBuffers (sym leaves.lengths) (full (subst IsTrue whole_is is))) slots leaves given hands;
       takes = λ up held is.
           let before = walks.takes up held is in
           let later = held ++ pieces_of before.frames.kept in

@@ -23,7 +23,7 @@ use Rattle.driver_law.specs.Calls.{takes_from, with_missed}
 use Rattle.driver_law.specs.DriverState.{DriverState, HandedOut, frame_of, holding, next_receive, numbers_of, owners}
 use Rattle.driver_law.specs.ReceiveSteps.{after_slots}
 use Rattle.driver.specs.RefillSteps.{OffersAfter}
-use Rattle.driver.specs.Parts.{AreFrames, buffers_in, buffers_of, joined_frames, lengths_in, parts_of, pieces_of, received_of}
+use Rattle.driver.specs.Parts.{AreFrames, FillBuffers, buffers_in, buffers_of, joined_frames, lengths_in, parts_of, pieces_of, received_of}
 use Rattle.driver.specs.declared.look.Run.{Run}
 use Rattle.driver.specs.declared.parts.Part.{Part}
 use Rattle.driver.specs.declared.receiver.Received.{Received}
@@ -68,10 +68,11 @@ pub record RunOfSlots : Type 0 where
 abbrev pub run_of : List Part → (whole : Bool) → RunOfSlots
 run_of parts whole = record { parts = parts; whole = whole }
 
--- It has one to six slots.
-pub record HasOneToSixSlots (run : RunOfSlots) : Type 0 where
+-- It has one to six slots. If it is whole, each slot before the last is full, and the last isn't empty.
+pub record IsRun (run : RunOfSlots) : Type 0 where
   pub least : 1 ≤ length run.parts
   pub most : length run.parts ≤ 6
+  pub full : IsTrue run.whole → FillBuffers (lengths_in run.parts)
 
 -- the buffers of these runs, one run after the other
 abbrev pub run_buffers : List RunOfSlots → List ℕ
@@ -184,7 +185,7 @@ pub record Takes {B R : Type 0} (bus : Ghosts B) (receivers : OfReceiver R) (n :
 pub record TakesSlots {R : Type 0} (receivers : OfReceiver R) (n : ℕ) (before after : R) (d d' : DriverState) : Type 0 where
   pub others : d' ≡ record d { oldest_receive = d'.oldest_receive; buffers = d'.buffers; pool = d'.pool; bad = d'.bad }
   pub runs : List RunOfSlots
-  pub sizes : All HasOneToSixSlots runs
+  pub are_runs : All IsRun runs
   pub oldest : d.buffers ≡ run_buffers runs ++ d'.buffers
   pub next : d'.oldest_receive ≡ place d.layout.rx d.oldest_receive (length (run_buffers runs))
   pub count : length (whole_frames runs) ≡ n

@@ -2,6 +2,7 @@
 use Rattle.std.specs.Prelude.{◌≡◌, ◌-◌, ◌≤◌, ◌++◌, ◌∷◌, [], ℕ, All, List, Option, Some, None, flat_map, length, map, replicate, sum}
 use Rattle.descriptors.specs.Frames.{longest_frame, shortest_frame}
 use Rattle.rx_engine.specs.Addresses.{ether_type}
+use Rattle.rx_engine.specs.Pieces.{IsLastSize}
 use Rattle.dma_memory.specs.Layout.{Counts, receive_buffer_bytes}
 use Rattle.bus.specs.declared.event.Access.{Access}
 use Rattle.bus.specs.declared.event.Access.TheVariants.{Loads}
@@ -53,6 +54,18 @@ pub record IsFrameSize (size : ℕ) : Type 0 where
 -- Each of these sizes is at most that of a receive buffer.
 abbrev pub FitIntoBuffers : List ℕ → Type 0
 FitIntoBuffers sizes = All (λ size. size ≤ receive_buffer_bytes) sizes
+
+-- They are those of full receive buffers.
+abbrev pub AreFull : List ℕ → Type 0
+AreFull sizes = All (λ size. size ≡ receive_buffer_bytes) sizes
+
+-- The buffers before the last are full. The last has at least one byte, and at most as many as a receive buffer.
+pub record FillBuffers (sizes : List ℕ) : Type 0 where
+  pub full : List ℕ
+  pub last : ℕ
+  pub sizes_are : sizes ≡ full ++ last ∷ []
+  pub are_full : AreFull full
+  pub last_is : IsLastSize receive_buffer_bytes last
 
 -- It is as large as its pieces together, and may have this size. Each piece fits into its buffer.
 pub record IsWholeFrame (received : Received) : Type 0 where

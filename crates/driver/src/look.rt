@@ -8,7 +8,7 @@ ghost use Rattle.descriptors.specs.RxStatus.{dd, eop, status_bits};
 ghost use Rattle.bus.specs.Keeping.{Keeps};
 ghost use Rattle.driver_law.specs.Calls.{WhereReady, at};
 ghost use Rattle.driver.specs.Looks.{IsSoundPart, LooksAt, LooksAtPlace, new_run};
-ghost use Rattle.driver.specs.Parts.{FitIntoBuffers, IsFrameSize};
+ghost use Rattle.driver.specs.Parts.{FillBuffers, FitIntoBuffers, IsFrameSize};
 
 use crate::Driver;
 use crate::parts::MOST_PARTS;
@@ -132,6 +132,7 @@ impl Driver {
         ensures sum { IfSome result (λ run. run.length ≡ sum (take run.count run.lengths)) }
         ensures size { IfSome result (λ run. IsTrue run.whole → IsFrameSize run.length) }
         ensures fits { IfSome result (λ run. IsTrue run.whole → FitIntoBuffers (take run.count run.lengths)) }
+        ensures full { IfSome result (λ run. IsTrue run.whole → FillBuffers (take run.count run.lengths)) }
         ensures looks { WhereReady B.Bus (at bus.old self.now) (at bus.new self.now) (LooksAt B.Bus result) }
     {
         let outstanding = self.buffers.len() - usize::from(self.staged);

@@ -5,13 +5,13 @@ use Rattle.bus.proofs.Keeping.{keeps-here, keeps-on}
 use Rattle.driver_law.specs.Calls.{IsReady, at, held_at}
 use Rattle.driver_law.specs.DriverState.{DriverState, HandedOut, holding}
 use Rattle.adapter.specs.HostFrames.{finished_pieces}
-use Rattle.driver.specs.Parts.{FitIntoBuffers}
 use Rattle.driver.specs.declared.look.Run.{Run}
 use Rattle.driver.specs.InsideDriver.{state_of}
 use Rattle.driver.specs.declared.driver.Driver.TheInside.{Inside}
 use Rattle.driver.proofs.BufferQueue.{Receives, queue-split}
-use Rattle.driver.proofs.SeenSlots.{IsAdded, LoadsNext, NextSeen, finds-all_seen, finds-frame, finds-unfinished, fits-added, fits-none}
-use Rattle.driver.proofs.SeenSlots.{is-added, loads-next, never-six, next-shown, sees_slots-more, sees_slots-none, sum-added}
+use Rattle.driver.proofs.SeenSlots.{IsAdded, LoadsNext, NextSeen, fills-added, fills-fit, finds-all_seen, finds-frame, finds-unfinished}
+use Rattle.driver.proofs.SeenSlots.{full-added, full-none, is-added, loads-next, never-six, next-shown, sees_slots-more}
+use Rattle.driver.proofs.SeenSlots.{sees_slots-none, sum-added}
 use Rattle.driver.proofs.driver.Driver.look.Given.{Over}
 use Rattle.driver.proofs.driver.Driver.look.Goals.{After-add, After-descriptor_after-descriptor}
 use Rattle.driver.proofs.driver.Driver.look.Goals.{then-loop-run-test+else-run-outstanding, else-loop-run-test}
@@ -27,7 +27,7 @@ loop-run-init g c =
       outstanding = omega (arith, ap (λ (r : Run). r.count) is);
       short = omega (arith, ap (λ (r : Run). r.length) is);
       sum_is = rw is refl;
-      fits = λ whole. fits-none run (ap (λ (r : Run). r.count) is);
+      full = λ whole. full-none run (ap (λ (r : Run). r.count) is);
       keeps = keeps-here g.B.Bus g.met.B.Bus.composes.lent_stays_here c.args.bus.now;
       sees = λ up held ready. sees_slots-none g.B.Bus g.met.B.Bus.composes.stays run (holding held c.args.self.now) c.args.bus.now
           (ap (λ (r : Run). r.count) is) (ap (λ (r : Run). r.length) is) (ap (λ (r : Run). r.whole) is) ready.ready;
@@ -87,13 +87,17 @@ whole : (g : Over) (c : After-add g) (up : Bool) (held : List HandedOut)
     → IsReady g.B.Bus up (held_at held (at c.args.bus.now c.args.self.now)) → IsTrue c.add.new.self.whole
 whole g c up held is = c.add.ensures.whole.1 ((shown g c up held is).sound, (next g (loaded g c) up held is).sees.whole)
 
-fits : (g : Over) (c : After-add g) → IsTrue c.add.new.self.whole → FitIntoBuffers (take c.add.new.self.count c.add.new.self.lengths)
-fits g c whole =
-    let both = c.add.ensures.whole.0 whole in
-    fits-added c.loop-run.run c.add.new.self c.descriptor_after-descriptor.result (added g c) both.0 (c.loop-run.invariant.fits both.1)
+-- A whole frame ends in it: the slots before it are full.
+pub returns-then-is_ended-clause-full : goal.returns-then-is_ended-clause-full
+returns-then-is_ended-clause-full g c frame =
+    let there = c.before.before.before.before.before in
+    let both = c.add.ensures.whole.0 (c.is_frame.ensures.0 frame).0 in
+    fills-added c.loop-run.run c.add.new.self c.descriptor_after-descriptor.result (added g there) (sym c.if-is_ended.ensures) both.0
+    (c.loop-run.invariant.full both.1)
 
 pub returns-then-is_ended-clause-fits : goal.returns-then-is_ended-clause-fits
-returns-then-is_ended-clause-fits g c frame = fits g c.before.before.before.before.before (c.is_frame.ensures.0 frame).0
+returns-then-is_ended-clause-fits g c frame =
+    fills-fit (take c.add.new.self.count c.add.new.self.lengths) (returns-then-is_ended-clause-full g c frame)
 
 pub returns-then-is_ended-clause-looks : goal.returns-then-is_ended-clause-looks
 returns-then-is_ended-clause-looks g c up held is =
@@ -126,7 +130,9 @@ loop-run-preserved g c =
       );
       short = omega (arith, a.count, a.length, i.short);
       sum_is = sum-added run run' desc (added g there) i.sum_is;
-      fits = fits g there;
+      full = λ whole.
+          let both = a.whole.0 whole in
+          full-added run run' desc (added g there) (sym c.if-is_ended.ensures) both.0 (i.full both.1);
       keeps = keeps-on g.B.Bus g.met.B.Bus.composes.lent_stays_on _ _ _ i.keeps c.descriptor_after-descriptor.ensures.keeps;
       sees = λ up held is. sees_slots-more g.B.Bus run run' desc (holding held c.args.self.now) c.args.bus.now
           c.descriptor_after-descriptor.new.bus (next g (loaded g there) up held is) (shown g there up held is) (added g there)

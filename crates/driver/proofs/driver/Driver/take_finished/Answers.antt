@@ -28,8 +28,9 @@ loop-run-preserved-then-hand_on g c =
       walks = walks-next g.B.Bus g.R.Receiver g.met.B.Bus.composes.stays g.met.B.Bus.composes.joins
           g.met.R.Receiver.joins c.args.bus.now c.loop-run.bus c.look.new.bus c.hand_on.new.bus
           c.args.receiver.now c.loop-run.receiver c.hand_on.new.receiver c.args.self.now c.loop-run.self c.take_run-parts.new.self
-          c.hand_on.new.self c.loop-run.taken (c.loop-run.taken + 1) c.in-Some.run' c.take_run-parts.result c.hand_on.result same l.keeps look.keeps
-          l.walks look.some look.most look.lengths look.looks c.take_run-parts.ensures.leaves h.others h.hands h.whole h.over;
+          c.hand_on.new.self c.loop-run.taken (c.loop-run.taken + 1) c.in-Some.run' c.take_run-parts.result c.hand_on.result same
+          l.keeps look.keeps l.walks look.some look.most look.lengths look.full look.looks c.take_run-parts.ensures.leaves h.others h.hands
+          h.whole h.over;
     }
 
 pub loop-run-preserved : goal.loop-run-preserved
@@ -46,8 +47,9 @@ loop-run-preserved g c =
       walks = walks-next g.B.Bus g.R.Receiver g.met.B.Bus.composes.stays g.met.B.Bus.composes.joins
           g.met.R.Receiver.joins c.args.bus.now c.loop-run.bus c.look.new.bus c.hand_on.new.bus
           c.args.receiver.now c.loop-run.receiver c.hand_on.new.receiver c.args.self.now c.loop-run.self c.take_run-parts.new.self
-          c.hand_on.new.self c.loop-run.taken c.loop-run.taken c.in-Some.run' c.take_run-parts.result c.hand_on.result same l.keeps look.keeps
-          l.walks look.some look.most look.lengths look.looks c.take_run-parts.ensures.leaves h.others h.hands h.whole h.over;
+          c.hand_on.new.self c.loop-run.taken c.loop-run.taken c.in-Some.run' c.take_run-parts.result c.hand_on.result same
+          l.keeps look.keeps l.walks look.some look.most look.lengths look.full look.looks c.take_run-parts.ensures.leaves h.others h.hands
+          h.whole h.over;
     }
 
 -- Each frame had a slot that was outstanding at the beginning.
