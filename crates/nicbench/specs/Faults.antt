@@ -1,4 +1,4 @@
--- The exit status of the program (our choice: 1 for input that is refused, 3 for a file that failed, 4 for want of memory).
+-- The exit status of the program (our choice: 1 for input that is refused, 3 for a file that failed, 4 if memory is refused).
 use Rattle.std.specs.Prelude.{ℕ}
 use Rattle.adapter_server.specs.Statuses as server
 use Rattle.pcap_bench.specs.ProgramErrors as program

@@ -34,7 +34,7 @@ pub(crate) enum Fault {
 }
 
 impl Fault {
-    /// The exit status of the program: 1 for what was refused, 3 for a file that failed, 4 for want of memory.
+    /// The exit status of the program: 1 for what was refused, 3 for a file that failed, 4 if memory is refused.
     pub(crate) fn status(&self) -> u8
         ensures { result ≡ status_of self.now }
     {

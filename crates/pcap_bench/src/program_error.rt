@@ -26,7 +26,7 @@ pub enum PassError {
 }
 
 impl PassError {
-    /// The exit status of a program that ends for this fault: 3 for a sink that failed, 4 for want of memory.
+    /// The exit status of a program that ends for this fault: 3 for a sink that failed, 4 if memory is refused.
     pub fn status(&self) -> u8
         ensures { result ≡ pass_status self.now }
     {
@@ -71,7 +71,7 @@ pub enum ProgramError {
 }
 
 impl ProgramError {
-    /// The exit status of the program: 1 for a trace that is refused, 3 for a file that failed, 4 for want of memory.
+    /// The exit status of the program: 1 for a trace that is refused, 3 for a file that failed, 4 if memory is refused.
     pub fn status(&self) -> u8
         ensures { result ≡ status_of self.now }
     {

@@ -50,7 +50,7 @@ pub enum ReadError {
 
 impl ReadError {
     /// The exit status of a program that ends for this fault: 1 where the trace is refused, 3 where the source
-    /// failed, 4 for want of memory.
+    /// failed, 4 if memory is refused.
     pub fn status(&self) -> u8
         ensures { result ≡ read_status self.now }
     {

@@ -122,9 +122,9 @@ impl Trace {
     ///
     /// The faults of the file header, E60 to E63, are looked for in this order, and before any packet. E64
     /// [`Record`](ReadError::Record) comes where, behind whole packets, a whole packet header tells more than 262,144
-    /// captured bytes, whatever stands behind it. E65 [`Memory`](ReadError::Memory) is want of memory. A device's
-    /// failure is E66 [`Read`](ReadError::Read) and never anything else. After an error some bytes of the source are
-    /// used up.
+    /// captured bytes, whatever stands behind it. E65 [`Memory`](ReadError::Memory) comes if memory is refused. A
+    /// device's failure is E66 [`Read`](ReadError::Read) and never anything else. After an error some bytes of the
+    /// source are used up.
     pub fn read<S: Source>(alloc: Global, source: &mut S) -> Result<Trace, ReadError>
         requires { S.failures source.old < u64.MAX }
 
