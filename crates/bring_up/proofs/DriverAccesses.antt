@@ -108,9 +108,10 @@ lets-frames-in bus old new promiscuous by_vlan value d is written ready none off
     let within : o < count_of (receive_ring (bus.world old)) = omega (arith, ready.driver_is.oldest_slot, ready.receive.slots) in
     let waits = offers_wait receive_buffer_bytes o d.oldest_transmit (bus.world old) middle acts.past ready.law.sound within off
     (omega arith) ready.law.whole none acts.before in
-    let arrives = acts.before.steady.off off in
+    let arrives = acts.before.steady.arrivals.off off in
     let between = acts.before.between o d.oldest_transmit ready.law.sound in
-    let empty : frames_held o middle ≡ [] = between.holds ∙ ap (λ (frames : List (List ℕ)). frames ++ acts.past.stored) none ∙ arrives.0 in
+    let empty : frames_held o middle ≡ [] =
+    between.receive.holds ∙ ap (λ (frames : List (List ℕ)). frames ++ acts.past.stored) none ∙ arrives.0 in
     let done : bus.world new ≡ with_receive_control control middle = acts.effect_is ∙ receive_control-written promiscuous by_vlan middle in
     let ready_there = (goes-happens d (bus.world old) middle acts.past ready acts.before).flows.ready in
     let goes : GoesTo false (driver_in d middle) (driver_in d (bus.world new)) (driver_did [] []) nothing =
@@ -193,14 +194,14 @@ enables-causes bus old new value d is written ready =
       goes = goes;
       enabled = enabled;
       ready = enabled.ready;
-      holds = enabled.held ∙ goes.flows.holds;
+      holds = enabled.frames.held ∙ goes.flows.holds;
       mask = mask;
       work = λ asked.
           record {
             enabled = mask;
             asked =
                 ⊎_elim
-                (λ (none : frames_ended (driver_in d middle) ≡ []). inl (ap frames_of enabled.pieces_same ∙ none))
+                (λ (none : frames_ended (driver_in d middle) ≡ []). inl (ap frames_of enabled.frames.pieces_same ∙ none))
                 (λ (bit : HasBit middle.adapter.causes.recorded 7). inr (subst (λ (bits : ℕ). HasBit bits 7) (sym enabled.recorded) bit))
                 (asked-still d (bus.world old) middle acts.past goes asked);
           };

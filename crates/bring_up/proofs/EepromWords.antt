@@ -171,7 +171,7 @@ module _ {B : Type 0} (bus : Ghosts B) where
       let state : ReadState = acts.middle.adapter.eerd in
       let same : (bus.world now).adapter.image ≡ image = asks-image bus start now 0x0014 awaits.asks.asks in
       let moved : state ≡ after_ticks image ticks found =
-      subst (λ (words : List ℕ). state ≡ after_ticks words ticks found) same acts.before.steady.eerd in
+      subst (λ (words : List ℕ). state ≡ after_ticks words ticks found) same acts.before.steady.ticks.eerd in
       let answer : value ≡ shown state = acts.effect_is.0 ∙ answer-is acts.middle.adapter in
       let asked : IsAsked image address state =
       subst (IsAsked image address) (sym moved) (still-asked image address ticks found awaits.state) in

@@ -32,7 +32,7 @@ finds bus old new value acts =
     let after : management_behind (bus.world new) ≡ management_behind acts.middle = ap management_behind acts.effect_is.1 in
     record {
       ticked = λ ticks. (acts.ticks ticks).phy;
-      management = after ∙ acts.before.steady.management;
+      management = after ∙ acts.before.steady.ticks.management;
       shown = acts.effect_is.0 ∙ sym (ap (λ (l : Management). l.mdic.value) after);
     }
 
@@ -54,7 +54,7 @@ gives bus old new words acts = record {
   ticks = acts.past.phy_ticks;
   ticks_are = refl;
   ticked = λ ticks. (acts.ticks ticks).phy;
-  management = ap management_behind acts.effect_is ∙ ap (commanded words) acts.before.steady.management;
+  management = ap management_behind acts.effect_is ∙ ap (commanded words) acts.before.steady.ticks.management;
   none_in_vain = λ ticks. refl;
 }
 

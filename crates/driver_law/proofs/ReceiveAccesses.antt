@@ -162,8 +162,8 @@ ran_by-looks {up} bus old new d k address bytes below address_is acts ready =
     ∙ ap (λ (place : ℕ). bytes_at (bus.world new).memory place 16) address_is in
     record {
       ran = subst (λ (place : ℕ). Ran bus up (only (Loads place 16 ∷ [])) (at old d) (at new d)) address_is ran;
-      more = between.pieces;
-      grows = ap (finished_pieces o) acts.effect_is.1 ∙ between.grown;
+      more = between.receive.pieces;
+      grows = ap (finished_pieces o) acts.effect_is.1 ∙ between.receive.grown;
       shows = subst
           (λ (list : List ℕ). ShowsSlot (is_set (status_bits (rx_desc_of list).status) dd) k (finished_pieces o (bus.world new))
           (rx_desc_of list)) (sym shown) (slot-shows d (bus.world new) k ran.goes.flows.ready below);

@@ -84,14 +84,19 @@ ReceiverIsEnabled =
     → buffer_size (with_receive_control control world) ≡ receive_buffer_bytes
     → GoesTo false (driver_in driver world) (driver_in driver (with_receive_control control world)) (driver_did [] []) nothing
 
--- Causes were enabled, and nothing else happened.
-pub record Enabled (up : Bool) (driver : DriverState) (causes : ℕ) (a b : World) : Type 0 where
-  pub ready : ReadyWith up driver b
+-- Frames, slots and pieces are the same.
+pub record FramesStay (driver : DriverState) (a b : World) : Type 0 where
   pub to_send : frames_to_send b ≡ frames_to_send a
   pub held : frames_held driver.oldest_receive b ≡ frames_held driver.oldest_receive a
   pub finished_same : finished driver.oldest_receive b ≡ finished driver.oldest_receive a
   pub pieces_same : finished_pieces driver.oldest_receive b ≡ finished_pieces driver.oldest_receive a
   pub written_same : written_back driver.oldest_transmit b ≡ written_back driver.oldest_transmit a
+
+-- Causes were enabled, and nothing else happened.
+pub record Enabled (up : Bool) (driver : DriverState) (causes : ℕ) (a b : World) : Type 0 where
+  pub ready : ReadyWith up driver b
+  pub frames : FramesStay driver a b
+  -- MPC and ICR are the same, and IMS has these causes, too.
   pub missed : b.adapter.missed_packets ≡ a.adapter.missed_packets
   pub recorded : b.adapter.causes.recorded ≡ a.adapter.causes.recorded
   pub mask : b.adapter.causes.mask ≡ union a.adapter.causes.mask (causes_of causes)

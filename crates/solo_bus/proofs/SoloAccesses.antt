@@ -47,8 +47,11 @@ acts_on a p b access effect prepared after answered adapter does =
       past_is = past-with_access events access plays.are;
       played = map-append tick_of events (Accesses access ∷ []) ∙ ap (λ (ticks : List SoloTick). ticks ++ Go ∷ []) plays.played;
       waiting = waiting_b ∙ plays.waiting;
-      free = are_free_joins events (Accesses access ∷ []) (length a.wire) (length a.wire + length (past_of events).put) refl plays.free tt;
-      wire = wire_b ∙ plays.wire;
+      wire = record {
+        free = are_free_joins events (Accesses access ∷ []) (length a.wire) (length a.wire + length (past_of events).put) refl
+            plays.wire.free tt;
+        frames = wire_b ∙ plays.wire.frames;
+      };
       lively = lively_b ∙ plays.lively;
       count = omega (arith, count_b, prepared.count);
     } in
