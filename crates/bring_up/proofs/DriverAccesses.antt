@@ -17,6 +17,7 @@ use Rattle.adapter.specs.World.{World, receive_ring, transmit_ring, world_after_
 use Rattle.adapter.specs.declared.register.Register.{Register}
 use Rattle.adapter.specs.declared.register.Register.TheVariants.{Rctl, Tctl}
 use Rattle.bus.specs.RegisterSetting.{with_receive_control, with_transmit_control}
+use Rattle.bus.specs.Keeping.{view_of}
 use Rattle.bus.specs.Law.{Acts}
 use Rattle.bus.specs.PastOfStretch.{Past, nothing}
 use Rattle.bus.specs.Settings.{IsOff}
@@ -40,7 +41,7 @@ use Rattle.bring_up.specs.RingRegisters.{receive_control, receive_writes, transm
 
 -- One access, from the very world in which it begins.
 unfoldable pub ran_by-begins : {first_up up : Bool} {B : Type 0} (bus : Ghosts B) (old new : B) (access : Access)
-    (effect : World → World → Type 0) (d : DriverState) (acts : Acts bus.world bus.happened bus.lively old new access effect)
+    (effect : World → World → Type 0) (d : DriverState) (acts : Acts (view_of bus) old new access effect)
     → SetsBy access effect (bus.world new)
     → ReadyWith first_up d (bus.world old)
     → (ReadyWith first_up d acts.middle → GoesTo up (driver_in d acts.middle) (driver_in d (bus.world new)) (driver_did [] []) nothing)
@@ -62,7 +63,7 @@ ran_by-begins {first_up} {up} bus old new access effect d acts sets ready step =
     }
 
 abbrev pub WriteActs : {B : Type 0} (bus : Ghosts B) (old new : B) (offset value : ℕ) → Type 0
-WriteActs bus old new offset value = Acts bus.world bus.happened bus.lively old new (Writes offset value)
+WriteActs bus old new offset value = Acts (view_of bus) old new (Writes offset value)
     (λ before after. after ≡ world_after_write offset value before)
 
 -- RCTL.

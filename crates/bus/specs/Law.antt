@@ -76,7 +76,7 @@ pub record MovesByTicks (a b : World) (past : Past) : Type 0 where
   -- MDIC and the PHY
   pub management : management_of b.adapter ≡ iterate phy_ticked past.phy_ticks (management_of a.adapter)
 
--- What stands in every state, whatever the driver has made of rings and memory.
+-- What holds in every state, whatever the registers and the memory contain.
 pub record Steady (a b : World) (past : Past) : Type 0 where
   -- Memory keeps its size, and the EEPROM its words.
   pub size : length b.memory ≡ length a.memory
@@ -138,16 +138,24 @@ pub record HasTicks (past : Past) : Type 0 where
   pub eeprom : 1 ≤ past.eeprom_ticks
   pub phy : 1 ≤ past.phy_ticks
 
+-- what a bus shows of itself: memory and adapter, what it reports of an interval, and whether it is lively
+pub record BusView (B : Type 0) : Type 1 where
+  pub world : B → World
+  pub happened : B → B → Past → Type 0
+  pub lively : B → Type 0
+
+abbrev pub view : {B : Type 0} → (B → World) → (B → B → Past → Type 0) → (B → Type 0) → BusView B
+view world happened lively = record { world = world; happened = happened; lively = lively }
+
 -- One access of a driver over a bus: something happens, of which the bus tells by its own words, and then the access itself. A lively bus
 -- plays ticks before each.
-pub record Acts {B : Type 0} (world : B → World) (happened : B → B → Past → Type 0) (lively : B
-    → Type 0) (old new : B) (access : Access) (effect : World → World → Type 0) : Type 0 where
+pub record Acts {B : Type 0} (bus : BusView B) (old new : B) (access : Access) (effect : World → World → Type 0) : Type 0 where
   -- where the access itself begins
   pub middle : World
   pub past : Past
   pub only : past.accesses ≡ access ∷ []
-  pub told : happened old new past
-  pub ticks : lively old → HasTicks past
-  pub before : Happens (world old) middle past
+  pub told : bus.happened old new past
+  pub ticks : bus.lively old → HasTicks past
+  pub before : Happens (bus.world old) middle past
   pub adapter : IsAdapter middle.adapter
-  pub effect_is : effect middle (world new)
+  pub effect_is : effect middle (bus.world new)

@@ -31,9 +31,9 @@ pub record IsCutRun (size oldest_receive : ℕ) (world : World) (run : List ℕ)
   pub have_no_errors : All (λ slot. (descriptor_at world.memory slot).errors ≡ 0) run
   pub others : AreCut size (after_run oldest_receive run world) world
 
--- The slots are the oldest ones.
+-- A run of the oldest slots becomes the driver's.
 pub record RunBecomesDrivers (oldest_receive : ℕ) (world : World) (run : List ℕ) : Type 0 where
-  -- They are in the ring one behind the other, from the oldest place on.
+  -- The slots follow one another in the ring, from the oldest one on.
   pub stand : run ≡ map (address_of (receive_ring world)) (places_of_run oldest_receive run world)
   -- They are no longer outstanding,
   pub first : outstanding (receive_ring world) oldest_receive
@@ -60,7 +60,7 @@ pub record RunTaken (oldest_receive oldest_transmit : ℕ) (world : World) (run 
   pub slots : RunBecomesDrivers oldest_receive world run
   pub frame : RunContainsFrame oldest_receive world run seen last
   pub sound : Sound (after_run oldest_receive run world) oldest_transmit world
-  -- The other finished slots are finished still.
+  -- The other finished slots stay finished.
   pub behind : finished oldest_receive world ≡ run ++ finished (after_run oldest_receive run world) world
   -- Pieces that fit into buffers of some size still do.
   pub fits : (size : ℕ) → FitBuffers size oldest_receive world → FitBuffers size (after_run oldest_receive run world) world

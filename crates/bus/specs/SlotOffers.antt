@@ -26,16 +26,16 @@ offering world = record world {
   };
 }
 
--- The slot at a tail can be offered as far as its ring goes.
+-- A ring has room to offer the slot at its tail.
 pub record HasRoom (oldest : ℕ) (registers : RingRegisters) : Type 0 where
-  -- The oldest one, head and tail are slots of the ring.
+  -- The driver's oldest slot, head and tail are slots of the ring.
   pub oldest_slot : oldest < count_of (ring_of registers)
   pub head_slot : registers.head < count_of (ring_of registers)
   pub tail_slot : registers.tail < count_of (ring_of registers)
   -- The slot at the tail isn't the last one before the oldest.
   pub room : next_of (ring_of registers) registers.tail ≢ oldest
 
--- The slot at RDT can be offered. While RCTL.EN is set, this concerns its buffer, of the size that RCTL.BSIZE names, too.
+-- The slot at RDT can be offered. Its buffer, of the size that RCTL.BSIZE names, counts only while RCTL.EN is set.
 pub record CanOffer (oldest : ℕ) (world : World) : Type 0 where
   pub ring : HasRoom oldest world.adapter.receive_ring
   -- Its descriptor isn't done.

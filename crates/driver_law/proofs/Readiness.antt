@@ -30,7 +30,7 @@ use Rattle.bus.proofs.Rings.{each-outstanding}
 use Rattle.bus.proofs.KnownRings.{knows-carried}
 use Rattle.driver_law.proofs.Places.{outstanding-known, own-behind}
 use Rattle.driver_law.specs.DriverState.{DriverState, receive_slot, receive_tail, transmit_slot, with_owners}
-use Rattle.driver_law.specs.ReadyDrivers.{AreStored, IsDriver, MeetsLaw, ReadyWith, Stands, TransmitIs, TransmitIsOff}
+use Rattle.driver_law.specs.ReadyDrivers.{AreStored, IsDriver, MeetsLaw, ReadyWith, Stands, TransmitIs, TransmitIsOff, transmit_side}
 
 -- the same driver, but for what is staged and what is free
 abbrev pub with_staged : DriverState → (staged pool : List ℕ) → DriverState
@@ -86,8 +86,7 @@ none-left memory ring buffer none =
     (map-empty (λ (queued : Queued). queued.frame) buffer parts.0, ap (map (address_of ring)) (map-empty _ (offered_places ring) parts.1))
 
 transmit-kept : (up : Bool) (o : ℕ) (counts : Counts) (p sending : ℕ) (a b : World) → Keeps o p a b
-    → TransmitIs up counts p sending a.memory (transmit_ring a) a.adapter.transmit_control a.adapter.transmitter.buffer
-    → TransmitIs up counts p sending b.memory (transmit_ring b) b.adapter.transmit_control b.adapter.transmitter.buffer
+    → TransmitIs up counts p sending (transmit_side a) → TransmitIs up counts p sending (transmit_side b)
 transmit-kept true o counts p sending a b keeps side =
     let slots = slots_from counts.tx p sending in
     let Same : ℕ → Type 0 = λ slot. data_of b.memory slot ≡ data_of a.memory slot in

@@ -19,7 +19,7 @@ use Rattle.bus.specs.PastOfStretch.{Past, nothing}
 use Rattle.adapter.specs.KnownRing.{KnowsRing}
 use Rattle.driver_law.specs.DriverState.{DriverState, next_receive, receive_slot, transmit_tail}
 use Rattle.driver_law.specs.Calls.{Goes, GoesTo, HasNoForgottenWork, driver_did, driver_in, frames_ended}
-use Rattle.driver_law.specs.ReadyDrivers.{IsDriver, ReadyWith, TransmitIs}
+use Rattle.driver_law.specs.ReadyDrivers.{IsDriver, ReadyWith, TransmitIs, transmit_side}
 use Rattle.registers.specs.Places.{rctl_bsex, rctl_en, rxt0, tctl_psp}
 
 -- The beginning.
@@ -49,7 +49,7 @@ pub record HasBegun (up : Bool) (counts : Counts) (pool : List ℕ) (world : Wor
   -- RCTL.BSIZE names the size of the layout's receive buffers while RCTL.EN is set.
   pub sized : HasBit world.adapter.filter.rctl rctl_en → buffer_size world ≡ receive_buffer_bytes
   pub receive : KnowsRing (receive_ring world) 0 counts.rx 0
-  pub transmit : TransmitIs up counts 0 0 world.memory (transmit_ring world) world.adapter.transmit_control world.adapter.transmitter.buffer
+  pub transmit : TransmitIs up counts 0 0 (transmit_side world)
 
 -- A driver that begins in such a world is ready.
 abbrev pub DriversBegin : Type 0

@@ -3,7 +3,7 @@ use Rattle.std.proofs.Common.{◌≡◌, ◌+◌, ◌++◌, ◌∷◌, [], Bool,
 use Rattle.std.specs.Bool.{⊤}
 use Rattle.std.proofs.lemmas.List.{map-append}
 use Rattle.bus.specs.BusMembers.{StaysWhole}
-use Rattle.bus.specs.Law.{Acts}
+use Rattle.bus.specs.Law.{Acts, view}
 use Rattle.bus.specs.PastOfStretch.{Past}
 use Rattle.bus.specs.declared.event.Access.{Access}
 use Rattle.bus.specs.TickGroups.{group_of}
@@ -28,7 +28,7 @@ is_lively solo = solo.lively ≡ true
 
 pub acts_on : (a p b : SoloState) (access : Access) (effect : World → World → Type 0) → Prepared a p
     → b ≡ record p { world = world_after_access access p.world } → IsAnswered access p.world → IsAdapter p.world.adapter
-    → effect p.world b.world → Acts solo_world Recounts is_lively a b access effect
+    → effect p.world b.world → Acts (view solo_world Recounts is_lively) a b access effect
 acts_on a p b access effect prepared after answered adapter does =
     let plays = prepared.plays in
     let events = plays.events in
