@@ -1,10 +1,8 @@
 -- The conditions under which a driver and its adapter share memory: without them no frame can be told from another (our choice).
 use Rattle.std.specs.Prelude.{◌≡◌, ◌≤◌, ◌<◌, ◌++◌, ℕ, true, All, length, map}
-use Rattle.descriptors.specs.Frames.{IsLegal, longest_frame, shortest_frame}
+use Rattle.descriptors.specs.Frames.{IsLegal, longest_frame}
 use Rattle.dma_memory.specs.Areas.{AreSeparate}
 use Rattle.registers.specs.Bits.{HasBit}
-use Rattle.descriptors.specs.declared.rx_desc.RxDesc.{RxDesc}
-use Rattle.descriptors.specs.RxStatus.{status_bits, eop}
 use Rattle.registers.specs.Places.{rctl_en, tctl_psp}
 use Rattle.rx_engine.specs.Descriptors.{descriptor_at}
 use Rattle.rx_engine.specs.Held.{HasBegun}
@@ -31,13 +29,6 @@ pub record Sound (oldest_receive oldest_transmit : ℕ) (world : World) : Type 0
   pub begun : HasBegun world.memory (finished_pieces oldest_receive world) world.adapter.receiver
   -- TCTL.PSP
   pub pads : ¬ (world.adapter.transmit_ring.head ≡ world.adapter.transmit_ring.tail) → HasBit world.adapter.transmit_control tctl_psp
-
--- a descriptor as this adapter finishes one with a frame in one piece: EOP, no errors, and the length of a legal frame
-pub record IsWhole (descriptor : RxDesc) : Type 0 where
-  pub ended : HasBit (status_bits descriptor.status) eop
-  pub has_no_errors : descriptor.errors ≡ 0
-  pub least : shortest_frame ≤ descriptor.length
-  pub most : descriptor.length ≤ longest_frame
 
 -- The finished slots, and the one in progress, contain frames as this adapter cuts them into receive buffers of so many bytes.
 pub record AreCut (size oldest_receive : ℕ) (world : World) : Type 0 where

@@ -7,11 +7,10 @@ use adapter::{
 use bus::{
     any_steps_may_happen, areas_stay_apart, between_composes, causes_are_those_of_steps,
     drivers_side_stays, drivers_slots_can_be_written, drivers_stores_leave_frames,
-    faults_never_come, faults_stay_visible, finished_slots_can_be_taken, frames_can_be_offered,
-    idle_rings_are_sound, idle_rings_stay_idle, known_rings_stay, large_buffers_take_frames,
-    many_slots_can_be_offered, quiet_accesses_leave_adapters, registers_can_be_set, rings_wait,
-    runs_can_be_taken, slots_can_be_offered, steps_are_instances, tails_can_be_moved,
-    written_slots_can_be_freed,
+    faults_never_come, faults_stay_visible, frames_can_be_offered, idle_rings_are_sound,
+    idle_rings_stay_idle, known_rings_stay, large_buffers_take_frames, many_slots_can_be_offered,
+    quiet_accesses_leave_adapters, registers_can_be_set, rings_wait, runs_can_be_taken,
+    slots_can_be_offered, steps_are_instances, tails_can_be_moved, written_slots_can_be_freed,
 };
 use registers::sets_of_places;
 use rx_engine::sets_of_registers;
@@ -52,7 +51,6 @@ fn laws_of_drivers_can_be_called() {
     slots_can_be_offered();
     areas_stay_apart();
     frames_can_be_offered();
-    finished_slots_can_be_taken();
     runs_can_be_taken();
     written_slots_can_be_freed();
 }

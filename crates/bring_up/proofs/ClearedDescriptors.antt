@@ -17,6 +17,7 @@ use Rattle.adapter.specs.Slots.{finished, outstanding}
 use Rattle.adapter.specs.World.{World, receive_ring, transmit_ring, world_after_store}
 use Rattle.adapter.specs.declared.ring.RingRegisters.{RingRegisters}
 use Rattle.bus.specs.RegisterSetting.{with_transmit_ring}
+use Rattle.bus.specs.Keeping.{view_of}
 use Rattle.bus.specs.Law.{Acts}
 use Rattle.bus.specs.WritableSlots.{CanBeWritten}
 use Rattle.bus.specs.DriversStores.{IsDriversArea}
@@ -172,7 +173,7 @@ clears-last {up} d world ready oldest =
 -- Over a bus.
 
 abbrev pub StoreActs : {B : Type 0} (bus : Ghosts B) (old new : B) (address : ℕ) → Type 0
-StoreActs bus old new address = Acts bus.world bus.happened bus.lively old new (Stores address (replicate 16 0))
+StoreActs bus old new address = Acts (view_of bus) old new (Stores address (replicate 16 0))
     (λ before after. after ≡ world_after_store address (replicate 16 0) before)
 
 ran_by-clears : {up : Bool} {B : Type 0} (bus : Ghosts B) (old new : B) (d : DriverState) (address place : ℕ) → address ≡ place

@@ -130,21 +130,23 @@ writes-configure config address groups vlans size settings had is groups_are vla
     subst (λ (s : Settings). IsConfigured config address s × (s.image ≡ settings.image)) (sym all) (
       record {
         device_control = refl;
-        receive_control_is = refl;
+        filter = record {
+          receive_control_is = refl;
+          groups = has_groups;
+          vlans = has_vlans;
+          address_low = refl;
+          address_high = refl;
+          vlan_type = refl;
+        };
         transmit_control = refl;
         allocation = refl;
         mask = refl;
-        groups = has_groups;
-        vlans = has_vlans;
-        address_low = refl;
-        address_high = refl;
-        vlan_type = refl;
-        receive_base = refl;
-        receive_count = count-told 0 config.rx counts.rx;
-        receive_tail = refl;
-        transmit_base = base-told (16 * config.rx) (16 * config.tx);
-        transmit_count = count-told (16 * config.rx) config.tx counts.tx;
-        transmit_tail = refl;
+        receive_ring = record { base_is = refl; count_is = count-told 0 config.rx counts.rx; tail_is = refl };
+        transmit_ring = record {
+          base_is = base-told (16 * config.rx) (16 * config.tx);
+          count_is = count-told (16 * config.rx) config.tx counts.tx;
+          tail_is = refl;
+        };
       },
       refl,
     )

@@ -5,6 +5,7 @@ use Rattle.std.proofs.lemmas.List.Elements.{All-append, All-cons}
 use Rattle.adapter.specs.Registers.{after_write}
 use Rattle.adapter.specs.State.{AdapterState}
 use Rattle.adapter.specs.World.{World, world_after_read, world_after_write}
+use Rattle.bus.specs.Keeping.{view_of}
 use Rattle.bus.specs.Law.{Acts}
 use Rattle.bus.specs.PastOfStretch.{joined}
 use Rattle.bus.specs.declared.bus.Bus.{Ghosts}
@@ -63,7 +64,7 @@ module _ {B : Type 0} (bus : Ghosts B) where
 
   -- An access that writes no register but the one asked, and leaves the settings, behind whatever happens before it.
   asks-access : (old new : B) (access : Access) (effect : World → World → Type 0) (offset : ℕ)
-      → (acts : Acts bus.world bus.happened bus.lively old new access effect) → All (IsOf offset) (writes_in (access ∷ []))
+      → (acts : Acts (view_of bus) old new access effect) → All (IsOf offset) (writes_in (access ∷ []))
       → settings_of (bus.world new).adapter ≡ settings_of acts.middle.adapter → (IsAtRest acts.middle → IsAtRest (bus.world new))
       → AsksAtLeast old new offset 1
   asks-access old new access effect offset acts only same rests = record {
@@ -81,7 +82,7 @@ module _ {B : Type 0} (bus : Ghosts B) where
 
   -- A read of any register asks,
   pub asks-read : (old new : B) (asked offset value : ℕ) (answer : World → Type 0)
-      → Acts bus.world bus.happened bus.lively old new (Reads offset value)
+      → Acts (view_of bus) old new (Reads offset value)
       (λ before after. answer before × (after ≡ world_after_read offset before))
       → AsksAtLeast old new asked 1
   asks-read old new asked offset value answer acts =
@@ -93,7 +94,7 @@ module _ {B : Type 0} (bus : Ghosts B) where
   -- and so does a write of a register that is no part of the settings.
   pub asks-write : (old new : B) (offset value : ℕ) → IsAside (record { offset = offset; value = value })
       → ((adapter : AdapterState) → settings_of (after_write offset value adapter) ≡ settings_of adapter)
-      → Acts bus.world bus.happened bus.lively old new (Writes offset value) (λ before after. after ≡ world_after_write offset value before)
+      → Acts (view_of bus) old new (Writes offset value) (λ before after. after ≡ world_after_write offset value before)
       → AsksAtLeast old new offset 1
   asks-write old new offset value aside same acts =
       let write : Write = record { offset = offset; value = value } in

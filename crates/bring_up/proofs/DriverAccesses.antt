@@ -17,6 +17,7 @@ use Rattle.adapter.specs.World.{World, receive_ring, transmit_ring, world_after_
 use Rattle.adapter.specs.declared.register.Register.{Register}
 use Rattle.adapter.specs.declared.register.Register.TheVariants.{Rctl, Tctl}
 use Rattle.bus.specs.RegisterSetting.{with_receive_control, with_transmit_control}
+use Rattle.bus.specs.Keeping.{view_of}
 use Rattle.bus.specs.Law.{Acts}
 use Rattle.bus.specs.PastOfStretch.{Past, nothing}
 use Rattle.bus.specs.Settings.{IsOff}
@@ -40,7 +41,7 @@ use Rattle.bring_up.specs.RingRegisters.{receive_control, receive_writes, transm
 
 -- One access, from the very world in which it begins.
 unfoldable pub ran_by-begins : {first_up up : Bool} {B : Type 0} (bus : Ghosts B) (old new : B) (access : Access)
-    (effect : World → World → Type 0) (d : DriverState) (acts : Acts bus.world bus.happened bus.lively old new access effect)
+    (effect : World → World → Type 0) (d : DriverState) (acts : Acts (view_of bus) old new access effect)
     → SetsBy access effect (bus.world new)
     → ReadyWith first_up d (bus.world old)
     → (ReadyWith first_up d acts.middle → GoesTo up (driver_in d acts.middle) (driver_in d (bus.world new)) (driver_did [] []) nothing)
@@ -62,7 +63,7 @@ ran_by-begins {first_up} {up} bus old new access effect d acts sets ready step =
     }
 
 abbrev pub WriteActs : {B : Type 0} (bus : Ghosts B) (old new : B) (offset value : ℕ) → Type 0
-WriteActs bus old new offset value = Acts bus.world bus.happened bus.lively old new (Writes offset value)
+WriteActs bus old new offset value = Acts (view_of bus) old new (Writes offset value)
     (λ before after. after ≡ world_after_write offset value before)
 
 -- RCTL.
@@ -108,9 +109,10 @@ lets-frames-in bus old new promiscuous by_vlan value d is written ready none off
     let within : o < count_of (receive_ring (bus.world old)) = omega (arith, ready.driver_is.oldest_slot, ready.receive.slots) in
     let waits = offers_wait receive_buffer_bytes o d.oldest_transmit (bus.world old) middle acts.past ready.law.sound within off
     (omega arith) ready.law.whole none acts.before in
-    let arrives = acts.before.steady.off off in
+    let arrives = acts.before.steady.arrivals.off off in
     let between = acts.before.between o d.oldest_transmit ready.law.sound in
-    let empty : frames_held o middle ≡ [] = between.holds ∙ ap (λ (frames : List (List ℕ)). frames ++ acts.past.stored) none ∙ arrives.0 in
+    let empty : frames_held o middle ≡ [] =
+    between.receive.holds ∙ ap (λ (frames : List (List ℕ)). frames ++ acts.past.stored) none ∙ arrives.0 in
     let done : bus.world new ≡ with_receive_control control middle = acts.effect_is ∙ receive_control-written promiscuous by_vlan middle in
     let ready_there = (goes-happens d (bus.world old) middle acts.past ready acts.before).flows.ready in
     let goes : GoesTo false (driver_in d middle) (driver_in d (bus.world new)) (driver_did [] []) nothing =
@@ -193,14 +195,14 @@ enables-causes bus old new value d is written ready =
       goes = goes;
       enabled = enabled;
       ready = enabled.ready;
-      holds = enabled.held ∙ goes.flows.holds;
+      holds = enabled.frames.held ∙ goes.flows.holds;
       mask = mask;
       work = λ asked.
           record {
             enabled = mask;
             asked =
                 ⊎_elim
-                (λ (none : frames_ended (driver_in d middle) ≡ []). inl (ap frames_of enabled.pieces_same ∙ none))
+                (λ (none : frames_ended (driver_in d middle) ≡ []). inl (ap frames_of enabled.frames.pieces_same ∙ none))
                 (λ (bit : HasBit middle.adapter.causes.recorded 7). inr (subst (λ (bits : ℕ). HasBit bits 7) (sym enabled.recorded) bit))
                 (asked-still d (bus.world old) middle acts.past goes asked);
           };

@@ -16,6 +16,7 @@ use Rattle.adapter.specs.TableLaws.{register_at-there}
 use Rattle.adapter.specs.World.{World, world_after_read, world_after_write}
 use Rattle.adapter.specs.declared.register.Register.{Register}
 use Rattle.adapter.specs.declared.register.Register.TheVariants.{Eerd}
+use Rattle.bus.specs.Keeping.{view_of}
 use Rattle.bus.specs.Law.{Acts}
 use Rattle.bus.specs.declared.bus.Bus.{Ghosts}
 use Rattle.bus.specs.declared.event.Access.TheVariants.{Reads, Writes}
@@ -142,7 +143,7 @@ module _ {B : Type 0} (bus : Ghosts B) where
 
   -- The write that asks for it.
   pub awaits-write : (old new : B) (address value : ℕ) → address < 256 → value ≡ address * 256 + 1
-      → Acts bus.world bus.happened bus.lively old new (Writes 0x0014 value) (λ before after. after ≡ world_after_write 0x0014 value before)
+      → Acts (view_of bus) old new (Writes 0x0014 value) (λ before after. after ≡ world_after_write 0x0014 value before)
       → Awaits old new address 1
   awaits-write old new address value small is acts = record {
     asks =
@@ -161,7 +162,7 @@ module _ {B : Type 0} (bus : Ghosts B) where
   -- A read behind it.
   pub awaits-read : StretchesJoin bus → (start now next : B) (address count value : ℕ)
       → Awaits start now address count
-      → Acts bus.world bus.happened bus.lively now next (Reads 0x0014 value)
+      → Acts (view_of bus) now next (Reads 0x0014 value)
       (λ before after. (value ≡ answer_at 0x0014 before.adapter) × (after ≡ world_after_read 0x0014 before))
       → ReadTells start now next address (count + 1) value
   awaits-read joins start now next address count value awaits acts =
@@ -171,7 +172,7 @@ module _ {B : Type 0} (bus : Ghosts B) where
       let state : ReadState = acts.middle.adapter.eerd in
       let same : (bus.world now).adapter.image ≡ image = asks-image bus start now 0x0014 awaits.asks.asks in
       let moved : state ≡ after_ticks image ticks found =
-      subst (λ (words : List ℕ). state ≡ after_ticks words ticks found) same acts.before.steady.eerd in
+      subst (λ (words : List ℕ). state ≡ after_ticks words ticks found) same acts.before.steady.ticks.eerd in
       let answer : value ≡ shown state = acts.effect_is.0 ∙ answer-is acts.middle.adapter in
       let asked : IsAsked image address state =
       subst (IsAsked image address) (sym moved) (still-asked image address ticks found awaits.state) in

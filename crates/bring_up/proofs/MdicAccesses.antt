@@ -6,6 +6,7 @@ use Rattle.adapter.specs.Registers.{after_write}
 use Rattle.adapter.specs.State.{AdapterState}
 use Rattle.adapter.specs.Table.{register_at}
 use Rattle.adapter.specs.World.{World, world_after_read, world_after_write}
+use Rattle.bus.specs.Keeping.{view_of}
 use Rattle.bus.specs.Law.{Acts}
 use Rattle.bus.specs.PastOfStretch.{Past, joined, nothing}
 use Rattle.bus.specs.declared.bus.Bus.{Ghosts}
@@ -29,7 +30,7 @@ asks-fewer bus old new offset many few fewer times = record { asks = times.asks;
 
 -- An access that leaves the settings, behind whatever happens before it.
 abbrev asks-access : {B : Type 0} (bus : Ghosts B) (old new : B) (access : Access) (effect : World → World → Type 0) (offset : ℕ)
-    → (acts : Acts bus.world bus.happened bus.lively old new access effect) → All (λ write. write.offset ≡ offset) (writes_in (access ∷ []))
+    → (acts : Acts (view_of bus) old new access effect) → All (λ write. write.offset ≡ offset) (writes_in (access ∷ []))
     → settings_of (bus.world new).adapter ≡ settings_of acts.middle.adapter → (IsAtRest acts.middle → IsAtRest (bus.world new))
     → AsksTimes bus old new offset 1
 asks-access bus old new access effect offset acts only left rests = record {
@@ -46,7 +47,7 @@ asks-access bus old new access effect offset acts only left rests = record {
 }
 
 abbrev pub asks-read : {B : Type 0} (bus : Ghosts B) (old new : B) (offset value : ℕ) (answer : World → Type 0)
-    → Acts bus.world bus.happened bus.lively old new (Reads offset value)
+    → Acts (view_of bus) old new (Reads offset value)
     (λ before after. answer before × (after ≡ world_after_read offset before))
     → AsksTimes bus old new offset 1
 asks-read bus old new offset value answer acts =
@@ -56,7 +57,7 @@ asks-read bus old new offset value answer acts =
 
 abbrev pub asks-write : {B : Type 0} (bus : Ghosts B) (old new : B) (offset value : ℕ)
     → IsElsewhere (register_at offset) → ((adapter : AdapterState) → settings_of (after_write offset value adapter) ≡ settings_of adapter)
-    → Acts bus.world bus.happened bus.lively old new (Writes offset value) (λ before after. after ≡ world_after_write offset value before)
+    → Acts (view_of bus) old new (Writes offset value) (λ before after. after ≡ world_after_write offset value before)
     → AsksTimes bus old new offset 1
 asks-write bus old new offset value elsewhere leaves acts =
     let write : Write = record { offset = offset; value = value } in

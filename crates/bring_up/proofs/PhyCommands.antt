@@ -4,6 +4,7 @@ use Rattle.std.specs.Fn.{iterate}
 use Rattle.adapter.specs.Registers.{answer_at}
 use Rattle.adapter.specs.Table.{register_at}
 use Rattle.adapter.specs.World.{World, world_after_read, world_after_write}
+use Rattle.bus.specs.Keeping.{view_of}
 use Rattle.bus.specs.Law.{Acts, Management, management_of, phy_ticked}
 use Rattle.bus.specs.declared.bus.Bus.{Ghosts}
 use Rattle.bus.specs.declared.event.Access.TheVariants.{Reads, Writes}
@@ -24,7 +25,7 @@ pub record Finds (lively : Type 0) (ticks : ℕ) (a b : Management) (value : ℕ
   pub shown : value ≡ b.mdic.value
 
 pub finds : {B : Type 0} (bus : Ghosts B) (old new : B) (value : ℕ)
-    → (acts : Acts bus.world bus.happened bus.lively old new (Reads 0x0020 value) (λ before after. (value ≡ answer_at 0x0020 before.adapter)
+    → (acts : Acts (view_of bus) old new (Reads 0x0020 value) (λ before after. (value ≡ answer_at 0x0020 before.adapter)
     × (after ≡ world_after_read 0x0020 before)))
     → Finds (bus.lively old) acts.past.phy_ticks (management_behind (bus.world old)) (management_behind (bus.world new)) value
 unfolding register_at
@@ -32,7 +33,7 @@ finds bus old new value acts =
     let after : management_behind (bus.world new) ≡ management_behind acts.middle = ap management_behind acts.effect_is.1 in
     record {
       ticked = λ ticks. (acts.ticks ticks).phy;
-      management = after ∙ acts.before.steady.management;
+      management = after ∙ acts.before.steady.ticks.management;
       shown = acts.effect_is.0 ∙ sym (ap (λ (l : Management). l.mdic.value) after);
     }
 
@@ -46,7 +47,7 @@ pub record Waits {B : Type 0} (bus : Ghosts B) (old now : B) (words reads : ℕ)
   pub none_in_vain : bus.lively old → reads ≡ 0
 
 pub gives : {B : Type 0} (bus : Ghosts B) (old new : B) (words : ℕ)
-    → Acts bus.world bus.happened bus.lively old new (Writes 0x0020 words) (λ before after. after ≡ world_after_write 0x0020 words before)
+    → Acts (view_of bus) old new (Writes 0x0020 words) (λ before after. after ≡ world_after_write 0x0020 words before)
     → Waits bus old new words 0
 unfolding register_at
 gives bus old new words acts = record {
@@ -54,14 +55,14 @@ gives bus old new words acts = record {
   ticks = acts.past.phy_ticks;
   ticks_are = refl;
   ticked = λ ticks. (acts.ticks ticks).phy;
-  management = ap management_behind acts.effect_is ∙ ap (commanded words) acts.before.steady.management;
+  management = ap management_behind acts.effect_is ∙ ap (commanded words) acts.before.steady.ticks.management;
   none_in_vain = λ ticks. refl;
 }
 
 pub waits-on : {B : Type 0} (bus : Ghosts B) → StretchesJoin bus
     → (old now new : B) (words reads value : ℕ) → IsCommand words → (bus.lively old → bus.lively now)
     → Waits bus old now words reads
-    → Acts bus.world bus.happened bus.lively now new (Reads 0x0020 value) (λ before after. (value ≡ answer_at 0x0020 before.adapter)
+    → Acts (view_of bus) now new (Reads 0x0020 value) (λ before after. (value ≡ answer_at 0x0020 before.adapter)
     × (after ≡ world_after_read 0x0020 before))
     → bit_and value ready_bit ≡ 0 → Waits bus old new words (reads + 1)
 waits-on bus joins old now new words reads value command alive waits acts unset =
@@ -95,7 +96,7 @@ pub record Answered {B : Type 0} (bus : Ghosts B) (old new : B) (words value : �
 
 pub answered : {B : Type 0} (bus : Ghosts B) → StretchesJoin bus
     → (old now new : B) (words reads value : ℕ) → IsCommand words → Waits bus old now words reads
-    → Acts bus.world bus.happened bus.lively now new (Reads 0x0020 value) (λ before after. (value ≡ answer_at 0x0020 before.adapter)
+    → Acts (view_of bus) now new (Reads 0x0020 value) (λ before after. (value ≡ answer_at 0x0020 before.adapter)
     × (after ≡ world_after_read 0x0020 before))
     → bit_and value ready_bit ≢ 0 → Answered bus old new words value
 answered bus joins old now new words reads value command waits acts set =

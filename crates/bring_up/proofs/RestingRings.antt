@@ -78,11 +78,11 @@ rests-write bus old new part value word rx before after is written idle first sh
       after_is = λ state.
           let rest = (happenings_keep_rest (bus.world old) middle acts.past acts.before acts.adapter state.rest).0 in
           let receives : middle.adapter.receive_ring ≡ before =
-          still-ring (bus.world old).adapter.receive_ring middle.adapter.receive_ring steady.receive_ring state.rest.rings.receive
+          still-ring (bus.world old).adapter.receive_ring middle.adapter.receive_ring steady.receive_ring.others state.rest.rings.receive
           rest.rings.receive ∙ state.receives_is in
           let transmits : middle.adapter.transmit_ring ≡ new_ring =
-          still-ring (bus.world old).adapter.transmit_ring middle.adapter.transmit_ring steady.transmit_ring state.rest.rings.transmit
-          rest.rings.transmit ∙ state.transmits in
+          still-ring (bus.world old).adapter.transmit_ring middle.adapter.transmit_ring steady.transmit_ring.others
+          state.rest.rings.transmit rest.rings.transmit ∙ state.transmits in
           let room : 16 * rx ≤ length middle.memory = omega (arith, state.room, steady.size) in
           let done : bus.world new ≡ with_receive_ring after middle =
           acts.effect_is ∙ receive-written part word middle

@@ -3,6 +3,7 @@ use Rattle.std.proofs.Common.{◌≡◌, ◌++◌, ◌∷◌, [], ℕ, List, ref
 use Rattle.std.specs.List.{All}
 use Rattle.std.proofs.lemmas.List.Elements.{All-append}
 use Rattle.adapter.specs.World.{World, world_after_read, world_after_write}
+use Rattle.bus.specs.Keeping.{view_of}
 use Rattle.bus.specs.Law.{Acts}
 use Rattle.bus.specs.Link.{HasLink, LeavesPhy}
 use Rattle.bus.specs.PastOfStretch.{Past, joined, nothing}
@@ -61,7 +62,7 @@ sets-join bus joins a b c first later one two = record {
 -- An access, behind whatever happens before it.
 unfoldable pub sets-access : {B : Type 0} (bus : Ghosts B) (old new : B) (access : Access)
     (effect : World → World → Type 0) (writes : List Write)
-    → (acts : Acts bus.world bus.happened bus.lively old new access effect) → writes_in (access ∷ []) ≡ writes
+    → (acts : Acts (view_of bus) old new access effect) → writes_in (access ∷ []) ≡ writes
     → settings_of (bus.world new).adapter ≡ settings_after_all writes (settings_of acts.middle.adapter)
     → (All IsAside writes → IsAtRest acts.middle → IsAtRest (bus.world new))
     → (All LeavesPhy writes → HasLink acts.middle → HasLink (bus.world new)) → Sets bus writes old new
@@ -77,7 +78,7 @@ sets-access bus old new access effect writes acts are set rests link = record {
 }
 
 pub sets-read : {B : Type 0} (bus : Ghosts B) (old new : B) (offset value : ℕ) (answer : World → Type 0)
-    → Acts bus.world bus.happened bus.lively old new (Reads offset value)
+    → Acts (view_of bus) old new (Reads offset value)
     (λ before after. answer before × (after ≡ world_after_read offset before))
     → Sets bus [] old new
 sets-read bus old new offset value answer acts =
@@ -87,7 +88,7 @@ sets-read bus old new offset value answer acts =
     (λ leaves link. subst HasLink (sym acts.effect_is.1) (accesses_keep_link (Reads offset value) acts.middle leaves link))
 
 unfoldable pub sets-write : {B : Type 0} (bus : Ghosts B) (old new : B) (offset value : ℕ)
-    → Acts bus.world bus.happened bus.lively old new (Writes offset value) (λ before after. after ≡ world_after_write offset value before)
+    → Acts (view_of bus) old new (Writes offset value) (λ before after. after ≡ world_after_write offset value before)
     → Sets bus (record { offset = offset; value = value } ∷ []) old new
 sets-write bus old new offset value acts =
     let write : Write = record { offset = offset; value = value } in
@@ -99,7 +100,7 @@ sets-write bus old new offset value acts =
 
 -- A write of a word that is known.
 pub sets-word : {B : Type 0} (bus : Ghosts B) (old new : B) (offset value word : ℕ) → value ≡ word
-    → Acts bus.world bus.happened bus.lively old new (Writes offset value) (λ before after. after ≡ world_after_write offset value before)
+    → Acts (view_of bus) old new (Writes offset value) (λ before after. after ≡ world_after_write offset value before)
     → Sets bus (record { offset = offset; value = word } ∷ []) old new
 sets-word bus old new offset value word is acts =
     subst (λ (v : ℕ). Sets bus (record { offset = offset; value = v } ∷ []) old new) is
@@ -148,7 +149,7 @@ asks-join bus joins a b c offset one two = record {
 
 -- A write at an offset that is known.
 pub sets-at : {B : Type 0} (bus : Ghosts B) (old new : B) (offset place value : ℕ) → offset ≡ place
-    → Acts bus.world bus.happened bus.lively old new (Writes offset value) (λ before after. after ≡ world_after_write offset value before)
+    → Acts (view_of bus) old new (Writes offset value) (λ before after. after ≡ world_after_write offset value before)
     → Sets bus (record { offset = place; value = value } ∷ []) old new
 sets-at bus old new offset place value is acts =
     subst (λ (at : ℕ). Sets bus (record { offset = at; value = value } ∷ []) old new) is

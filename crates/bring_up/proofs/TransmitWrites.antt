@@ -51,8 +51,8 @@ transmit-write bus old new part value word d before after is written fits acted 
     let middle = acts.middle in
     let there = (goes-happens d (bus.world old) middle acts.past ready acts.before).flows.ready in
     let same : middle.adapter.transmit_ring ≡ before =
-    still-ring (bus.world old).adapter.transmit_ring middle.adapter.transmit_ring acts.before.steady.transmit_ring ready.transmit.idle
-    there.transmit.idle ∙ known in
+    still-ring (bus.world old).adapter.transmit_ring middle.adapter.transmit_ring acts.before.steady.transmit_ring.others
+    ready.transmit.idle there.transmit.idle ∙ known in
     let done : bus.world new ≡ with_transmit_ring after middle =
     acts.effect_is ∙ transmit-written part word middle
     ∙ ap (λ (ring : RingRegisters). with_transmit_ring (ring_written part word ring) middle) same

@@ -5,6 +5,8 @@ use Rattle.adapter.specs.declared.offsets.TheConstants.{MTA, RDBAL, RDT, TDBAL, 
 use Rattle.arrayvec.specs.declared.array_vec.ArrayVec.{ArrayVec}
 use Rattle.registers.specs.Places.{alone, rah_av}
 use Rattle.rx_engine.specs.Addresses.{IsAddress, high_word, low_word}
+use Rattle.rx_engine.specs.Registers.{FilterRegisters}
+use Rattle.adapter.specs.declared.ring.RingRegisters.{RingRegisters}
 use Rattle.adapter.specs.Rings.{ring_of}
 use Rattle.descriptors.specs.Ring.{count_of}
 use Rattle.bus.specs.Link.{LeavesPhy}
@@ -54,28 +56,40 @@ abbrev pub all_writes : Config → (address groups vlans : List ℕ) → List Wr
 all_writes config address groups vlans = writes_before_rings config address groups vlans ++ writes_from_rings config
 
 -- The values of the registers after initialization.
+
+-- RCTL, the tables and the exact addresses of the receive filter
+pub record FilterIsConfigured (config : Config) (address : List ℕ) (filter : FilterRegisters) : Type 0 where
+  pub receive_control_is : filter.rctl ≡ receive_control config.promiscuous (names_vlans config.vlans)
+  -- MTA and VFTA have the configured groups and VLANs.
+  pub groups : HasNumbers filter.mta (numbers_of_groups config.groups.items)
+  pub vlans : HasNumbers filter.vfta (vlans_of config.vlans)
+  -- The first exact address is this one, and valid; the other 15 entries are 0.
+  pub address_low : filter.ral ≡ low_word address ∷ replicate 15 0
+  pub address_high : filter.rah ≡ (high_word address + alone rah_av) ∷ replicate 15 0
+  -- VET
+  pub vlan_type : filter.vet ≡ VLAN_TYPE
+
+-- the registers of a ring
+pub record RingIsConfigured (base count tail : ℕ) (registers : RingRegisters) : Type 0 where
+  pub base_is : (ring_of registers).base ≡ base
+  -- the number of its slots
+  pub count_is : count_of (ring_of registers) ≡ count
+  pub tail_is : registers.tail ≡ tail
+
+-- All that the configuration determines.
 pub record IsConfigured (config : Config) (address : List ℕ) (settings : Settings) : Type 0 where
   -- CTRL: SLU and ASDE
   pub device_control : settings.device_control ≡ link_control
-  pub receive_control_is : settings.filter.rctl ≡ receive_control config.promiscuous (names_vlans config.vlans)
+  pub filter : FilterIsConfigured config address settings.filter
+  -- TCTL
   pub transmit_control : settings.transmit_control ≡ transmit_control
   -- PBA.RXA
   pub allocation : settings.receive_kilobytes ≡ config.rxa
   -- IMS: TXDW, RXDMT0, RXO and RXT0
   pub mask : settings.mask ≡ handled_causes
-  pub groups : HasNumbers settings.filter.mta (numbers_of_groups config.groups.items)
-  pub vlans : HasNumbers settings.filter.vfta (vlans_of config.vlans)
-  -- The first exact address is this one, and valid; the other 15 entries are 0.
-  pub address_low : settings.filter.ral ≡ low_word address ∷ replicate 15 0
-  pub address_high : settings.filter.rah ≡ (high_word address + alone rah_av) ∷ replicate 15 0
-  pub vlan_type : settings.filter.vet ≡ VLAN_TYPE
-  -- the rings: base, number of slots, tail
-  pub receive_base : (ring_of settings.receive_ring).base ≡ 0
-  pub receive_count : count_of (ring_of settings.receive_ring) ≡ config.rx
-  pub receive_tail : settings.receive_ring.tail ≡ config.rx - 1
-  pub transmit_base : (ring_of settings.transmit_ring).base ≡ 16 * config.rx
-  pub transmit_count : count_of (ring_of settings.transmit_ring) ≡ config.tx
-  pub transmit_tail : settings.transmit_ring.tail ≡ 0
+  -- All receive slots but one are offered, and no transmit slot.
+  pub receive_ring : RingIsConfigured 0 config.rx (config.rx - 1) settings.receive_ring
+  pub transmit_ring : RingIsConfigured (16 * config.rx) config.tx 0 settings.transmit_ring
 
 -- The writes of initialization configure an adapter, whatever it was set to, and leave its EEPROM.
 abbrev pub WritesConfigure : Type 0

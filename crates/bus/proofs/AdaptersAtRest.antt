@@ -97,18 +97,19 @@ happenings_keep_rest a b past happens is rest =
     let steady = happens.steady in
     let between = happens.between o a.adapter.transmit_ring.tail (idle_rings_are_sound a idle) in
     let after = happenings_keep_idle a b past happens idle in
-    let off = steady.off (subst (λ (control : ℕ). ¬ (HasBit control 1)) (sym rest.control) (HasBit-zero 1)) in
-    let empty : frames_held o b ≡ [] = between.holds ∙ ap (λ (frames : List (List ℕ)). frames ++ past.stored) (none-held a rest) ∙ off.0 in
+    let off = steady.arrivals.off (subst (λ (control : ℕ). ¬ (HasBit control 1)) (sym rest.control) (HasBit-zero 1)) in
+    let empty : frames_held o b ≡ [] =
+    between.receive.holds ∙ ap (λ (frames : List (List ℕ)). frames ++ past.stored) (none-held a rest) ∙ off.0 in
     let receiver = b.adapter.receiver in
     let buffer_none = (append-empty (frames_of (in_slots b.memory (finished_pieces o b) receiver)) receiver.buffer empty).1 in
     let runs = between.runs (runs-of a rest) in
-    let sent = append-empty past.put (frames_to_send b) (between.sends ∙ none-to-send a idle) in (
+    let sent = append-empty past.put (frames_to_send b) (between.transmit.sends ∙ none-to-send a idle) in (
       record {
         rings = after.rings;
         receiver = new-again receiver buffer_none (none-moved receiver is.receiver.begun buffer_none) after.work runs.receiver_runs;
         transmitter = unused-again b.adapter.transmitter after.buffer runs.transmitter_runs;
-        control = ap (λ (filter : FilterRegisters). filter.rctl) steady.filter ∙ rest.control;
-        none_missed = omega (arith, steady.missed, rest.none_missed, off.1);
+        control = ap (λ (filter : FilterRegisters). filter.rctl) steady.registers.filter ∙ rest.control;
+        none_missed = omega (arith, steady.arrivals.missed, rest.none_missed, off.1);
       },
       record { none_put = sent.0; none_stored = off.0; none_missed = off.1 },
     )

@@ -13,7 +13,7 @@ use Rattle.adapter.specs.declared.ring.RingRegisters.{RingRegisters}
 use Rattle.adapter.specs.Slots.{finished, written_back}
 use Rattle.adapter.specs.HostFrames.{finished_pieces, frames_held, frames_to_send}
 use Rattle.adapter.specs.Conditions.{Sound}
-use Rattle.bus.specs.Law.{Between, Happens, Steady, management_of, phy_ticked}
+use Rattle.bus.specs.Law.{Between, Happens, OnlyHeadMoves, PutsInOrder, Steady, StoresInOrder, management_of, phy_ticked}
 use Rattle.bus.specs.PastOfStretch.{Past, joined, nothing}
 use Rattle.adapter.specs.World.{World}
 use Rattle.descriptors.specs.Frames.{IsLegal}
@@ -32,70 +32,69 @@ iterate-add h (suc m) n x =
 -- Registers.
 
 -- A head that stayed twice stayed, and one that moved is a slot.
-head_trans : (a b c : RingRegisters) → c ≡ record b { head = c.head } → (b.head ≡ a.head) ⊎ HasValidIndices (ring_of b)
-    → (c.head ≡ b.head) ⊎ HasValidIndices (ring_of c) → (c.head ≡ a.head) ⊎ HasValidIndices (ring_of c)
-head_trans a b c moved one (inr slot) = inr slot
-head_trans a b c moved (inl first) (inl later) = inl (later ∙ first)
-head_trans a b c moved (inr slot) (inl later) =
-    let same : c ≡ b = moved ∙ ap (λ (head : ℕ). let ring : RingRegisters = record b { head = head } in ring) later in
-    inr (subst (λ (ring : RingRegisters). HasValidIndices (ring_of ring)) (sym same) slot)
+head_trans : (a b c : RingRegisters) → OnlyHeadMoves a b → OnlyHeadMoves b c → OnlyHeadMoves a c
+head_trans a b c one two = record {
+  others = two.others ∙ ap (λ (ring : RingRegisters). let moved : RingRegisters = record ring { head = c.head } in moved) one.others;
+  head = by_case one.head two.head;
+}
+  where
+    by_case : (b.head ≡ a.head) ⊎ HasValidIndices (ring_of b) → (c.head ≡ b.head) ⊎ HasValidIndices (ring_of c)
+        → (c.head ≡ a.head) ⊎ HasValidIndices (ring_of c)
+    by_case first (inr slot) = inr slot
+    by_case (inl first) (inl later) = inl (later ∙ first)
+    by_case (inr slot) (inl later) =
+        let same : c ≡ b = two.others ∙ ap (λ (head : ℕ). let ring : RingRegisters = record b { head = head } in ring) later in
+        inr (subst (λ (ring : RingRegisters). HasValidIndices (ring_of ring)) (sym same) slot)
 
 pub steady_trans : (a b c : World) (first later : Past) → Steady a b first → Steady b c later → Steady a c (joined first later)
 steady_trans a b c first later one two = record {
   size = two.size ∙ one.size;
   image = two.image ∙ one.image;
+  registers = record {
+    mask = two.registers.mask ∙ one.registers.mask;
+    filter = two.registers.filter ∙ one.registers.filter;
+    device_control = two.registers.device_control ∙ one.registers.device_control;
+    transmit_control = two.registers.transmit_control ∙ one.registers.transmit_control;
+    allocation = two.registers.allocation ∙ one.registers.allocation;
+  };
   causes = λ place set. two.causes place (one.causes place set);
-  mask = two.mask ∙ one.mask;
-  receive_ring = two.receive_ring
-      ∙ ap (λ (ring : RingRegisters). let moved : RingRegisters = record ring { head = c.adapter.receive_ring.head } in moved)
-      one.receive_ring;
-  transmit_ring = two.transmit_ring
-      ∙ ap (λ (ring : RingRegisters). let moved : RingRegisters = record ring { head = c.adapter.transmit_ring.head } in moved)
-      one.transmit_ring;
-  receive_head = head_trans a.adapter.receive_ring b.adapter.receive_ring c.adapter.receive_ring two.receive_ring one.receive_head
-      two.receive_head;
-  transmit_head = head_trans a.adapter.transmit_ring b.adapter.transmit_ring c.adapter.transmit_ring two.transmit_ring one.transmit_head
-      two.transmit_head;
-  legal = All-append IsLegal first.stored later.stored one.legal two.legal;
-  filter = two.filter ∙ one.filter;
-  device_control = two.device_control ∙ one.device_control;
-  transmit_control = two.transmit_control ∙ one.transmit_control;
-  allocation = two.allocation ∙ one.allocation;
-  missed = omega (arith, one.missed, two.missed);
-  off = λ off.
-      let before = one.off off in
-      let after = two.off (subst (λ (filter : FilterRegisters). ¬ (HasBit filter.rctl 1)) (sym one.filter) off) in
-      (ap (λ (frames : List (List ℕ)). frames ++ later.stored) before.0 ∙ after.0, omega (arith, before.1, after.1));
-  eerd =
-      two.eerd
-      ∙ ap (λ (image : List ℕ). iterate (eeprom.after_tick image) later.eeprom_ticks b.adapter.eerd) one.image
-      ∙ ap (iterate (eeprom.after_tick a.adapter.image) later.eeprom_ticks) one.eerd
-      ∙ sym (iterate-add (eeprom.after_tick a.adapter.image) first.eeprom_ticks later.eeprom_ticks a.adapter.eerd);
-  management =
-      two.management
-      ∙ ap (iterate phy_ticked later.phy_ticks) one.management
-      ∙ sym (iterate-add phy_ticked first.phy_ticks later.phy_ticks (management_of a.adapter));
+  receive_ring = head_trans a.adapter.receive_ring b.adapter.receive_ring c.adapter.receive_ring one.receive_ring two.receive_ring;
+  transmit_ring = head_trans a.adapter.transmit_ring b.adapter.transmit_ring c.adapter.transmit_ring one.transmit_ring two.transmit_ring;
+  arrivals = record {
+    missed = omega (arith, one.arrivals.missed, two.arrivals.missed);
+    off = λ off.
+        let before = one.arrivals.off off in
+        let after = two.arrivals.off (subst (λ (filter : FilterRegisters). ¬ (HasBit filter.rctl 1)) (sym one.registers.filter) off) in
+        (ap (λ (frames : List (List ℕ)). frames ++ later.stored) before.0 ∙ after.0, omega (arith, before.1, after.1));
+    legal = All-append IsLegal first.stored later.stored one.arrivals.legal two.arrivals.legal;
+  };
+  ticks = record {
+    eerd = two.ticks.eerd
+        ∙ ap (λ (image : List ℕ). iterate (eeprom.after_tick image) later.eeprom_ticks b.adapter.eerd) one.image
+        ∙ ap (iterate (eeprom.after_tick a.adapter.image) later.eeprom_ticks) one.ticks.eerd
+        ∙ sym (iterate-add (eeprom.after_tick a.adapter.image) first.eeprom_ticks later.eeprom_ticks a.adapter.eerd);
+    management = two.ticks.management
+        ∙ ap (iterate phy_ticked later.phy_ticks) one.ticks.management
+        ∙ sym (iterate-add phy_ticked first.phy_ticks later.phy_ticks (management_of a.adapter));
+  };
 }
 
 pub steady_refl : (a : World) → Steady a a nothing
 steady_refl a = record {
   size = refl;
   image = refl;
+  registers = record {
+    mask = refl;
+    filter = refl;
+    device_control = refl;
+    transmit_control = refl;
+    allocation = refl;
+  };
   causes = λ place set. set;
-  mask = refl;
-  receive_ring = refl;
-  transmit_ring = refl;
-  filter = refl;
-  device_control = refl;
-  transmit_control = refl;
-  allocation = refl;
-  missed = omega arith;
-  off = λ off. (refl, refl);
-  receive_head = inl refl;
-  transmit_head = inl refl;
-  legal = all-none IsLegal;
-  eerd = refl;
-  management = refl;
+  receive_ring = record { others = refl; head = inl refl };
+  transmit_ring = record { others = refl; head = inl refl };
+  arrivals = record { missed = omega arith; off = λ off. (refl, refl); legal = all-none IsLegal };
+  ticks = record { eerd = refl; management = refl };
 }
 
 -- Frames.
@@ -109,15 +108,20 @@ told-joined first later b c (inr set) two keeps = inr (keeps rxt0 set)
 told-joined first later b c (inl parts) (inr set) keeps = inr set
 told-joined first later b c (inl parts) (inl still) keeps = inl (All-append IsPart first later parts still)
 
-pub between_trans : (o p : ℕ) (a b c : World) (first later : Past) → Steady a b first → Steady b c later → Between o p a b first
-    → Between o p b c later → Between o p a c (joined first later)
-between_trans o p a b c first later earlier steady one two = record {
+puts_trans : (p : ℕ) (a b c : World) (first later : Past) → PutsInOrder p a b first → PutsInOrder p b c later
+    → PutsInOrder p a c (joined first later)
+puts_trans p a b c first later one two = record {
   sends = append_assoc first.put later.put (frames_to_send c) ∙ ap (λ (behind : List (List ℕ)). first.put ++ behind) two.sends ∙ one.sends;
   reported = one.reported ++ two.reported;
   written = two.written ∙ ap (λ (slots : List ℕ). slots ++ two.reported) one.written
       ∙ append_assoc (written_back p a) one.reported two.reported;
   each_reported = omega
       (arith, one.each_reported, two.each_reported, length-append one.reported two.reported, length-append first.put later.put);
+}
+
+stores_trans : (o : ℕ) (a b c : World) (first later : Past) → Steady b c later → StoresInOrder o a b first → StoresInOrder o b c later
+    → StoresInOrder o a c (joined first later)
+stores_trans o a b c first later steady one two = record {
   holds = two.holds ∙ ap (λ (frames : List (List ℕ)). frames ++ later.stored) one.holds
       ∙ append_assoc (frames_held o a) first.stored later.stored;
   more = one.more ++ two.more;
@@ -126,6 +130,13 @@ between_trans o p a b c first later earlier steady one two = record {
   grown = two.grown ∙ ap (λ (list : List Piece). list ++ two.pieces) one.grown
       ∙ append_assoc (finished_pieces o a) one.pieces two.pieces;
   told = told-joined one.pieces two.pieces b c one.told two.told steady.causes;
+}
+
+pub between_trans : (o p : ℕ) (a b c : World) (first later : Past) → Steady a b first → Steady b c later → Between o p a b first
+    → Between o p b c later → Between o p a c (joined first later)
+between_trans o p a b c first later earlier steady one two = record {
+  transmit = puts_trans p a b c first later one.transmit two.transmit;
+  receive = stores_trans o a b c first later steady one.receive two.receive;
   fits = λ size fit. two.fits size (one.fits size fit);
   whole = λ size are. two.whole size (one.whole size are);
   untouched = λ area apart. two.untouched area (one.foreign area apart) ∙ one.untouched area apart;
@@ -136,16 +147,20 @@ between_trans o p a b c first later earlier steady one two = record {
 
 pub between_refl : (o p : ℕ) (a : World) → Sound o p a → Between o p a a nothing
 between_refl o p a sound = record {
-  sends = refl;
-  reported = [];
-  written = sym (append-nil (written_back p a));
-  each_reported = refl;
-  holds = sym (append-nil (frames_held o a));
-  more = [];
-  done = sym (append-nil (finished o a));
-  pieces = [];
-  grown = sym (append-nil (finished_pieces o a));
-  told = inl (all-none IsPart);
+  transmit = record {
+    sends = refl;
+    reported = [];
+    written = sym (append-nil (written_back p a));
+    each_reported = refl;
+  };
+  receive = record {
+    holds = sym (append-nil (frames_held o a));
+    more = [];
+    done = sym (append-nil (finished o a));
+    pieces = [];
+    grown = sym (append-nil (finished_pieces o a));
+    told = inl (all-none IsPart);
+  };
   fits = λ size fit. fit;
   whole = λ size are. are;
   untouched = λ area apart. refl;

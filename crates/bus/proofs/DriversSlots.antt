@@ -307,15 +307,17 @@ fields-same xs ys front back =
 pub drivers_side_stays : DriversSideStaysAlways
 drivers_side_stays o p a b past sound happens =
     let between = happens.between o p sound in
-    let receives = happens.steady.receive_ring in
-    let transmits = happens.steady.transmit_ring in
+    let receives = happens.steady.receive_ring.others in
+    let transmits = happens.steady.transmit_ring.others in
     let slots : All (λ d. bytes_in b.memory (descriptor_area d) ≡ bytes_in a.memory (descriptor_area d))
     (finished o a) = λ k d below. between.untouched _ (foreign-finished o p a sound k d below) in
     let names = foreign-named o p a sound in
     record {
       between = between;
-      same_received = ap (λ (registers : RingRegisters). outstanding (ring_of registers) o) receives;
-      same_sent = ap (λ (registers : RingRegisters). outstanding (ring_of registers) p) transmits;
+      outstanding_same = record {
+        received = ap (λ (registers : RingRegisters). outstanding (ring_of registers) o) receives;
+        sent = ap (λ (registers : RingRegisters). outstanding (ring_of registers) p) transmits;
+      };
       finished_stay = record {
         slots = slots;
         frames =

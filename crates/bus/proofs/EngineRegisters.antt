@@ -71,19 +71,19 @@ pub steady_moves : (world : World) (memory : List ℕ) (m : Moves) (past : Past)
 steady_moves world memory m past size causes missed off receive_head transmit_head legal no_eeprom no_phy = record {
   size = size;
   image = refl;
+  registers = record {
+    mask = refl;
+    filter = refl;
+    device_control = refl;
+    transmit_control = refl;
+    allocation = refl;
+  };
   causes = causes;
-  mask = refl;
-  receive_ring = refl;
-  transmit_ring = refl;
-  filter = refl;
-  device_control = refl;
-  transmit_control = refl;
-  allocation = refl;
-  missed = missed;
-  off = off;
-  receive_head = receive_head;
-  transmit_head = transmit_head;
-  legal = legal;
-  eerd = ap (λ (ticks : ℕ). iterate (eeprom.after_tick world.adapter.image) ticks world.adapter.eerd) (sym no_eeprom);
-  management = ap (λ (ticks : ℕ). iterate phy_ticked ticks (management_of world.adapter)) (sym no_phy);
+  receive_ring = record { others = refl; head = receive_head };
+  transmit_ring = record { others = refl; head = transmit_head };
+  arrivals = record { missed = missed; off = off; legal = legal };
+  ticks = record {
+    eerd = ap (λ (ticks : ℕ). iterate (eeprom.after_tick world.adapter.image) ticks world.adapter.eerd) (sym no_eeprom);
+    management = ap (λ (ticks : ℕ). iterate phy_ticked ticks (management_of world.adapter)) (sym no_phy);
+  };
 }

@@ -1,5 +1,5 @@
 -- Idle rings: the conditions of the law hold of them, and they stay idle.
-use Rattle.std.proofs.Common.{◌≡◌, ⊎_elim, ◌⊎◌, inl, inr, ◌++◌, ◌∷◌, [], true, false, ℕ, List, Bool, Option, None, Some, cond}
+use Rattle.std.proofs.Common.{◌≡◌, ⊎_elim, inl, inr, ◌++◌, ◌∷◌, [], true, false, ℕ, List, Bool, Option, None, Some, cond}
 use Rattle.std.proofs.Common.{if◌then◌else◌, length, map, refl, sym, ap, subst, ◌∙◌, arith}
 use Rattle.std.specs.List.{All, take_while}
 use Rattle.std.proofs.lemmas.Bool.{cases_eq}
@@ -26,6 +26,7 @@ use Rattle.adapter.specs.Table.{register_at, row_of}
 use Rattle.adapter.specs.HostAreas.{areas, buffer_of, data_of, ring_area, work_areas}
 use Rattle.adapter.specs.Slots.{buffered, done_slots, finished, in_work, is_done, IsDealt, offered, outstanding, slot_of_work}
 use Rattle.adapter.specs.HostFrames.{finished_pieces, named, piece_in}
+use Rattle.bus.specs.Law.{OnlyHeadMoves}
 use Rattle.bus.specs.IdleRings.{HappeningsKeepIdle, IdleAfterPowerOn, IdleAfterReset, IdleRingsAreSound, IsIdle, OtherWritesKeepIdle}
 use Rattle.bus.specs.IdleRings.{ReadsKeepIdle, StoresKeepIdle, WritesKeepIdle, moved_bytes}
 use Rattle.adapter.specs.Conditions.{Reports, Sound}
@@ -147,10 +148,12 @@ head-is-tail ring slots none =
     (λ (differ : ¬ (ring.head ≡ ring.tail)). let first = offered-head ring slots differ in absurd (cc)) (cases_eq ring.head ring.tail)
 
 -- The head stayed at the tail, or is a slot and so is the tail.
-pub still-idle : (a b : RingRegisters) → b ≡ record a { head = b.head } → (b.head ≡ a.head) ⊎ HasValidIndices (ring_of b) → a.head ≡ a.tail
-    → offered (ring_of b) ≡ [] → b.head ≡ b.tail
-still-idle a b moved (inl stayed) idle none = stayed ∙ idle ∙ sym (ap (λ (ring : RingRegisters). ring.tail) moved)
-still-idle a b moved (inr slots) idle none = head-is-tail (ring_of b) slots none
+pub still-idle : (a b : RingRegisters) → OnlyHeadMoves a b → a.head ≡ a.tail → offered (ring_of b) ≡ [] → b.head ≡ b.tail
+still-idle a b moves idle none =
+    ⊎_elim
+    (λ (stayed : b.head ≡ a.head). stayed ∙ idle ∙ sym (ap (λ (ring : RingRegisters). ring.tail) moves.others))
+    (λ (slots : HasValidIndices (ring_of b)). head-is-tail (ring_of b) slots none)
+    moves.head
 
 pub first-two : (memory : List ℕ) (r t : Area) (rest : List Area) → AreSeparate memory (r ∷ t ∷ rest) → AreSeparate memory (r ∷ t ∷ [])
 first-two memory r t rest separate = record {
@@ -168,23 +171,21 @@ happenings_keep_idle a b past happens idle =
     let p = a.adapter.transmit_ring.tail in
     let steady = happens.steady in
     let sound : Sound o p b = (happens.between o p (idle_rings_are_sound a idle)).sound in
-    let tail : o ≡ b.adapter.receive_ring.tail = sym (ap (λ (ring : RingRegisters). ring.tail) steady.receive_ring) in
+    let tail : o ≡ b.adapter.receive_ring.tail = sym (ap (λ (ring : RingRegisters). ring.tail) steady.receive_ring.others) in
     let received = none-dealt b.memory (receive_ring b) o (in_work b) tail sound.receive_slots in
     let work = work-empty b.adapter.receiver.work received.0 in
     let pieces : finished_pieces o b ≡ [] =
     ap (λ (slots : List ℕ). map (piece_in b.memory) (take_while (is_done b.memory) slots))
     (ap (outstanding (receive_ring b)) tail ∙ outstanding-none (receive_ring b)) in
     let sent = none-dealt b.memory (transmit_ring b) p (buffered b)
-    (sym (ap (λ (ring : RingRegisters). ring.tail) steady.transmit_ring)) sound.transmit_slots in
+    (sym (ap (λ (ring : RingRegisters). ring.tail) steady.transmit_ring.others)) sound.transmit_slots in
     record {
       work = work;
       unmoved = sym sound.begun ∙ ap begun_of (no-pieces b.memory (finished_pieces o b) b.adapter.receiver pieces work);
       buffer = map-empty (λ (queued : Queued). queued.descriptor) b.adapter.transmitter.buffer sent.0;
       rings = record {
-        receive = still-idle a.adapter.receive_ring b.adapter.receive_ring steady.receive_ring steady.receive_head idle.rings.receive
-            received.1;
-        transmit = still-idle a.adapter.transmit_ring b.adapter.transmit_ring steady.transmit_ring steady.transmit_head idle.rings.transmit
-            sent.1;
+        receive = still-idle a.adapter.receive_ring b.adapter.receive_ring steady.receive_ring idle.rings.receive received.1;
+        transmit = still-idle a.adapter.transmit_ring b.adapter.transmit_ring steady.transmit_ring idle.rings.transmit sent.1;
         separate = first-two b.memory (ring_area (receive_ring b)) (ring_area (transmit_ring b)) _ sound.separate;
       };
     }

@@ -36,16 +36,17 @@ spare-stays size o p a b past area sound happens spare =
     (λ slot below. ap (λ (desc : TxDesc). let place : Area = record { address = desc.address; size = desc.length } in place)
     (own.requests slot below).fields) in
     record {
-      receive_slots = subst Away (sym (same_ring_area a.adapter.receive_ring b.adapter.receive_ring steady.receive_ring))
+      receive_slots = subst Away (sym (same_ring_area a.adapter.receive_ring b.adapter.receive_ring steady.receive_ring.others))
           spare.receive_slots;
-      transmit_slots = subst Away (sym (same_ring_area a.adapter.transmit_ring b.adapter.transmit_ring steady.transmit_ring))
+      transmit_slots = subst Away (sym (same_ring_area a.adapter.transmit_ring b.adapter.transmit_ring steady.transmit_ring.others))
           spare.transmit_slots;
       buffers =
-          subst (λ (slots : List ℕ). All (λ d. AreApart (area_at (named_address b.memory d) size) area) slots) (sym own.same_received)
+          subst (λ (slots : List ℕ). All (λ d. AreApart (area_at (named_address b.memory d) size) area) slots)
+          (sym own.outstanding_same.received)
           (λ k d below. subst (λ (address : ℕ). AreApart (area_at address size) area) (sym (addresses k d below))
           (spare.buffers k d below));
       sources =
-          subst (λ (slots : List ℕ). All (λ d. AreApart (data_of b.memory d) area) slots) (sym own.same_sent)
+          subst (λ (slots : List ℕ). All (λ d. AreApart (data_of b.memory d) area) slots) (sym own.outstanding_same.sent)
           (λ k d below. subst Away (sym (sources k d below)) (spare.sources k d below));
     }
 

@@ -1,5 +1,5 @@
 -- What a driver knows of its rings stays known, and what a write of RDT or TDT leaves.
-use Rattle.std.proofs.Common.{◌≡◌, ◌<◌, ◌⊎◌, ⊎_elim, ℕ, Option, sym, ap, subst, ◌∙◌, arith, bit_and}
+use Rattle.std.proofs.Common.{◌≡◌, ◌<◌, ⊎_elim, ℕ, Option, sym, ap, subst, ◌∙◌, arith, bit_and}
 use Rattle.std.proofs.lemmas.Nat.{and_mask}
 use Rattle.descriptors.specs.Ring.{HasValidIndices, count_of}
 use Rattle.adapter.specs.declared.register.Register.{Register}
@@ -11,38 +11,37 @@ use Rattle.adapter.specs.Registers.{left_by_write}
 use Rattle.adapter.specs.Rings.{ring_of}
 use Rattle.adapter.specs.TableLaws.{register_at-there}
 use Rattle.adapter.specs.World.{receive_ring, transmit_ring, World}
+use Rattle.bus.specs.Law.{OnlyHeadMoves}
 use Rattle.bus.specs.KnownRings.{KnownRingStays, ReceiveTailMoves, TransmitTailMoves}
 
 -- A head that stays, or is a slot, is a slot where it was one.
-head-slot : (a b : RingRegisters) → b ≡ record a { head = b.head } → (b.head ≡ a.head) ⊎ HasValidIndices (ring_of b) → a.head
-    < count_of (ring_of a)
-    → b.head < count_of (ring_of a)
-head-slot a b same moved below =
-    let count : count_of (ring_of b) ≡ count_of (ring_of a) = ap (λ (registers : RingRegisters). count_of (ring_of registers)) same in
+head-slot : (a b : RingRegisters) → OnlyHeadMoves a b → a.head < count_of (ring_of a) → b.head < count_of (ring_of a)
+head-slot a b moves below =
+    let count : count_of (ring_of b) ≡ count_of (ring_of a) =
+    ap (λ (registers : RingRegisters). count_of (ring_of registers)) moves.others in
     ⊎_elim
     (λ (still : b.head ≡ a.head). subst (λ (head : ℕ). head < count_of (ring_of a)) (sym still) below)
     (λ (slot : HasValidIndices (ring_of b)). subst (λ (n : ℕ). b.head < n) count slot.head)
-    moved
+    moves.head
 
 -- What the driver knows of its ring it knows still where the head alone has moved.
-pub knows-carried : (a b : RingRegisters) (base count tail : ℕ) → b ≡ record a { head = b.head } → (b.head ≡ a.head)
-    ⊎ HasValidIndices (ring_of b)
+pub knows-carried : (a b : RingRegisters) (base count tail : ℕ) → OnlyHeadMoves a b
     → KnowsRing (ring_of a) base count tail → KnowsRing (ring_of b) base count tail
-knows-carried a b base count tail same moved knows = record {
-  begins = ap (λ (registers : RingRegisters). (ring_of registers).base) same ∙ knows.begins;
-  slots = ap (λ (registers : RingRegisters). count_of (ring_of registers)) same ∙ knows.slots;
-  last = ap (λ (registers : RingRegisters). registers.tail) same ∙ knows.last;
+knows-carried a b base count tail moves knows = record {
+  begins = ap (λ (registers : RingRegisters). (ring_of registers).base) moves.others ∙ knows.begins;
+  slots = ap (λ (registers : RingRegisters). count_of (ring_of registers)) moves.others ∙ knows.slots;
+  last = ap (λ (registers : RingRegisters). registers.tail) moves.others ∙ knows.last;
   head_slot = subst (λ (n : ℕ). b.head < n) knows.slots
-      (head-slot a b same moved (subst (λ (n : ℕ). a.head < n) (sym knows.slots) knows.head_slot));
+      (head-slot a b moves (subst (λ (n : ℕ). a.head < n) (sym knows.slots) knows.head_slot));
 }
 
 pub known_receive_ring_stays : KnownRingStays receive_ring
 known_receive_ring_stays a b past base count tail steady knows =
-    knows-carried a.adapter.receive_ring b.adapter.receive_ring base count tail steady.receive_ring steady.receive_head knows
+    knows-carried a.adapter.receive_ring b.adapter.receive_ring base count tail steady.receive_ring knows
 
 pub known_transmit_ring_stays : KnownRingStays transmit_ring
 known_transmit_ring_stays a b past base count tail steady knows =
-    knows-carried a.adapter.transmit_ring b.adapter.transmit_ring base count tail steady.transmit_ring steady.transmit_head knows
+    knows-carried a.adapter.transmit_ring b.adapter.transmit_ring base count tail steady.transmit_ring knows
 
 -- Writes.
 

@@ -60,7 +60,7 @@ ticks-keep (suc n) management is = ticks-keep n (phy_ticked management) (tick-ke
 pub happenings_keep_link : HappeningsKeepLink
 happenings_keep_link a b past happens link =
     let before : IsUp (management_of a.adapter) = record { up = link.up; no_command = link.no_command } in
-    let behind = subst IsUp (sym happens.steady.management) (ticks-keep past.phy_ticks (management_of a.adapter) before) in
+    let behind = subst IsUp (sym happens.steady.ticks.management) (ticks-keep past.phy_ticks (management_of a.adapter) before) in
     record { up = behind.up; no_command = behind.no_command }
 
 -- Accesses.

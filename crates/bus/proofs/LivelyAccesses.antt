@@ -6,7 +6,7 @@ use Rattle.adapter.specs.State.{IsAdapter}
 use Rattle.adapter.specs.World.{World}
 use Rattle.adapter.specs.declared.step.StepKind.TheVariants.{EepromTick, PhyTick}
 use Rattle.bus.specs.BusMembers.{StaysWhole}
-use Rattle.bus.specs.Law.{Acts}
+use Rattle.bus.specs.Law.{Acts, view}
 use Rattle.bus.specs.LivelyBuses.{IsPrepared, IsQuietEvent, IsSameMachine, Lives, both_ticks, machine_bytes, machine_world}
 use Rattle.bus.specs.LivelyBusLaws.{same_on}
 use Rattle.bus.specs.PastOfStretch.{Past}
@@ -38,7 +38,7 @@ pub record IsAccess (p b : LivelyBus) (access : Access) : Type 0 where
 
 pub lively-acts : (a p b : LivelyBus) (access : Access) (effect : World → World → Type 0) → IsPrepared a p → IsAccess p b access
     → IsAdapter (machine_world p).adapter → effect (machine_world p) (machine_world b)
-    → Acts machine_world Lives (λ (bus : LivelyBus). ⊤) a b access effect
+    → Acts (view machine_world Lives (λ (bus : LivelyBus). ⊤)) a b access effect
 lively-acts a p b access effect prepared is adapter does =
     let events = both_ticks prepared.eeprom prepared.phy in
     let middle = machine_world p in

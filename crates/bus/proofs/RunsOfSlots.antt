@@ -25,10 +25,9 @@ use Rattle.adapter.specs.Slots.{finished, in_work, IsDealt, outstanding}
 use Rattle.adapter.specs.World.{World, receive_ring}
 use Rattle.bus.specs.DriversSlots.{IsDriversSlot, frame_named}
 use Rattle.bus.specs.RunsOfSlots.{RunsCanBeTaken, after_run, places_of_run}
-use Rattle.bus.specs.TakingSlots.{behind_oldest_receive}
 use Rattle.bus.proofs.DriversSlots.{foreign-named}
 use Rattle.bus.proofs.Lists.{all-head, all-left, all-none, all-right, all-tail}
-use Rattle.bus.proofs.TakingSlots.{passed}
+use Rattle.bus.proofs.TakingSlots.{behind_oldest_receive, passed}
 
 -- Pieces that begin with a run.
 
@@ -151,9 +150,19 @@ runs_can_be_taken o p a run seen last later sound done is =
     let frames : frames_of (pieces_in_slots o a) ≡ frame ∷ frames_of rest = ap frames_of in_all ∙ one.frames in
     let begun : begun_of (pieces_in_slots o a) ≡ begun_of rest = ap begun_of in_all ∙ one.begun in
     record {
-      stand = whole.stand;
-      bytes = bytes;
-      sizes = sizes-named a run whole.lie ∙ ap (map length) bytes;
+      slots = record {
+        stand = whole.stand;
+        first = whole.first;
+        own = whole.own;
+        foreign = all-left (λ d. IsForeign a (named a.memory d)) run later
+            (subst (λ (slots : List ℕ). All (λ d. IsForeign a (named a.memory d)) slots) done (foreign-named o p a sound));
+      };
+      frame = record {
+        bytes = bytes;
+        sizes = sizes-named a run whole.lie ∙ ap (map length) bytes;
+        held = ap (λ (list : List (List ℕ)). list ++ a.adapter.receiver.buffer) frames;
+        ended = ap frames_of pieces ∙ (run-first seen last (finished_pieces next a)).frames;
+      };
       sound = record {
         receive_slots = whole.dealt;
         transmit_slots = sound.transmit_slots;
@@ -162,14 +171,7 @@ runs_can_be_taken o p a run seen last later sound done is =
         begun = sym begun ∙ sound.begun;
         pads = sound.pads;
       };
-      behind = whole.behind;
-      held = ap (λ (list : List (List ℕ)). list ++ a.adapter.receiver.buffer) frames;
-      ended = ap frames_of pieces ∙ (run-first seen last (finished_pieces next a)).frames;
-      first = whole.first;
-      own = whole.own;
-      foreign =
-          all-left (λ d. IsForeign a (named a.memory d)) run later
-          (subst (λ (slots : List ℕ). All (λ d. IsForeign a (named a.memory d)) slots) done (foreign-named o p a sound));
+      behind = done ∙ ap (λ (slots : List ℕ). run ++ slots) (sym whole.behind);
       fits = whole.fits;
       cut = λ size are.
           let NoErrors : ℕ → Type 0 = λ d. (descriptor_at a.memory d).errors ≡ 0 in

@@ -185,17 +185,20 @@ between_moved ends buffer moved o p a0 has can last_is is keeps_held sound =
     ∙ buffers-kept memory memory' bsize rest (all-tail (IsSame memory memory') head rest same_offered) in
     let bytes = map status_byte (buffered a ++ offered (transmit_ring a)) in
     record {
-      sends = transmitting.sends;
-      reported = [];
-      written = transmitting.done ∙ sym (append-nil (written_back p a));
-      each_reported = refl;
-      holds =
-          ap (λ (pieces : List Piece). held memory' pieces b.adapter.receiver) same_pieces ∙ holding.frames;
-      more = [];
-      done = done ∙ sym (append-nil (finished o a));
-      pieces = [];
-      grown = same_pieces ∙ sym (append-nil (finished_pieces o a));
-      told = inl (all-none IsPart);
+      transmit = record {
+        sends = transmitting.sends;
+        reported = [];
+        written = transmitting.done ∙ sym (append-nil (written_back p a));
+        each_reported = refl;
+      };
+      receive = record {
+        holds = ap (λ (pieces : List Piece). held memory' pieces b.adapter.receiver) same_pieces ∙ holding.frames;
+        more = [];
+        done = done ∙ sym (append-nil (finished o a));
+        pieces = [];
+        grown = same_pieces ∙ sym (append-nil (finished_pieces o a));
+        told = inl (all-none IsPart);
+      };
       fits = λ room fit.
           let small : n ≤ room = omega (arith, short, fit.large has.enabled) in
           record {

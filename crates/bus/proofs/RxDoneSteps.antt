@@ -180,17 +180,20 @@ between_done o p work a0 most sound =
     let halves = map reported_half (offered ring) in
     let bytes = map status_byte (buffered a ++ offered (transmit_ring a)) in
     record {
-      sends = transmitting.sends;
-      reported = [];
-      written = transmitting.done ∙ sym (append-nil (written_back p a));
-      each_reported = refl;
-      holds =
-          ap (λ (pieces : List Piece). frames_of pieces ++ a.adapter.receiver.buffer) all_pieces ∙ sym (append-nil (frames_held o a));
-      more = d ∷ [];
-      done = receiving.grown;
-      pieces = piece_of work.ends piece ∷ [];
-      grown = pieces_after;
-      told = told-of work.ends a.adapter.causes.recorded piece;
+      transmit = record {
+        sends = transmitting.sends;
+        reported = [];
+        written = transmitting.done ∙ sym (append-nil (written_back p a));
+        each_reported = refl;
+      };
+      receive = record {
+        holds = ap (λ (pieces : List Piece). frames_of pieces ++ a.adapter.receiver.buffer) all_pieces ∙ sym (append-nil (frames_held o a));
+        more = d ∷ [];
+        done = receiving.grown;
+        pieces = piece_of work.ends piece ∷ [];
+        grown = pieces_after;
+        told = told-of work.ends a.adapter.causes.recorded piece;
+      };
       fits = λ room fit.
           let last : NamesFit memory' room (d ∷ []) = All-cons (λ slot. (named memory' slot).size ≤ room) d []
           (subst (λ (there : Area). there.size ≤ room) (sym named_done)

@@ -33,9 +33,10 @@ same-settings a b image link kilobytes control mask filter transmit_control rece
 pub happenings_leave_settings : HappeningsLeaveSettings
 happenings_leave_settings a b past happens =
     let steady = happens.steady in
-    same-settings a.adapter b.adapter steady.image (ap (λ (management : Management). management.phy.link) steady.management
-    ∙ link-ticks past.phy_ticks (management_of a.adapter)) steady.allocation steady.device_control steady.mask steady.filter
-    steady.transmit_control steady.receive_ring steady.transmit_ring
+    let stay = steady.registers in
+    same-settings a.adapter b.adapter steady.image (ap (λ (management : Management). management.phy.link) steady.ticks.management
+    ∙ link-ticks past.phy_ticks (management_of a.adapter)) stay.allocation stay.device_control stay.mask stay.filter
+    stay.transmit_control steady.receive_ring.others steady.transmit_ring.others
 
 -- A read leaves them.
 read-leaves : (register : Register) (adapter : AdapterState) → settings_of (read_of register adapter) ≡ settings_of adapter
@@ -137,7 +138,7 @@ stays-off (write ∷ later) settings leaves off =
 
 -- Whatever happens.
 pub happens-off : (a b : World) (past : Past) → Happens a b past → IsOff a → NoArrival past
-happens-off a b past happens off = let none = happens.steady.off off in record { none_stored = none.0; none_missed = none.1 }
+happens-off a b past happens off = let none = happens.steady.arrivals.off off in record { none_stored = none.0; none_missed = none.1 }
 
 -- Two stretches.
 pub while_off-joins : (a b : World) (first later : Past) → AreSet a b first → WhileOff a first → WhileOff b later

@@ -183,7 +183,7 @@ slots_can_be_offered o p a sound can =
     let payload = map (data_of a.memory) (offered (transmit_ring a)) in
     let work = work_areas a.memory a.adapter.receiver.work in
     let grown = dealt-offered a.memory ring o (in_work a) sound.receive_slots
-    (record { head = can.head_slot; tail = can.tail_slot }) can.oldest_slot can.room can.fresh in
+    (record { head = can.ring.head_slot; tail = can.ring.tail_slot }) can.ring.oldest_slot can.ring.room can.fresh in
     let names : map (named a.memory) (finished o b) ≡ map (named a.memory) (finished o a) = ap (map (named a.memory)) grown.done in
     let pieces : finished_pieces o b ≡ finished_pieces o a = ap (map (piece_in a.memory)) grown.done in
     let receiver = a.adapter.receiver in
@@ -227,7 +227,7 @@ slots_can_be_offered o p a sound can =
       runs = λ run. record {
         receiver_runs = run.receiver_runs;
         transmitter_runs = run.transmitter_runs;
-        receive_indices = λ some. record { head = can.head_slot; tail = next-below (count_of ring) ring.tail can.tail_slot };
+        receive_indices = λ some. record { head = can.ring.head_slot; tail = next-below (count_of ring) ring.tail can.ring.tail_slot };
         transmit_indices = run.transmit_indices;
         not_extended = run.not_extended;
         transmittable = run.transmittable;
@@ -285,13 +285,13 @@ frames_can_be_offered o p a sound can =
     let ring = transmit_ring a in
     let last = address_of ring ring.tail in
     let area = data_of a.memory last in
-    let in_ring : HasValidIndices ring = record { head = can.head_slot; tail = can.tail_slot } in
+    let in_ring : HasValidIndices ring = record { head = can.ring.head_slot; tail = can.ring.tail_slot } in
     let r = ring_area (receive_ring a) in
     let t = ring_area ring in
     let payload = map (data_of a.memory) (offered ring) in
     let others = map (named a.memory) (finished o a) ++ (work_areas a.memory a.adapter.receiver.work ++ offered_buffers a) in
-    let grown = dealt-offered a.memory ring p (buffered a) sound.transmit_slots in_ring can.oldest_slot can.room can.fresh in
-    let away = not-head a.memory ring p (buffered a) sound.transmit_slots in_ring can.oldest_slot can.room in
+    let grown = dealt-offered a.memory ring p (buffered a) sound.transmit_slots in_ring can.ring.oldest_slot can.ring.room can.fresh in
+    let away = not-head a.memory ring p (buffered a) sound.transmit_slots in_ring can.ring.oldest_slot can.ring.room in
     let payload_grown : map (data_of a.memory) (offered (transmit_ring b)) ≡ payload ++ area ∷ [] =
     ap (map (data_of a.memory)) grown.offered_grown ∙ map-append (data_of a.memory) (offered ring) (last ∷ []) in
     let list : areas o b ≡ (r ∷ t ∷ payload) ++ area ∷ others =
@@ -318,19 +318,21 @@ frames_can_be_offered o p a sound can =
         pads = λ differ. can.pads;
       };
       to_send = to_send-offer a.memory ring true buffer in_ring away;
-      held = refl;
-      finished_same = refl;
+      received = record {
+        held = refl;
+        finished_same = refl;
+        pieces_same = refl;
+        whole = λ size cut. record
+            { sized = cut.sized; have_no_errors = cut.have_no_errors; cut = cut.cut; legal = cut.legal; short = cut.short };
+        fits = λ size fit. record { large = fit.large; finished_fit = fit.finished_fit; work_fits = fit.work_fits };
+      };
       written_same = grown.done;
-      pieces_same = refl;
-      whole = λ size cut. record
-          { sized = cut.sized; have_no_errors = cut.have_no_errors; cut = cut.cut; legal = cut.legal; short = cut.short };
-      fits = λ size fit. record { large = fit.large; finished_fit = fit.finished_fit; work_fits = fit.work_fits };
       last = grown.outstanding_grown;
       runs = λ new run. record {
         receiver_runs = run.receiver_runs;
         transmitter_runs = run.transmitter_runs;
         receive_indices = run.receive_indices;
-        transmit_indices = λ some. record { head = can.head_slot; tail = next-below (count_of ring) ring.tail can.tail_slot };
+        transmit_indices = λ some. record { head = can.ring.head_slot; tail = next-below (count_of ring) ring.tail can.ring.tail_slot };
         not_extended = run.not_extended;
         transmittable =
             subst (λ (slots : List ℕ). All (CanTransmit a.memory) slots) (sym grown.offered_grown)

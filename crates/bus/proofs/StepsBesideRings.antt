@@ -100,16 +100,20 @@ pub between_quiet : (o p : ℕ) (a : World) (c : Changes) (past : Past) → past
     → Between o p a (record a { adapter = changed c a.adapter }) past
 between_quiet o p a c past no_put holds goes sound =
     record {
-      sends = ap (λ (put : List (List ℕ)). put ++ frames_to_send a) no_put;
-      reported = [];
-      written = sym (append-nil (written_back p a));
-      each_reported = sym (ap length no_put);
-      holds = holds.frames;
-      more = [];
-      done = sym (append-nil (finished o a));
-      pieces = [];
-      grown = sym (append-nil (finished_pieces o a));
-      told = inl (all-none IsPart);
+      transmit = record {
+        sends = ap (λ (put : List (List ℕ)). put ++ frames_to_send a) no_put;
+        reported = [];
+        written = sym (append-nil (written_back p a));
+        each_reported = sym (ap length no_put);
+      };
+      receive = record {
+        holds = holds.frames;
+        more = [];
+        done = sym (append-nil (finished o a));
+        pieces = [];
+        grown = sym (append-nil (finished_pieces o a));
+        told = inl (all-none IsPart);
+      };
       fits = λ size fit. record { large = fit.large; finished_fit = fit.finished_fit; work_fits = fit.work_fits };
       whole = λ size are. cut-kept size o a (record a { adapter = changed c a.adapter }) are.sized refl (λ k d below. refl) refl are;
       untouched = λ area apart. refl;
@@ -158,21 +162,18 @@ steady_ticked : (a : World) (recorded : ℕ) (eerd : ReadState) (management : Ma
 steady_ticked a recorded eerd management eeprom_ticks phy_ticks fits causes read told = record {
   size = refl;
   image = refl;
+  registers = record {
+    mask = refl;
+    filter = refl;
+    device_control = refl;
+    transmit_control = refl;
+    allocation = refl;
+  };
   causes = causes;
-  mask = refl;
-  receive_ring = refl;
-  transmit_ring = refl;
-  filter = refl;
-  device_control = refl;
-  transmit_control = refl;
-  allocation = refl;
-  missed = omega (arith, fits);
-  off = λ off. (refl, refl);
-  receive_head = inl refl;
-  transmit_head = inl refl;
-  legal = all-none IsLegal;
-  eerd = read;
-  management = told;
+  receive_ring = record { others = refl; head = inl refl };
+  transmit_ring = record { others = refl; head = inl refl };
+  arrivals = record { missed = omega (arith, fits); off = λ off. (refl, refl); legal = all-none IsLegal };
+  ticks = record { eerd = read; management = told };
 }
 
 pub eeprom_tick_happens : (a : World) (answer : FrameOutcome) → IsAdapter a.adapter

@@ -22,35 +22,30 @@ happens_accesses a b past accesses happens =
       steady = record {
         size = steady.size;
         image = steady.image;
+        registers = steady.registers;
         causes = steady.causes;
-        mask = steady.mask;
         receive_ring = steady.receive_ring;
         transmit_ring = steady.transmit_ring;
-        filter = steady.filter;
-        device_control = steady.device_control;
-        transmit_control = steady.transmit_control;
-        allocation = steady.allocation;
-        missed = steady.missed;
-        off = steady.off;
-        receive_head = steady.receive_head;
-        transmit_head = steady.transmit_head;
-        legal = steady.legal;
-        eerd = steady.eerd;
-        management = steady.management;
+        arrivals = record { missed = steady.arrivals.missed; off = steady.arrivals.off; legal = steady.arrivals.legal };
+        ticks = record { eerd = steady.ticks.eerd; management = steady.ticks.management };
       };
       between = λ o p sound.
           let between = happens.between o p sound in
           record {
-            sends = between.sends;
-            reported = between.reported;
-            written = between.written;
-            each_reported = between.each_reported;
-            holds = between.holds;
-            more = between.more;
-            done = between.done;
-            pieces = between.pieces;
-            grown = between.grown;
-            told = between.told;
+            transmit = record {
+              sends = between.transmit.sends;
+              reported = between.transmit.reported;
+              written = between.transmit.written;
+              each_reported = between.transmit.each_reported;
+            };
+            receive = record {
+              holds = between.receive.holds;
+              more = between.receive.more;
+              done = between.receive.done;
+              pieces = between.receive.pieces;
+              grown = between.receive.grown;
+              told = between.receive.told;
+            };
             fits = between.fits;
             whole = between.whole;
             untouched = between.untouched;

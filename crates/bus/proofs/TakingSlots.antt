@@ -1,36 +1,26 @@
 -- A driver counts the slot after its oldest as its oldest.
 use Rattle.std.proofs.Common.{◌≡◌, ◌≢◌, ◌≤◌, ◌<◌, ◌+◌, ◌-◌, ◌%◌, ⊎_elim, ◌++◌, ◌∷◌, []}
-use Rattle.std.proofs.Common.{inl, inr, Bool, true, ℕ, zero, suc, List}
+use Rattle.std.proofs.Common.{inl, inr, true, ℕ, zero, suc, List}
 use Rattle.std.proofs.Common.{length, map, refl, sym, ap, subst, ◌∙◌, arith}
 use Rattle.std.specs.List.{All, AllPairs, take_while}
-use Rattle.std.proofs.lemmas.Bool.{cases_eq, eqb-true}
+use Rattle.std.proofs.lemmas.Bool.{cases_eq}
 use Rattle.std.proofs.lemmas.List.Sums.{take_while-cons}
 use Rattle.std.proofs.lemmas.Nat.{mod_below}
 use Rattle.std.proofs.Math.Nat.{add-mod_right, mod-eq_of_lt, mod_self, suc-mod}
 use Rattle.dma_memory.specs.Areas.{AreApart, AreSeparate, Area, descriptor_area}
 use Rattle.dma_memory.specs.HostMemory.{LiesIn}
-use Rattle.dma_memory.specs.Laws.{length-bytes_at}
-use Rattle.registers.specs.Bits.{is_set}
-use Rattle.descriptors.specs.Frames.{IsLegal, longest_frame}
-use Rattle.descriptors.specs.RxStatus.{eop, status_bits}
 use Rattle.descriptors.specs.declared.ring.Ring.{Ring}
 use Rattle.descriptors.specs.Ring.{address_of, count_of, distance_of, next_of, offered_places, slots_from}
 use Rattle.descriptors.specs.RingLaws.{next-below, next-inner, next-last}
-use Rattle.rx_engine.specs.Descriptors.{descriptor_at}
-use Rattle.rx_engine.specs.Held.{held, in_slots, piece_of}
-use Rattle.rx_engine.specs.Pieces.{IsCut, Piece, begun_of, frames_of}
-use Rattle.rx_engine.specs.Pieces.Piece.{Last}
 use Rattle.adapter.specs.Slots.{buffered, done_slots, finished, in_work, is_done, IsDealt, offered, outstanding}
-use Rattle.adapter.specs.HostAreas.{areas, data_of, IsForeign, offered_buffers, ring_area, work_areas}
-use Rattle.adapter.specs.HostFrames.{finished_pieces, named, piece_in, pieces_in_slots}
+use Rattle.adapter.specs.HostAreas.{areas, data_of, offered_buffers, ring_area, work_areas}
+use Rattle.adapter.specs.HostFrames.{named}
 use Rattle.adapter.specs.Conditions.{FitBuffers}
-use Rattle.bus.specs.DriversSlots.{IsDriversSlot, frame_named}
-use Rattle.bus.specs.TakingSlots.{FinishedSlotsCanBeTaken, WrittenSlotsCanBeFreed, behind_oldest_receive}
+use Rattle.bus.specs.DriversSlots.{IsDriversSlot}
+use Rattle.bus.specs.FreedSlots.{WrittenSlotsCanBeFreed}
 use Rattle.adapter.specs.World.{receive_ring, transmit_ring, World}
 use Rattle.bus.proofs.Areas.{separate-without}
 use Rattle.bus.proofs.Lists.{all-head, all-right, all-tail, all-weaker, pairs-head, take_while-passes}
-use Rattle.bus.proofs.DriversSlots.{foreign-named}
-use Rattle.bus.proofs.Pieces.{last-ends}
 use Rattle.bus.proofs.Rings.{outstanding-apart}
 
 -- The way from a slot.
@@ -156,6 +146,10 @@ dealt-ahead memory ring oldest taken slot later dealt done =
 
 -- Both rings.
 
+-- the receive slot behind the oldest
+abbrev pub behind_oldest_receive : ℕ → World → ℕ
+behind_oldest_receive oldest world = next_of (receive_ring world) oldest
+
 -- One receive slot on: all of the law's conditions but what the slots contain.
 pub record Passed (o : ℕ) (a : World) (slot : ℕ) (later : List ℕ) : Type 0 where
   pub ahead : Ahead a.memory (receive_ring a) o (in_work a) slot later
@@ -190,61 +184,6 @@ passed o a slot later dealt separate done =
                 (all-tail Fits slot later (subst (λ (slots : List ℕ). All Fits slots) done fit.finished_fit));
             work_fits = fit.work_fits;
           };
-    }
-
-pub finished_slots_can_be_taken : FinishedSlotsCanBeTaken
-finished_slots_can_be_taken o p a slot later sound done last =
-    let one = passed o a slot later sound.receive_slots sound.separate done in
-    let ahead = one.ahead in
-    let next = behind_oldest_receive o a in
-    let frame = frame_named a slot in
-    let ended = last-ends (is_set (status_bits (descriptor_at a.memory slot).status) eop) frame last in
-    let size : length frame ≡ (named a.memory slot).size = length-bytes_at a.memory (named a.memory slot).address (named a.memory slot).size
-    one.lies in
-    let pieces : finished_pieces o a ≡ Last frame ∷ finished_pieces next a =
-    ap (map (piece_in a.memory)) done
-    ∙ ap (λ (ends : Bool). piece_of ends frame ∷ map (piece_in a.memory) later) ended
-    ∙ ap (λ (slots : List ℕ). Last frame ∷ map (piece_in a.memory) slots) (sym ahead.behind) in
-    let in_all : pieces_in_slots o a ≡ Last frame ∷ pieces_in_slots next a =
-    ap (λ (list : List Piece). in_slots a.memory list a.adapter.receiver) pieces in
-    record {
-      stands = ahead.stands;
-      sound = record {
-        receive_slots = ahead.dealt;
-        transmit_slots = sound.transmit_slots;
-        separate = one.separate;
-        reports = sound.reports;
-        begun = sym (ap begun_of in_all) ∙ sound.begun;
-        pads = sound.pads;
-      };
-      behind = ahead.behind;
-      held = ap (λ (list : List Piece). held a.memory list a.adapter.receiver) pieces;
-      first = ahead.first;
-      own = ahead.own;
-      foreign =
-          all-head (λ d. IsForeign a (named a.memory d)) slot later
-          (subst (λ (slots : List ℕ). All (λ d. IsForeign a (named a.memory d)) slots) done (foreign-named o p a sound));
-      fits = one.fits;
-      whole = λ bytes are.
-          let NoErrors : ℕ → Type 0 = λ d. (descriptor_at a.memory d).errors ≡ 0 in
-          let errors = subst (λ (slots : List ℕ). All NoErrors slots) done are.have_no_errors in
-          let cut = subst (λ (list : List Piece). All (IsCut bytes) list) in_all are.cut in
-          let legal = subst (λ (list : List Piece). All IsLegal (frames_of list)) in_all are.legal in
-          let one_legal = all-head IsLegal frame (frames_of (pieces_in_slots next a)) legal in (
-            record {
-              ended = eqb-true _ _ ended;
-              has_no_errors = all-head NoErrors slot later errors;
-              least = omega (arith, one_legal.least, size);
-              most = omega (arith, one_legal.most, size);
-            },
-            record {
-              sized = are.sized;
-              have_no_errors = subst (λ (slots : List ℕ). All NoErrors slots) (sym ahead.behind) (all-tail NoErrors slot later errors);
-              cut = all-tail (IsCut bytes) (Last frame) (pieces_in_slots next a) cut;
-              legal = all-tail IsLegal frame (frames_of (pieces_in_slots next a)) legal;
-              short = subst (λ (list : List Piece). length (begun_of list) < longest_frame) in_all are.short;
-            },
-          );
     }
 
 pub written_slots_can_be_freed : WrittenSlotsCanBeFreed

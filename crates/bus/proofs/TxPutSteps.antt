@@ -151,17 +151,21 @@ between_put o p queued later a0 sound =
     let halves = map reported_half (in_work a ++ offered (receive_ring a)) in
     let bytes = map status_byte (buffered (with_queue later a0) ++ offers) in
     record {
-      sends = ap (λ (frames : List (List ℕ)). queued.frame ∷ frames) (to_send-kept memory memory' (transmit_ring a) later fetches)
-          ∙ sym (to_send-put memory (transmit_ring a) true queued later);
-      reported = d ∷ [];
-      written = transmitting.grown;
-      each_reported = refl;
-      holds = receiving.held ∙ sym (append-nil (frames_held o a));
-      more = [];
-      done = receiving.done ∙ sym (append-nil (finished o a));
-      pieces = [];
-      grown = receiving.pieces ∙ sym (append-nil (finished_pieces o a));
-      told = inl (all-none IsPart);
+      transmit = record {
+        sends = ap (λ (frames : List (List ℕ)). queued.frame ∷ frames) (to_send-kept memory memory' (transmit_ring a) later fetches)
+            ∙ sym (to_send-put memory (transmit_ring a) true queued later);
+        reported = d ∷ [];
+        written = transmitting.grown;
+        each_reported = refl;
+      };
+      receive = record {
+        holds = receiving.held ∙ sym (append-nil (frames_held o a));
+        more = [];
+        done = receiving.done ∙ sym (append-nil (finished o a));
+        pieces = [];
+        grown = receiving.pieces ∙ sym (append-nil (finished_pieces o a));
+        told = inl (all-none IsPart);
+      };
       fits = λ size fit.
           let kept = receiving.fits size fit in
           record { large = kept.large; finished_fit = kept.finished_fit; work_fits = kept.work_fits };

@@ -73,16 +73,20 @@ between_padded o p a in_ring differ sound =
     let reports : All Reports (buffer ++ (fetched true a.memory head ∷ map (fetched true a.memory) rest)) =
     subst (λ (slots : List ℕ). All Reports (buffer ++ map (fetched true a.memory) slots)) first sound.reports in
     record {
-      sends = to_send-take a.memory ring true buffer in_ring differ;
-      reported = [];
-      written = sym (append-nil (written_back p a));
-      each_reported = refl;
-      holds = sym (append-nil (frames_held o a));
-      more = [];
-      done = sym (append-nil (finished o a));
-      pieces = [];
-      grown = sym (append-nil (finished_pieces o a));
-      told = inl (all-none IsPart);
+      transmit = record {
+        sends = to_send-take a.memory ring true buffer in_ring differ;
+        reported = [];
+        written = sym (append-nil (written_back p a));
+        each_reported = refl;
+      };
+      receive = record {
+        holds = sym (append-nil (frames_held o a));
+        more = [];
+        done = sym (append-nil (finished o a));
+        pieces = [];
+        grown = sym (append-nil (finished_pieces o a));
+        told = inl (all-none IsPart);
+      };
       fits = λ size fit. record { large = fit.large; finished_fit = fit.finished_fit; work_fits = fit.work_fits };
       whole = λ size are. cut-kept size o a b are.sized refl (λ k d below. refl) refl are;
       untouched = λ area apart. refl;

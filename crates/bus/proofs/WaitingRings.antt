@@ -29,10 +29,10 @@ transmit_stays_idle o a b past sound same happens =
     let steady = happens.steady in
     let later : Sound o p b = (happens.between o p sound).sound in
     let sent = none-dealt b.memory (transmit_ring b) p (buffered b)
-    (sym (ap (λ (ring : RingRegisters). ring.tail) steady.transmit_ring)) later.transmit_slots in
+    (sym (ap (λ (ring : RingRegisters). ring.tail) steady.transmit_ring.others)) later.transmit_slots in
     record {
       buffer = map-empty (λ (queued : Queued). queued.descriptor) b.adapter.transmitter.buffer sent.0;
-      ring = still-idle a.adapter.transmit_ring b.adapter.transmit_ring steady.transmit_ring steady.transmit_head same sent.1;
+      ring = still-idle a.adapter.transmit_ring b.adapter.transmit_ring steady.transmit_ring same sent.1;
     }
 
 -- No slot is finished, and no piece is in progress.
@@ -92,9 +92,9 @@ offers_wait size o p a b past sound within off some cut none happens =
     let steady = happens.steady in
     let before = holds-none size o p a sound some cut none in
     let after = holds-none size o p b between.sound some (between.whole size cut)
-    (between.holds ∙ ap (λ (frames : List (List ℕ)). frames ++ past.stored) none ∙ (steady.off off).0) in
+    (between.receive.holds ∙ ap (λ (frames : List (List ℕ)). frames ++ past.stored) none ∙ (steady.arrivals.off off).0) in
     let same : outstanding (receive_ring b) o
-    ≡ outstanding (receive_ring a) o = ap (λ (ring : RingRegisters). outstanding (ring_of ring) o) steady.receive_ring in
+    ≡ outstanding (receive_ring a) o = ap (λ (ring : RingRegisters). outstanding (ring_of ring) o) steady.receive_ring.others in
     let Stays : ℕ → Type 0 = λ slot. named_address b.memory slot ≡ named_address a.memory slot in
     record {
       none_finished = after.none_finished;

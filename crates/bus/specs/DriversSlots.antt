@@ -58,12 +58,16 @@ pub record KeepsAllButStatus (a b : World) (descriptor : ℕ) : Type 0 where
 abbrev pub RequestsStay : World → World → Type 0
 RequestsStay a b = (slot : ℕ) → slot < count_of (transmit_ring a) → KeepsAllButStatus a b (address_of (transmit_ring a) slot)
 
+-- The same slots of both rings are outstanding.
+pub record SameOutstanding (oldest_receive oldest_transmit : ℕ) (a b : World) : Type 0 where
+  pub received : outstanding (receive_ring b) oldest_receive ≡ outstanding (receive_ring a) oldest_receive
+  pub sent : outstanding (transmit_ring b) oldest_transmit ≡ outstanding (transmit_ring a) oldest_transmit
+
 -- Between two calls of a driver: what the law says where its conditions hold, these conditions among it; the same slots are outstanding;
 -- and finished slots, written-back slots, the driver's own slots, and what it wrote into descriptors stay.
 pub record DriversSideStays (oldest_receive oldest_transmit : ℕ) (a b : World) (past : Past) : Type 0 where
   pub between : Between oldest_receive oldest_transmit a b past
-  pub same_received : outstanding (receive_ring b) oldest_receive ≡ outstanding (receive_ring a) oldest_receive
-  pub same_sent : outstanding (transmit_ring b) oldest_transmit ≡ outstanding (transmit_ring a) oldest_transmit
+  pub outstanding_same : SameOutstanding oldest_receive oldest_transmit a b
   pub finished_stay : FinishedStay oldest_receive a b
   pub written_stay : SlotsStay a b (written_back oldest_transmit a)
   pub receive_slots : DriversSlotsStay receive_ring oldest_receive a b

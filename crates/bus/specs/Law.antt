@@ -18,6 +18,7 @@ use Rattle.adapter.specs.Running.{CanRun}
 use Rattle.adapter.specs.Slots.{finished, written_back}
 use Rattle.adapter.specs.State.{AdapterState, IsAdapter}
 use Rattle.adapter.specs.World.{World}
+use Rattle.adapter.specs.declared.ring.RingRegisters.{RingRegisters}
 use Rattle.bus.specs.PastOfStretch.{Past}
 use Rattle.bus.specs.declared.event.Access.{Access}
 use Rattle.registers.specs.Places.{rctl_en, rxt0}
@@ -39,40 +40,68 @@ phy_ticked management =
     then record { mdic = mdic_after_tick management.mdic management.phy; phy = phy_after_tick management.mdic management.phy }
     else management
 
--- What stands in every state, whatever the driver has made of rings and memory: registers stay, causes are added, ticks alone move EERD,
--- MDIC and the PHY, and MPC counts what is missed.
-pub record Steady (a b : World) (past : Past) : Type 0 where
-  pub size : length b.memory ≡ length a.memory
-  pub image : b.adapter.image ≡ a.adapter.image
-  pub causes : (place : ℕ) → HasBit a.adapter.causes.recorded place → HasBit b.adapter.causes.recorded place
-  pub mask : b.adapter.causes.mask ≡ a.adapter.causes.mask
-  pub receive_ring : b.adapter.receive_ring ≡ record a.adapter.receive_ring { head = b.adapter.receive_ring.head }
-  pub transmit_ring : b.adapter.transmit_ring ≡ record a.adapter.transmit_ring { head = b.adapter.transmit_ring.head }
-  -- A head that moves is a slot of its ring, and so is the tail.
-  pub receive_head : (b.adapter.receive_ring.head ≡ a.adapter.receive_ring.head) ⊎ HasValidIndices (ring_of b.adapter.receive_ring)
-  pub transmit_head : (b.adapter.transmit_ring.head ≡ a.adapter.transmit_ring.head) ⊎ HasValidIndices (ring_of b.adapter.transmit_ring)
+-- Registers that only a driver's accesses change.
+pub record RegistersStay (a b : AdapterState) : Type 0 where
+  -- IMS
+  pub mask : b.causes.mask ≡ a.causes.mask
   -- RAL, RAH, MTA, VFTA, RCTL and VET
-  pub filter : b.adapter.filter ≡ a.adapter.filter
-  pub device_control : b.adapter.device_control ≡ a.adapter.device_control
-  pub transmit_control : b.adapter.transmit_control ≡ a.adapter.transmit_control
-  pub allocation : b.adapter.receive_kilobytes ≡ a.adapter.receive_kilobytes
+  pub filter : b.filter ≡ a.filter
+  -- CTRL
+  pub device_control : b.device_control ≡ a.device_control
+  -- TCTL
+  pub transmit_control : b.transmit_control ≡ a.transmit_control
+  -- PBA
+  pub allocation : b.receive_kilobytes ≡ a.receive_kilobytes
+
+-- The registers of a ring.
+pub record OnlyHeadMoves (a b : RingRegisters) : Type 0 where
+  -- Base, length and tail stay.
+  pub others : b ≡ record a { head = b.head }
+  -- A head that moves is a slot of its ring, and so is the tail.
+  pub head : (b.head ≡ a.head) ⊎ HasValidIndices (ring_of b)
+
+-- Frames that were stored or missed.
+pub record CountsArrivals (a b : World) (past : Past) : Type 0 where
   -- MPC grows by what was missed, and sticks at its greatest value; one that stands there already stays.
   pub missed : b.adapter.missed_packets ≡ max a.adapter.missed_packets (min (a.adapter.missed_packets + past.missed) greatest_count)
   -- Where RCTL.EN is 0 no frame is stored or missed.
   pub off : ¬ (HasBit a.adapter.filter.rctl rctl_en) → (past.stored ≡ []) × (past.missed ≡ 0)
+  -- Each stored frame has 60 to 1,518 bytes.
   pub legal : All IsLegal past.stored
+
+-- What ticks alone change.
+pub record MovesByTicks (a b : World) (past : Past) : Type 0 where
+  -- EERD
   pub eerd : b.adapter.eerd ≡ iterate (eeprom.after_tick a.adapter.image) past.eeprom_ticks a.adapter.eerd
+  -- MDIC and the PHY
   pub management : management_of b.adapter ≡ iterate phy_ticked past.phy_ticks (management_of a.adapter)
+
+-- What holds in every state, whatever the registers and the memory contain.
+pub record Steady (a b : World) (past : Past) : Type 0 where
+  -- Memory keeps its size, and the EEPROM its words.
+  pub size : length b.memory ≡ length a.memory
+  pub image : b.adapter.image ≡ a.adapter.image
+  pub registers : RegistersStay a.adapter b.adapter
+  -- Causes that are recorded stay recorded.
+  pub causes : (place : ℕ) → HasBit a.adapter.causes.recorded place → HasBit b.adapter.causes.recorded place
+  pub receive_ring : OnlyHeadMoves a.adapter.receive_ring b.adapter.receive_ring
+  pub transmit_ring : OnlyHeadMoves a.adapter.transmit_ring b.adapter.transmit_ring
+  pub arrivals : CountsArrivals a b past
+  pub ticks : MovesByTicks a b past
 
 -- Frames.
 
--- What happens to frames, slots and memory.
-pub record Between (oldest_receive oldest_transmit : ℕ) (a b : World) (past : Past) : Type 0 where
-  -- Frames are put in order, and the written-back slots from the oldest on grow by as many.
+-- Frames that were put on the wire.
+pub record PutsInOrder (oldest_transmit : ℕ) (a b : World) (past : Past) : Type 0 where
+  -- Frames to be sent are put in order, none lost and none twice.
   pub sends : past.put ++ frames_to_send b ≡ frames_to_send a
+  -- The written-back slots from the oldest on grow at the end by one for each frame.
   pub reported : List ℕ
   pub written : written_back oldest_transmit b ≡ written_back oldest_transmit a ++ reported
   pub each_reported : length reported ≡ length past.put
+
+-- Frames that were stored, and the slots that report them.
+pub record StoresInOrder (oldest_receive : ℕ) (a b : World) (past : Past) : Type 0 where
   -- The frames held grow at the end by those that were stored.
   pub holds : frames_held oldest_receive b ≡ frames_held oldest_receive a ++ past.stored
   -- The finished slots from the oldest on only grow, and so do the pieces in them.
@@ -82,6 +111,11 @@ pub record Between (oldest_receive oldest_transmit : ℕ) (a b : World) (past : 
   pub grown : finished_pieces oldest_receive b ≡ finished_pieces oldest_receive a ++ pieces
   -- If a frame ends in a new one, RXT0, bit 7, is recorded.
   pub told : All IsPart pieces ⊎ HasBit b.adapter.causes.recorded rxt0
+
+-- What happens to frames, slots and memory.
+pub record Between (oldest_receive oldest_transmit : ℕ) (a b : World) (past : Past) : Type 0 where
+  pub transmit : PutsInOrder oldest_transmit a b past
+  pub receive : StoresInOrder oldest_receive a b past
   -- Pieces that fit into buffers of some size still do, and new ones do.
   pub fits : (size : ℕ) → FitBuffers size oldest_receive a → FitBuffers size oldest_receive b
   -- If frames are cut into buffers of some size, new ones are, too.
@@ -104,16 +138,24 @@ pub record HasTicks (past : Past) : Type 0 where
   pub eeprom : 1 ≤ past.eeprom_ticks
   pub phy : 1 ≤ past.phy_ticks
 
+-- what a bus shows of itself: memory and adapter, what it reports of an interval, and whether it is lively
+pub record BusView (B : Type 0) : Type 1 where
+  pub world : B → World
+  pub happened : B → B → Past → Type 0
+  pub lively : B → Type 0
+
+abbrev pub view : {B : Type 0} → (B → World) → (B → B → Past → Type 0) → (B → Type 0) → BusView B
+view world happened lively = record { world = world; happened = happened; lively = lively }
+
 -- One access of a driver over a bus: something happens, of which the bus tells by its own words, and then the access itself. A lively bus
 -- plays ticks before each.
-pub record Acts {B : Type 0} (world : B → World) (happened : B → B → Past → Type 0) (lively : B
-    → Type 0) (old new : B) (access : Access) (effect : World → World → Type 0) : Type 0 where
+pub record Acts {B : Type 0} (bus : BusView B) (old new : B) (access : Access) (effect : World → World → Type 0) : Type 0 where
   -- where the access itself begins
   pub middle : World
   pub past : Past
   pub only : past.accesses ≡ access ∷ []
-  pub told : happened old new past
-  pub ticks : lively old → HasTicks past
-  pub before : Happens (world old) middle past
+  pub told : bus.happened old new past
+  pub ticks : bus.lively old → HasTicks past
+  pub before : Happens (bus.world old) middle past
   pub adapter : IsAdapter middle.adapter
-  pub effect_is : effect middle (world new)
+  pub effect_is : effect middle (bus.world new)

@@ -18,7 +18,7 @@ pub mod DriversStores
 pub mod WritableSlots
 pub mod KnownRings
 pub mod SlotOffers
-pub mod TakingSlots
+pub mod FreedSlots
 pub mod RunsOfSlots
 pub mod LargeBuffers
 pub mod SpareMemory

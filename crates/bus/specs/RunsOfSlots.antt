@@ -31,25 +31,40 @@ pub record IsCutRun (size oldest_receive : ℕ) (world : World) (run : List ℕ)
   pub have_no_errors : All (λ slot. (descriptor_at world.memory slot).errors ≡ 0) run
   pub others : AreCut size (after_run oldest_receive run world) world
 
--- The slots contain parts, and then the last piece of their frame. With the place after them as the oldest the conditions hold, the slots
--- are no longer outstanding but the driver's, and their frame leaves the front of the frames held. Its bytes aren't the adapter's to write.
-pub record RunTaken (oldest_receive oldest_transmit : ℕ) (world : World) (run : List ℕ) (seen : List (List ℕ)) (last : List ℕ)
-    (later : List ℕ) : Type 0 where
+-- A run of the oldest slots becomes the driver's.
+pub record RunBecomesDrivers (oldest_receive : ℕ) (world : World) (run : List ℕ) : Type 0 where
+  -- The slots follow one another in the ring, from the oldest one on.
   pub stand : run ≡ map (address_of (receive_ring world)) (places_of_run oldest_receive run world)
+  -- They are no longer outstanding,
+  pub first : outstanding (receive_ring world) oldest_receive
+      ≡ run ++ outstanding (receive_ring world) (after_run oldest_receive run world)
+  -- but the driver's.
+  pub own : All (IsDriversSlot (receive_ring world) (after_run oldest_receive run world)) (places_of_run oldest_receive run world)
+  -- Their bytes aren't the adapter's to write.
+  pub foreign : All (λ slot. IsForeign world (named world.memory slot)) run
+
+-- The slots contain parts, and then the last piece of their frame.
+pub record RunContainsFrame (oldest_receive : ℕ) (world : World) (run : List ℕ) (seen : List (List ℕ)) (last : List ℕ) : Type 0 where
   -- the bytes that each slot names, and how many its descriptor says they are
   pub bytes : map (frame_named world) run ≡ seen ++ last ∷ []
   pub sizes : map (λ slot. (descriptor_at world.memory slot).length) run ≡ map length (seen ++ last ∷ [])
-  pub sound : Sound (after_run oldest_receive run world) oldest_transmit world
-  pub behind : finished (after_run oldest_receive run world) world ≡ later
+  -- The frame leaves the front of the frames held,
   pub held : frames_held oldest_receive world ≡ (concat seen ++ last) ∷ frames_held (after_run oldest_receive run world) world
-  -- the frames that end in finished slots
+  -- and of the frames that end in finished slots.
   pub ended : frames_of (finished_pieces oldest_receive world)
       ≡ (concat seen ++ last) ∷ frames_of (finished_pieces (after_run oldest_receive run world) world)
-  pub first : outstanding (receive_ring world) oldest_receive
-      ≡ run ++ outstanding (receive_ring world) (after_run oldest_receive run world)
-  pub own : All (IsDriversSlot (receive_ring world) (after_run oldest_receive run world)) (places_of_run oldest_receive run world)
-  pub foreign : All (λ slot. IsForeign world (named world.memory slot)) run
+
+-- With the place after the slots as the oldest one the conditions hold again.
+pub record RunTaken (oldest_receive oldest_transmit : ℕ) (world : World) (run : List ℕ) (seen : List (List ℕ)) (last : List ℕ)
+    : Type 0 where
+  pub slots : RunBecomesDrivers oldest_receive world run
+  pub frame : RunContainsFrame oldest_receive world run seen last
+  pub sound : Sound (after_run oldest_receive run world) oldest_transmit world
+  -- The other finished slots stay finished.
+  pub behind : finished oldest_receive world ≡ run ++ finished (after_run oldest_receive run world) world
+  -- Pieces that fit into buffers of some size still do.
   pub fits : (size : ℕ) → FitBuffers size oldest_receive world → FitBuffers size (after_run oldest_receive run world) world
+  -- If frames are cut into buffers of some size, this one is, and so are the others.
   pub cut : (size : ℕ) → AreCut size oldest_receive world → IsCutRun size oldest_receive world run seen last
 
 abbrev pub RunsCanBeTaken : Type 0
@@ -57,4 +72,4 @@ RunsCanBeTaken =
     (oldest_receive oldest_transmit : ℕ) (world : World) (run : List ℕ) (seen : List (List ℕ)) (last : List ℕ) (later : List ℕ)
     → Sound oldest_receive oldest_transmit world → finished oldest_receive world ≡ run ++ later
     → map (piece_in world.memory) run ≡ parts seen ++ Last last ∷ []
-    → RunTaken oldest_receive oldest_transmit world run seen last later
+    → RunTaken oldest_receive oldest_transmit world run seen last

@@ -13,6 +13,8 @@ use Rattle.adapter.specs.Conditions.{AreCut, FitBuffers, Reports, Sound}
 use Rattle.bus.specs.DriversStores.{SameFrames}
 use Rattle.adapter.specs.Running.{CanTransmit, GoOn}
 use Rattle.adapter.specs.World.{receive_ring, transmit_ring, World}
+use Rattle.adapter.specs.Rings.{ring_of}
+use Rattle.adapter.specs.declared.ring.RingRegisters.{RingRegisters}
 
 -- A driver offers its next receive slot: it moves RDT on by one ("3.2.6 Receive Descriptor Queue Structure").
 
@@ -24,17 +26,25 @@ offering world = record world {
   };
 }
 
--- The slot at RDT can be offered: it isn't the last one before the oldest, and its descriptor isn't done. While RCTL.EN is set, its buffer,
--- of the size that RCTL.BSIZE names, lies in memory, apart from all that the conditions name.
+-- A ring has room to offer the slot at its tail.
+pub record HasRoom (oldest : ℕ) (registers : RingRegisters) : Type 0 where
+  -- The driver's oldest slot, head and tail are slots of the ring.
+  pub oldest_slot : oldest < count_of (ring_of registers)
+  pub head_slot : registers.head < count_of (ring_of registers)
+  pub tail_slot : registers.tail < count_of (ring_of registers)
+  -- The slot at the tail isn't the last one before the oldest.
+  pub room : next_of (ring_of registers) registers.tail ≢ oldest
+
+-- The slot at RDT can be offered. Its buffer, of the size that RCTL.BSIZE names, counts only while RCTL.EN is set.
 pub record CanOffer (oldest : ℕ) (world : World) : Type 0 where
-  pub oldest_slot : oldest < count_of (receive_ring world)
-  pub head_slot : world.adapter.receive_ring.head < count_of (receive_ring world)
-  pub tail_slot : world.adapter.receive_ring.tail < count_of (receive_ring world)
-  pub room : next_of (receive_ring world) world.adapter.receive_ring.tail ≢ oldest
+  pub ring : HasRoom oldest world.adapter.receive_ring
+  -- Its descriptor isn't done.
   pub fresh : is_done world.memory (address_of (receive_ring world) world.adapter.receive_ring.tail) ≡ false
+  -- The buffer is in memory,
   pub lies : HasBit world.adapter.filter.rctl rctl_en
       → LiesIn world.memory (buffer_of world (address_of (receive_ring world) world.adapter.receive_ring.tail)).address
       (buffer_of world 0).size
+  -- apart from all that the conditions name.
   pub apart : HasBit world.adapter.filter.rctl rctl_en
       → All (λ area. AreApart area (buffer_of world (address_of (receive_ring world) world.adapter.receive_ring.tail)))
       (areas oldest world)
@@ -66,37 +76,44 @@ offering_frame world = record world {
   };
 }
 
--- The slot at TDT can be offered: it isn't the last one before the oldest, its descriptor isn't done and asks for a report, its data lies
--- in memory, apart from all that the conditions name, and TCTL.PSP is set.
+-- The slot at TDT can be offered.
 pub record CanSend (oldest_receive oldest_transmit : ℕ) (world : World) : Type 0 where
-  pub oldest_slot : oldest_transmit < count_of (transmit_ring world)
-  pub head_slot : world.adapter.transmit_ring.head < count_of (transmit_ring world)
-  pub tail_slot : world.adapter.transmit_ring.tail < count_of (transmit_ring world)
-  pub room : next_of (transmit_ring world) world.adapter.transmit_ring.tail ≢ oldest_transmit
+  pub ring : HasRoom oldest_transmit world.adapter.transmit_ring
+  -- Its descriptor isn't done, and asks for a report.
   pub fresh : is_done world.memory (address_of (transmit_ring world) world.adapter.transmit_ring.tail) ≡ false
   pub reports : Reports (fetched true world.memory (address_of (transmit_ring world) world.adapter.transmit_ring.tail))
+  -- TCTL.PSP is set.
   pub pads : HasBit world.adapter.transmit_control tctl_psp
+  -- Its data is in memory, apart from all that the conditions name.
   pub lies :
       LiesIn world.memory (data_of world.memory (address_of (transmit_ring world) world.adapter.transmit_ring.tail)).address
       (data_of world.memory (address_of (transmit_ring world) world.adapter.transmit_ring.tail)).size
   pub apart : All (λ area. AreApart area (data_of world.memory (address_of (transmit_ring world) world.adapter.transmit_ring.tail)))
       (areas oldest_receive world)
 
--- Then the conditions hold again, the slot is the last that is outstanding, and its frame, padded, is the last that is to be sent. Engines
--- that could run still can, where the descriptor can be transmitted. What isn't the adapter's stays so, apart from the slot's status.
-pub record OfferedFrame (oldest_receive oldest_transmit : ℕ) (a b : World) : Type 0 where
-  pub sound : Sound oldest_receive oldest_transmit b
-  pub to_send : frames_to_send b ≡ frames_to_send a ++ frame_at true a.memory (address_of (transmit_ring a) a.adapter.transmit_ring.tail)
-      ∷ []
+-- Received frames, their slots and their pieces are the same.
+pub record SameReceived (oldest_receive : ℕ) (a b : World) : Type 0 where
   pub held : frames_held oldest_receive b ≡ frames_held oldest_receive a
   pub finished_same : finished oldest_receive b ≡ finished oldest_receive a
-  pub written_same : written_back oldest_transmit b ≡ written_back oldest_transmit a
   pub pieces_same : finished_pieces oldest_receive b ≡ finished_pieces oldest_receive a
+  -- Frames that are cut into buffers of some size still are, and pieces that fit into such buffers still do.
   pub whole : (size : ℕ) → AreCut size oldest_receive a → AreCut size oldest_receive b
   pub fits : (size : ℕ) → FitBuffers size oldest_receive a → FitBuffers size oldest_receive b
+
+-- Then the conditions hold again, with one more slot that is outstanding.
+pub record OfferedFrame (oldest_receive oldest_transmit : ℕ) (a b : World) : Type 0 where
+  pub sound : Sound oldest_receive oldest_transmit b
+  -- Its frame, padded, is the last that is to be sent.
+  pub to_send : frames_to_send b ≡ frames_to_send a ++ frame_at true a.memory (address_of (transmit_ring a) a.adapter.transmit_ring.tail)
+      ∷ []
+  pub received : SameReceived oldest_receive a b
+  pub written_same : written_back oldest_transmit b ≡ written_back oldest_transmit a
+  -- The slot is the last that is outstanding.
   pub last : outstanding (transmit_ring b) oldest_transmit ≡ outstanding (transmit_ring a) oldest_transmit
       ++ address_of (transmit_ring a) a.adapter.transmit_ring.tail ∷ []
+  -- Engines that could run still can if the descriptor can be transmitted.
   pub runs : CanTransmit a.memory (address_of (transmit_ring a) a.adapter.transmit_ring.tail) → GoOn a b
+  -- What isn't the adapter's stays so, apart from the slot's status.
   pub foreign : (area : Area) → IsForeign a area → AreApart area (status_byte (address_of (transmit_ring a) a.adapter.transmit_ring.tail))
       → IsForeign b area
 

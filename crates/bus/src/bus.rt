@@ -3,7 +3,7 @@
 ghost use Rattle.std.specs.Prelude.{◌≡◌, ◌+◌, ◌-◌, ◌^◌, ◌≤◌, ℕ, length, min};
 ghost use Rattle.adapter.specs.Registers.{answer_at};
 ghost use Rattle.bus.specs.BusMembers.{Composes, StaysWhole};
-ghost use Rattle.bus.specs.Law.{Acts};
+ghost use Rattle.bus.specs.Law.{Acts, view};
 ghost use Rattle.bus.specs.PastOfStretch.{Past};
 ghost use Rattle.bus.specs.declared.event.Access.TheVariants.{Loads, Reads, Stores, Writes};
 ghost use Rattle.adapter.specs.World.{World, world_after_read, world_after_store, world_after_write};
@@ -42,13 +42,13 @@ pub trait Bus {
     /// Reads the register at an offset in bytes.
     fn read(&mut self, offset: u32) -> u32
         ensures keeps { StaysWhole extent lent_stays honest lively self.old self.new }
-        ensures acts { honest self.old → Acts world happened lively self.old self.new (Reads offset result)
+        ensures acts { honest self.old → Acts (view world happened lively) self.old self.new (Reads offset result)
             (λ before after. (result ≡ answer_at offset before.adapter) × (after ≡ world_after_read offset before)) };
 
     /// Writes the register at an offset in bytes.
     fn write(&mut self, offset: u32, value: u32)
         ensures keeps { StaysWhole extent lent_stays honest lively self.old self.new }
-        ensures acts { honest self.old → Acts world happened lively self.old self.new (Writes offset value)
+        ensures acts { honest self.old → Acts (view world happened lively) self.old self.new (Writes offset value)
             (λ before after. after ≡ world_after_write offset value before) };
 
     /// Loads the bytes from `address` on, which must lie below [`size`](Bus::size), into the whole of `into`.
@@ -56,14 +56,14 @@ pub trait Bus {
         requires { address + length into.old ≤ extent self.old }
         ensures keeps { StaysWhole extent lent_stays honest lively self.old self.new }
         ensures length { length into.new ≡ length into.old }
-        ensures acts { honest self.old → Acts world happened lively self.old self.new (Loads address (length into.old))
+        ensures acts { honest self.old → Acts (view world happened lively) self.old self.new (Loads address (length into.old))
             (λ before after. (into.new ≡ bytes_at before.memory address (length into.old)) × (after ≡ before)) };
 
     /// Stores bytes from `address` on, which must lie below [`size`](Bus::size).
     fn store(&mut self, address: u64, bytes: &[u8])
         requires { address + length bytes.now ≤ extent self.old }
         ensures keeps { StaysWhole extent lent_stays honest lively self.old self.new }
-        ensures acts { honest self.old → Acts world happened lively self.old self.new (Stores address bytes.now)
+        ensures acts { honest self.old → Acts (view world happened lively) self.old self.new (Stores address bytes.now)
             (λ before after. after ≡ world_after_store address bytes.now before) };
 
     /// Reports join over consecutive intervals, and so does what `lent_stays` states.

@@ -18,7 +18,7 @@ ghost use Rattle.bus.specs.WritableSlots.{SlotsFromTailBelongToDriver, TailSlots
 ghost use Rattle.bus.specs.DriversStores.{DriversStoresLeaveForeign, DriversStoresLeaveFrames};
 ghost use Rattle.bus.specs.SpareMemory.{AreasStayApart};
 ghost use Rattle.bus.specs.StepsAndArrivals.{ArrivalsHappen, StepsHappen};
-ghost use Rattle.bus.specs.TakingSlots.{FinishedSlotsCanBeTaken, WrittenSlotsCanBeFreed};
+ghost use Rattle.bus.specs.FreedSlots.{WrittenSlotsCanBeFreed};
 ghost use Rattle.bus.specs.Trails.{TrailsHappen};
 
 /// What may happen between two accesses composes.
@@ -119,16 +119,10 @@ pub fn large_buffers_take_frames()
     ensures { LargeBuffersTakeFrames }
 {}
 
-/// A driver takes its oldest finished receive slot, if a frame ends in it, by counting the next one as
-/// its oldest. The conditions of the law hold then, the slot is the driver's, and its frame, which the
-/// adapter may not write any more, leaves the front of the frames held.
-pub fn finished_slots_can_be_taken()
-    ensures { FinishedSlotsCanBeTaken }
-{}
-
 /// A driver takes a run of its oldest finished receive slots, of which only the last has EOP, by counting the
 /// slot after them as its oldest. The conditions of the law hold then, the slots are the driver's, and their
-/// frame, with its pieces joined, leaves the front of the frames held.
+/// frame, with its pieces joined, leaves the front of the frames held. The adapter may not write the frame any
+/// more.
 pub fn runs_can_be_taken()
     ensures { RunsCanBeTaken }
 {}

@@ -22,7 +22,8 @@ use Rattle.delivery.specs.DeliveryLaws.{IsToldByOutcomes, IsToldCall, ListsJoin,
 use Rattle.delivery.specs.Happenings.{Happening}
 
 pub outcomes-tell : (caller : ℕ) (ticks : List Tick) (accesses : List Access) (first last : List AtomicStep) (a m b : List StationState)
-    → PlaysCall caller ticks accesses first last a m b → IsToldByOutcomes ticks first last
+    → PlaysCall (record { caller = caller; ticks = ticks; accesses = accesses; first = first; last = last }) a m b
+    → IsToldByOutcomes ticks first last
 outcomes-tell caller ticks accesses first last a m b plays = record {
   played = same-ticks ticks accesses first last plays.played plays.waited;
   said = said-all caller ticks accesses first last a m b plays.leads plays.ends plays.played plays.waited;
@@ -36,7 +37,7 @@ pub lent-calls : (a m b : LentBus) (past : Past) (told : Retells a m past) (fini
 lent-calls a m b past told finished zero =
     let first = told.steps in
     let last = finished.plays.steps in
-    let number : m.accesses ≡ counted_of 0 first = told.number ∙ ap (λ (n : ℕ). counted_of n first) zero in
+    let number : m.accesses ≡ counted_of 0 first = told.accesses.number ∙ ap (λ (n : ℕ). counted_of n first) zero in
     record {
       plays = record {
         leads = told.leads;

@@ -24,14 +24,23 @@ use Rattle.delivery.specs.TickNumbers.{numbers, noted_numbers}
 
 -- Outcomes.
 
+-- what a call of a host plays
+pub record StepsOfCall : Type 0 where
+  pub caller : ℕ
+  -- the ticks that wait before it
+  pub ticks : List Tick
+  pub accesses : List Access
+  -- the steps up to its last access, and those behind it
+  pub first : List AtomicStep
+  pub last : List AtomicStep
+
 -- A call has played these ticks: with its accesses the first steps, and behind the last access all that waited.
-pub record PlaysCall (caller : ℕ) (ticks : List Tick) (accesses : List Access) (first last : List AtomicStep)
-    (a m b : List StationState) : Type 0 where
-  pub leads : LeadsTo caller first a m
-  pub are_ticks : All IsTick last
-  pub ends : LeadsTo caller last m b
-  pub played : map tick_of first ≡ played_in is_go Go [] accesses ticks
-  pub waited : map tick_of last ≡ without_go is_go (waiting_after is_go accesses ticks)
+pub record PlaysCall (call : StepsOfCall) (a m b : List StationState) : Type 0 where
+  pub leads : LeadsTo call.caller call.first a m
+  pub are_ticks : All IsTick call.last
+  pub ends : LeadsTo call.caller call.last m b
+  pub played : map tick_of call.first ≡ played_in is_go Go [] call.accesses call.ticks
+  pub waited : map tick_of call.last ≡ without_go is_go (waiting_after is_go call.accesses call.ticks)
 
 -- What is noted of it tells what its steps did, and bears the numbers of its ticks; its count is that of its accesses.
 pub record IsToldByOutcomes (ticks : List Tick) (first last : List AtomicStep) : Type 0 where
@@ -43,12 +52,13 @@ pub record IsToldByOutcomes (ticks : List Tick) (first last : List AtomicStep) :
 
 abbrev pub OutcomesTellSteps : Type 0
 OutcomesTellSteps =
-    (caller : ℕ) (ticks : List Tick) (accesses : List Access) (first last : List AtomicStep) (a m b : List StationState)
-    → PlaysCall caller ticks accesses first last a m b → IsToldByOutcomes ticks first last
+    (call : StepsOfCall) (a m b : List StationState) → PlaysCall call a m b → IsToldByOutcomes call.ticks call.first call.last
 
 -- A call over a lent bus whose ticks are played to the end is such a call, and what is noted of it stands behind the outcomes before.
 pub record IsToldCall (a m b : LentBus) (past : Past) (first last : List AtomicStep) : Type 0 where
-  pub plays : PlaysCall a.host a.ticks.now past.accesses first last a.network.now m.network.now b.network.now
+  pub plays : PlaysCall
+      (record { caller = a.host; ticks = a.ticks.now; accesses = past.accesses; first = first; last = last })
+      a.network.now m.network.now b.network.now
   pub noted : b.outcomes.now.list ≡ a.outcomes.now.list ++ noted_of 0 (first ++ last)
   pub count : b.accesses ≡ counted_of 0 first
 

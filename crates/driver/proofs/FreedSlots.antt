@@ -11,7 +11,7 @@ use Rattle.descriptors.specs.RingLaws.{next-below, place}
 use Rattle.adapter.specs.Slots.{written_back}
 use Rattle.bus.specs.Law.{Acts}
 use Rattle.bus.specs.PastOfStretch.{Past, joined, nothing}
-use Rattle.bus.specs.Keeping.{Keeps}
+use Rattle.bus.specs.Keeping.{Keeps, view_of}
 use Rattle.bus.specs.declared.bus.Bus.{Ghosts}
 use Rattle.bus.specs.declared.event.Access.{Access}
 use Rattle.bus.specs.declared.event.Access.TheVariants.{Loads}
@@ -76,7 +76,7 @@ frees-none bus stays b d none ready =
 -- a load of bytes at an address
 abbrev pub LoadsAt : {B : Type 0} (bus : Ghosts B) (old new : B) (bytes : List ℕ) (address : ℕ) → Type 0
 LoadsAt bus old new bytes address =
-    Acts bus.world bus.happened bus.lively old new (Loads address 16)
+    Acts (view_of bus) old new (Loads address 16)
     (λ before after. (bytes ≡ bytes_at before.memory address 16) × (after ≡ before))
 
 -- or the oldest is done and freed,

@@ -344,7 +344,7 @@ initialises bus joins b0 b1 b2 b3 b4 b5 config size pool numbers d past had told
     ) in
     let from = counts-from d (bus.world b3) (bus.world b4) masks.middle sends.past masks.accessed.past sends.goes masks.goes out3.1
     lets.none_held none_missed in
-    let held : frames_held d.oldest_receive (bus.world b5) ≡ later.stored = masks.enabled.held ∙ from.held in
+    let held : frames_held d.oldest_receive (bus.world b5) ≡ later.stored = masks.enabled.frames.held ∙ from.held in
     let exact : IsTrue d.exact = ap (λ (s : DriverState). s.exact) is in
     let all =
     settings-all config words found.groups found.vlans (settings_of device.adapter) (settings_of (bus.world b1).adapter)
@@ -391,7 +391,7 @@ initialises bus joins b0 b1 b2 b3 b4 b5 config size pool numbers d past had told
         frames = record {
           held = held;
           none_put = from.none_put;
-          none_to_send = masks.enabled.to_send ∙ from.none_to_send;
+          none_to_send = masks.enabled.frames.to_send ∙ from.none_to_send;
           none_finished = λ none. none-finished d (bus.world b5) masks.ready (held ∙ none);
           head = λ none.
               head-first d (bus.world b5) masks.ready (ap (λ (s : DriverState). s.oldest_receive) is)

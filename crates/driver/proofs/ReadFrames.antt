@@ -9,6 +9,7 @@ use Rattle.std.proofs.lemmas.List.Sums.{sum_by-append, sum_by_push}
 use Rattle.dma_memory.specs.HostMemory.{bytes_at}
 use Rattle.dma_memory.specs.Layout.{Counts}
 use Rattle.bus.proofs.Lists.{all-head, all-right}
+use Rattle.bus.specs.Keeping.{view_of}
 use Rattle.bus.specs.Law.{Acts}
 use Rattle.bus.specs.PastOfStretch.{Past, joined}
 use Rattle.bus.specs.declared.bus.Bus.{Ghosts}
@@ -157,7 +158,7 @@ pub reads-next : {up : Bool} {B : Type 0} (bus : Ghosts B)
     → ((a b c : B) (first later : Past) → bus.happened a b first → bus.happened b c later → bus.happened a c (joined first later))
     → (d : DriverState) (parts : List Part) (i address n : ℕ) (part : Part) (bytes : List ℕ) (a b c : B) → IsNext parts i part
     → address ≡ buffer_at d.layout part.buffer → n ≡ part.length
-    → Acts bus.world bus.happened bus.lively b c (Loads address n)
+    → Acts (view_of bus) b c (Loads address n)
     (λ before after. (bytes ≡ bytes_at before.memory address n) × (after ≡ before))
     → Ran bus up (only (part_loads d.layout (take i parts))) (at a d) (at b d)
     → Ran bus up (only (part_loads d.layout (take (i + 1) parts))) (at a d) (at c d)
@@ -172,7 +173,7 @@ reads-next {up} bus joins d parts i address n part bytes a b c next place size a
 pub frame-next : {up : Bool} {B : Type 0} (bus : Ghosts B) (d : DriverState) (first pieces later : List HandedOut) (parts : List Part)
     (i address n : ℕ) (part : Part) (bytes front : List ℕ) (b c : B) → d.handed_out ≡ first ++ (pieces ++ later) → parts_of pieces ≡ parts
     → i < length parts → part ≡ get_or parts i part → address ≡ buffer_at d.layout part.buffer → n ≡ part.length
-    → Acts bus.world bus.happened bus.lively b c (Loads address n)
+    → Acts (view_of bus) b c (Loads address n)
     (λ before after. (bytes ≡ bytes_at before.memory address n) × (after ≡ before))
     → ReadyWith up d (bus.world b) → front ≡ frame_of (take i pieces) → front ++ bytes ≡ frame_of (take (i + 1) pieces)
 frame-next bus d first pieces later parts i address n part bytes front b c holds are below is place size acts ready before =

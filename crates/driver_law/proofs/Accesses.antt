@@ -2,6 +2,7 @@
 use Rattle.std.proofs.Common.{◌≡◌, Bool, ◌++◌, ◌∷◌, [], ℕ, List, refl, sym, ap, subst, ◌∙◌}
 use Rattle.std.specs.List.{All}
 use Rattle.adapter.specs.World.{World, world_after_read, world_after_store, world_after_write}
+use Rattle.bus.specs.Keeping.{view_of}
 use Rattle.bus.specs.Law.{Acts}
 use Rattle.bus.specs.Link.{HasLink, KeepsLink, LeavesPhy}
 use Rattle.bus.specs.PastOfStretch.{Past, joined, nothing}
@@ -75,7 +76,7 @@ read-sets offset value shows new = record {
 
 -- Whatever happened before it.
 pub access-set : {B : Type 0} (bus : Ghosts B) (old new : B) (access : Access) (effect : World → World → Type 0)
-    → (acts : Acts bus.world bus.happened bus.lively old new access effect) → SetsBy access effect (bus.world new)
+    → (acts : Acts (view_of bus) old new access effect) → SetsBy access effect (bus.world new)
     → AreSet (bus.world old) (bus.world new) acts.past
 access-set bus old new access effect acts sets =
     sets.settings acts.middle acts.effect_is
@@ -83,7 +84,7 @@ access-set bus old new access effect acts sets =
     ∙ ap (λ (list : List Access). settings_after_all (writes_in list) (settings_of (bus.world old).adapter)) (sym acts.only)
 
 pub access-link : {B : Type 0} (bus : Ghosts B) (old new : B) (access : Access) (effect : World → World → Type 0)
-    → (acts : Acts bus.world bus.happened bus.lively old new access effect) → SetsBy access effect (bus.world new)
+    → (acts : Acts (view_of bus) old new access effect) → SetsBy access effect (bus.world new)
     → KeepsLink (bus.world old) (bus.world new) acts.past
 access-link bus old new access effect acts sets = λ leaves link.
     sets.link acts.middle acts.effect_is
@@ -92,7 +93,7 @@ access-link bus old new access effect acts sets = λ leaves link.
 
 -- One access: something happens, and then what the access does, from any world in which the driver is ready.
 pub ran_by-acts : {up : Bool} {B : Type 0} (bus : Ghosts B) (old new : B) (access : Access) (effect : World → World → Type 0)
-    (d d' : DriverState) (taken accepted : List (List ℕ)) → Acts bus.world bus.happened bus.lively old new access effect
+    (d d' : DriverState) (taken accepted : List (List ℕ)) → Acts (view_of bus) old new access effect
     → SetsBy access effect (bus.world new)
     → ReadyWith up d (bus.world old)
     → ((middle : World) → ReadyWith up d middle → effect middle (bus.world new)

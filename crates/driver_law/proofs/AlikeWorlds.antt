@@ -7,6 +7,7 @@ use Rattle.registers.specs.ReceiveControl.{buffer_size_of}
 use Rattle.dma_memory.specs.Layout.{size_of, receive_buffer_bytes}
 use Rattle.rx_engine.specs.Descriptors.{named_address}
 use Rattle.tx_engine.specs.Transmitter.{Queued}
+use Rattle.descriptors.specs.declared.ring.Ring.{Ring}
 use Rattle.adapter.specs.Rings.{ring_of}
 use Rattle.adapter.specs.Slots.{outstanding}
 use Rattle.adapter.specs.World.{World, receive_ring, transmit_ring}
@@ -14,7 +15,7 @@ use Rattle.adapter.specs.declared.ring.RingRegisters.{RingRegisters}
 use Rattle.bus.specs.DriversStores.{LeavesFrames}
 use Rattle.adapter.specs.KnownRing.{KnowsRing}
 use Rattle.driver_law.specs.DriverState.{DriverState, receive_tail}
-use Rattle.driver_law.specs.ReadyDrivers.{AreStored, ReadyWith, Stands, TransmitIs}
+use Rattle.driver_law.specs.ReadyDrivers.{AreStored, ReadyWith, Stands, TransmitIs, transmit_side}
 
 -- Memory, both rings, RCTL, TCTL and the transmit packet buffer are the same.
 pub record SameParts (a b : World) : Type 0 where
@@ -26,12 +27,12 @@ pub record SameParts (a b : World) : Type 0 where
   pub buffer : b.adapter.transmitter.buffer ≡ a.adapter.transmitter.buffer
 
 transmit-left : (up : Bool) (driver : DriverState) (a b : World) → SameParts a b
-    → TransmitIs up driver.layout driver.oldest_transmit driver.sending a.memory
-    (transmit_ring a) a.adapter.transmit_control a.adapter.transmitter.buffer
-    → TransmitIs up driver.layout driver.oldest_transmit driver.sending b.memory
-    (transmit_ring b) b.adapter.transmit_control b.adapter.transmitter.buffer
+    → TransmitIs up driver.layout driver.oldest_transmit driver.sending (transmit_side a)
+    → TransmitIs up driver.layout driver.oldest_transmit driver.sending (transmit_side b)
 transmit-left up driver a b same transmit =
-    let Is = TransmitIs up driver.layout driver.oldest_transmit driver.sending in
+    let Is : List ℕ → Ring → ℕ → List Queued → Type 0 = λ memory ring control buffer.
+    TransmitIs up driver.layout driver.oldest_transmit driver.sending
+    (record { memory = memory; ring = ring; control = control; buffer = buffer }) in
     subst (λ (memory : List ℕ). Is memory (transmit_ring b) b.adapter.transmit_control b.adapter.transmitter.buffer) (sym same.memory)
     (subst (λ (ring : RingRegisters). Is a.memory (ring_of ring) b.adapter.transmit_control b.adapter.transmitter.buffer)
     (sym same.transmits)

@@ -10,15 +10,15 @@ use Rattle.adapter.specs.Conditions.{FitBuffers, Sound}
 use Rattle.adapter.specs.HostAreas.{buffer_size, work_areas}
 use Rattle.adapter.specs.HostFrames.{named}
 use Rattle.adapter.specs.Slots.{finished, is_done, outstanding}
-use Rattle.adapter.specs.World.{World, receive_ring, transmit_ring}
+use Rattle.adapter.specs.World.{World, receive_ring}
 use Rattle.bus.proofs.IdleRings.{idle_rings_are_sound, outstanding-none}
 use Rattle.bus.proofs.Lists.{all-none}
 use Rattle.driver_law.proofs.EndedFrames.{none-cut}
 use Rattle.driver_law.specs.Beginnings.{DriversBegin}
-use Rattle.driver_law.specs.ReadyDrivers.{TransmitIs}
+use Rattle.driver_law.specs.ReadyDrivers.{TransmitIs, transmit_side}
 
 tail-known : (up : Bool) (counts : Counts) (world : World)
-    → TransmitIs up counts 0 0 world.memory (transmit_ring world) world.adapter.transmit_control world.adapter.transmitter.buffer
+    → TransmitIs up counts 0 0 (transmit_side world)
     → world.adapter.transmit_ring.tail ≡ 0
 tail-known true counts world known = known.knows.last
 tail-known false counts world off = off.last

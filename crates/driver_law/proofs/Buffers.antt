@@ -25,7 +25,7 @@ use Rattle.bus.proofs.SpareMemory.{spare-apart, spare-foreign}
 use Rattle.driver_law.proofs.Owners.{all-copies, elsewhere-number, outstanding-number}
 use Rattle.driver_law.proofs.Places.{outstanding-known}
 use Rattle.driver_law.specs.DriverState.{DriverState, HandedOut, buffer_at, numbers_of, transmit_slot}
-use Rattle.driver_law.specs.ReadyDrivers.{ReadyWith, Stands, TransmitIs}
+use Rattle.driver_law.specs.ReadyDrivers.{ReadyWith, Stands, TransmitIs, transmit_side}
 
 pub known-area : (ring : Ring) (base n tail : ℕ) → KnowsRing ring base n tail → ring_area ring ≡ area_at base (16 * n)
 known-area ring base n tail knows =
@@ -37,7 +37,7 @@ record IsAway (p : ℕ) (world : World) (area : Area) : Type 0 where
   sources : All (λ slot. AreApart (data_of world.memory slot) area) (outstanding (transmit_ring world) p)
 
 transmit-away : (up : Bool) (counts : Counts) (p sending : ℕ) (world : World) (number : ℕ) → number < counts.buffers
-    → TransmitIs up counts p sending world.memory (transmit_ring world) world.adapter.transmit_control world.adapter.transmitter.buffer
+    → TransmitIs up counts p sending (transmit_side world)
     → IsAway p world (area_of counts (ReceiveBuffer number))
 transmit-away true counts p sending world number known side =
     let area = area_of counts (ReceiveBuffer number) in

@@ -31,7 +31,7 @@ use Rattle.bus.proofs.Lists.{all-none, all-tail}
 use Rattle.bus.proofs.SlotOffers.{frames_can_be_offered}
 use Rattle.bus.proofs.TakingSlots.{written_slots_can_be_freed}
 use Rattle.bus.specs.SlotOffers.{CanSend, OfferedFrame, offering_frame}
-use Rattle.bus.specs.TakingSlots.{behind_oldest_transmit}
+use Rattle.bus.specs.FreedSlots.{behind_oldest_transmit}
 use Rattle.driver_law.specs.DriverState.{DriverState, transmit_slot, transmit_tail}
 use Rattle.driver_law.specs.ReadyDrivers.{Ready}
 use Rattle.driver_law.specs.Calls.{transmit_buffer, whole_descriptor}
@@ -127,10 +127,12 @@ frame_is_offered driver frame world ready room least short stands =
     let moved : place n p (k + 1) ≡ (slot + 1) % n = place-next n p k in
     let more : k + 1 ≡ suc k = omega arith in
     let can : CanSend o p world = record {
-      oldest_slot = omega (arith, up.knows.slots, up.oldest_slot);
-      head_slot = omega (arith, up.knows.slots, up.knows.head_slot);
-      tail_slot = omega (arith, up.knows.slots, up.knows.last, buffer.below);
-      room = λ same. places-differ n p 0 (k + 1) up.oldest_slot (omega arith) room (sym (moved ∙ sym next ∙ same));
+      ring = record {
+        oldest_slot = omega (arith, up.knows.slots, up.oldest_slot);
+        head_slot = omega (arith, up.knows.slots, up.knows.head_slot);
+        tail_slot = omega (arith, up.knows.slots, up.knows.last, buffer.below);
+        room = λ same. places-differ n p 0 (k + 1) up.oldest_slot (omega arith) room (sym (moved ∙ sym next ∙ same));
+      };
       fresh = says.clear;
       reports = says.reports;
       pads = up.pads;
@@ -156,8 +158,8 @@ frame_is_offered driver frame world ready room least short stands =
           law = record {
             sound = done.sound;
             runs = done.runs (says.transmittable least lies) ready.law.runs;
-            fit = done.fits receive_buffer_bytes ready.law.fit;
-            whole = done.whole receive_buffer_bytes ready.law.whole;
+            fit = done.received.fits receive_buffer_bytes ready.law.fit;
+            whole = done.received.whole receive_buffer_bytes ready.law.whole;
           };
           lies = ready.lies;
           receive = ready.receive;
@@ -173,14 +175,14 @@ frame_is_offered driver frame world ready room least short stands =
         };
         layout = refl;
         sends = done.to_send ∙ ap (λ (last : List ℕ). frames_to_send world ++ last ∷ []) (says.frame ∙ ap padded stands.bytes);
-        holds = done.held ∙ sym (append-nil (frames_held o world));
-        least = omega (arith, ap length (ap frames_of done.pieces_same));
+        holds = done.received.held ∙ sym (append-nil (frames_held o world));
+        least = omega (arith, ap length (ap frames_of done.received.pieces_same));
         frees = omega (arith, ap length done.written_same);
         mask = refl;
         misses = misses-stay driver (record driver { sending = driver.sending + 1 }) world (offering_frame world) refl refl refl;
       };
       causes = λ bit has. has;
-      recorded = inl (omega (arith, ap length (ap frames_of done.pieces_same)));
+      recorded = inl (omega (arith, ap length (ap frames_of done.received.pieces_same)));
     }
 
 -- Written-back slots.

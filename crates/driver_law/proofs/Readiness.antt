@@ -1,5 +1,5 @@
 -- A driver is still ready in another world if its slots name the same buffers there.
-use Rattle.std.proofs.Common.{true, ◌⊎◌, false, Bool, ◌≡◌, ◌≤◌, ◌<◌, ◌+◌, ◌*◌, ◌%◌, ◌++◌, ◌∷◌, [], ℕ, suc, List, length, get_or, map, sym}
+use Rattle.std.proofs.Common.{true, false, Bool, ◌≡◌, ◌≤◌, ◌<◌, ◌+◌, ◌*◌, ◌%◌, ◌++◌, ◌∷◌, [], ℕ, suc, List, length, get_or, map, sym}
 use Rattle.std.proofs.Common.{ap, subst, ◌∙◌, arith}
 use Rattle.std.specs.List.{All}
 use Rattle.registers.specs.Bits.{HasBit}
@@ -8,7 +8,7 @@ use Rattle.dma_memory.specs.HostMemory.{bytes_at}
 use Rattle.dma_memory.specs.Layout.{Counts, TransmitBuffer, area_of, size_of, receive_buffer_bytes}
 use Rattle.descriptors.specs.declared.ring.Ring.{Ring}
 use Rattle.descriptors.specs.declared.tx_desc.TxDesc.{TxDesc}
-use Rattle.descriptors.specs.Ring.{HasValidIndices, address_of, offered_places, slots_from}
+use Rattle.descriptors.specs.Ring.{address_of, offered_places, slots_from}
 use Rattle.descriptors.specs.RingLaws.{places-none, place}
 use Rattle.rx_engine.specs.Descriptors.{named_address}
 use Rattle.tx_engine.specs.Fetching.{frame_at}
@@ -20,7 +20,7 @@ use Rattle.adapter.specs.Rings.{ring_of}
 use Rattle.adapter.specs.Slots.{offered, outstanding}
 use Rattle.adapter.specs.World.{World, receive_ring, transmit_ring}
 use Rattle.adapter.specs.declared.ring.RingRegisters.{RingRegisters}
-use Rattle.bus.specs.Law.{Happens}
+use Rattle.bus.specs.Law.{Happens, OnlyHeadMoves}
 use Rattle.bus.specs.DriversSlots.{IsDriversSlot}
 use Rattle.bus.specs.PastOfStretch.{Past}
 use Rattle.bus.proofs.IdleRings.{still-idle}
@@ -30,7 +30,7 @@ use Rattle.bus.proofs.Rings.{each-outstanding}
 use Rattle.bus.proofs.KnownRings.{knows-carried}
 use Rattle.driver_law.proofs.Places.{outstanding-known, own-behind}
 use Rattle.driver_law.specs.DriverState.{DriverState, receive_slot, receive_tail, transmit_slot, with_owners}
-use Rattle.driver_law.specs.ReadyDrivers.{AreStored, IsDriver, MeetsLaw, ReadyWith, Stands, TransmitIs, TransmitIsOff}
+use Rattle.driver_law.specs.ReadyDrivers.{AreStored, IsDriver, MeetsLaw, ReadyWith, Stands, TransmitIs, TransmitIsOff, transmit_side}
 
 -- the same driver, but for what is staged and what is free
 abbrev pub with_staged : DriverState → (staged pool : List ℕ) → DriverState
@@ -62,10 +62,8 @@ pub record Keeps (o p : ℕ) (a b : World) : Type 0 where
   pub size : length b.memory ≡ length a.memory
   pub filter : b.adapter.filter ≡ a.adapter.filter
   pub control : b.adapter.transmit_control ≡ a.adapter.transmit_control
-  pub receives : b.adapter.receive_ring ≡ record a.adapter.receive_ring { head = b.adapter.receive_ring.head }
-  pub transmits : b.adapter.transmit_ring ≡ record a.adapter.transmit_ring { head = b.adapter.transmit_ring.head }
-  pub receive_head : (b.adapter.receive_ring.head ≡ a.adapter.receive_ring.head) ⊎ HasValidIndices (receive_ring b)
-  pub transmit_head : (b.adapter.transmit_ring.head ≡ a.adapter.transmit_ring.head) ⊎ HasValidIndices (transmit_ring b)
+  pub receives : OnlyHeadMoves a.adapter.receive_ring b.adapter.receive_ring
+  pub transmits : OnlyHeadMoves a.adapter.transmit_ring b.adapter.transmit_ring
   pub addresses : All (λ slot. named_address b.memory slot ≡ named_address a.memory slot) (outstanding (receive_ring a) o)
   pub sources : All (λ slot. data_of b.memory slot ≡ data_of a.memory slot) (outstanding (transmit_ring a) p)
   pub none_to_send : frames_to_send a ≡ [] → frames_to_send b ≡ []
@@ -88,8 +86,7 @@ none-left memory ring buffer none =
     (map-empty (λ (queued : Queued). queued.frame) buffer parts.0, ap (map (address_of ring)) (map-empty _ (offered_places ring) parts.1))
 
 transmit-kept : (up : Bool) (o : ℕ) (counts : Counts) (p sending : ℕ) (a b : World) → Keeps o p a b
-    → TransmitIs up counts p sending a.memory (transmit_ring a) a.adapter.transmit_control a.adapter.transmitter.buffer
-    → TransmitIs up counts p sending b.memory (transmit_ring b) b.adapter.transmit_control b.adapter.transmitter.buffer
+    → TransmitIs up counts p sending (transmit_side a) → TransmitIs up counts p sending (transmit_side b)
 transmit-kept true o counts p sending a b keeps side =
     let slots = slots_from counts.tx p sending in
     let Same : ℕ → Type 0 = λ slot. data_of b.memory slot ≡ data_of a.memory slot in
@@ -101,7 +98,7 @@ transmit-kept true o counts p sending a b keeps side =
       room = side.room;
       pads = subst (λ (control : ℕ). HasBit control 3) (sym keeps.control) side.pads;
       knows = knows-carried a.adapter.transmit_ring b.adapter.transmit_ring
-          (16 * counts.rx) counts.tx _ keeps.transmits keeps.transmit_head side.knows;
+          (16 * counts.rx) counts.tx _ keeps.transmits side.knows;
       sources = λ k d below. subst (λ (area : Area). IsInside area (area_of counts (TransmitBuffer (get_or slots k d))))
           (sym (same k d below)) (side.sources k d below);
     }
@@ -110,10 +107,10 @@ transmit-kept false o counts p sending a b keeps side =
     let behind = b.adapter.transmit_ring in
     let none = none-left b.memory (transmit_ring b) b.adapter.transmitter.buffer
     (keeps.none_to_send (none-to_send a.memory (transmit_ring a) a.adapter.transmitter.buffer side.empty side.idle)) in
-    let tail : behind.tail ≡ before.tail = ap (λ (ring : RingRegisters). ring.tail) keeps.transmits in
-    let head : behind.head ≡ before.head = still-idle before behind keeps.transmits keeps.transmit_head side.idle none.1 ∙ tail
+    let tail : behind.tail ≡ before.tail = ap (λ (ring : RingRegisters). ring.tail) keeps.transmits.others in
+    let head : behind.head ≡ before.head = still-idle before behind keeps.transmits side.idle none.1 ∙ tail
     ∙ sym side.idle in
-    let same : behind ≡ before = keeps.transmits
+    let same : behind ≡ before = keeps.transmits.others
     ∙ ap (λ (index : ℕ). let ring : RingRegisters = record before { head = index } in ring) head in
     subst (λ (ring : RingRegisters). TransmitIsOff counts p sending (ring_of ring) b.adapter.transmitter.buffer) (sym same)
     (record { ends = side.ends; idle = side.idle; last = side.last; nothing = side.nothing; empty = none.0 })
@@ -131,11 +128,11 @@ ready-kept {up} d staged pool a b ready keeps driver stored stand =
       driver_is = driver;
       law = keeps.law;
       lies = subst (λ (n : ℕ). size_of d.layout ≤ n) (sym keeps.size) ready.lies;
-      receive = knows-carried before behind 0 d.layout.rx (receive_tail d) keeps.receives keeps.receive_head ready.receive;
+      receive = knows-carried before behind 0 d.layout.rx (receive_tail d) keeps.receives ready.receive;
       transmit = transmit-kept up d.oldest_receive d.layout d.oldest_transmit d.sending a b keeps ready.transmit;
       slots = record {
         names =
-            ap (λ (ring : RingRegisters). map (named_address b.memory) (outstanding (ring_of ring) d.oldest_receive)) keeps.receives
+            ap (λ (ring : RingRegisters). map (named_address b.memory) (outstanding (ring_of ring) d.oldest_receive)) keeps.receives.others
             ∙ map-same (named_address b.memory) (named_address a.memory) (outstanding (receive_ring a) d.oldest_receive) keeps.addresses
             ∙ ready.slots.names;
         stored = stored;
@@ -160,16 +157,14 @@ keeps-happening {up} d a b past ready happens =
         whole = between.whole receive_buffer_bytes ready.law.whole;
       };
       size = steady.size;
-      filter = steady.filter;
-      control = steady.transmit_control;
+      filter = steady.registers.filter;
+      control = steady.registers.transmit_control;
       receives = steady.receive_ring;
       transmits = steady.transmit_ring;
-      receive_head = steady.receive_head;
-      transmit_head = steady.transmit_head;
       addresses = each-outstanding (receive_ring a) o (λ slot. named_address b.memory slot
           ≡ named_address a.memory slot) ready.law.sound.receive_slots.slot own.addresses;
       sources =
           each-outstanding (transmit_ring a) p (λ slot. data_of b.memory slot ≡ data_of a.memory slot) ready.law.sound.transmit_slots.slot
           (λ slot below. ap (λ (desc : TxDesc). area_at desc.address desc.length) (own.requests slot below).fields);
-      none_to_send = λ none. (append-empty past.put (frames_to_send b) (between.sends ∙ none)).1;
+      none_to_send = λ none. (append-empty past.put (frames_to_send b) (between.transmit.sends ∙ none)).1;
     }

@@ -19,6 +19,7 @@ use Rattle.rx_engine.specs.Pieces.Piece.{Last}
 use Rattle.adapter.specs.HostFrames.{finished_pieces}
 use Rattle.adapter.specs.World.{World, world_after_store, world_after_write}
 use Rattle.bus.specs.RegisterSetting.{with_tail}
+use Rattle.bus.specs.Keeping.{view_of}
 use Rattle.bus.specs.Law.{Acts}
 use Rattle.bus.specs.PastOfStretch.{nothing}
 use Rattle.bus.specs.declared.event.Access.{Access}
@@ -86,7 +87,7 @@ takes-push counts slot (first ∷ taken) numbers =
 pub ran_by-stages : {up : Bool} {B : Type 0} (bus : Ghosts B) (old new : B) (d : DriverState) (m address : ℕ) (pool bytes : List ℕ)
     → length d.buffers + length d.staged + 1 < d.layout.rx → m < d.layout.buffers → HaveSameNumbers d.pool (m ∷ pool)
     → address ≡ receive_slot (next_receive d) → bytes ≡ empty_descriptor (buffer_at d.layout m)
-    → Acts bus.world bus.happened bus.lively old new (Stores address bytes) (λ before after. after ≡ world_after_store address bytes before)
+    → Acts (view_of bus) old new (Stores address bytes) (λ before after. after ≡ world_after_store address bytes before)
     → ReadyWith up d (bus.world old)
     → Ran bus up (only (stores_from d.layout (next_receive d) (m ∷ []))) (at old d)
     (at new (with_owners d d.buffers (d.staged ++ m ∷ []) pool d.handed_out))
@@ -106,7 +107,7 @@ ran_by-stages {up} bus old new d m address pool bytes room known moves address_i
 
 -- RDT is written, and offers all that are staged.
 pub ran_by-offers : {up : Bool} {B : Type 0} (bus : Ghosts B) (old new : B) (d : DriverState) (value : ℕ) → value ≡ next_receive d
-    → Acts bus.world bus.happened bus.lively old new (Writes 0x2818 value) (λ before after. after ≡ world_after_write 0x2818 value before)
+    → Acts (view_of bus) old new (Writes 0x2818 value) (λ before after. after ≡ world_after_write 0x2818 value before)
     → ReadyWith up d (bus.world old)
     → Ran bus up (only (Writes 0x2818 (next_receive d) ∷ [])) (at old d)
     (at new (with_owners d (d.buffers ++ d.staged) [] d.pool d.handed_out))
@@ -129,7 +130,7 @@ ran_by-offers {up} bus old new d value value_is acts ready =
 
 -- Bytes are loaded.
 pub ran_by-reads : {up : Bool} {B : Type 0} (bus : Ghosts B) (old new : B) (d : DriverState) (address n : ℕ) (bytes : List ℕ)
-    → Acts bus.world bus.happened bus.lively old new (Loads address n)
+    → Acts (view_of bus) old new (Loads address n)
     (λ before after. (bytes ≡ bytes_at before.memory address n) × (after ≡ before))
     → ReadyWith up d (bus.world old)
     → Ran bus up (only (Loads address n ∷ [])) (at old d) (at new d)
@@ -148,7 +149,7 @@ Shows address bytes before after = (bytes ≡ bytes_at before.memory address 16)
 
 pub ran_by-looks : {up : Bool} {B : Type 0} (bus : Ghosts B) (old new : B) (d : DriverState) (k address : ℕ) (bytes : List ℕ)
     → k < length d.buffers → address ≡ receive_slot (slot_after_oldest d k)
-    → Acts bus.world bus.happened bus.lively old new (Loads address 16) (Shows address bytes)
+    → Acts (view_of bus) old new (Loads address 16) (Shows address bytes)
     → ReadyWith up d (bus.world old)
     → LooksAtSlot bus up k (rx_desc_of bytes) (at old d) new
 ran_by-looks {up} bus old new d k address bytes below address_is acts ready =
@@ -162,8 +163,8 @@ ran_by-looks {up} bus old new d k address bytes below address_is acts ready =
     ∙ ap (λ (place : ℕ). bytes_at (bus.world new).memory place 16) address_is in
     record {
       ran = subst (λ (place : ℕ). Ran bus up (only (Loads place 16 ∷ [])) (at old d) (at new d)) address_is ran;
-      more = between.pieces;
-      grows = ap (finished_pieces o) acts.effect_is.1 ∙ between.grown;
+      more = between.receive.pieces;
+      grows = ap (finished_pieces o) acts.effect_is.1 ∙ between.receive.grown;
       shows = subst
           (λ (list : List ℕ). ShowsSlot (is_set (status_bits (rx_desc_of list).status) dd) k (finished_pieces o (bus.world new))
           (rx_desc_of list)) (sym shown) (slot-shows d (bus.world new) k ran.goes.flows.ready below);
@@ -223,7 +224,7 @@ ran_by-takes {up} bus stays b d seen last later ready is =
 -- The bytes read from a piece that others hold are the piece's.
 pub frame-read : {up : Bool} {B : Type 0} (bus : Ghosts B) (old new : B) (d : DriverState) (first later : List HandedOut) (one : HandedOut)
     (address from n : ℕ) (bytes : List ℕ)
-    → Acts bus.world bus.happened bus.lively old new (Loads address n)
+    → Acts (view_of bus) old new (Loads address n)
     (λ before after. (bytes ≡ bytes_at before.memory address n) × (after ≡ before))
     → ReadyWith up d (bus.world old)
     → d.handed_out ≡ first ++ one ∷ later → address ≡ buffer_at d.layout one.number + from → from + n ≤ length one.bytes

@@ -8,6 +8,7 @@ use Rattle.adapter.specs.Table.{register_at}
 use Rattle.adapter.specs.World.{World, world_after_read}
 use Rattle.bus.proofs.RegisterSetting.{reads_leave_frames}
 use Rattle.bus.proofs.Settings.{happens-off}
+use Rattle.bus.specs.Keeping.{view_of}
 use Rattle.bus.specs.Law.{Acts}
 use Rattle.bus.specs.PastOfStretch.{nothing}
 use Rattle.bus.specs.declared.event.Access.TheVariants.{Reads}
@@ -29,7 +30,7 @@ unfolding register_at
 shown-causes world = refl
 
 pub reads-causes : {up : Bool} {B : Type 0} (bus : Ghosts B) (old new : B) (d : DriverState) (value : ℕ)
-    → Acts bus.world bus.happened bus.lively old new (Reads 0xC0 value) (IsRead 0xC0 value) → ReadyWith up d (bus.world old)
+    → Acts (view_of bus) old new (Reads 0xC0 value) (IsRead 0xC0 value) → ReadyWith up d (bus.world old)
     → ReadsCauses bus up value (at old d) new
 reads-causes {up} bus old new d value acts ready =
     let middle = acts.middle in
@@ -71,7 +72,7 @@ reads-causes {up} bus old new d value acts ready =
     }
 
 pub ran_by-misses : {up : Bool} {B : Type 0} (bus : Ghosts B) (old new : B) (d : DriverState) (value : ℕ) → d.missed < 2 ^ 64
-    → Acts bus.world bus.happened bus.lively old new (Reads 0x4010 value) (IsRead 0x4010 value) → ReadyWith up d (bus.world old)
+    → Acts (view_of bus) old new (Reads 0x4010 value) (IsRead 0x4010 value) → ReadyWith up d (bus.world old)
     → Ran bus up (only (Reads 0x4010 value ∷ [])) (at old d) (at new (with_missed value d))
 ran_by-misses {up} bus old new d value fits acts ready =
     ran_by-acts bus old new (Reads 0x4010 value) (IsRead 0x4010 value) d (with_missed value d) [] [] acts

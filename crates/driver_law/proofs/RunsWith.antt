@@ -1,6 +1,7 @@
 -- An interval over a bus after which a statement holds, from a statement that steps and deliveries before the access don't change.
 use Rattle.std.proofs.Common.{Bool, ◌∷◌, [], List, ℕ, subst}
 use Rattle.adapter.specs.World.{World}
+use Rattle.bus.specs.Keeping.{view_of}
 use Rattle.bus.specs.Law.{Acts, Happens}
 use Rattle.bus.proofs.Settings.{happens-off}
 use Rattle.bus.specs.PastOfStretch.{Past, nothing}
@@ -21,7 +22,7 @@ pub record RanWith {B : Type 0} (bus : Ghosts B) (up : Bool) (did : Did) (old ne
 pub run-with : {first up : Bool} {B : Type 0} (bus : Ghosts B) (old new : B)
     (access : Access) (effect : World → World → Type 0) (d d' : DriverState) (taken accepted : List (List ℕ))
     (Before Behind : World → Type 0)
-    → Acts bus.world bus.happened bus.lively old new access effect → SetsBy access effect (bus.world new)
+    → Acts (view_of bus) old new access effect → SetsBy access effect (bus.world new)
     → ReadyWith first d (bus.world old)
     → Before (bus.world old)
     → ((a b : World) (past : Past) → ReadyWith first d a → Happens a b past → Before a → Before b)

@@ -69,10 +69,12 @@ next-offer {up} d m rest a staged ready =
       names = empty.names;
       moved = moved;
       can = record {
-        oldest_slot = omega (arith, ready.receive.slots, ready.driver_is.oldest_slot);
-        head_slot = omega (arith, ready.receive.slots, ready.receive.head_slot);
-        tail_slot = omega (arith, ready.receive.slots, ready.receive.last, place-below n o i ready.driver_is.oldest_slot);
-        room = λ same. places-differ n o 0 (i + 1) ready.driver_is.oldest_slot (omega arith) room (sym (sym moved ∙ same));
+        ring = record {
+          oldest_slot = omega (arith, ready.receive.slots, ready.driver_is.oldest_slot);
+          head_slot = omega (arith, ready.receive.slots, ready.receive.head_slot);
+          tail_slot = omega (arith, ready.receive.slots, ready.receive.last, place-below n o i ready.driver_is.oldest_slot);
+          room = λ same. places-differ n o 0 (i + 1) ready.driver_is.oldest_slot (omega arith) room (sym (sym moved ∙ same));
+        };
         fresh = empty.clear;
         lies = λ enabled. subst (λ (there : Area). LiesIn a.memory there.address there.size) (sym (stands enabled)) aside.lies;
         apart = λ enabled. subst (λ (there : Area). All (λ other. AreApart other there) (areas o a)) (sym (stands enabled)) aside.apart;

@@ -114,6 +114,7 @@ goes-happens {up} d a b past ready happens =
     let o = d.oldest_receive in
     let p = d.oldest_transmit in
     let between = happens.between o p ready.law.sound in
+    let arrivals = happens.steady.arrivals in
     let own = drivers_side_stays o p a b past ready.law.sound happens in
     let slot : ℕ → ℕ = λ i. place d.layout.rx (receive_tail d) i in
     let kept : (i : ℕ) → i < length d.staged
@@ -128,25 +129,26 @@ goes-happens {up} d a b past ready happens =
     (stored-kept a.memory b.memory d.layout (receive_tail d) d.staged kept ready.slots.stored) stand in
     goes-passes d d.buffers d.staged d.pool d.handed_out a b past
     (record {
-      sends = between.sends;
-      holds = between.holds;
-      ended = frames_from (begun_of (finished_pieces o a)) between.pieces;
-      grown = ap frames_of between.grown ∙ frames-append [] (finished_pieces o a) between.pieces;
+      sends = between.transmit.sends;
+      holds = between.receive.holds;
+      ended = frames_from (begun_of (finished_pieces o a)) between.receive.pieces;
+      grown = ap frames_of between.receive.grown ∙ frames-append [] (finished_pieces o a) between.receive.pieces;
       told =
           ⊎_elim
-          (λ (are_parts : All IsPart between.pieces). inl (frames-none (begun_of (finished_pieces o a)) between.pieces are_parts))
+          (λ (are_parts : All IsPart between.receive.pieces).
+          inl (frames-none (begun_of (finished_pieces o a)) between.receive.pieces are_parts))
           (λ (bit : HasBit b.adapter.causes.recorded 7). inr bit)
-          between.told;
-      reported = between.reported;
-      written = between.written;
-      each_reported = between.each_reported;
-      mask = happens.steady.mask;
+          between.receive.told;
+      reported = between.transmit.reported;
+      written = between.transmit.written;
+      each_reported = between.transmit.each_reported;
+      mask = happens.steady.registers.mask;
       causes = happens.steady.causes;
-      missed = λ fits. let same = grown a.adapter.missed_packets past.missed fits in omega (arith, same, happens.steady.missed);
-      missed_most = let most = grown-most a.adapter.missed_packets past.missed in omega (arith, most, happens.steady.missed);
+      missed = λ fits. let same = grown a.adapter.missed_packets past.missed fits in omega (arith, same, arrivals.missed);
+      missed_most = let most = grown-most a.adapter.missed_packets past.missed in omega (arith, most, arrivals.missed);
       missed_below_greatest = λ below_greatest.
-          let same = grown-below_greatest a.adapter.missed_packets past.missed (omega (arith, below_greatest, happens.steady.missed)) in
-          omega (arith, same, happens.steady.missed);
+          let same = grown-below_greatest a.adapter.missed_packets past.missed (omega (arith, below_greatest, arrivals.missed)) in
+          omega (arith, same, arrivals.missed);
     })
     ready_after
   where

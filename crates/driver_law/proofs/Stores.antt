@@ -60,10 +60,8 @@ keeps-store {up} d a address bytes ready lies own =
       size = length-with_bytes a.memory bytes address lies;
       filter = refl;
       control = refl;
-      receives = refl;
-      transmits = refl;
-      receive_head = inl refl;
-      transmit_head = inl refl;
+      receives = record { others = refl; head = inl refl };
+      transmits = record { others = refl; head = inl refl };
       addresses = λ k slot below. ap (λ (list : List ℕ). (rx_desc_of list).address) (received k slot below);
       sources = λ k slot below. ap (λ (list : List ℕ). area_at (tx_desc_of list).address (tx_desc_of list).length) (sent k slot below);
       none_to_send = λ none. leaves.same.to_send ∙ none;

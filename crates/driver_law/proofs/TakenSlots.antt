@@ -100,7 +100,7 @@ record IsNextOldest (d : DriverState) (world : World) (run later : List ℕ) (fr
 run-taken : {up : Bool} (d : DriverState) (numbers run : List ℕ) (seen : List (List ℕ)) (last : List ℕ) (world : World)
     → ReadyWith up d world
     → (contain : ContainFrame d world numbers run seen last)
-    → RunTaken d.oldest_receive d.oldest_transmit world run seen last contain.later
+    → RunTaken d.oldest_receive d.oldest_transmit world run seen last
 run-taken d numbers run seen last world ready contain =
     runs_can_be_taken d.oldest_receive d.oldest_transmit world run seen last contain.later ready.law.sound contain.slots contain.pieces
 
@@ -117,9 +117,9 @@ run_can_be_taken up d numbers run seen last a ready contain =
     let taken = run-taken d numbers run seen last a ready contain in
     let here : IsNextOldest d a run contain.later frame (after_run o run a) = record {
       sound = taken.sound;
-      held = taken.held;
-      ended = taken.ended;
-      first = taken.first;
+      held = taken.frame.held;
+      ended = taken.frame.ended;
+      first = taken.slots.first;
       fits = taken.fits receive_buffer_bytes ready.law.fit;
       whole = (taken.cut receive_buffer_bytes ready.law.whole).others;
     } in
@@ -200,7 +200,7 @@ run_is_of_frame up d numbers run seen last a ready contain =
         full = cut.full;
         last_size = cut.last_size;
       },
-      bytes-in a run numbers contain.count ∙ taken.bytes,
+      bytes-in a run numbers contain.count ∙ taken.frame.bytes,
     )
 
 pub parts_are_few : PartsAreFew

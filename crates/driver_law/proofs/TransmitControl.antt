@@ -72,11 +72,13 @@ causes_are_enabled up driver causes world ready =
     { memory = refl; receives = refl; transmits = refl; receive_control = refl; transmit_control = refl; buffer = refl } in
     record {
       ready = ready-left driver world b ready leaves same;
-      to_send = leaves.same.to_send;
-      held = leaves.same.held;
-      finished_same = leaves.same.finished_same;
-      pieces_same = leaves.same.pieces_same;
-      written_same = leaves.same.written_same;
+      frames = record {
+        to_send = leaves.same.to_send;
+        held = leaves.same.held;
+        finished_same = leaves.same.finished_same;
+        pieces_same = leaves.same.pieces_same;
+        written_same = leaves.same.written_same;
+      };
       missed = refl;
       recorded = refl;
       mask = refl;
@@ -88,7 +90,7 @@ enabled_forgets_no_work up driver causes a b enabled set asked = record {
       ((HasBit-union a.adapter.causes.mask (causes_of causes) 7).1 (inr set));
   asked =
       ⊎_elim
-      (λ (none : frames_ended (driver_in driver a) ≡ []). inl (ap frames_of enabled.pieces_same ∙ none))
+      (λ (none : frames_ended (driver_in driver a) ≡ []). inl (ap frames_of enabled.frames.pieces_same ∙ none))
       (λ (bit : HasBit a.adapter.causes.recorded 7). inr (subst (λ (recorded : ℕ). HasBit recorded 7) (sym enabled.recorded) bit))
       asked;
 }

@@ -16,6 +16,7 @@ use Rattle.adapter.specs.Slots.{is_done, written_back}
 use Rattle.adapter.specs.World.{World, transmit_ring, world_after_store, world_after_write}
 use Rattle.bus.proofs.Lists.{all-none}
 use Rattle.bus.proofs.KnownRings.{transmit_tail-written}
+use Rattle.bus.specs.Keeping.{view_of}
 use Rattle.bus.specs.Law.{Acts, Happens}
 use Rattle.bus.specs.PastOfStretch.{Past, joined, nothing}
 use Rattle.bus.specs.declared.event.Access.TheVariants.{Loads, Stores, Writes}
@@ -102,9 +103,9 @@ pub run-sends : {B : Type 0} (bus : Ghosts B)
     → (buffer slot next : ℕ) (bytes : List ℕ) → buffer ≡ transmit_buffer d.layout (transmit_tail d)
     → slot ≡ transmit_slot d.layout (transmit_tail d)
     → bytes ≡ whole_descriptor (transmit_buffer d.layout (transmit_tail d)) (length frame) → next ≡ (transmit_tail d + 1) % d.layout.tx
-    → Acts bus.world bus.happened bus.lively old one (Stores buffer frame) (λ before after. after ≡ world_after_store buffer frame before)
-    → Acts bus.world bus.happened bus.lively one two (Stores slot bytes) (λ before after. after ≡ world_after_store slot bytes before)
-    → Acts bus.world bus.happened bus.lively two new (Writes 0x3818 next) (λ before after. after ≡ world_after_write 0x3818 next before)
+    → Acts (view_of bus) old one (Stores buffer frame) (λ before after. after ≡ world_after_store buffer frame before)
+    → Acts (view_of bus) one two (Stores slot bytes) (λ before after. after ≡ world_after_store slot bytes before)
+    → Acts (view_of bus) two new (Writes 0x3818 next) (λ before after. after ≡ world_after_write 0x3818 next before)
     → Ready d (bus.world old)
     → Ran bus true (call_did (send_accesses d frame) [] (padded frame ∷ [])) (at old d) (at new (record d { sending = d.sending + 1 }))
 run-sends {B} bus joins old one two new d frame room least short buffer slot next bytes buffer_is slot_is bytes_is next_is
@@ -115,9 +116,9 @@ run-sends {B} bus joins old one two new d frame room least short buffer slot nex
     let tail = (transmit_tail d + 1) % d.layout.tx in
     let sent : DriverState = record d { sending = d.sending + 1 } in
     let Stored : B → B → ℕ → List ℕ
-    → Type 0 = λ a b address list. Acts bus.world bus.happened bus.lively a b (Stores address list)
+    → Type 0 = λ a b address list. Acts (view_of bus) a b (Stores address list)
     (λ before after. after ≡ world_after_store address list before) in
-    let Written : ℕ → Type 0 = λ value. Acts bus.world bus.happened bus.lively two new (Writes 0x3818 value)
+    let Written : ℕ → Type 0 = λ value. Acts (view_of bus) two new (Writes 0x3818 value)
     (λ before after. after ≡ world_after_write 0x3818 value before) in
     let first : Stored old one start frame = subst (λ (address : ℕ). Stored old one address frame) buffer_is stores_data in
     let second : Stored one two place descriptor = subst (Stored one two place) bytes_is
@@ -165,7 +166,7 @@ run-sends {B} bus joins old one two new d frame room least short buffer slot nex
 
 abbrev pub LoadsOldest : {B : Type 0} (bus : Ghosts B) (old new : B) (d : DriverState) (bytes : List ℕ) → Type 0
 LoadsOldest bus old new d bytes =
-    Acts bus.world bus.happened bus.lively old new (Loads (transmit_slot d.layout d.oldest_transmit) 16)
+    Acts (view_of bus) old new (Loads (transmit_slot d.layout d.oldest_transmit) 16)
     (λ before after. (bytes ≡ bytes_at before.memory (transmit_slot d.layout d.oldest_transmit) 16) × (after ≡ before))
 
 -- It is done: the slot is freed.

@@ -13,10 +13,10 @@ use Rattle.driver_law.specs.Beginnings.{NoFrameComes, NothingIsHeld, RingsThatAr
 pub no_frame_comes : NoFrameComes
 no_frame_comes up driver a b past ready happens waits =
     let between = happens.between driver.oldest_receive driver.oldest_transmit ready.law.sound in
-    let stored = (happens.steady.off waits.disabled).0 in
+    let stored = (happens.steady.arrivals.off waits.disabled).0 in
     record {
-      disabled = subst (λ (filter : FilterRegisters). ¬ (HasBit filter.rctl 1)) (sym happens.steady.filter) waits.disabled;
-      none = between.holds ∙ ap (λ (frames : List (List ℕ)). frames_held driver.oldest_receive a ++ frames) stored
+      disabled = subst (λ (filter : FilterRegisters). ¬ (HasBit filter.rctl 1)) (sym happens.steady.registers.filter) waits.disabled;
+      none = between.receive.holds ∙ ap (λ (frames : List (List ℕ)). frames_held driver.oldest_receive a ++ frames) stored
           ∙ append-nil (frames_held driver.oldest_receive a) ∙ waits.none;
     }
 
@@ -30,7 +30,7 @@ pub rings_that_are_off_stay : RingsThatAreOffStay
 rings_that_are_off_stay driver a b past ready happens =
     let before = a.adapter.transmit_ring in
     let behind = b.adapter.transmit_ring in
-    let moved = happens.steady.transmit_ring in
+    let moved = happens.steady.transmit_ring.others in
     let still = (goes-happens driver a b past ready happens).flows.ready.transmit in
     let tail : behind.tail ≡ before.tail = ap (λ (ring : RingRegisters). ring.tail) moved in
     let head : behind.head ≡ before.head = still.idle ∙ tail ∙ sym ready.transmit.idle in

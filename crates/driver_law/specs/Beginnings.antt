@@ -19,7 +19,7 @@ use Rattle.bus.specs.PastOfStretch.{Past, nothing}
 use Rattle.adapter.specs.KnownRing.{KnowsRing}
 use Rattle.driver_law.specs.DriverState.{DriverState, next_receive, receive_slot, transmit_tail}
 use Rattle.driver_law.specs.Calls.{Goes, GoesTo, HasNoForgottenWork, driver_did, driver_in, frames_ended}
-use Rattle.driver_law.specs.ReadyDrivers.{IsDriver, ReadyWith, TransmitIs}
+use Rattle.driver_law.specs.ReadyDrivers.{IsDriver, ReadyWith, TransmitIs, transmit_side}
 use Rattle.registers.specs.Places.{rctl_bsex, rctl_en, rxt0, tctl_psp}
 
 -- The beginning.
@@ -49,7 +49,7 @@ pub record HasBegun (up : Bool) (counts : Counts) (pool : List ℕ) (world : Wor
   -- RCTL.BSIZE names the size of the layout's receive buffers while RCTL.EN is set.
   pub sized : HasBit world.adapter.filter.rctl rctl_en → buffer_size world ≡ receive_buffer_bytes
   pub receive : KnowsRing (receive_ring world) 0 counts.rx 0
-  pub transmit : TransmitIs up counts 0 0 world.memory (transmit_ring world) world.adapter.transmit_control world.adapter.transmitter.buffer
+  pub transmit : TransmitIs up counts 0 0 (transmit_side world)
 
 -- A driver that begins in such a world is ready.
 abbrev pub DriversBegin : Type 0
@@ -84,14 +84,19 @@ ReceiverIsEnabled =
     → buffer_size (with_receive_control control world) ≡ receive_buffer_bytes
     → GoesTo false (driver_in driver world) (driver_in driver (with_receive_control control world)) (driver_did [] []) nothing
 
--- Causes were enabled, and nothing else happened.
-pub record Enabled (up : Bool) (driver : DriverState) (causes : ℕ) (a b : World) : Type 0 where
-  pub ready : ReadyWith up driver b
+-- Frames, slots and pieces are the same.
+pub record FramesStay (driver : DriverState) (a b : World) : Type 0 where
   pub to_send : frames_to_send b ≡ frames_to_send a
   pub held : frames_held driver.oldest_receive b ≡ frames_held driver.oldest_receive a
   pub finished_same : finished driver.oldest_receive b ≡ finished driver.oldest_receive a
   pub pieces_same : finished_pieces driver.oldest_receive b ≡ finished_pieces driver.oldest_receive a
   pub written_same : written_back driver.oldest_transmit b ≡ written_back driver.oldest_transmit a
+
+-- Causes were enabled, and nothing else happened.
+pub record Enabled (up : Bool) (driver : DriverState) (causes : ℕ) (a b : World) : Type 0 where
+  pub ready : ReadyWith up driver b
+  pub frames : FramesStay driver a b
+  -- MPC and ICR are the same, and IMS has these causes, too.
   pub missed : b.adapter.missed_packets ≡ a.adapter.missed_packets
   pub recorded : b.adapter.causes.recorded ≡ a.adapter.causes.recorded
   pub mask : b.adapter.causes.mask ≡ union a.adapter.causes.mask (causes_of causes)

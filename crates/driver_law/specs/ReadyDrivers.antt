@@ -69,10 +69,27 @@ pub record TransmitIsOff (counts : Counts) (oldest sending : ℕ) (ring : Ring) 
   pub nothing : sending ≡ 0
   pub empty : buffer ≡ []
 
+-- what the transmit side consists of
+pub record TransmitSide : Type 0 where
+  pub memory : List ℕ
+  pub ring : Ring
+  -- TCTL
+  pub control : ℕ
+  -- the packet buffer
+  pub buffer : List Queued
+
+abbrev pub transmit_side : World → TransmitSide
+transmit_side world = record {
+  memory = world.memory;
+  ring = transmit_ring world;
+  control = world.adapter.transmit_control;
+  buffer = world.adapter.transmitter.buffer;
+}
+
 -- the transmit side is set up (`true`) or off (`false`)
-abbrev pub TransmitIs : Bool → Counts → ℕ → ℕ → List ℕ → Ring → ℕ → List Queued → Type 0
-TransmitIs true counts oldest sending memory ring control buffer = TransmitIsUp counts oldest sending memory ring control
-TransmitIs false counts oldest sending memory ring control buffer = TransmitIsOff counts oldest sending ring buffer
+abbrev pub TransmitIs : Bool → Counts → (oldest sending : ℕ) → TransmitSide → Type 0
+TransmitIs true counts oldest sending side = TransmitIsUp counts oldest sending side.memory side.ring side.control
+TransmitIs false counts oldest sending side = TransmitIsOff counts oldest sending side.ring side.buffer
 
 -- What the bus law asks of the adapter and its memory, and engines that can run.
 pub record MeetsLaw (oldest_receive oldest_transmit : ℕ) (world : World) : Type 0 where
@@ -98,8 +115,7 @@ pub record ReadyWith (up : Bool) (driver : DriverState) (world : World) : Type 0
   -- Memory contains the whole layout.
   pub lies : size_of driver.layout ≤ length world.memory
   pub receive : KnowsRing (receive_ring world) 0 driver.layout.rx (receive_tail driver)
-  pub transmit : TransmitIs up driver.layout driver.oldest_transmit driver.sending world.memory
-      (transmit_ring world) world.adapter.transmit_control world.adapter.transmitter.buffer
+  pub transmit : TransmitIs up driver.layout driver.oldest_transmit driver.sending (transmit_side world)
   pub slots : SlotsAreStored driver world
   pub stand : All (Stands driver.layout world.memory) driver.handed_out
 

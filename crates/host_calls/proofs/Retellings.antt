@@ -47,11 +47,14 @@ retellings-join a b c first later one two =
             ∙ ap (λ (list : List Numbered). list ++ noted_of b.accesses two.steps) one.noted
             ∙ append_assoc a.outcomes.now.list (noted_of a.accesses one.steps) (noted_of b.accesses two.steps)
             ∙ ap (λ (list : List Numbered). a.outcomes.now.list ++ list)
-            (ap (λ (n : ℕ). noted_of a.accesses one.steps ++ noted_of n two.steps) one.number
+            (ap (λ (n : ℕ). noted_of a.accesses one.steps ++ noted_of n two.steps) one.accesses.number
             ∙ sym (noted_join a.accesses one.steps two.steps));
-        number =
-            two.number ∙ ap (λ (n : ℕ). counted_of n two.steps) one.number ∙ sym (counted_join a.accesses one.steps two.steps);
-        count = whole.count;
+        accesses = record {
+          number =
+              two.accesses.number ∙ ap (λ (n : ℕ). counted_of n two.steps) one.accesses.number
+              ∙ sym (counted_join a.accesses one.steps two.steps);
+          count = whole.accesses.count;
+        };
       },
       refl,
     )

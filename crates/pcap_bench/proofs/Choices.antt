@@ -241,9 +241,12 @@ same_sets options regs is fits chosen =
           ↔ (a ≡ Some address)) (sym chosen.rah) (addresses_of a address is));
       groups = λ number below. subst (λ (t : List ℕ). HasTableBit t number ↔ IsGroupNumber g number) (sym chosen.mta) (groups_of g number);
       shift = ap (λ (r : ℕ). shift_of (group_offset_of (field r 12 2))) chosen.rctl ∙ m.shift;
-      every_vlan = subst (λ (r : ℕ). (field r 18 1 ≡ 0) ↔ (v ≡ None)) (sym chosen.rctl) m.every_vlan;
-      vlans = λ number below. subst (λ (t : List ℕ). HasTableBit t number ↔ (v ≡ Some number)) (sym chosen.vfta) (vlans_of v number fits);
-      vlan_type = chosen.vet;
+      vlans = record {
+        every_vlan = subst (λ (r : ℕ). (field r 18 1 ≡ 0) ↔ (v ≡ None)) (sym chosen.rctl) m.every_vlan;
+        numbers = λ number below.
+            subst (λ (t : List ℕ). HasTableBit t number ↔ (v ≡ Some number)) (sym chosen.vfta) (vlans_of v number fits);
+        vlan_type = chosen.vet;
+      };
       all_individuals = subst (λ (r : ℕ). HasBit r 3 ↔ IsOpen options) (sym chosen.rctl) m.individuals;
       all_groups = subst (λ (r : ℕ). HasBit r 4 ↔ IsOpen options) (sym chosen.rctl) m.groups;
       broadcasts = subst (λ (r : ℕ). HasBit r 15 ↔ Unit {0}) (sym chosen.rctl) m.broadcasts;

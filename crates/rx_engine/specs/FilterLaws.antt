@@ -14,13 +14,17 @@ use Rattle.rx_engine.specs.Writing.{with_number, NoAddressAtFirst, AddressIsAdde
 
 -- Filters of the same sets pass the same frames.
 
+-- The VLAN numbers, if frames are asked for them, and the type of a tagged frame.
+pub record SameVlans (a b : ReceiveFilter) : Type 0 where
+  pub every_vlan : a.every_vlan ↔ b.every_vlan
+  pub numbers : (number : ℕ) → number < 4096 → a.vlans number ↔ b.vlans number
+  pub vlan_type : a.vlan_type ≡ b.vlan_type
+
 pub record SameSets (a b : ReceiveFilter) : Type 0 where
   pub addresses : (address : List ℕ) → a.addresses address ↔ b.addresses address
   pub groups : (number : ℕ) → number < 4096 → a.groups number ↔ b.groups number
   pub shift : a.shift ≡ b.shift
-  pub every_vlan : a.every_vlan ↔ b.every_vlan
-  pub vlans : (number : ℕ) → number < 4096 → a.vlans number ↔ b.vlans number
-  pub vlan_type : a.vlan_type ≡ b.vlan_type
+  pub vlans : SameVlans a b
   pub all_individuals : a.all_individuals ↔ b.all_individuals
   pub all_groups : a.all_groups ↔ b.all_groups
   pub broadcasts : a.broadcasts ↔ b.broadcasts
@@ -33,9 +37,11 @@ SameSets-sym a b same = record {
   addresses = λ address. turned (same.addresses address);
   groups = λ number below. turned (same.groups number below);
   shift = sym same.shift;
-  every_vlan = turned same.every_vlan;
-  vlans = λ number below. turned (same.vlans number below);
-  vlan_type = sym same.vlan_type;
+  vlans = record {
+    every_vlan = turned same.vlans.every_vlan;
+    numbers = λ number below. turned (same.vlans.numbers number below);
+    vlan_type = sym same.vlans.vlan_type;
+  };
   all_individuals = turned same.all_individuals;
   all_groups = turned same.all_groups;
   broadcasts = turned same.broadcasts;
@@ -68,10 +74,10 @@ vlan_number-lt frame = omega arith
 AcceptsVlan-same : (a b : ReceiveFilter) (frame : List ℕ) → SameSets a b → AcceptsVlan a frame → AcceptsVlan b frame
 unfolding AcceptsVlan
 AcceptsVlan-same a b frame same accepted = elim accepted [
-  | inl every ↦ inl (same.every_vlan.0 every)
+  | inl every ↦ inl (same.vlans.every_vlan.0 every)
   | inr asked ↦ elim asked [
-    | inl untagged ↦ inr (inl (λ tagged. untagged (tagged ∙ sym same.vlan_type)))
-    | inr listed ↦ inr (inr ((same.vlans (vlan_number frame) (vlan_number-lt frame)).0 listed))
+    | inl untagged ↦ inr (inl (λ tagged. untagged (tagged ∙ sym same.vlans.vlan_type)))
+    | inr listed ↦ inr (inr ((same.vlans.numbers (vlan_number frame) (vlan_number-lt frame)).0 listed))
   ]
 ]
 

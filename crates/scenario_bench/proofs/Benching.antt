@@ -164,11 +164,13 @@ hosts_tell plans said a b told begun played tells = record {
       let this = tells.each k found.0 (tally_of k happened) host one found.1 tally host_is one_is in
       record {
         name = this.name ∙ ap (λ (h : Host). h.name) found.2;
-        accepted = this.accepted;
-        put = this.put;
-        reached = this.reached;
-        stored = this.stored;
-        given = this.given;
+        frames = record {
+          accepted = this.accepted;
+          put = this.put;
+          reached = this.reached;
+          stored = this.stored;
+          given = this.given;
+        };
         missed = this.counts.0;
         exact = this.counts.1;
         unclaimed = this.counts.2;

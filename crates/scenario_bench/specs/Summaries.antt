@@ -26,16 +26,19 @@ given_of k (Given host socket frame) = if k == host then 1 else 0
 abbrev pub all_given : ℕ → List Happening → ℕ
 all_given k happened = sum_by (given_of k) happened
 
--- The summary of the k-th host: its name, the numbers of frames that it accepted, put, that reached it, that it stored and returned, and
--- its counts.
-pub record TellsHost (k : ℕ) (plan : Host) (happened : List Happening) (host : HostState) (world : World) (told : HostSummary)
-    : Type 0 where
-  pub name : string_bytes told.name ≡ plan.name
+-- The numbers of frames in the summary of the k-th host: that it accepted, put, that reached it, that it stored and returned.
+pub record TellsFrames (k : ℕ) (happened : List Happening) (told : HostSummary) : Type 0 where
   pub accepted : told.accepted ≡ as_told (length (accepted k happened))
   pub put : told.put ≡ as_told (length (put k happened))
   pub reached : told.reached ≡ as_told (length (reached k happened))
   pub stored : told.stored ≡ as_told (length (stored k happened))
   pub given : told.given ≡ as_told (all_given k happened)
+
+-- The summary of the k-th host: its name, the numbers of frames, and its counts.
+pub record TellsHost (k : ℕ) (plan : Host) (happened : List Happening) (host : HostState) (world : World) (told : HostSummary)
+    : Type 0 where
+  pub name : string_bytes told.name ≡ plan.name
+  pub frames : TellsFrames k happened told
   pub missed : told.missed ≡ counted host world
   pub exact : IsTrue told.exact ↔ IsExact host world
   pub unclaimed : told.unclaimed ≡ host.unclaimed

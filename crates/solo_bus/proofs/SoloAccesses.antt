@@ -3,7 +3,7 @@ use Rattle.std.proofs.Common.{◌≡◌, ◌+◌, ◌++◌, ◌∷◌, [], Bool,
 use Rattle.std.specs.Bool.{⊤}
 use Rattle.std.proofs.lemmas.List.{map-append}
 use Rattle.bus.specs.BusMembers.{StaysWhole}
-use Rattle.bus.specs.Law.{Acts}
+use Rattle.bus.specs.Law.{Acts, view}
 use Rattle.bus.specs.PastOfStretch.{Past}
 use Rattle.bus.specs.declared.event.Access.{Access}
 use Rattle.bus.specs.TickGroups.{group_of}
@@ -28,7 +28,7 @@ is_lively solo = solo.lively ≡ true
 
 pub acts_on : (a p b : SoloState) (access : Access) (effect : World → World → Type 0) → Prepared a p
     → b ≡ record p { world = world_after_access access p.world } → IsAnswered access p.world → IsAdapter p.world.adapter
-    → effect p.world b.world → Acts solo_world Recounts is_lively a b access effect
+    → effect p.world b.world → Acts (view solo_world Recounts is_lively) a b access effect
 acts_on a p b access effect prepared after answered adapter does =
     let plays = prepared.plays in
     let events = plays.events in
@@ -47,8 +47,11 @@ acts_on a p b access effect prepared after answered adapter does =
       past_is = past-with_access events access plays.are;
       played = map-append tick_of events (Accesses access ∷ []) ∙ ap (λ (ticks : List SoloTick). ticks ++ Go ∷ []) plays.played;
       waiting = waiting_b ∙ plays.waiting;
-      free = are_free_joins events (Accesses access ∷ []) (length a.wire) (length a.wire + length (past_of events).put) refl plays.free tt;
-      wire = wire_b ∙ plays.wire;
+      wire = record {
+        free = are_free_joins events (Accesses access ∷ []) (length a.wire) (length a.wire + length (past_of events).put) refl
+            plays.wire.free tt;
+        frames = wire_b ∙ plays.wire.frames;
+      };
       lively = lively_b ∙ plays.lively;
       count = omega (arith, count_b, prepared.count);
     } in

@@ -34,18 +34,18 @@ plays_trans first later left left' a b c one two = record {
   events = one.events ++ two.events;
   are = All-append IsStep one.events two.events one.are two.are;
   trail = trail_joins one.events two.events a.world b.world c.world one.trail two.trail;
-  played =
-      map-append tick_of one.events two.events
+  played = map-append tick_of one.events two.events
       ∙ ap (λ (ticks : List SoloTick). ticks ++ map tick_of two.events) one.played
       ∙ ap (λ (ticks : List SoloTick). first ++ ticks) two.played;
   waiting = two.waiting;
-  free = are_free_joins one.events two.events (length a.wire) (length b.wire) (ap length one.wire
-      ∙ length-append a.wire (past_of one.events).put) one.free two.free;
-  wire =
-      two.wire
-      ∙ ap (λ (frames : List (List ℕ)). frames ++ (past_of two.events).put) one.wire
-      ∙ append_assoc a.wire (past_of one.events).put (past_of two.events).put
-      ∙ ap (λ (frames : List (List ℕ)). a.wire ++ frames) (sym (ap (λ (past : Past). past.put) (past_of-append one.events two.events)));
+  wire = record {
+    free = are_free_joins one.events two.events (length a.wire) (length b.wire) (ap length one.wire.frames
+        ∙ length-append a.wire (past_of one.events).put) one.wire.free two.wire.free;
+    frames = two.wire.frames
+        ∙ ap (λ (frames : List (List ℕ)). frames ++ (past_of two.events).put) one.wire.frames
+        ∙ append_assoc a.wire (past_of one.events).put (past_of two.events).put
+        ∙ ap (λ (frames : List (List ℕ)). a.wire ++ frames) (sym (ap (λ (past : Past). past.put) (past_of-append one.events two.events)));
+  };
   lively = two.lively ∙ one.lively;
   accesses = two.accesses ∙ one.accesses;
 }
@@ -89,8 +89,10 @@ plays_step a kind answer left running answers =
       trail = ((running, answers), refl);
       played = refl;
       waiting = refl;
-      free = (refl, tt);
-      wire = ap (λ (frames : List (List ℕ)). a.wire ++ frames) (put_alone kind (has_room a) answer a answers);
+      wire = record {
+        free = (refl, tt);
+        frames = ap (λ (frames : List (List ℕ)). a.wire ++ frames) (put_alone kind (has_room a) answer a answers);
+      };
       lively = refl;
       accesses = refl;
     }
@@ -107,8 +109,7 @@ plays_arrival a frame fate left running is =
       trail = ((running, is), refl);
       played = refl;
       waiting = refl;
-      free = tt;
-      wire = sym (append-nil a.wire);
+      wire = record { free = tt; frames = sym (append-nil a.wire) };
       lively = refl;
       accesses = refl;
     }
@@ -236,8 +237,7 @@ prepared_on a m g b own group is =
         trail = whole.trail;
         played = whole.played;
         waiting = whole.waiting;
-        free = whole.free;
-        wire = whole.wire;
+        wire = record { free = whole.wire.free; frames = whole.wire.frames };
         lively = whole.lively;
         accesses = refl;
       };

@@ -109,10 +109,12 @@ resting-can_offer size words fits =
     let buffer : Area = record { address = 0; size = 2048 } in
     let Apart : Area → Type 0 = λ area. AreApart area buffer in
     record {
-      oldest_slot = omega arith;
-      head_slot = omega arith;
-      tail_slot = omega arith;
-      room = λ same. absurd (omega (arith, same));
+      ring = record {
+        oldest_slot = omega arith;
+        head_slot = omega arith;
+        tail_slot = omega arith;
+        room = λ same. absurd (omega (arith, same));
+      };
       fresh = zeros-open size 2048 (omega (arith, fits));
       lies = λ enabled. subst (λ (address : ℕ). LiesIn memory address 2048) (sym named_zero) (omega (arith, long, fits));
       apart = λ enabled.
@@ -274,16 +276,17 @@ requested-can_send size words fits =
     let is = requested-data size words fits in
     let Apart : Area → Type 0 = λ area. AreApart area frame in
     record {
-      oldest_slot = omega arith;
-      head_slot = omega arith;
-      tail_slot = omega arith;
-      room = λ same. absurd (omega (arith, same));
+      ring = record {
+        oldest_slot = omega arith;
+        head_slot = omega arith;
+        tail_slot = omega arith;
+        room = λ same. absurd (omega (arith, same));
+      };
       fresh = ap (λ (bytes : List ℕ). is_set (slice_index bytes 12) 0) (requested-bytes size words fits);
       reports = requested-reports size words fits;
       pads = refl;
       lies = subst (λ (area : Area). LiesIn memory area.address area.size) (sym is) (omega (arith, long, zeros, fits));
-      apart =
-          subst (λ (list : List Area). All (λ area. AreApart area (data_of memory 2176)) list)
+      apart = subst (λ (list : List Area). All (λ area. AreApart area (data_of memory 2176)) list)
           (sym (idle-areas w (requested-idle size words fits)))
           (subst (λ (there : Area). All (λ area. AreApart area there) (r ∷ t ∷ [])) (sym is)
           (All-cons Apart r (t ∷ []) (inl (omega arith)) (All-cons Apart t [] (inl (omega arith)) (all-none Apart))));

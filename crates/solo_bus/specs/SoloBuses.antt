@@ -86,6 +86,13 @@ AreFree (Accesses access ∷ later) frames = AreFree later frames
 abbrev pub most_accesses : ℕ
 most_accesses = 2 ^ 64 - 1
 
+-- What events put on the wire.
+pub record PutOnWire (a b : SoloState) (events : List Event) (put : List (List ℕ)) : Type 0 where
+  -- Each step found the wire free exactly where it had room.
+  pub free : AreFree events (length a.wire)
+  -- These frames come after those that were there.
+  pub frames : b.wire ≡ a.wire ++ put
+
 -- What happened from one state to another: these events, of these ticks, what they put on the wire, and their accesses in the count.
 pub record Recounts (a b : SoloState) (past : Past) : Type 0 where
   pub events : List Event
@@ -95,8 +102,7 @@ pub record Recounts (a b : SoloState) (past : Past) : Type 0 where
   pub played : map tick_of events ≡ played_in is_go Go (lively_ticks a.lively) past.accesses a.waiting
   -- a group for each access waits no longer, and all other ticks do
   pub waiting : b.waiting ≡ waiting_after is_go past.accesses a.waiting
-  pub free : AreFree events (length a.wire)
-  pub wire : b.wire ≡ a.wire ++ past.put
+  pub wire : PutOnWire a b events past.put
   pub lively : b.lively ≡ a.lively
   pub count : min b.accesses most_accesses ≡ min (a.accesses + length past.accesses) most_accesses
 
@@ -125,8 +131,7 @@ pub record Plays (ticks left : List SoloTick) (a b : SoloState) : Type 0 where
   pub trail : Trail events a.world b.world
   pub played : map tick_of events ≡ ticks
   pub waiting : b.waiting ≡ left
-  pub free : AreFree events (length a.wire)
-  pub wire : b.wire ≡ a.wire ++ (past_of events).put
+  pub wire : PutOnWire a b events (past_of events).put
   pub lively : b.lively ≡ a.lively
   pub accesses : b.accesses ≡ a.accesses
 

@@ -33,8 +33,7 @@ recounts_none a = record {
   past_is = refl;
   played = refl;
   waiting = refl;
-  free = tt;
-  wire = sym (append-nil a.wire);
+  wire = record { free = tt; frames = sym (append-nil a.wire) };
   lively = refl;
   count = omega arith;
 }
@@ -45,22 +44,23 @@ recounts_join a b c first later one two = record {
   trail = trail_joins one.events two.events a.world b.world c.world one.trail two.trail;
   past_is = ap (λ (p : Past). joined p later) one.past_is ∙ ap (joined (past_of one.events)) two.past_is
       ∙ sym (past_of-append one.events two.events);
-  played =
-      map-append tick_of one.events two.events
+  played = map-append tick_of one.events two.events
       ∙ ap (λ (ticks : List SoloTick). ticks ++ map tick_of two.events) one.played
       ∙ ap (λ (ticks : List SoloTick). played_in is_go Go (lively_ticks a.lively) first.accesses a.waiting ++ ticks)
       (two.played
       ∙ ap (λ (lively : Bool). played_in is_go Go (lively_ticks lively) later.accesses b.waiting) one.lively
       ∙ ap (played_in is_go Go (lively_ticks a.lively) later.accesses) one.waiting)
       ∙ sym (played_joins is_go Go (lively_ticks a.lively) first.accesses later.accesses a.waiting);
-  waiting =
-      two.waiting
+  waiting = two.waiting
       ∙ ap (waiting_after is_go later.accesses) one.waiting
       ∙ sym (waiting_joins is_go first.accesses later.accesses a.waiting);
-  free =
-      are_free_joins one.events two.events (length a.wire) (length b.wire)
-      (ap length one.wire ∙ length-append a.wire first.put ∙ ap (λ (p : Past). length a.wire + length p.put) one.past_is) one.free two.free;
-  wire = two.wire ∙ ap (λ (frames : List (List ℕ)). frames ++ later.put) one.wire ∙ append_assoc a.wire first.put later.put;
+  wire = record {
+    free = are_free_joins one.events two.events (length a.wire) (length b.wire)
+        (ap length one.wire.frames ∙ length-append a.wire first.put ∙ ap (λ (p : Past). length a.wire + length p.put) one.past_is)
+        one.wire.free two.wire.free;
+    frames = two.wire.frames ∙ ap (λ (frames : List (List ℕ)). frames ++ later.put) one.wire.frames
+        ∙ append_assoc a.wire first.put later.put;
+  };
   lively = two.lively ∙ one.lively;
   count = omega (arith, one.count, two.count, length-append first.accesses later.accesses);
 }

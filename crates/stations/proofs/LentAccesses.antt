@@ -9,7 +9,7 @@ use Rattle.adapter.specs.State.{IsAdapter}
 use Rattle.adapter.specs.World.{World}
 use Rattle.bus.proofs.Trails.{trail_happens}
 use Rattle.bus.specs.BusMembers.{StaysWhole}
-use Rattle.bus.specs.Law.{Acts}
+use Rattle.bus.specs.Law.{Acts, view}
 use Rattle.bus.specs.PastOfStretch.{joined}
 use Rattle.bus.specs.TrailLaws.{past_of-append}
 use Rattle.bus.specs.Trails.{IsAnswered, Trail, past_of, world_after_access}
@@ -98,7 +98,7 @@ access-keeps a p b prepared same size = record {
 pub acted : (a p b : LentBus) (access : Access) (effect : World → World → Type 0) → Prepared a p → LeavesRest p b
     → p.host < length p.network.now → b.network.now ≡ stations_after p.host (Accesses access) p.network.now
     → IsAnswered access (world_here p) → IsAdapter (world_here p).adapter → effect (world_here p) (world_here b)
-    → Acts world_here Retells never_lively a b access effect
+    → Acts (view world_here Retells never_lively) a b access effect
 acted a p b access effect prepared leaves below state answered adapter does =
     let plays = prepared.plays in
     let steps = plays.steps in
@@ -134,8 +134,10 @@ acted a p b access effect prepared leaves below state answered adapter does =
             ∙ ap (λ (list : List Tick). list ++ Go ∷ []) plays.played;
         waiting = leaves.ticks ∙ prepared.waiting;
         noted = leaves.outcomes ∙ plays.noted ∙ ap (λ (list : List Numbered). a.outcomes.now.list ++ list) (sym noted);
-        number = leaves.accesses ∙ prepared.count ∙ sym count;
-        count = omega (arith, leaves.accesses, prepared.count);
+        accesses = record {
+          number = leaves.accesses ∙ prepared.count ∙ sym count;
+          count = omega (arith, leaves.accesses, prepared.count);
+        };
       };
       ticks = λ never. absurd never;
       before =

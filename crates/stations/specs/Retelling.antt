@@ -23,6 +23,13 @@ pub record SameLent (a b : LentBus) : Type 0 where
   pub outcomes : b.outcomes.ghost_name ≡ a.outcomes.ghost_name
   pub host : b.host ≡ a.host
 
+-- the count of the calling host's accesses
+pub record CountsAccesses (a b : LentBus) (steps : List AtomicStep) (past : Past) : Type 0 where
+  -- Each access among the steps counts.
+  pub number : b.accesses ≡ counted_of a.accesses steps
+  -- So the count grows by the driver's accesses, up to the greatest count.
+  pub count : min b.accesses most_accesses ≡ min (a.accesses + length past.accesses) most_accesses
+
 -- What happened from one state to another: these atomic steps, exactly those of the groups of ticks that belong to these accesses, each
 -- group before its access; and the outcome of each tick is noted in order, with the number of accesses before it.
 pub record Retells (a b : LentBus) (past : Past) : Type 0 where
@@ -33,8 +40,7 @@ pub record Retells (a b : LentBus) (past : Past) : Type 0 where
   pub played : map tick_of steps ≡ played_in is_go Go [] past.accesses a.ticks.now
   pub waiting : b.ticks.now ≡ waiting_after is_go past.accesses a.ticks.now
   pub noted : b.outcomes.now.list ≡ a.outcomes.now.list ++ noted_of a.accesses steps
-  pub number : b.accesses ≡ counted_of a.accesses steps
-  pub count : min b.accesses most_accesses ≡ min (a.accesses + length past.accesses) most_accesses
+  pub accesses : CountsAccesses a b steps past
 
 -- What comes before an access: the next group of ticks is played, and the access is counted.
 pub record Prepared (a b : LentBus) : Type 0 where

@@ -32,8 +32,7 @@ retells_none a = record {
   played = refl;
   waiting = refl;
   noted = sym (append-nil a.outcomes.now.list);
-  number = refl;
-  count = omega arith;
+  accesses = record { number = refl; count = omega arith };
 }
 
 pub retells_join : (a b c : LentBus) (first later : Past) → Retells a b first → Retells b c later → Retells a c (joined first later)
@@ -63,13 +62,16 @@ retells_join a b c first later one two =
           ∙ ap (λ (list : List Numbered). list ++ noted_of b.accesses two.steps) one.noted
           ∙ append_assoc a.outcomes.now.list (noted_of a.accesses one.steps) (noted_of b.accesses two.steps)
           ∙ ap (λ (list : List Numbered). a.outcomes.now.list ++ list)
-          (ap (λ (n : ℕ). noted_of a.accesses one.steps ++ noted_of n two.steps) one.number
+          (ap (λ (n : ℕ). noted_of a.accesses one.steps ++ noted_of n two.steps) one.accesses.number
           ∙ sym (noted_join a.accesses one.steps two.steps));
-      number =
-          two.number ∙ ap (λ (n : ℕ). counted_of n two.steps) one.number ∙ sym (counted_join a.accesses one.steps two.steps);
-      count = omega (arith, one.count, two.count, length-append first.accesses later.accesses);
+      accesses = record {
+        number =
+            two.accesses.number ∙ ap (λ (n : ℕ). counted_of n two.steps) one.accesses.number
+            ∙ sym (counted_join a.accesses one.steps two.steps);
+        count = omega (arith, one.accesses.count, two.accesses.count, length-append first.accesses later.accesses);
+      };
     }
 
 pub retells_count : (a b : LentBus) (past : Past) → Retells a b past
     → min b.accesses most_accesses ≡ min (min a.accesses most_accesses + length past.accesses) most_accesses
-retells_count a b past told = omega (arith, told.count)
+retells_count a b past told = omega (arith, told.accesses.count)

@@ -65,7 +65,7 @@ valid ring count tail slots head is below = record { head = omega (arith, slots,
 can-answer : (plan : HostPlan) (size : ℕ) (d : DriverState) (world : World) → CanBeHad plan.config size → d.layout ≡ counts_of plan.config
     → Ready d world → IsConfigured plan.config (address_bytes plan.image) (settings_of world.adapter) → CanAnswer world.adapter
 can-answer plan size d world had counts ready configured =
-    let control = subst (Controls plan.config.promiscuous (names_vlans plan.config.vlans)) (sym configured.receive_control_is)
+    let control = subst (Controls plan.config.promiscuous (names_vlans plan.config.vlans)) (sym configured.filter.receive_control_is)
     (controls plan.config.promiscuous (names_vlans plan.config.vlans)) in
     let rx : d.layout.rx ≡ plan.config.rx = ap (λ (c : Counts). c.rx) counts in
     let tx : d.layout.tx ≡ plan.config.tx = ap (λ (c : Counts). c.tx) counts in
@@ -73,10 +73,12 @@ can-answer plan size d world had counts ready configured =
       receives = control.receives;
       transmits = subst (λ (word : ℕ). HasBit word tctl_en) (sym configured.transmit_control) refl;
       receive =
-          valid (receive_ring world) d.layout.rx (plan.config.rx - 1) ready.receive.slots ready.receive.head_slot configured.receive_tail
+          valid (receive_ring world) d.layout.rx (plan.config.rx - 1) ready.receive.slots ready.receive.head_slot
+          configured.receive_ring.tail_is
           (omega (arith, rx, had.counts.rx.least));
       transmit =
-          valid (transmit_ring world) d.layout.tx 0 ready.transmit.knows.slots ready.transmit.knows.head_slot configured.transmit_tail
+          valid (transmit_ring world) d.layout.tx 0 ready.transmit.knows.slots ready.transmit.knows.head_slot
+          configured.transmit_ring.tail_is
           (omega (arith, tx, had.counts.tx.least));
     }
 

@@ -79,19 +79,21 @@ pub plans-filter : (plan : HostPlan) (settings : Settings) → IsAddress (addres
 unfolding filter_of
 plans-filter plan settings is configured =
     let address = address_bytes plan.image in
-    let control = subst (Controls plan.config.promiscuous (names_vlans plan.config.vlans)) (sym configured.receive_control_is)
+    let control = subst (Controls plan.config.promiscuous (names_vlans plan.config.vlans)) (sym configured.filter.receive_control_is)
     (controls plan.config.promiscuous (names_vlans plan.config.vlans)) in
     let only : IsOnlyEntry settings.filter.ral settings.filter.rah address =
-    subst (λ (rah : List ℕ). IsOnlyEntry settings.filter.ral rah address) (sym configured.address_high)
+    subst (λ (rah : List ℕ). IsOnlyEntry settings.filter.ral rah address) (sym configured.filter.address_high)
     (subst (λ (ral : List ℕ). IsOnlyEntry ral ((high_word address + alone rah_av) ∷ replicate 15 0) address)
-    (sym configured.address_low) (one-entry address is)) in
+    (sym configured.filter.address_low) (one-entry address is)) in
     record {
       addresses = only;
-      groups = configured.groups.bits;
+      groups = configured.filter.groups.bits;
       shift = control.shift;
-      every_vlan = control.every_vlan;
-      vlans = configured.vlans.bits;
-      vlan_type = configured.vlan_type;
+      vlans = record {
+        every_vlan = control.every_vlan;
+        numbers = configured.filter.vlans.bits;
+        vlan_type = configured.filter.vlan_type;
+      };
       all_individuals = control.individuals;
       all_groups = control.groups;
       broadcasts = ((λ has. tt), (λ any. control.broadcasts));

@@ -1,0 +1,27 @@
+-- A driver frees its oldest written-back transmit slot: the next one is its oldest then.
+use Rattle.std.specs.Prelude.{◌≡◌, ◌∷◌, ℕ, List}
+use Rattle.descriptors.specs.Ring.{address_of, next_of}
+use Rattle.adapter.specs.Slots.{outstanding, written_back}
+use Rattle.adapter.specs.Conditions.{Sound}
+use Rattle.bus.specs.DriversSlots.{IsDriversSlot}
+use Rattle.adapter.specs.World.{transmit_ring, World}
+
+-- the transmit slot behind the oldest
+abbrev pub behind_oldest_transmit : ℕ → World → ℕ
+behind_oldest_transmit oldest world = next_of (transmit_ring world) oldest
+
+-- The slot stands at the driver's oldest place. With the next place as the oldest the conditions hold, and the slot is no longer
+-- outstanding but the driver's. The frames to be sent don't depend on which slot is the oldest.
+pub record Freed (oldest_receive oldest_transmit : ℕ) (world : World) (slot : ℕ) (later : List ℕ) : Type 0 where
+  pub stands : slot ≡ address_of (transmit_ring world) oldest_transmit
+  pub sound : Sound oldest_receive (behind_oldest_transmit oldest_transmit world) world
+  pub behind : written_back (behind_oldest_transmit oldest_transmit world) world ≡ later
+  pub first : outstanding (transmit_ring world) oldest_transmit ≡ slot
+      ∷ outstanding (transmit_ring world) (behind_oldest_transmit oldest_transmit world)
+  pub own : IsDriversSlot (transmit_ring world) (behind_oldest_transmit oldest_transmit world) oldest_transmit
+
+abbrev pub WrittenSlotsCanBeFreed : Type 0
+WrittenSlotsCanBeFreed =
+    (oldest_receive oldest_transmit : ℕ) (world : World) (slot : ℕ) (later : List ℕ)
+    → Sound oldest_receive oldest_transmit world → written_back oldest_transmit world ≡ slot ∷ later
+    → Freed oldest_receive oldest_transmit world slot later
