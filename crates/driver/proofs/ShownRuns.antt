@@ -15,7 +15,7 @@ use Rattle.bus.proofs.Lists.{all-head, all-none, all-tail}
 use Rattle.driver_law.proofs.Owners.{all-copies, owners-count}
 use Rattle.driver_law.specs.DriverState.{DriverState, owners}
 use Rattle.driver.specs.Answers.{Answers}
-use Rattle.driver.specs.HandlerSteps.{GrowsBy, HandsOn, IsRun, IsPart, LeavesRing, RunOfSlots, Shows, ShowsAll, TakesSlots}
+use Rattle.driver.specs.HandlerSteps.{GrowsBy, HandsOn, IsPart, IsRun, LeavesRing, RunOfSlots, Shows, ShowsAll, TakesSlots}
 use Rattle.driver.specs.HandlerSteps.{bad_runs, part_none, part_with, part_without, run_buffers, run_of, whole_frames}
 use Rattle.driver.specs.Parts.{FillBuffers, IsWholeFrame, buffers_in, buffers_of, lengths_in}
 use Rattle.driver.specs.declared.look.Run.{Run}

@@ -90,8 +90,8 @@ abbrev pub LeavesRecv : Result (List ℕ) RecvError → (socket : ℕ) → (h h'
 LeavesRecv (Ok frame) socket h h' accesses = LeavesReturned socket (length frame) h h'
 LeavesRecv (Err error) socket h h' accesses = (h' ≡ h) × (accesses ≡ 0)
 
--- Handling an interrupt took n frames, each in these pieces, among them all that ended in finished slots when the call began. Each went to
--- the end of its socket's queue, as an entry with these pieces. Those without a socket were counted, up to the greatest u64.
+-- Handling an interrupt took n frames, each in these pieces, among them all that ended in finished slots when the call began. Each that has
+-- a socket went to the end of its queue, as an entry with these pieces. The others were counted, up to the greatest u64.
 pub record HandlesFrames (h h' : HostState) (world : World) (taken : List (List HandedOut)) (n : ℕ) : Type 0 where
   pub frames : AreSorted n h h' taken
   pub least : length (frames_ended (driver_in h.driver world)) ≤ n

@@ -20,7 +20,7 @@ use Rattle.driver_law.specs.Calls.{call_did, driver_did, driver_in, frames_ended
 use Rattle.driver_law.specs.DriverState.{DriverState, HandedOut, buffer_at, frame_of, holding, next_receive, numbers_of, with_owners}
 use Rattle.driver_law.specs.ReadyDrivers.{ReadyWith}
 use Rattle.bring_up.specs.WrittenRegisters.{handled_causes}
-use Rattle.driver.specs.HandlerSteps.{AreOfOneFrame, Asked, DoesNothing, GrowsBy, IsRun, IsLook, IsSplit, ReadsMisses}
+use Rattle.driver.specs.HandlerSteps.{AreOfOneFrame, Asked, DoesNothing, GrowsBy, IsLook, IsRun, IsSplit, ReadsMisses}
 use Rattle.driver.specs.HandlerSteps.{RunOfSlots, TakesAndOffers, bad_runs, offering_accesses, run_buffers, taking_accesses, whole_frames}
 use Rattle.driver.specs.Parts.{AreFrames, IsFrameSize, joined_frames, part_loads, pieces_of, received_of}
 use Rattle.driver.specs.declared.parts.Part.{Part}
