@@ -8,7 +8,7 @@ use Rattle.pcap_trace.specs.Format.{Timed}
 use Rattle.delivery.specs.Happenings.{Given, Happening, given, given_by, told, told_alone, told_of}
 use Rattle.network_plan.specs.declared.event.Event.{Event}
 use Rattle.network_plan.specs.declared.event.Event.TheVariants as event
-use Rattle.network_plan.specs.declared.reply.Answer.{Answer}
+use Rattle.network_plan.specs.Answers.{FrameAnswer}
 use Rattle.network_plan.specs.declared.reply.Answer.TheVariants as answer
 use Rattle.network_plan.specs.declared.reply.Reply.{Reply}
 use Rattle.stations.specs.declared.outcomes.Numbered.{Numbered}
@@ -123,7 +123,7 @@ given-alone k s tick.Go (first ∷ outcomes) = given-of k s 0 first.outcome
 given-alone k s (tick.Step host kind) (first ∷ outcomes) = given-of k s host first.outcome
 given-alone k s (tick.Deliver host) (first ∷ outcomes) = given-of k s host first.outcome
 
-given-accepted : (k s host : ℕ) (frame : List ℕ) (one : Answer) → given k s (accepted_of host frame one) ≡ []
+given-accepted : (k s host : ℕ) (frame : List ℕ) (one : FrameAnswer) → given k s (accepted_of host frame one) ≡ []
 given-accepted k s host frame (answer.Sent (Ok u)) = refl
 given-accepted k s host frame (answer.Sent (Err error)) = refl
 given-accepted k s host frame (answer.Received result) = refl
@@ -132,7 +132,7 @@ given-accepted k s host frame answer.Ticked = refl
 given-accepted k s host frame answer.NoHost = refl
 
 -- Only the answer of a socket has a frame.
-abbrev pub answer_of : Event → Answer → List Happening
+abbrev pub answer_of : Event → FrameAnswer → List Happening
 answer_of (event.Send host frame ticks) one = []
 answer_of (event.Recv host socket ticks) one = given_of host socket one
 answer_of (event.Interrupt host ticks) one = []

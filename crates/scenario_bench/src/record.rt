@@ -160,7 +160,7 @@ fn note_frame(
 
 /// Records the answer to a send.
 #[tactic(auto, using(crate::proofs::Noting::grows_not))]
-fn note_sent(hosts: &mut [Tally], host: usize, answer: &Answer)
+fn note_sent(hosts: &mut [Tally], host: usize, answer: &Answer<HeapFrame>)
     ensures { (frame : List ℕ) → TalliesGrow (accepted_of host frame answer.now) hosts.old hosts.new }
 {
     if let Answer::Sent(Ok(())) = answer {
@@ -170,7 +170,7 @@ fn note_sent(hosts: &mut [Tally], host: usize, answer: &Answer)
 
 /// Records the answer of a socket.
 #[tactic(auto, using(crate::proofs::Noting::grows_not))]
-fn note_received(hosts: &mut [Tally], host: usize, answer: &Answer)
+fn note_received(hosts: &mut [Tally], host: usize, answer: &Answer<HeapFrame>)
     ensures { (socket : ℕ) → TalliesGrow (given_of host socket answer.now) hosts.old hosts.new }
 {
     if let Answer::Received(Ok(_)) = answer {

@@ -1,6 +1,6 @@
-use Rattle.delivery.proofs.Laws.{lent-calls, outcomes-tell}
+use Rattle.delivery.proofs.Laws.{outcomes-tell}
 use Rattle.delivery.proofs.Telling.{leads-alone, said-alone}
 use Rattle.delivery.proofs.delivery_law.outcomes_tell_steps.Goals as goal
 
 pub returns : goal.returns
-returns c = record { call = outcomes-tell; lent = lent-calls; alone = said-alone; leads = leads-alone }
+returns c = record { call = outcomes-tell; alone = said-alone; leads = leads-alone }
