@@ -1,6 +1,7 @@
 -- What an observer of a run is told (our choice).
 use Rattle.std.specs.Prelude.{◌≡◌, ◌≤◌, ◌++◌, ◌∷◌, [], ℕ, List, length, map}
 use Rattle.bus.specs.TickGroups.{without_go}
+use Rattle.delivery.specs.Happenings.{Happening, host_of, told_of}
 use Rattle.stations.specs.AtomicRuns.{is_go}
 use Rattle.stations.specs.Outcomes.{note_of}
 use Rattle.stations.specs.ToldTicks.{TickTold}
@@ -24,6 +25,10 @@ played_ticks (Alone tick) = tick ∷ []
 
 abbrev pub tick_in : TickTold → Tick
 tick_in told = told.tick
+
+-- what is told of a tick, as a happening
+abbrev pub happened_of : TickTold → List Happening
+happened_of told = told_of (host_of told.tick) told.outcome
 
 -- It was told an outcome of each tick of this event that is played, in order.
 abbrev pub AreOfTicks : Event → List TickTold → Type 0

@@ -20,8 +20,7 @@ pub(crate) struct Collector {
 }
 
 impl Collector {
-    ghost use Rattle.std.specs.Prelude.{◌≡◌, ◌≤◌, [], IfOk, length};
-    ghost use Rattle.network_plan.specs.Answers.{ticks_of};
+    ghost use Rattle.std.specs.Prelude.{◌≡◌, ◌≤◌, [], IfOk};
     ghost use Rattle.wire.specs.Collecting.{CollectsTicks, HasPlaceForReply};
 
     /// Appends replies to these.
@@ -37,18 +36,18 @@ impl Collector {
         }
     }
 
-    /// Makes room for the reply of an event.
+    /// Makes room for the reply to an event with this many ticks.
     ///
     /// # Errors
     ///
     /// If memory is refused.
-    fn reserve(&mut self, event: &Event) -> Result<(), AllocError>
+    fn reserve(&mut self, ticks: usize) -> Result<(), AllocError>
         ensures nothing { CollectsTicks self.old self.new [] }
         ensures reply { IfOk result (λ done. HasPlaceForReply self.new) }
-        ensures ticks { IfOk result (λ done. length (ticks_of event.now) ≤ self.new.outcomes.room) }
+        ensures ticks { IfOk result (λ done. ticks ≤ self.new.outcomes.room) }
     {
         self.replies.reserve(1)?;
-        self.outcomes.reserve(self.alloc, event.tick_count())?;
+        self.outcomes.reserve(self.alloc, ticks)?;
         if self.frame.is_none() {
             self.frame = Some(HeapFrame::with_room(self.alloc)?);
         }
@@ -79,8 +78,8 @@ impl RunObserver for Collector {
 
     ghost composes_runs = { replies_compose };
 
-    fn make_room(&mut self, event: &Event) -> bool {
-        self.reserve(event).is_ok()
+    fn make_room(&mut self, _event: &Event, ticks: usize) -> bool {
+        self.reserve(ticks).is_ok()
     }
 
     fn answer(&mut self, _event: &Event, accesses: u64, answer: Answer<()>, frame: &[u8]) {

@@ -94,7 +94,7 @@ impl Lan {
             × RunTold O.ran (take stopped.done events.now) self.old self.new observer.old observer.new) }
     {
         for (done, event) in events.iter().enumerate() {
-            if !observer.make_room(event) {
+            if !observer.make_room(event, event.tick_count()) {
                 return Err(Stopped { done });
             }
             self.event(event, observer);

@@ -1,8 +1,8 @@
 // Who is told what comes of a run.
 
-ghost use Rattle.std.specs.Prelude.{◌≤◌, [], List, IsTrue, length};
+ghost use Rattle.std.specs.Prelude.{◌≡◌, ◌≤◌, [], List, IsTrue, length};
 ghost use Rattle.descriptors.specs.Frames.{longest_frame};
-ghost use Rattle.network_plan.specs.Answers.{answer_with};
+ghost use Rattle.network_plan.specs.Answers.{answer_with, ticks_of};
 ghost use Rattle.network_plan.specs.declared.event.Event.{Event};
 ghost use Rattle.network_plan.specs.declared.reply.Reply.{Reply};
 ghost use Rattle.stations.specs.ToldTicks.{TickTold};
@@ -19,8 +19,10 @@ pub trait RunObserver: Observer {
     /// It has room for the answer of an event.
     ghost ready: { Self → Event → Type 0 };
 
-    /// Makes room for all that comes of an event, before its first tick. Returns whether there is room.
-    fn make_room(&mut self, event: &Event) -> bool
+    /// Makes room for all that comes of an event with this many ticks, before its first tick. Returns whether there is
+    /// room.
+    fn make_room(&mut self, event: &Event, ticks: usize) -> bool
+        requires count { ticks ≡ length (ticks_of event.now) }
         ensures nothing { Self.heard self.old self.new [] }
         ensures room { IsTrue result → HasRoom ready Self.places event.now self.new };
 
