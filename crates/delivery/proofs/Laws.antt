@@ -1,5 +1,5 @@
 -- The laws of delivery, put together.
-use Rattle.std.proofs.Common.{◌≡◌, ◌++◌, ℕ, List, append_assoc, sym, ap, ◌∙◌}
+use Rattle.std.proofs.Common.{◌≡◌, ◌++◌, ℕ, List, sym, ap, subst, ◌∙◌}
 use Rattle.bus.specs.PastOfStretch.{Past}
 use Rattle.bus.specs.TickGroups.{without_go}
 use Rattle.bus.specs.declared.event.Access.{Access}
@@ -7,11 +7,12 @@ use Rattle.stations.proofs.Lengths.{length-stays}
 use Rattle.stations.specs.AtomicSteps.{AtomicStep}
 use Rattle.stations.specs.Stations.{StationState}
 use Rattle.stations.specs.declared.tick.Tick.{Tick}
-use Rattle.stations.specs.declared.outcomes.Numbered.{Numbered}
-use Rattle.stations.specs.AtomicRunLaws.{noted_join}
-use Rattle.stations.specs.AtomicRuns.{LeadsTo, counted_of, is_go, noted_of}
+use Rattle.stations.specs.AtomicRunLaws.{steps_told_join}
+use Rattle.stations.specs.AtomicRuns.{LeadsTo, counted_of, is_go, steps_told}
 use Rattle.stations.specs.Retelling.{Finished, Retells}
 use Rattle.stations.specs.declared.lent_bus.LentBus.{LentBus}
+use Rattle.stations.specs.declared.observer.Observer.{Ghosts as OfObserver}
+use Rattle.stations.specs.ToldTicks.{ComposesTold}
 use Rattle.delivery.proofs.HostLists.{accepted-none, given-none, missed-told, put-told, stored-told}
 use Rattle.delivery.proofs.Joining.{accepted-append, given-append, marks-append, missed-append, put-append, reached-append, stored-append}
 use Rattle.delivery.proofs.Joining.{toward-append}
@@ -32,9 +33,9 @@ outcomes-tell caller ticks accesses first last a m b plays = record {
 }
 
 -- A call over a lent bus.
-pub lent-calls : (a m b : LentBus) (past : Past) (told : Retells a m past) (finished : Finished m b) → a.accesses ≡ 0
-    → IsToldCall a m b past told.steps finished.plays.steps
-lent-calls a m b past told finished zero =
+pub lent-calls : {O : Type 0} {g : OfObserver O} → ComposesTold g.heard → (a m b : LentBus O g) (past : Past) (told : Retells a m past) (finished : Finished m b)
+    → a.accesses ≡ 0 → IsToldCall a m b past told.steps finished.plays.steps
+lent-calls {O} {g} composes a m b past told finished zero =
     let first = told.steps in
     let last = finished.plays.steps in
     let number : m.accesses ≡ counted_of 0 first = told.accesses.number ∙ ap (λ (n : ℕ). counted_of n first) zero in
@@ -46,14 +47,12 @@ lent-calls a m b past told finished zero =
         played = told.played;
         waited = finished.plays.played ∙ ap (without_go is_go) told.waiting;
       };
-      noted =
-          finished.plays.noted
-          ∙ ap (λ (list : List Numbered). list ++ noted_of m.accesses last) told.noted
-          ∙ append_assoc a.outcomes.now.list (noted_of a.accesses first) (noted_of m.accesses last)
-          ∙ ap (λ (list : List Numbered). a.outcomes.now.list ++ list)
-          (ap (λ (n : ℕ). noted_of n first ++ noted_of m.accesses last) zero
-          ∙ ap (λ (n : ℕ). noted_of 0 first ++ noted_of n last) number
-          ∙ sym (noted_join 0 first last));
+      heard =
+          subst (g.heard a.observer.now b.observer.now)
+          (ap (λ (n : ℕ). steps_told n first ++ steps_told m.accesses last) zero
+          ∙ ap (λ (n : ℕ). steps_told 0 first ++ steps_told n last) number
+          ∙ sym (steps_told_join 0 first last))
+          (composes.joins a.observer.now m.observer.now b.observer.now _ _ told.heard finished.plays.heard);
       count = finished.count ∙ number;
     }
 

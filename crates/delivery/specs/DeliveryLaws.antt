@@ -14,9 +14,10 @@ use Rattle.stations.specs.Stations.{StationState, backlog_at, wire_at, world_at}
 use Rattle.adapter.specs.Outcomes.{FrameOutcome}
 use Rattle.stations.specs.declared.tick.Tick.{Tick}
 use Rattle.stations.specs.declared.tick.Tick.TheVariants.{Go}
-use Rattle.stations.specs.AtomicRuns.{IsTick, LeadsTo, counted_of, is_go, noted_of, past_at}
+use Rattle.stations.specs.AtomicRuns.{IsTick, LeadsTo, counted_of, is_go, noted_of, past_at, steps_told}
 use Rattle.stations.specs.Retelling.{Finished, Retells}
 use Rattle.stations.specs.declared.lent_bus.LentBus.{LentBus}
+use Rattle.stations.specs.declared.observer.Observer.{Ghosts as OfObserver}
 use Rattle.delivery.specs.Fates.{AreRightByCounting, AreRightFates, Mark, marks}
 use Rattle.delivery.specs.Happenings.{Happening, accepted, given, happened_in, missed, put, reached, stored, told, told_alone, toward}
 use Rattle.delivery.specs.Reception.{LeavesReception, ReceivesRightly}
@@ -54,17 +55,17 @@ abbrev pub OutcomesTellSteps : Type 0
 OutcomesTellSteps =
     (call : StepsOfCall) (a m b : List StationState) → PlaysCall call a m b → IsToldByOutcomes call.ticks call.first call.last
 
--- A call over a lent bus whose ticks are played to the end is such a call, and what is noted of it stands behind the outcomes before.
-pub record IsToldCall (a m b : LentBus) (past : Past) (first last : List AtomicStep) : Type 0 where
+-- A call over a lent bus whose ticks are played to the end is such a call, and its observer was told what came of each tick.
+pub record IsToldCall {O : Type 0} {g : OfObserver O} (a m b : LentBus O g) (past : Past) (first last : List AtomicStep) : Type 0 where
   pub plays : PlaysCall
       (record { caller = a.host; ticks = a.ticks.now; accesses = past.accesses; first = first; last = last })
       a.network.now m.network.now b.network.now
-  pub noted : b.outcomes.now.list ≡ a.outcomes.now.list ++ noted_of 0 (first ++ last)
+  pub heard : g.heard a.observer.now b.observer.now (steps_told 0 (first ++ last))
   pub count : b.accesses ≡ counted_of 0 first
 
-abbrev pub LentCallsAreTold : Type 0
-LentCallsAreTold =
-    (a m b : LentBus) (past : Past) (told : Retells a m past) (finished : Finished m b) → a.accesses ≡ 0
+abbrev pub LentCallsAreTold : {O : Type 0} → OfObserver O → Type 0
+LentCallsAreTold {O} g =
+    (a m b : LentBus O g) (past : Past) (told : Retells a m past) (finished : Finished m b) → a.accesses ≡ 0
     → IsToldCall a m b past told.steps finished.plays.steps
 
 -- The outcome of a tick by itself tells what its step did, too.

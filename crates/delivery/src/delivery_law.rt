@@ -5,17 +5,23 @@ ghost use Rattle.delivery.specs.DeliveryLaws.{OneTickLeads, OutcomesTellSteps, R
 ghost use Rattle.delivery.specs.DeliveryLaws.{RightFatesJoin, StepsMoveFrames, TailWritesLeaveReception, WaitsJoin};
 ghost use Rattle.delivery.specs.DeliveryLaws.{WiresDecideToward};
 
+use stations::Observer;
+
 /// What is noted of ticks tells what their atomic steps did.
 /// - `call`: of a call, in order and exactly; and each outcome bears the number of accesses before it,
 ///   which is that of its tick's group, or of the whole call where that is less.
-/// - `lent`: a call over a lent bus, with its ticks played to the end, is one that `call` speaks of.
 /// - `alone`: of one tick that is played by itself, too, also of a Go.
 /// - `leads`: where that tick isn't a Go, its step leads from the one state of all stations to the other.
 pub fn outcomes_tell_steps()
     ensures call { OutcomesTellSteps }
-    ensures lent { LentCallsAreTold }
     ensures alone { OneOutcomeTellsItsStep }
     ensures leads { OneTickLeads }
+{}
+
+/// A call over a lent bus, with its ticks played to the end, is one that [`outcomes_tell_steps`] speaks of. Its observer
+/// was told the outcome of each tick.
+pub fn lent_calls_are_told<O: Observer>()
+    ensures { LentCallsAreTold O.Observer }
 {}
 
 /// What atomic steps do to the frames of each host. Those that it put, stored and missed are those of

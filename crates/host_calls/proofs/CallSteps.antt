@@ -23,7 +23,7 @@ use Rattle.driver.specs.declared.interrupt.Handled.{Handled}
 use Rattle.driver.specs.declared.receiver.Received.{Received}
 use Rattle.driver.specs.Parts.{joined_frames}
 use Rattle.stations.specs.AtomicSteps.{At, AtomicStep, tick_of}
-use Rattle.stations.specs.Outcomes.{OutcomeList}
+use Rattle.stations.specs.ToldTicks.{TickTold}
 use Rattle.stations.specs.Stations.{StationState, world_at}
 use Rattle.stations.proofs.HostTrails.{trail-of}
 use Rattle.stations.specs.AtomicRuns.{LeadsTo, events_at, events_by, is_go, past_at}
@@ -165,13 +165,13 @@ clears place played early a b counts causes leads none own first =
     (subst (λ (list : List Event). All (IsOfDriver counts) (past_of list).accesses) is own)
     (subst (λ (list : List Event). Trail list (world_at a place) (world_at b place)) is trail)
 
-pub handled-steps : (result : Handled) (place : ℕ) (a b : List StationState) (before behind : OutcomeList) (accesses : ℕ)
+pub handled-steps : (result : Handled) (place : ℕ) (a b : List StationState) (heard : List TickTold → Type 0) (accesses : ℕ)
     (h h' : HostState)
-    → HostReady h (world_at a place) → InterruptRuns (played_call place [] before behind accesses) result (connected h a) (connected h' b)
+    → HostReady h (world_at a place) → InterruptRuns (played_call place [] heard accesses) result (connected h a) (connected h' b)
     → (world_at a place).adapter.receiver.work ≡ None
     → Meet (world_at a place).adapter.causes.recorded (world_at a place).adapter.causes.mask
     → StepsOn 1 place [] (connected h a) (connected h' b)
-handled-steps result place a b before behind accesses h h' ready runs free meets =
+handled-steps result place a b heard accesses h h' ready runs free meets =
     let of_call = runs.runs.of_call in
     let recorded = clears place runs.runs.steps runs.tells.early a b h.driver.layout runs.causes of_call.leads of_call.played
     runs.runs.runs.accesses runs.tells.first in
@@ -188,12 +188,12 @@ queue-there [] socket some = absurd (some refl)
 queue-there (queue ∷ later) zero some = omega arith
 queue-there (queue ∷ later) (suc socket) some = let rest = queue-there later socket some in omega (arith, rest)
 
-pub given-steps : (place socket : ℕ) (frame : List ℕ) (a b : List StationState) (before behind : OutcomeList) (accesses : ℕ)
+pub given-steps : (place socket : ℕ) (frame : List ℕ) (a b : List StationState) (heard : List TickTold → Type 0) (accesses : ℕ)
     (h h' : HostState) (made : List Access → Type 0)
     → HostReady h (world_at a place)
-    → CallRuns (played_call place [] before behind accesses) (did [] (given_by socket (Ok frame)) []) made (connected h a) (connected h' b)
+    → CallRuns (played_call place [] heard accesses) (did [] (given_by socket (Ok frame)) []) made (connected h a) (connected h' b)
     → (world_at a place).adapter.receiver.work ≡ None → StepsOn 1 place (given_by socket (Ok frame)) (connected h a) (connected h' b)
-given-steps place socket frame a b before behind accesses h h' made ready runs free =
+given-steps place socket frame a b heard accesses h h' made ready runs free =
     let of_call = runs.of_call in
     let n = length h.queues + (length h'.queues + (socket + 1)) in
     let calm = quiet place runs.steps a b h.driver.layout of_call.leads of_call.played runs.runs.accesses in

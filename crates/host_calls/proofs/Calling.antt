@@ -10,12 +10,13 @@ use Rattle.bus.specs.Law.{Happens}
 use Rattle.bus.specs.PastOfStretch.{Past}
 use Rattle.bus.specs.declared.event.Access.{Access}
 use Rattle.stations.specs.AtomicSteps.{AtomicStep}
-use Rattle.stations.specs.Outcomes.{OutcomeList}
 use Rattle.stations.specs.Stations.{StationState, world_at}
 use Rattle.stations.specs.AtomicRunLaws.{leads_join, past_join}
 use Rattle.stations.specs.AtomicRuns.{LeadsTo, past_at}
 use Rattle.stations.specs.Retelling.{Finished, Retells, world_here}
+use Rattle.stations.specs.ToldTicks.{ComposesTold}
 use Rattle.stations.specs.declared.lent_bus.LentBus.{LentBus}
+use Rattle.stations.specs.declared.observer.Observer.{Ghosts as OfObserver}
 use Rattle.driver_law.proofs.Stretches.{flows_join, work_kept}
 use Rattle.driver_law.specs.Calls.{FlowsTo, HasNoForgottenWork, IsRefilled}
 use Rattle.packet_socket.proofs.Stretches.{host-happens, host-join}
@@ -99,11 +100,11 @@ whole-accesses k first last none =
     ∙ append-nil (past_at k first).accesses
 
 -- what a lent bus says of a call: at its beginning, and when the ticks that were left are played
-abbrev pub lent_call : (a b : LentBus) → PlayedCall
-lent_call a b = played_call a.host a.ticks.now a.outcomes.now b.outcomes.now b.accesses
+abbrev pub lent_call : {O : Type 0} {g : OfObserver O} (a b : LentBus O g) → PlayedCall
+lent_call {O} {g} a b = played_call a.host a.ticks.now (g.heard a.observer.now b.observer.now) b.accesses
 
 -- A call of which the lent bus tells, and the ticks that are left.
-pub call-runs_by : (a m b : LentBus) (past : Past) (h h' : HostState) (taken : List (List ℕ)) (given : List Given)
+pub call-runs_by : {O : Type 0} {g : OfObserver O} → ComposesTold g.heard → (a m b : LentBus O g) (past : Past) (h h' : HostState) (taken : List (List ℕ)) (given : List Given)
     (accepted : List (List ℕ)) (made : List Access → Type 0)
     → a.accesses ≡ 0 → (retells : Retells a m past)
     → HostFlowsTo true (in_world h (world_here a)) (in_world h' (world_here m)) (did taken given accepted) past
@@ -114,12 +115,12 @@ pub call-runs_by : (a m b : LentBus) (past : Past) (h h' : HostState) (taken : L
     → (finished : Finished m b)
     → ((runs : CallRuns (lent_call a b) (did taken given accepted) made (connected h a.network.now) (connected h' b.network.now))
     × (runs.steps ≡ retells.steps ++ finished.plays.steps))
-call-runs_by a m b past h h' taken given accepted made zero retells flows accesses writes makes work refilled offered finished =
+call-runs_by composes a m b past h h' taken given accepted made zero retells flows accesses writes makes work refilled offered finished =
     let first = retells.steps in
     let last = finished.plays.steps in
     let leads = leads_join a.host first last a.network.now m.network.now b.network.now retells.leads (finished.plays.leads a.host) in
     let host = retells.lent.host in
-    let call = lent-calls a m b past retells finished zero in
+    let call = lent-calls composes a m b past retells finished zero in
     let tells = outcomes-tell a.host a.ticks.now past.accesses first last a.network.now m.network.now b.network.now call.plays in
     let here : HostRuns a.host first (did taken given accepted) (connected h a.network.now) (connected h' m.network.now) =
     subst (λ (w : World). (HostFlowsTo true (in_world h (world_here a)) (in_world h' w) (did taken given accepted) past)
@@ -149,7 +150,7 @@ call-runs_by a m b past h h' taken given accepted made zero retells flows access
         of_call = record {
           leads = leads;
           played = tells.played;
-          noted = call.noted;
+          heard = call.heard;
           said = tells.said;
           numbered = sym tells.numbered ∙ ap (numbers a.ticks.now 0) (sym call.count);
           counted = call.count ∙ sym tells.counted;
@@ -168,7 +169,7 @@ call-runs_by a m b past h h' taken given accepted made zero retells flows access
       refl,
     )
 
-pub call-runs : (a m b : LentBus) (past : Past) (h h' : HostState) (taken : List (List ℕ)) (given : List Given) (accepted : List (List ℕ))
+pub call-runs : {O : Type 0} {g : OfObserver O} → ComposesTold g.heard → (a m b : LentBus O g) (past : Past) (h h' : HostState) (taken : List (List ℕ)) (given : List Given) (accepted : List (List ℕ))
     (made : List Access → Type 0)
     → a.accesses ≡ 0 → Retells a m past
     → HostFlowsTo true (in_world h (world_here a)) (in_world h' (world_here m)) (did taken given accepted) past
@@ -178,8 +179,8 @@ pub call-runs : (a m b : LentBus) (past : Past) (h h' : HostState) (taken : List
     → (h.driver.staged ≡ [] → h'.driver.staged ≡ [])
     → Finished m b
     → CallRuns (lent_call a b) (did taken given accepted) made (connected h a.network.now) (connected h' b.network.now)
-call-runs a m b past h h' taken given accepted made zero retells flows accesses writes makes work refilled offered finished =
-    (call-runs_by a m b past h h' taken given accepted made zero retells flows accesses writes makes work refilled offered finished).0
+call-runs composes a m b past h h' taken given accepted made zero retells flows accesses writes makes work refilled offered finished =
+    (call-runs_by composes a m b past h h' taken given accepted made zero retells flows accesses writes makes work refilled offered finished).0
 
 -- Every other host.
 pub others-run : (caller k : ℕ) (steps : List AtomicStep) (a b : List StationState) (h : HostState) → k ≢ caller
@@ -188,8 +189,8 @@ others-run caller k steps a b h other leads ready =
     runs-alone k steps a b h ready (happens-elsewhere caller k steps a b other leads) (none-elsewhere caller k steps a b other leads)
 
 -- What was lent comes back.
-pub lent-back : (Holds : List StationState → OutcomeList → Type 0) (new new' : List StationState) (after after' : OutcomeList)
+pub lent-back : {O : Type 0} (Holds : List StationState → O → Type 0) (new new' : List StationState) (after after' : O)
     → new' ≡ new → after' ≡ after → Holds new after → Holds new' after'
-lent-back Holds new new' after after' same noted holds =
+lent-back {O} Holds new new' after after' same observed holds =
     subst (λ (stations : List StationState). Holds stations after') (sym same)
-    (subst (λ (list : OutcomeList). Holds new list) (sym noted) holds)
+    (subst (λ (observer : O). Holds new observer) (sym observed) holds)

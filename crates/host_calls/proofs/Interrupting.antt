@@ -12,7 +12,9 @@ use Rattle.adapter.specs.declared.offsets.TheConstants.{ICR}
 use Rattle.bus.specs.declared.event.Access.{Access}
 use Rattle.bus.specs.declared.event.Access.TheVariants.{Reads}
 use Rattle.stations.specs.Retelling.{Finished, Retells, world_here}
+use Rattle.stations.specs.ToldTicks.{ComposesTold}
 use Rattle.stations.specs.declared.lent_bus.LentBus.{LentBus}
+use Rattle.stations.specs.declared.observer.Observer.{Ghosts as OfObserver}
 use Rattle.driver_law.proofs.Places.{place-below}
 use Rattle.driver_law.specs.DriverState.{HandedOut, frame_of, next_receive, numbers_of}
 use Rattle.driver_law.specs.Calls.{IsRefilled}
@@ -69,15 +71,15 @@ tells-on caller first last steps causes adapter result tells is =
       answer = tells.answer;
     })
 
-leaves-runs : (a m b : LentBus) (h h' : HostState) → a.accesses ≡ 0 → HostReady h (world_here a)
+leaves-runs : {O : Type 0} {g : OfObserver O} → ComposesTold g.heard → (a m b : LentBus O g) (h h' : HostState) → a.accesses ≡ 0 → HostReady h (world_here a)
     → HostHandles lent NotMine true (host_at a h) (host_at m h') → Finished m b
     → InterruptRuns (lent_call a b) NotMine (connected h a.network.now) (connected h' b.network.now)
-leaves-runs a m b h h' zero ready handles finished =
+leaves-runs {O} {g} composes a m b h h' zero ready handles finished =
     let leaves = handles.then_does in
     let past = handles.asked.reads.past in
     let only = handles.asked.reads.only in
-    let retells = subst (λ (bus : LentBus). Retells a bus past) (sym leaves.leaves.still) handles.asked.reads.reports in
-    let made = call-runs_by a m b past h h' [] [] [] (MakesInterrupt NotMine [] h h') zero retells leaves.flows
+    let retells = subst (λ (bus : LentBus O g). Retells a bus past) (sym leaves.leaves.still) handles.asked.reads.reports in
+    let made = call-runs_by composes a m b past h h' [] [] [] (MakesInterrupt NotMine [] h h') zero retells leaves.flows
     (subst (λ (accesses : List Access). All (IsOfDriver h.driver.layout) accesses) (sym only)
     (causes-of_driver h.driver.layout handles.asked.causes))
     (subst OnlyLastWrites (sym only) tt)
@@ -104,11 +106,11 @@ numbers-joined (pieces ∷ later) =
     map-append (λ (one : HandedOut). one.number) pieces (pieces_of later)
     ∙ ap (λ (numbers : List ℕ). numbers_of pieces ++ numbers) (numbers-joined later)
 
-works-runs : (a m b : LentBus) (h h' : HostState) (n : ℕ) → a.accesses ≡ 0 → HostReady h (world_here a) → IsRefilled h'.driver
+works-runs : {O : Type 0} {g : OfObserver O} → ComposesTold g.heard → (a m b : LentBus O g) (h h' : HostState) (n : ℕ) → a.accesses ≡ 0 → HostReady h (world_here a) → IsRefilled h'.driver
     → h'.driver.staged ≡ [] → OnlyReceives h.driver h'.driver → HostHandles lent (answers.Handled n) true (host_at a h) (host_at m h')
     → Finished m b
     → InterruptRuns (lent_call a b) (answers.Handled n) (connected h a.network.now) (connected h' b.network.now)
-works-runs a m b h h' n zero ready refilled offered only_receives handles finished =
+works-runs composes a m b h h' n zero ready refilled offered only_receives handles finished =
     let it = handles.then_does in
     let works = it.works in
     let served = works.served in
@@ -127,10 +129,10 @@ works-runs a m b h h' n zero ready refilled offered only_receives handles finish
     let driver_accesses = handles-of_driver own h.driver works.misses.misses numbers works.loads
     served.offered (next_receive h'.driver) (subst (λ (c : Counts). next_receive h'.driver < c.rx) counts below) in
     -- what happened up to the last load, after it, and in all
-    let first = retellings-join a handles.asked.after_read split.middle past split.before handles.asked.reads.reports split.reaches in
-    let work = retellings-join handles.asked.after_read split.middle m split.before split.behind split.reaches split.leaves in
+    let first = retellings-join composes a handles.asked.after_read split.middle past split.before handles.asked.reads.reports split.reaches in
+    let work = retellings-join composes handles.asked.after_read split.middle m split.before split.behind split.reaches split.leaves in
     let both = joined split.before split.behind in
-    let whole = retellings-join a handles.asked.after_read m past both handles.asked.reads.reports work.0 in
+    let whole = retellings-join composes a handles.asked.after_read m past both handles.asked.reads.reports work.0 in
     let accesses : both.accesses ≡ taking ++ offering =
     ap (λ (list : List Access). list ++ split.behind.accesses) split.first_made
     ∙ ap (λ (list : List Access). taking ++ list) split.later_made in
@@ -153,7 +155,7 @@ works-runs a m b h h' n zero ready refilled offered only_receives handles finish
       loads = works.loads;
       exact = is;
     } in
-    let made = call-runs_by a m b (joined past both) h h' (joined_frames works.taken) [] []
+    let made = call-runs_by composes a m b (joined past both) h h' (joined_frames works.taken) [] []
     (MakesInterrupt (answers.Handled n) numbers h h') zero whole.0
     (subst (λ (p : Past). HostFlowsTo true (in_world h (world_here a)) (in_world h' (world_here m))
     (did (joined_frames works.taken) [] []) (joined past p)) split.whole it.flows)
@@ -213,10 +215,10 @@ works-runs a m b h h' n zero ready refilled offered only_receives handles finish
       };
     }
 
-pub interrupt-runs : (a m b : LentBus) (h h' : HostState) (result : Handled) → a.accesses ≡ 0 → HostReady h (world_here a)
+pub interrupt-runs : {O : Type 0} {g : OfObserver O} → ComposesTold g.heard → (a m b : LentBus O g) (h h' : HostState) (result : Handled) → a.accesses ≡ 0 → HostReady h (world_here a)
     → OnlyReceives h.driver h'.driver → IfHandled result (HostServes h h')
     → HostHandles lent result true (host_at a h) (host_at m h') → Finished m b
     → InterruptRuns (lent_call a b) result (connected h a.network.now) (connected h' b.network.now)
-interrupt-runs a m b h h' NotMine zero ready only_receives serves handles finished = leaves-runs a m b h h' zero ready handles finished
-interrupt-runs a m b h h' (answers.Handled n) zero ready only_receives serves handles finished =
-    works-runs a m b h h' n zero ready serves.refilled serves.offered only_receives handles finished
+interrupt-runs composes a m b h h' NotMine zero ready only_receives serves handles finished = leaves-runs composes a m b h h' zero ready handles finished
+interrupt-runs composes a m b h h' (answers.Handled n) zero ready only_receives serves handles finished =
+    works-runs composes a m b h h' n zero ready serves.refilled serves.offered only_receives handles finished

@@ -11,7 +11,9 @@ use Rattle.bus.specs.PastOfStretch.{nothing}
 use Rattle.bus.specs.declared.event.Access.{Access}
 use Rattle.stations.specs.Retelling.{Finished, world_here}
 use Rattle.stations.specs.RetellingLaws.{retells_none}
+use Rattle.stations.specs.ToldTicks.{ComposesTold}
 use Rattle.stations.specs.declared.lent_bus.LentBus.{LentBus}
+use Rattle.stations.specs.declared.observer.Observer.{Ghosts as OfObserver}
 use Rattle.driver_law.proofs.Places.{place-below}
 use Rattle.driver_law.specs.DriverState.{next_receive, with_owners}
 use Rattle.driver_law.specs.Calls.{IsRefilled}
@@ -30,12 +32,12 @@ use Rattle.host_calls.specs.ConnectedHosts.{connected}
 use Rattle.host_calls.proofs.Calling.{call-runs, flows-of, lent_call, work-goes}
 use Rattle.host_calls.proofs.DriversAccesses.{receives-last, receives-of_driver}
 
-pub recv-runs : (a m b : LentBus) (h h' : HostState) (socket size : ℕ) (bytes : List ℕ) → a.accesses ≡ 0 → HostReady h (world_here a)
+pub recv-runs : {O : Type 0} {g : OfObserver O} → ComposesTold g.heard → (a m b : LentBus O g) (h h' : HostState) (socket size : ℕ) (bytes : List ℕ) → a.accesses ≡ 0 → HostReady h (world_here a)
     → length bytes ≡ size → Receives lent (record { socket = socket; frame = bytes }) size true (host_at a h) (host_at m h')
     → IsRefilled h'.driver → h'.driver.staged ≡ [] → Finished m b
     → CallRuns (lent_call a b) (did [] (given_by socket (Ok bytes)) []) (MakesRecv (Ok bytes) socket h h') (connected h a.network.now)
     (connected h' b.network.now)
-recv-runs a m b h h' socket size bytes zero ready long receives refilled offered finished =
+recv-runs composes a m b h h' socket size bytes zero ready long receives refilled offered finished =
     let ran = receives.ran.ran in
     let given = given_by socket (Ok bytes) in
     let goes : HostGoesTo true (in_world h (world_here a)) (in_world h' (world_here m)) (did [] given []) ran.past =
@@ -44,7 +46,7 @@ recv-runs a m b h h' socket size bytes zero ready long receives refilled offered
     let driver = ran.goes.flows.ready.driver_is in
     let below : next_receive h'.driver < h'.driver.layout.rx =
     place-below h'.driver.layout.rx h'.driver.oldest_receive (length h'.driver.buffers + length h'.driver.staged) driver.oldest_slot in
-    call-runs a m b ran.past h h' [] given [] (MakesRecv (Ok bytes) socket h h') zero ran.reports
+    call-runs composes a m b ran.past h h' [] given [] (MakesRecv (Ok bytes) socket h h') zero ran.reports
     (flows-of h (world_here a) h' (world_here m) [] given [] ran.past goes)
     (subst (λ (accesses : List Access). All (IsOfDriver h.driver.layout) accesses) (sym ran.only)
     (receives-of_driver h.driver.layout h.driver h'.driver receives.received.parts receives.offered
@@ -63,19 +65,19 @@ recv-runs a m b h h' socket size bytes zero ready long receives refilled offered
     (λ before. refilled) (λ before. offered) finished
 
 -- If no frame is given, only ticks are played.
-pub none-runs : (a m b : LentBus) (h h' : HostState) (socket : ℕ) (error : RecvError) → a.accesses ≡ 0 → HostReady h (world_here a)
+pub none-runs : {O : Type 0} {g : OfObserver O} → ComposesTold g.heard → (a m b : LentBus O g) (h h' : HostState) (socket : ℕ) (error : RecvError) → a.accesses ≡ 0 → HostReady h (world_here a)
     → m ≡ a → h' ≡ h → Finished m b
     → CallRuns (lent_call a b) (did [] (given_by socket (Err error)) []) (MakesRecv (Err error) socket h h') (connected h a.network.now)
     (connected h' b.network.now)
-none-runs a m b h h' socket error zero ready same stays finished =
+none-runs {O} {g} composes a m b h h' socket error zero ready same stays finished =
     let goes = host-happens h (world_here a) (world_here a) nothing ready (happens_none (world_here a)) in
     subst (λ (host : HostState). CallRuns (lent_call a b) (did [] [] []) (λ (accesses : List Access). accesses ≡ [])
     (connected h a.network.now) (connected host b.network.now))
     (sym stays)
-    (call-runs a a b nothing h h [] [] [] (λ (accesses : List Access). accesses ≡ []) zero (retells_none a)
+    (call-runs composes a a b nothing h h [] [] [] (λ (accesses : List Access). accesses ≡ []) zero (retells_none composes a)
     (flows-of h (world_here a) h (world_here a) [] [] [] nothing goes)
     (all-none (IsOfDriver h.driver.layout)) tt refl (λ work. work) (λ refilled. refilled) (λ offered. offered)
-    (subst (λ (bus : LentBus). Finished bus b) same finished))
+    (subst (λ (bus : LentBus O g). Finished bus b) same finished))
 
 -- The answers.
 
@@ -88,7 +90,7 @@ queue-empty h socket world queue is = (
       (Rattle.packet_socket.specs.HostCalls.waiting_frame h.driver.layout world.memory) (queue_at h.queues socket) none,
 )
 
-pub ok-answers : (a m : LentBus) (h h' : HostState) (socket size : ℕ) (bytes : List ℕ)
+pub ok-answers : {O : Type 0} {g : OfObserver O} (a m : LentBus O g) (h h' : HostState) (socket size : ℕ) (bytes : List ℕ)
     → Receives lent (record { socket = socket; frame = bytes }) size true (host_at a h) (host_at m h')
     → socket < length h.kinds
     → AnswersRecv (Ok bytes) socket h (world_here a)
@@ -144,26 +146,26 @@ ok-leaves h h' socket size accesses bytes received fits leaves others = record {
   others = others;
 }
 
-pub err-leaves : (a m b : LentBus) (h h' : HostState) (socket : ℕ) (error : RecvError) → a.accesses ≡ 0 → m ≡ a → h' ≡ h → Finished m b
+pub err-leaves : {O : Type 0} {g : OfObserver O} (a m b : LentBus O g) (h h' : HostState) (socket : ℕ) (error : RecvError) → a.accesses ≡ 0 → m ≡ a → h' ≡ h → Finished m b
     → LeavesRecv (Err error) socket h h' b.accesses
-err-leaves a m b h h' socket error zero same stays finished =
-    (stays, finished.count ∙ ap (λ (bus : LentBus). bus.accesses) same ∙ zero)
+err-leaves {O} {g} a m b h h' socket error zero same stays finished =
+    (stays, finished.count ∙ ap (λ (bus : LentBus O g). bus.accesses) same ∙ zero)
 
 -- By the answer.
 
-pub any-runs : (a m b : LentBus) (h h' : HostState) (socket : ℕ) (result : Result ℕ RecvError) (before into : List ℕ) → a.accesses ≡ 0
+pub any-runs : {O : Type 0} {g : OfObserver O} → ComposesTold g.heard → (a m b : LentBus O g) (h h' : HostState) (socket : ℕ) (result : Result ℕ RecvError) (before into : List ℕ) → a.accesses ≡ 0
     → length into ≡ 1518 → HostReady h (world_here a) → ReturnsBy lent socket into result true (host_at a h) (host_at m h')
     → IfOk result (Returns h h' socket before into) → IfErr result (λ error. (m ≡ a) × (h' ≡ h) × (into ≡ before)) → Finished m b
     → CallRuns (lent_call a b) (did [] (given_by socket (frame_in into result)) []) (MakesRecv (frame_in into result) socket h h')
     (connected h a.network.now) (connected h' b.network.now)
-any-runs a m b h h' socket (Ok size) before into zero long ready receives ok err finished =
-    recv-runs a m b h h' socket size (take size into) zero ready
+any-runs composes a m b h h' socket (Ok size) before into zero long ready receives ok err finished =
+    recv-runs composes a m b h h' socket size (take size into) zero ready
     (front-long size into (let most = ok.legal.most in omega (arith, long, most))) receives ok.refilled
     (ap (λ (host : HostState). host.driver.staged) ok.others) finished
-any-runs a m b h h' socket (Err error) before into zero long ready receives ok err finished =
-    none-runs a m b h h' socket error zero ready err.0 err.1 finished
+any-runs composes a m b h h' socket (Err error) before into zero long ready receives ok err finished =
+    none-runs composes a m b h h' socket error zero ready err.0 err.1 finished
 
-pub any-answers : (a m : LentBus) (h h' : HostState) (socket : ℕ) (result : Result ℕ RecvError) (into : List ℕ)
+pub any-answers : {O : Type 0} {g : OfObserver O} (a m : LentBus O g) (h h' : HostState) (socket : ℕ) (result : Result ℕ RecvError) (into : List ℕ)
     → ReturnsBy lent socket into result true (host_at a h) (host_at m h')
     → ((result ≡ Err NoSocket) ↔ (length h.kinds ≤ socket))
     → ((result ≡ Err Empty) ↔ ((socket < length h.kinds) × (queue_at h.queues socket ≡ [])))
@@ -173,7 +175,7 @@ any-answers a m h h' socket (Ok size) into receives none empty =
 any-answers a m h h' socket (Err error) into receives none empty =
     err-answers (Err error) error socket h (world_here a) refl none empty
 
-pub any-leaves : (a m b : LentBus) (h h' : HostState) (socket : ℕ) (result : Result ℕ RecvError) (before into : List ℕ) → a.accesses ≡ 0
+pub any-leaves : {O : Type 0} {g : OfObserver O} (a m b : LentBus O g) (h h' : HostState) (socket : ℕ) (result : Result ℕ RecvError) (before into : List ℕ) → a.accesses ≡ 0
     → length into ≡ 1518 → IfOk result (Returns h h' socket before into)
     → IfErr result (λ error. (m ≡ a) × (h' ≡ h) × (into ≡ before))
     → Finished m b → LeavesRecv (frame_in into result) socket h h' b.accesses

@@ -1,63 +1,27 @@
 -- What a lent bus retells: two retellings are one, and the atomic steps of a retelling end with an access.
-use Rattle.std.proofs.Common.{◌≡◌, ◌++◌, ◌∷◌, [], ℕ, false, List, append_assoc, map, refl, sym, ap, subst, ◌∙◌}
+use Rattle.std.proofs.Common.{◌≡◌, ◌++◌, ◌∷◌, [], ℕ, false, List, map, refl, sym, ap, subst, ◌∙◌}
 use Rattle.std.specs.Prelude.{⊤}
-use Rattle.std.proofs.lemmas.List.{map-append}
 use Rattle.bus.specs.PastOfStretch.{Past, joined}
-use Rattle.bus.specs.TickGroupLaws.{played_joins}
 use Rattle.bus.specs.TickGroups.{behind_group, group_of, played_in}
 use Rattle.bus.specs.declared.event.Access.{Access}
 use Rattle.bus.specs.declared.event.Event.TheVariants.{Accesses, Arrives, Steps}
-use Rattle.stations.specs.AtomicRunLaws.{counted_join, leads_join, noted_join, past_join}
-use Rattle.stations.specs.AtomicRuns.{IsOfCall, LeadsTo, counted_of, is_go, noted_of, past_at}
+use Rattle.stations.specs.AtomicRuns.{IsOfCall, LeadsTo, is_go}
 use Rattle.stations.specs.AtomicSteps.{At, AtomicStep, Idles, IsNoAccess, after, tick_of}
 use Rattle.stations.specs.Retelling.{Retells}
 use Rattle.stations.specs.RetellingLaws.{retells_join}
 use Rattle.stations.specs.Stations.{StationState}
+use Rattle.stations.specs.ToldTicks.{ComposesTold}
 use Rattle.stations.specs.declared.lent_bus.LentBus.{LentBus}
-use Rattle.stations.specs.declared.outcomes.Numbered.{Numbered}
+use Rattle.stations.specs.declared.observer.Observer.{Ghosts as OfObserver}
 use Rattle.stations.specs.declared.tick.Tick.{Tick}
 use Rattle.stations.specs.declared.tick.Tick.TheVariants.{Go}
 use Rattle.host_calls.specs.CallsOfHosts.{EndsWithAccess}
 
 -- The steps of two retellings are those of both.
-pub retellings-join : (a b c : LentBus) (first later : Past) (one : Retells a b first) (two : Retells b c later)
+pub retellings-join : {O : Type 0} {g : OfObserver O} → ComposesTold g.heard → (a b c : LentBus O g) (first later : Past) (one : Retells a b first) (two : Retells b c later)
     → ((both : Retells a c (joined first later)) × (both.steps ≡ one.steps ++ two.steps))
-retellings-join a b c first later one two =
-    let host = one.lent.host in
-    let whole = retells_join a b c first later one two in (
-      record {
-        lent = whole.lent;
-        steps = one.steps ++ two.steps;
-        leads =
-            leads_join a.host one.steps two.steps a.network.now b.network.now c.network.now one.leads
-            (subst (λ (h : ℕ). LeadsTo h two.steps b.network.now c.network.now) host two.leads);
-        past_is =
-            ap (λ (p : Past). joined p later) one.past_is
-            ∙ ap (joined (past_at a.host one.steps)) (two.past_is ∙ ap (λ (h : ℕ). past_at h two.steps) host)
-            ∙ sym (past_join a.host one.steps two.steps);
-        played =
-            map-append tick_of one.steps two.steps
-            ∙ ap (λ (ticks : List Tick). ticks ++ map tick_of two.steps) one.played
-            ∙ ap (λ (ticks : List Tick). played_in is_go Go [] first.accesses a.ticks.now ++ ticks)
-            (two.played ∙ ap (played_in is_go Go [] later.accesses) one.waiting)
-            ∙ sym (played_joins is_go Go [] first.accesses later.accesses a.ticks.now);
-        waiting = whole.waiting;
-        noted =
-            two.noted
-            ∙ ap (λ (list : List Numbered). list ++ noted_of b.accesses two.steps) one.noted
-            ∙ append_assoc a.outcomes.now.list (noted_of a.accesses one.steps) (noted_of b.accesses two.steps)
-            ∙ ap (λ (list : List Numbered). a.outcomes.now.list ++ list)
-            (ap (λ (n : ℕ). noted_of a.accesses one.steps ++ noted_of n two.steps) one.accesses.number
-            ∙ sym (noted_join a.accesses one.steps two.steps));
-        accesses = record {
-          number =
-              two.accesses.number ∙ ap (λ (n : ℕ). counted_of n two.steps) one.accesses.number
-              ∙ sym (counted_join a.accesses one.steps two.steps);
-          count = whole.accesses.count;
-        };
-      },
-      refl,
-    )
+unfolding retells_join
+retellings-join composes a b c first later one two = (retells_join composes a b c first later one two, refl)
 
 -- What is played ends with a Go.
 
@@ -95,7 +59,7 @@ steps-end caller [] a b leads ends = tt
 steps-end caller (step ∷ []) a b leads ends = access-at-go caller step leads.1 ends
 steps-end caller (step ∷ next ∷ later) a b leads ends = steps-end caller (next ∷ later) (after step a) b leads.2 ends
 
-pub retelling-ends : (a b : LentBus) (past : Past) (retells : Retells a b past) → EndsWithAccess retells.steps
+pub retelling-ends : {O : Type 0} {g : OfObserver O} (a b : LentBus O g) (past : Past) (retells : Retells a b past) → EndsWithAccess retells.steps
 retelling-ends a b past retells =
     steps-end a.host retells.steps a.network.now b.network.now retells.leads
     (subst EndsWithGo (sym retells.played) (played-ends past.accesses a.ticks.now))

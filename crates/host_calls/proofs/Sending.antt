@@ -17,7 +17,9 @@ use Rattle.stations.specs.AtomicRuns.{past_at}
 use Rattle.stations.specs.AtomicSteps.{AtomicStep}
 use Rattle.stations.specs.Retelling.{Finished, Retells, world_here}
 use Rattle.stations.specs.Stations.{world_at}
+use Rattle.stations.specs.ToldTicks.{ComposesTold}
 use Rattle.stations.specs.declared.lent_bus.LentBus.{LentBus}
+use Rattle.stations.specs.declared.observer.Observer.{Ghosts as OfObserver}
 use Rattle.driver_law.proofs.FramesCounted.{slots_have_frames}
 use Rattle.driver_law.proofs.Stretches.{goes_join}
 use Rattle.driver_law.specs.Calls.{GoesTo, IsRefilled, Moment, driver_did, driver_in, send_accesses, transmit_buffer, whole_descriptor}
@@ -47,7 +49,7 @@ sends-as (Err TooLong) h h' a b frame = refl
 sends-as (Err RingFull) h h' a b frame = refl
 
 -- The call over a report of the bus with these accesses. The report need not be that of `sent`.
-send-runs : (a m b : LentBus) (h h' : HostState) (frame : List ℕ) (result : SendAnswer) (past : Past) → a.accesses ≡ 0
+send-runs : {O : Type 0} {g : OfObserver O} → ComposesTold g.heard → (a m b : LentBus O g) (h h' : HostState) (frame : List ℕ) (result : SendAnswer) (past : Past) → a.accesses ≡ 0
     → HostReady h (world_here a)
     → h' ≡ record h { driver = with_transmit_slots h.driver h'.driver.oldest_transmit h'.driver.sending }
     → HostSends lent frame result (host_at a h) (host_at m h')
@@ -57,7 +59,7 @@ send-runs : (a m b : LentBus) (h h' : HostState) (frame : List ℕ) (result : Se
     → (finished : Finished m b)
     → ((runs : CallRuns (lent_call a b) (did [] [] (accepted_by result frame)) (MakesSend result frame h h') (connected h a.network.now)
     (connected h' b.network.now)) × (runs.steps ≡ retells.steps ++ finished.plays.steps))
-send-runs a m b h h' frame result past zero ready others sent retells only driver_goes finished =
+send-runs composes a m b h h' frame result past zero ready others sent retells only driver_goes finished =
     let ran = sent.ran.ran in
     let held = frames_held h.driver.oldest_receive (world_here a) in
     let stored : ran.past.stored ≡ past.stored =
@@ -66,7 +68,7 @@ send-runs a m b h h' frame result past zero ready others sent retells only drive
     let goes : HostGoesTo true (in_world h (world_here a)) (in_world h' (world_here m)) (did [] [] (accepted_by result frame)) past =
     record { sizes = sent.ran.sizes; driver = driver_goes; accounts = accounts } in
     let some : 0 < h.driver.layout.tx = omega (arith, ready.ready.transmit.oldest_slot) in
-    call-runs_by a m b past h h' [] [] (accepted_by result frame) (MakesSend result frame h h') zero retells
+    call-runs_by composes a m b past h h' [] [] (accepted_by result frame) (MakesSend result frame h h') zero retells
     (record { sizes = sent.ran.sizes; driver = driver_goes.flows; accounts = accounts })
     (subst (λ (accesses : List Access). All (IsOfDriver h.driver.layout) accesses) (sym only)
     (sends-of_driver h.driver.layout result h.driver h'.driver frame refl some))
@@ -78,21 +80,21 @@ send-runs a m b h h' frame result past zero ready others sent retells only drive
     finished
 
 -- What a call of sending is: its run, and the order in which it frees slots and sends.
-abbrev pub SentCall : (a b : LentBus) (h h' : HostState) → (frame : List ℕ) → SendAnswer → Type 0
+abbrev pub SentCall : {O : Type 0} {g : OfObserver O} (a b : LentBus O g) (h h' : HostState) → (frame : List ℕ) → SendAnswer → Type 0
 SentCall a b h h' frame result =
     (runs : CallRuns (lent_call a b) (did [] [] (accepted_by result frame)) (MakesSend result frame h h') (connected h a.network.now)
     (connected h' b.network.now))
     × FreesFirstBy result a.host frame runs.steps (connected h a.network.now) (connected h' b.network.now)
 
 -- A frame that can't be sent: nothing is looked at.
-refused-call : (a m b : LentBus) (h h' : HostState) (frame : List ℕ) (error : SendError) → a.accesses ≡ 0 → HostReady h (world_here a)
+refused-call : {O : Type 0} {g : OfObserver O} → ComposesTold g.heard → (a m b : LentBus O g) (h h' : HostState) (frame : List ℕ) (error : SendError) → a.accesses ≡ 0 → HostReady h (world_here a)
     → h' ≡ record h { driver = with_transmit_slots h.driver h'.driver.oldest_transmit h'.driver.sending }
     → HostSends lent frame (Err error) (host_at a h) (host_at m h') → Finished m b
     → CallRuns (lent_call a b) (did [] [] []) (MakesSend (Err error) frame h h') (connected h a.network.now)
     (connected h' b.network.now)
-refused-call a m b h h' frame error zero ready others sent finished =
+refused-call composes a m b h h' frame error zero ready others sent finished =
     let ran = sent.ran.ran in
-    (send-runs a m b h h' frame (Err error) ran.past zero ready others sent ran.reports
+    (send-runs composes a m b h h' frame (Err error) ran.past zero ready others sent ran.reports
     (ran.only ∙ sends-as (Err error) h h' (world_here a) (world_here m) frame) ran.goes finished).0
 
 -- The slots that are left have frames that are still to be sent.
@@ -103,14 +105,14 @@ left-over d world ready none =
     record { none = none; frames = omega (arith, count, ap length none) }
 
 -- No slot is free: slots are looked at, and then only ticks are played.
-full-call : (a m b : LentBus) (h h' : HostState) (frame : List ℕ) → a.accesses ≡ 0 → HostReady h (world_here a)
+full-call : {O : Type 0} {g : OfObserver O} → ComposesTold g.heard → (a m b : LentBus O g) (h h' : HostState) (frame : List ℕ) → a.accesses ≡ 0 → HostReady h (world_here a)
     → h' ≡ record h { driver = with_transmit_slots h.driver h'.driver.oldest_transmit h'.driver.sending }
     → HostSends lent frame (Err RingFull) (host_at a h) (host_at m h') → Finished m b
     → SentCall a b h h' frame (Err RingFull)
-full-call a m b h h' frame zero ready others sent finished =
+full-call composes a m b h h' frame zero ready others sent finished =
     let ran = sent.frees_first.ran in
     let reports = ran.reports in
-    let made = send-runs a m b h h' frame (Err RingFull) ran.past zero ready others sent reports ran.only ran.goes finished in (
+    let made = send-runs composes a m b h h' frame (Err RingFull) ran.past zero ready others sent reports ran.only ran.goes finished in (
       made.0,
       record {
         loads = record {
@@ -138,11 +140,11 @@ sends-same d d' frame counts tail =
     ap (λ (layout : Counts). at layout (transmit_tail d')) counts ∙ ap (at d.layout) tail
 
 -- Slots are freed, and then the frame is sent.
-accepted-call : (a m b : LentBus) (h h' : HostState) (frame : List ℕ) (u : Unit {0}) → a.accesses ≡ 0 → HostReady h (world_here a)
+accepted-call : {O : Type 0} {g : OfObserver O} → ComposesTold g.heard → (a m b : LentBus O g) (h h' : HostState) (frame : List ℕ) (u : Unit {0}) → a.accesses ≡ 0 → HostReady h (world_here a)
     → h' ≡ record h { driver = with_transmit_slots h.driver h'.driver.oldest_transmit h'.driver.sending }
     → HostSends lent frame (Ok u) (host_at a h) (host_at m h') → Finished m b
     → SentCall a b h h' frame (Ok u)
-accepted-call a m b h h' frame u zero ready others sent finished =
+accepted-call composes a m b h h' frame u zero ready others sent finished =
     let parts = sent.frees_first in
     let freed = parts.freed.driver in
     let between = parts.freed.bus in
@@ -159,8 +161,8 @@ accepted-call a m b h h' frame u zero ready others sent finished =
     let loads : frees.past.accesses ≡ loads_to_free h.driver (h'.driver.sending - 1) =
     frees.only ∙ ap (λ (n : ℕ). loads_to_free h.driver n) left in
     let stores : sends.past.accesses ≡ send_accesses h.driver frame = sends.only ∙ sends-same h.driver freed frame layout parts.tail in
-    let retells = retellings-join a between m frees.past sends.past frees.reports sends.reports in
-    let made = send-runs a m b h h' frame (Ok u) past zero ready others sent retells.0
+    let retells = retellings-join composes a between m frees.past sends.past frees.reports sends.reports in
+    let made = send-runs composes a m b h h' frame (Ok u) past zero ready others sent retells.0
     (ap (λ (accesses : List Access). accesses ++ sends.past.accesses) loads
     ∙ ap (λ (accesses : List Access). loads_to_free h.driver (h'.driver.sending - 1) ++ accesses) stores)
     (goes_join (driver_of h (world_here a)) freed (driver_of h' (world_here m)) (world_here a) (world_here between) (world_here m) [] [] []
@@ -189,18 +191,18 @@ accepted-call a m b h h' frame u zero ready others sent finished =
       },
     )
 
-pub sent-call : (a m b : LentBus) (h h' : HostState) (frame : List ℕ) (result : SendAnswer) → a.accesses ≡ 0 → HostReady h (world_here a)
+pub sent-call : {O : Type 0} {g : OfObserver O} → ComposesTold g.heard → (a m b : LentBus O g) (h h' : HostState) (frame : List ℕ) (result : SendAnswer) → a.accesses ≡ 0 → HostReady h (world_here a)
     → h' ≡ record h { driver = with_transmit_slots h.driver h'.driver.oldest_transmit h'.driver.sending }
     → HostSends lent frame result (host_at a h) (host_at m h') → Finished m b
     → SentCall a b h h' frame result
-sent-call a m b h h' frame (Ok u) zero ready others sent finished = accepted-call a m b h h' frame u zero ready others sent finished
-sent-call a m b h h' frame (Err TooShort) zero ready others sent finished =
-    (refused-call a m b h h' frame TooShort zero ready others sent finished, tt)
-sent-call a m b h h' frame (Err TooLong) zero ready others sent finished =
-    (refused-call a m b h h' frame TooLong zero ready others sent finished, tt)
-sent-call a m b h h' frame (Err RingFull) zero ready others sent finished = full-call a m b h h' frame zero ready others sent finished
+sent-call composes a m b h h' frame (Ok u) zero ready others sent finished = accepted-call composes a m b h h' frame u zero ready others sent finished
+sent-call composes a m b h h' frame (Err TooShort) zero ready others sent finished =
+    (refused-call composes a m b h h' frame TooShort zero ready others sent finished, tt)
+sent-call composes a m b h h' frame (Err TooLong) zero ready others sent finished =
+    (refused-call composes a m b h h' frame TooLong zero ready others sent finished, tt)
+sent-call composes a m b h h' frame (Err RingFull) zero ready others sent finished = full-call composes a m b h h' frame zero ready others sent finished
 
-full-count : (old new : Moment LentBus) (result : SendAnswer) → result ≡ Err RingFull → IsTransmitAnswer lent result old new
+full-count : {O : Type 0} {g : OfObserver O} (old new : Moment (LentBus O g)) (result : SendAnswer) → result ≡ Err RingFull → IsTransmitAnswer lent result old new
     → length (frames_to_send (world_here old.bus)) + length (written_back old.driver.oldest_transmit (world_here old.bus))
     ≡ old.driver.sending
     → length (frames_to_send (world_here old.bus)) + 1 ≡ old.driver.layout.tx
@@ -208,18 +210,18 @@ full-count old new result is answer count =
     let full : IsTransmitAnswer lent (Err RingFull) old new = subst (λ (r : SendAnswer). IsTransmitAnswer lent r old new) is answer in
     omega (arith, full.at_entry.0, ap length full.at_entry.1, count)
 
-still-full : (old new : Moment LentBus) (result : SendAnswer) → result ≡ Err RingFull → IsTransmitAnswer lent result old new
+still-full : {O : Type 0} {g : OfObserver O} (old new : Moment (LentBus O g)) (result : SendAnswer) → result ≡ Err RingFull → IsTransmitAnswer lent result old new
     → new.driver.layout ≡ old.driver.layout → new.driver.sending + 1 ≡ old.driver.layout.tx
 still-full old new result is answer same =
     let full : IsTransmitAnswer lent (Err RingFull) old new = subst (λ (r : SendAnswer). IsTransmitAnswer lent r old new) is answer in
     full.at_return.0 ∙ ap (λ (layout : Counts). layout.tx) same
 
-frees-by : (a m : LentBus) (h h' : HostState) (result : SendAnswer)
+frees-by : {O : Type 0} {g : OfObserver O} (a m : LentBus O g) (h h' : HostState) (result : SendAnswer)
     → IsTransmitAnswer lent result (driver_at lent (host_at a h)) (driver_at lent (host_at m h')) → FreesBy result h h' (world_here a)
 frees-by a m h h' (Ok u) answer = record { freed = answer.freed; some = answer.some }
 frees-by a m h h' (Err error) answer = tt
 
-pub send-answers : (a m : LentBus) (h h' : HostState) (frame : List ℕ) (result : SendAnswer) → HostReady h (world_here a)
+pub send-answers : {O : Type 0} {g : OfObserver O} (a m : LentBus O g) (h h' : HostState) (frame : List ℕ) (result : SendAnswer) → HostReady h (world_here a)
     → ((result ≡ Err TooShort) ↔ (length frame < shortest_sent)) → ((result ≡ Err TooLong) ↔ (longest_frame < length frame))
     → h'.driver.layout ≡ h.driver.layout
     → IsTransmitAnswer lent result (driver_at lent (host_at a h)) (driver_at lent (host_at m h'))
@@ -234,11 +236,11 @@ send-answers a m h h' frame result ready short long same answer = record {
 }
 
 -- A frame that can't be sent makes no access, and changes nothing.
-pub send-leaves : (a m b : LentBus) (h h' : HostState) (result : SendAnswer) → a.accesses ≡ 0
+pub send-leaves : {O : Type 0} {g : OfObserver O} (a m b : LentBus O g) (h h' : HostState) (result : SendAnswer) → a.accesses ≡ 0
     → h' ≡ record h { driver = with_transmit_slots h.driver h'.driver.oldest_transmit h'.driver.sending }
     → (HasWrongLength result → (m ≡ a) × (h' ≡ h)) → Finished m b → LeavesSend result h h' b.accesses
-send-leaves a m b h h' result zero others nothing finished = record {
+send-leaves {O} {g} a m b h h' result zero others nothing finished = record {
   others = others;
-  unasked = λ refused. finished.count ∙ ap (λ (bus : LentBus). bus.accesses) (nothing refused).0 ∙ zero;
+  unasked = λ refused. finished.count ∙ ap (λ (bus : LentBus O g). bus.accesses) (nothing refused).0 ∙ zero;
   stays = λ refused. (nothing refused).1;
 }

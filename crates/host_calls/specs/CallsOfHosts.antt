@@ -7,7 +7,7 @@ use Rattle.bus.specs.declared.event.Access.TheVariants.{Loads, Reads, Stores, Wr
 use Rattle.bus.specs.TickGroups.{without_go}
 use Rattle.stations.specs.AtomicSteps.{AtomicStep, IsNoAccess, tick_of}
 use Rattle.stations.specs.Stations.{StationState, world_at}
-use Rattle.stations.specs.AtomicRuns.{LeadsTo, counted_of, is_go, noted_of, past_at}
+use Rattle.stations.specs.AtomicRuns.{LeadsTo, counted_of, is_go, noted_of, past_at, steps_told}
 use Rattle.driver_law.specs.Calls.{HasNoForgottenWork, IsRefilled}
 use Rattle.packet_socket.specs.HostCalls.{HostDid, HostFlowsTo, in_world}
 use Rattle.delivery.specs.Happenings.{happened_in, told}
@@ -50,13 +50,13 @@ pub record StepsUpTo (k : ℕ) (accesses : List Access) (steps : List AtomicStep
   pub middle : List StationState
   pub leads : LeadsTo k first old middle
 
--- Atomic steps lead from one state of all stations to another: those of some ticks, and accesses of one host. Each tick's outcome is noted
--- after the others, with the number of accesses before it. So the list of what happened to frames follows from ticks and outcomes.
+-- Atomic steps lead from one state of all stations to another: those of some ticks, and accesses of one host. The observer was told each
+-- tick's outcome in order, with the number of accesses before it. So the list of what happened to frames follows from ticks and outcomes.
 pub record StepsOfCall (call : PlayedCall) (steps : List AtomicStep) (old new : List StationState) : Type 0 where
   pub leads : LeadsTo call.caller steps old new
   -- the steps that aren't accesses are the ticks that aren't Go, in order
   pub played : without_go is_go (map tick_of steps) ≡ without_go is_go call.ticks
-  pub noted : call.noted_after.list ≡ call.noted_before.list ++ noted_of 0 steps
+  pub heard : call.heard (steps_told 0 steps)
   pub said : told call.ticks (noted_of 0 steps) ≡ happened_in steps
   pub numbered : noted_numbers (noted_of 0 steps) ≡ numbers call.ticks 0 call.accesses
   pub counted : call.accesses ≡ counted_of 0 steps

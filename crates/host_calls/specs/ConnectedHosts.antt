@@ -1,7 +1,7 @@
 -- A host in its network, and what a call of it is there (our choice).
 use Rattle.std.specs.Prelude.{ℕ, List}
 use Rattle.packet_socket.specs.HostState.{HostState}
-use Rattle.stations.specs.Outcomes.{OutcomeList}
+use Rattle.stations.specs.ToldTicks.{TickTold}
 use Rattle.stations.specs.Stations.{StationState}
 use Rattle.stations.specs.declared.tick.Tick.{Tick}
 
@@ -14,21 +14,14 @@ abbrev pub connected : HostState → List StationState → ConnectedHost
 connected host stations = record { host = host; stations = stations }
 
 -- A call of a host, with the ticks that are played before its accesses and after the last.
-pub record PlayedCall : Type 0 where
+pub record PlayedCall : Type 1 where
   -- the host's number
   pub caller : ℕ
   pub ticks : List Tick
-  -- the outcomes of ticks that are noted when the call begins, and when all its ticks are played
-  pub noted_before : OutcomeList
-  pub noted_after : OutcomeList
+  -- The observer was told this from the begin of the call to the end of its ticks.
+  pub heard : List TickTold → Type 0
   -- how many accesses it made, up to the greatest u64
   pub accesses : ℕ
 
-abbrev pub played_call : (caller : ℕ) → List Tick → (noted_before noted_after : OutcomeList) → (accesses : ℕ) → PlayedCall
-played_call caller ticks noted_before noted_after accesses = record {
-  caller = caller;
-  ticks = ticks;
-  noted_before = noted_before;
-  noted_after = noted_after;
-  accesses = accesses;
-}
+abbrev pub played_call : (caller : ℕ) → List Tick → (heard : List TickTold → Type 0) → (accesses : ℕ) → PlayedCall
+played_call caller ticks heard accesses = record { caller = caller; ticks = ticks; heard = heard; accesses = accesses }

@@ -3,9 +3,10 @@ use Rattle.std.specs.Prelude.{⊤}
 use Rattle.bus.specs.declared.bus.Bus.{Ghosts}
 use Rattle.stations.specs.Retelling.{Retells, SameLent, bytes_here, world_here}
 use Rattle.stations.specs.declared.lent_bus.LentBus.{LentBus}
+use Rattle.stations.specs.declared.observer.Observer.{Ghosts as OfObserver}
 
 -- what a lent bus shows of itself
-abbrev pub lent : Ghosts LentBus
+abbrev pub lent : {O : Type 0} {g : OfObserver O} → Ghosts (LentBus O g)
 lent = record {
   extent = bytes_here;
   honest = λ bus. ⊤;

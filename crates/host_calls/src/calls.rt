@@ -10,7 +10,7 @@ ghost use Rattle.host_calls.specs.CallAnswers.{InterruptRuns, RecvRuns, SendRuns
 use descriptors::Frame;
 use driver::{Handled, SendError};
 use packet_socket::{Host, RecvError};
-use stations::{LentBus, Network, Outcomes, Tick};
+use stations::{LentBus, Network, Observer, Tick};
 
 /// What a call answered, and how many accesses it made.
 #[derive(Debug, Drop)]
@@ -26,18 +26,18 @@ pub struct Called<T> {
 /// # Errors
 ///
 /// The answer is that of [`Host::send`].
-pub fn send(
+pub fn send<O: Observer>(
     host: &mut Host,
     network: &mut Network,
     place: usize,
     frame: &[u8],
     ticks: &[Tick],
-    outcomes: &mut Outcomes,
+    observer: &mut O,
 ) -> Called<Result<(), SendError>>
     requires there { place < length network.old }
     requires ready { HostReady host.old (world_at network.old place) }
-    requires room { length ticks.now ≤ outcomes.old.room }
-    ensures { SendRuns (played_call place ticks.now outcomes.old outcomes.new result.accesses) frame.now result.answer
+    requires room { length ticks.now ≤ O.places observer.old }
+    ensures { SendRuns (played_call place ticks.now (O.heard observer.old observer.new) result.accesses) frame.now result.answer
         (connected host.old network.old) (connected host.new network.new) }
 {
     let mut bus = LentBus {
@@ -45,7 +45,7 @@ pub fn send(
         ticks,
         host: place,
         accesses: 0,
-        outcomes,
+        observer,
     };
     let answer = host.send(&mut bus, frame);
     bus.finish();
@@ -61,19 +61,19 @@ pub fn send(
 /// # Errors
 ///
 /// The answer is that of [`Host::recv`].
-pub fn recv_into(
+pub fn recv_into<O: Observer>(
     host: &mut Host,
     network: &mut Network,
     place: usize,
     socket: usize,
     ticks: &[Tick],
-    outcomes: &mut Outcomes,
+    observer: &mut O,
     into: &mut [u8; 1518],
 ) -> Called<Result<usize, RecvError>>
     requires there { place < length network.old }
     requires ready { HostReady host.old (world_at network.old place) }
-    requires room { length ticks.now ≤ outcomes.old.room }
-    ensures gives { RecvRuns (played_call place ticks.now outcomes.old outcomes.new result.accesses) socket
+    requires room { length ticks.now ≤ O.places observer.old }
+    ensures gives { RecvRuns (played_call place ticks.now (O.heard observer.old observer.new) result.accesses) socket
         (frame_in into.new result.answer) (connected host.old network.old) (connected host.new network.new) }
     ensures size { IfOk result.answer IsFrameSize }
 {
@@ -82,7 +82,7 @@ pub fn recv_into(
         ticks,
         host: place,
         accesses: 0,
-        outcomes,
+        observer,
     };
     let answer = host.recv(&mut bus, socket, into);
     bus.finish();
@@ -97,22 +97,22 @@ pub fn recv_into(
 /// # Errors
 ///
 /// The answer is that of [`Host::recv`].
-pub fn recv(
+pub fn recv<O: Observer>(
     host: &mut Host,
     network: &mut Network,
     place: usize,
     socket: usize,
     ticks: &[Tick],
-    outcomes: &mut Outcomes,
+    observer: &mut O,
 ) -> Called<Result<Frame, RecvError>>
     requires there { place < length network.old }
     requires ready { HostReady host.old (world_at network.old place) }
-    requires room { length ticks.now ≤ outcomes.old.room }
-    ensures { RecvRuns (played_call place ticks.now outcomes.old outcomes.new result.accesses) socket result.answer
+    requires room { length ticks.now ≤ O.places observer.old }
+    ensures { RecvRuns (played_call place ticks.now (O.heard observer.old observer.new) result.accesses) socket result.answer
         (connected host.old network.old) (connected host.new network.new) }
 {
     let mut bytes = [0; 1518];
-    let called = recv_into(host, network, place, socket, ticks, outcomes, &mut bytes);
+    let called = recv_into(host, network, place, socket, ticks, observer, &mut bytes);
     Called {
         answer: frame_of(&bytes, called.answer),
         accesses: called.accesses,
@@ -131,17 +131,17 @@ fn frame_of(bytes: &[u8; 1518], answer: Result<usize, RecvError>) -> Result<Fram
 }
 
 /// A host handles an interrupt, while ticks are played on all hosts.
-pub fn interrupt(
+pub fn interrupt<O: Observer>(
     host: &mut Host,
     network: &mut Network,
     place: usize,
     ticks: &[Tick],
-    outcomes: &mut Outcomes,
+    observer: &mut O,
 ) -> Called<Handled>
     requires there { place < length network.old }
     requires ready { HostReady host.old (world_at network.old place) }
-    requires room { length ticks.now ≤ outcomes.old.room }
-    ensures { InterruptRuns (played_call place ticks.now outcomes.old outcomes.new result.accesses) result.answer
+    requires room { length ticks.now ≤ O.places observer.old }
+    ensures { InterruptRuns (played_call place ticks.now (O.heard observer.old observer.new) result.accesses) result.answer
         (connected host.old network.old) (connected host.new network.new) }
 {
     let mut bus = LentBus {
@@ -149,7 +149,7 @@ pub fn interrupt(
         ticks,
         host: place,
         accesses: 0,
-        outcomes,
+        observer,
     };
     let answer = host.interrupt(&mut bus);
     bus.finish();

@@ -3,6 +3,8 @@
 ghost use Rattle.host_calls.specs.CausesLaws.{AnswersTellCauses, CallsTellCauses};
 ghost use Rattle.host_calls.specs.CausesLaws.{EarlyOutcomesBearZero, FirstReadsStay};
 
+use stations::Observer;
+
 /// An interrupt handler of a host that is ready, called over a lent bus, reads ICR by its first access.
 /// - `answers`: it answers `NotMine` only if no cause that a driver handles was recorded when it was called, and no
 ///   step before that access put a frame of this host on the wire, missed one, or wrote one back. It answers `Handled`
@@ -10,9 +12,9 @@ ghost use Rattle.host_calls.specs.CausesLaws.{EarlyOutcomesBearZero, FirstReadsS
 /// - `calls`: the same holds of the accesses of the whole call.
 /// - `stay`: the first access is the first, whatever follows.
 /// - `zero`: the outcomes with number 0 are those of the steps before it.
-pub fn answers_tell_causes()
-    ensures answers { AnswersTellCauses }
-    ensures calls { CallsTellCauses }
+pub fn answers_tell_causes<O: Observer>()
+    ensures answers { AnswersTellCauses O.Observer }
+    ensures calls { CallsTellCauses O.Observer }
     ensures stay { FirstReadsStay }
     ensures zero { EarlyOutcomesBearZero }
 {}

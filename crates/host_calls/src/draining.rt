@@ -12,23 +12,17 @@ ghost use Rattle.host_calls.specs.DrainSteps.{StepsInto, StepsOn, outlet, steps_
 use crate::Outlet;
 use adapter::{Outcome, StepKind};
 use packet_socket::Host;
-use stations::{Network, Outcomes};
+use stations::{Network, Nobody};
 
 /// Drains a host: gives each frame that it holds for its sockets to `sink`, and returns the number of steps. `place` is
-/// the host's number. No outcome is noted, since no tick is played in its calls. `sink` keeps the room that it doesn't
+/// the host's number. No tick is played in its calls. `sink` keeps the room that it doesn't
 /// need.
 ///
 /// Each step is the first of these that applies. If a piece of a frame is in progress, the host's adapter writes back
 /// its descriptor. If the interrupt line is asserted, the host handles an interrupt. If a frame waits for a socket,
 /// the first such socket gives its oldest. If the receive packet buffer has a frame, the adapter moves the next piece
 /// of its oldest to the ring.
-pub fn drain<S: Outlet>(
-    host: &mut Host,
-    network: &mut Network,
-    place: usize,
-    outcomes: &mut Outcomes,
-    sink: &mut S,
-) -> u64
+pub fn drain<S: Outlet>(host: &mut Host, network: &mut Network, place: usize, sink: &mut S) -> u64
     requires there { place < length network.old }
     requires stands { CanBeDrained host.old (world_at network.old place) }
     requires room { host.old.driver.layout.buffers + 24 ≤ S.places sink.old }
@@ -37,20 +31,14 @@ pub fn drain<S: Outlet>(
     ensures left { length (S.frames sink.old) + S.places sink.old ≤ length (S.frames sink.new) + S.places sink.new }
 {
     let mut steps = 0;
-    while step(host, network, place, outcomes, sink) {
+    while step(host, network, place, sink) {
         steps += 1;
     }
     steps
 }
 
 /// The next step, if one applies: else nothing is held. The room may rest on what holds of every adapter.
-fn step<S: Outlet>(
-    host: &mut Host,
-    network: &mut Network,
-    place: usize,
-    outcomes: &mut Outcomes,
-    sink: &mut S,
-) -> bool
+fn step<S: Outlet>(host: &mut Host, network: &mut Network, place: usize, sink: &mut S) -> bool
     requires there { place < length network.old }
     requires stands { CanBeDrained host.old (world_at network.old place) }
     requires room { IsAdapter (world_at network.old place).adapter
@@ -65,11 +53,11 @@ fn step<S: Outlet>(
         return true;
     }
     if network.line(place) {
-        handle(host, network, place, outcomes);
+        handle(host, network, place);
         return true;
     }
     if let Some(socket) = first_waiting(host) {
-        give(host, network, place, socket, outcomes, sink);
+        give(host, network, place, socket, sink);
         return true;
     }
     move_piece(host, network, place)
@@ -87,7 +75,7 @@ fn finish(network: &mut Network, place: usize) -> bool
 }
 
 /// The host handles an interrupt.
-fn handle(host: &mut Host, network: &mut Network, place: usize, outcomes: &mut Outcomes)
+fn handle(host: &mut Host, network: &mut Network, place: usize)
     requires there { place < length network.old }
     requires stands { CanBeDrained host.old (world_at network.old place) }
     requires free { (world_at network.old place).adapter.receiver.work ≡ None }
@@ -95,7 +83,7 @@ fn handle(host: &mut Host, network: &mut Network, place: usize, outcomes: &mut O
         (world_at network.old place).adapter.causes.mask }
     ensures { StepsOn 1 place [] (connected host.old network.old) (connected host.new network.new) }
 {
-    crate::calls::interrupt(host, network, place, &[], outcomes);
+    crate::calls::interrupt(host, network, place, &[], &mut Nobody);
 }
 
 /// The first socket for which a frame waits.
@@ -118,7 +106,6 @@ fn give<S: Outlet>(
     network: &mut Network,
     place: usize,
     socket: usize,
-    outcomes: &mut Outcomes,
     sink: &mut S,
 )
     requires there { place < length network.old }
@@ -131,7 +118,7 @@ fn give<S: Outlet>(
         (outlet (S.frames sink.new) (S.places sink.new))
         (connected host.old network.old) (connected host.new network.new) }
 {
-    if let Ok(frame) = crate::calls::recv(host, network, place, socket, &[], outcomes).answer {
+    if let Ok(frame) = crate::calls::recv(host, network, place, socket, &[], &mut Nobody).answer {
         sink.take(socket, &frame);
     }
 }

@@ -36,3 +36,20 @@ pub enum Event {
     /// A tick by itself, between calls. `Go` does nothing here.
     Tick(Tick),
 }
+
+impl Event {
+    ghost use Rattle.std.specs.Prelude.{◌≡◌, length};
+    ghost use Rattle.network_plan.specs.Answers.{ticks_of};
+
+    /// The number of its ticks, each `Go` among them.
+    pub fn tick_count(&self) -> usize
+        ensures { result ≡ length (ticks_of self.now) }
+    {
+        match self {
+            Event::Send { ticks, .. }
+            | Event::Recv { ticks, .. }
+            | Event::Interrupt { ticks, .. } => { ticks.len() }
+            Event::Tick(_) => 1,
+        }
+    }
+}

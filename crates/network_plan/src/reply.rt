@@ -5,13 +5,16 @@ use packet_socket::RecvError;
 use stations::{HeapFrame, Outcomes};
 use thiserror::Error;
 
-/// What a call answered. It is small: a frame's bytes lie on the heap.
+/// What a call answered.
+///
+/// `F` is what the answer holds of the frame that a socket gave: a [`Reply`] holds the frame itself, on the heap. An
+/// observer of a run is lent the frame beside the answer, which holds nothing of it then (`()`).
 #[derive(Debug, Drop, PartialEq, Eq)]
-pub enum Answer {
+pub enum Answer<F> {
     /// A send was accepted, or refused.
     Sent(Result<(), SendError>),
     /// A socket gave its oldest frame, or none.
-    Received(Result<HeapFrame, RecvError>),
+    Received(Result<F, RecvError>),
     /// An interrupt was handled.
     Interrupted(Handled),
     /// A tick was played by itself.
@@ -20,12 +23,34 @@ pub enum Answer {
     NoHost,
 }
 
+impl<F> Answer<F> {
+    ghost use Rattle.std.specs.Prelude.{◌≡◌};
+    ghost use Rattle.network_plan.specs.Answers.{answer_with};
+
+    /// The same answer, with this frame if it has one.
+    pub fn with_frame<G>(self, frame: G) -> Answer<G>
+    where
+        F: Drop,
+        G: Drop,
+        ensures { result ≡ answer_with frame self }
+    {
+        match self {
+            Answer::Sent(sent) => Answer::Sent(sent),
+            Answer::Received(Ok(_)) => Answer::Received(Ok(frame)),
+            Answer::Received(Err(error)) => Answer::Received(Err(error)),
+            Answer::Interrupted(handled) => Answer::Interrupted(handled),
+            Answer::Ticked => Answer::Ticked,
+            Answer::NoHost => Answer::NoHost,
+        }
+    }
+}
+
 /// What came of an event: the answer of the call, how many accesses it made, and the outcome of each tick that isn't a
 /// `Go`, in order, with the number of accesses that the call had made before it.
 #[derive(Debug, Drop)]
 pub struct Reply {
     /// What the call answered.
-    pub answer: Answer,
+    pub answer: Answer<HeapFrame>,
     /// How many accesses it made, up to the greatest `u64`.
     pub accesses: u64,
     /// What came of its ticks.

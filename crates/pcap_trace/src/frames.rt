@@ -48,6 +48,18 @@ impl Frames {
         self.len() == 0
     }
 
+    /// Makes room for a frame more, of at most so many bytes. The frames stay.
+    ///
+    /// # Errors
+    ///
+    /// If memory is refused.
+    pub fn reserve(&mut self, bytes: usize) -> Result<(), AllocError>
+        ensures { self.new ≡ self.old }
+    {
+        self.lengths.reserve(1)?;
+        self.bytes.reserve(bytes)
+    }
+
     /// Appends a frame.
     ///
     /// # Errors

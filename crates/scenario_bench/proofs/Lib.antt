@@ -2,6 +2,7 @@ pub mod Gives
 pub mod EventsOfCommands
 pub mod Printed
 pub mod Noting
+pub mod RecordLaws
 pub mod NotedEvents
 pub mod NotedDrains
 pub mod JoinedActs

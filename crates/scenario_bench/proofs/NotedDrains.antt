@@ -20,7 +20,7 @@ use Rattle.scenario_bench.specs.declared.record.Record.{Record}
 use Rattle.scenario_bench.specs.declared.drained.DrainedFrame.{DrainedFrame}
 use Rattle.scenario_bench.specs.declared.tally.Passage.TheVariants as passage
 use Rattle.scenario_bench.specs.declared.tally.Tally.{Tally}
-use Rattle.scenario_bench.proofs.Noting.{grows_join, grows_not}
+use Rattle.scenario_bench.specs.RecordingLaws.{grows_join, grows_not}
 use Rattle.scenario_bench.proofs.NotedEvents.{gets_given, gets_none}
 
 abbrev given-at : (host : ℕ) → GivenFrame → Happening

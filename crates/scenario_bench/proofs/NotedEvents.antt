@@ -1,14 +1,13 @@
 -- Recorded events, in order.
-use Rattle.std.proofs.Common.{◌≡◌, ◌==◌, ◌&&◌, ◌++◌, ◌∷◌, [], ℕ, Bool, true, false, List, Option, Some, None, Vec, Global, Ok, Err}
+use Rattle.std.proofs.Common.{◌≡◌, ◌==◌, ◌&&◌, ◌++◌, ◌∷◌, [], ℕ, Bool, true, false, List, Option, Some, None, Ok, Err}
 use Rattle.std.proofs.Common.{map}
-use Rattle.std.proofs.Common.{slice_get, option_map, if◌then◌else◌, refl, sym, ap, subst, ◌∙◌, append_assoc, append-nil}
+use Rattle.std.proofs.Common.{slice_get, option_map, if◌then◌else◌, refl, sym, ap, subst, ◌∙◌, append-nil}
 use Rattle.std.proofs.lemmas.Grind.{flat_map-append}
-use Rattle.std.proofs.lemmas.List.Sums.{fold-append}
 use Rattle.pcap_trace.specs.Format.{Timed}
 use Rattle.delivery.specs.Happenings.{Given, Happening, given, given_by, told, told_alone, told_of}
 use Rattle.network_plan.specs.declared.event.Event.{Event}
 use Rattle.network_plan.specs.declared.event.Event.TheVariants as event
-use Rattle.network_plan.specs.declared.reply.Answer.{Answer}
+use Rattle.network_plan.specs.Answers.{FrameAnswer}
 use Rattle.network_plan.specs.declared.reply.Answer.TheVariants as answer
 use Rattle.network_plan.specs.declared.reply.Reply.{Reply}
 use Rattle.stations.specs.declared.outcomes.Numbered.{Numbered}
@@ -19,82 +18,12 @@ use Rattle.stations.specs.declared.tick.Tick.TheVariants as tick
 use Rattle.packet_socket.specs.HostCalls.{Given as GivenFrame}
 use Rattle.wire.specs.DrainedNetworks.{said_of_drain}
 use Rattle.wire.specs.Runs.{accepted_of, given_of, said}
-use Rattle.scenario_bench.specs.Acts.{Act, Drained, Ran, history, ran, said_in}
-use Rattle.scenario_bench.specs.Given.{given_from, next_number, numbered}
+use Rattle.scenario_bench.specs.Acts.{Act, Drained, Ran, said_in}
+use Rattle.scenario_bench.specs.Given.{next_number, numbered}
 use Rattle.scenario_bench.specs.SocketLists.{SocketFrames, with_frames, with_given}
-use Rattle.scenario_bench.specs.Tallies.{AreNoted, GetsGiven, GetsSaid, TalliesGrow, host_named, number_behind, socket_behind}
+use Rattle.scenario_bench.specs.Tallies.{AreNoted, GetsGiven, GetsSaid, TalliesGrow, socket_behind}
 use Rattle.scenario_bench.specs.Tallies.{with_said}
 use Rattle.scenario_bench.specs.declared.record.Record.{Record}
-use Rattle.scenario_bench.specs.declared.tally.Tally.{Tally}
-use Rattle.scenario_bench.proofs.Noting.{grows_join, grows_not}
-
--- The ticks of a call.
-
--- The first ticks are recorded, and these are left, with these outcomes.
-pub record HasTold (ticks rest : List Tick) (outcomes left : List Numbered) (old new : List Tally) : Type 0 where
-  pub done : List Happening
-  pub parts : told ticks outcomes ≡ done ++ told rest left
-  pub grows : TalliesGrow done old new
-
-pub told_none : (ticks : List Tick) (outcomes : List Numbered) (hosts : List Tally) → HasTold ticks ticks outcomes outcomes hosts hosts
-told_none ticks outcomes hosts = record { done = []; parts = refl; grows = grows_not hosts }
-
-go-tells : (one : Tick) (later : List Tick) (left : List Numbered) → None ≡ host_named one → told (one ∷ later) left ≡ told later left
-go-tells tick.Go later left is = refl
-go-tells (tick.Step host kind) later left is = cc
-go-tells (tick.Deliver host) later left is = cc
-
-host-tells : (one : Tick) (host : ℕ) (later : List Tick) (first : Numbered) (left : List Numbered) → Some host ≡ host_named one
-    → told (one ∷ later) (first ∷ left) ≡ told_of host first.outcome ++ told later left
-host-tells tick.Go host later first left is = cc
-host-tells (tick.Step at kind) host later first left is = ap (λ (h : ℕ). told_of h first.outcome ++ told later left) (same at host is)
-  where
-    same : (a b : ℕ) → Some b ≡ Some a → a ≡ b
-    same a b e = cc
-host-tells (tick.Deliver at) host later first left is = ap (λ (h : ℕ). told_of h first.outcome ++ told later left) (same at host is)
-  where
-    same : (a b : ℕ) → Some b ≡ Some a → a ≡ b
-    same a b e = cc
-
-ends-tell : (one : Tick) (host : ℕ) (later : List Tick) → Some host ≡ host_named one → told (one ∷ later) [] ≡ []
-ends-tell tick.Go host later is = cc
-ends-tell (tick.Step at kind) host later is = refl
-ends-tell (tick.Deliver at) host later is = refl
-
-pub told_go : (ticks rest later : List Tick) (one : Tick) (outcomes left : List Numbered) (old new : List Tally)
-    → HasTold ticks rest outcomes left old new → rest ≡ one ∷ later → None ≡ host_named one → HasTold ticks later outcomes left old new
-told_go ticks rest later one outcomes left old new has is go = record {
-  done = has.done;
-  parts = has.parts ∙ ap (λ (r : List Tick). has.done ++ told r left) is
-      ∙ ap (λ (t : List Happening). has.done ++ t) (go-tells one later left go);
-  grows = has.grows;
-}
-
-pub told_more : (ticks rest later : List Tick) (one : Tick) (host : ℕ) (outcomes left others : List Numbered) (first : Numbered)
-    (old mid new : List Tally) → HasTold ticks rest outcomes left old mid → rest ≡ one ∷ later → Some host ≡ host_named one
-    → left ≡ first ∷ others → TalliesGrow (told_of host first.outcome) mid new → HasTold ticks later outcomes others old new
-told_more ticks rest later one host outcomes left others first old mid new has is named there grows = record {
-  done = has.done ++ told_of host first.outcome;
-  parts = has.parts ∙ ap (λ (r : List Tick). has.done ++ told r left) is
-      ∙ ap (λ (l : List Numbered). has.done ++ told (one ∷ later) l) there
-      ∙ ap (λ (t : List Happening). has.done ++ t) (host-tells one host later first others named)
-      ∙ sym (append_assoc has.done (told_of host first.outcome) (told later others));
-  grows = grows_join has.done (told_of host first.outcome) old mid new has.grows grows;
-}
-
-pub told_ends : (ticks rest later : List Tick) (one : Tick) (host : ℕ) (outcomes left : List Numbered) (old new : List Tally)
-    → HasTold ticks rest outcomes left old new → rest ≡ one ∷ later → Some host ≡ host_named one → left ≡ []
-    → TalliesGrow (told ticks outcomes) old new
-told_ends ticks rest later one host outcomes left old new has is named none =
-    subst (λ (t : List Happening). TalliesGrow t old new)
-    (sym (has.parts ∙ ap (λ (r : List Tick). has.done ++ told r left) is ∙ ap (λ (l : List Numbered). has.done ++ told (one ∷ later) l) none
-    ∙ ap (λ (t : List Happening). has.done ++ t) (ends-tell one host later named) ∙ append-nil has.done)) has.grows
-
-pub told_all : (ticks rest : List Tick) (outcomes left : List Numbered) (old new : List Tally) → HasTold ticks rest outcomes left old new
-    → rest ≡ [] → TalliesGrow (told ticks outcomes) old new
-told_all ticks rest outcomes left old new has is =
-    subst (λ (t : List Happening). TalliesGrow t old new)
-    (sym (has.parts ∙ ap (λ (r : List Tick). has.done ++ told r left) is ∙ append-nil has.done)) has.grows
 
 -- The frame that an event returns.
 
@@ -123,7 +52,7 @@ given-alone k s tick.Go (first ∷ outcomes) = given-of k s 0 first.outcome
 given-alone k s (tick.Step host kind) (first ∷ outcomes) = given-of k s host first.outcome
 given-alone k s (tick.Deliver host) (first ∷ outcomes) = given-of k s host first.outcome
 
-given-accepted : (k s host : ℕ) (frame : List ℕ) (one : Answer) → given k s (accepted_of host frame one) ≡ []
+pub given-accepted : (k s host : ℕ) (frame : List ℕ) (one : FrameAnswer) → given k s (accepted_of host frame one) ≡ []
 given-accepted k s host frame (answer.Sent (Ok u)) = refl
 given-accepted k s host frame (answer.Sent (Err error)) = refl
 given-accepted k s host frame (answer.Received result) = refl
@@ -132,13 +61,13 @@ given-accepted k s host frame answer.Ticked = refl
 given-accepted k s host frame answer.NoHost = refl
 
 -- Only the answer of a socket has a frame.
-abbrev pub answer_of : Event → Answer → List Happening
+abbrev pub answer_of : Event → FrameAnswer → List Happening
 answer_of (event.Send host frame ticks) one = []
 answer_of (event.Recv host socket ticks) one = given_of host socket one
 answer_of (event.Interrupt host ticks) one = []
 answer_of (event.Tick tick) one = []
 
-given-said : (k s : ℕ) (one : Event) (reply : Reply) → given k s (said one reply) ≡ given k s (answer_of one reply.answer)
+pub given-said : (k s : ℕ) (one : Event) (reply : Reply) → given k s (said one reply) ≡ given k s (answer_of one reply.answer)
 given-said k s (event.Send host frame ticks) reply =
     both-none k s (accepted_of host frame.items reply.answer) (told ticks.items reply.outcomes.list)
     (given-accepted k s host frame.items reply.answer) (given-told k s ticks.items reply.outcomes.list)
@@ -217,115 +146,3 @@ pub drain_noted : (host : ℕ) (frames : List GivenFrame) (old new : Record) →
     → GetsSaid old.number (said_of_drain host 0 frames) old.sockets.items new.sockets.items
     → AreNoted (Drained host 0 frames ∷ []) old new
 drain_noted host frames old new next hosts sockets = act-noted (Drained host 0 frames) old new next hosts sockets
-
--- Several.
-
-given-join : (host socket number : ℕ) (acts later : List Act) → given_from host socket number (acts ++ later)
-    ≡ given_from host socket number acts ++ given_from host socket (number_behind number acts) later
-given-join host socket number [] later = refl
-given-join host socket number (act ∷ acts) later =
-    let first = map (numbered number) (given host socket (said_in act)) in
-    let next = next_number number in
-    ap (λ (rest : List Timed). first ++ rest) (given-join host socket next acts later)
-    ∙ sym (append_assoc first (given_from host socket next acts) (given_from host socket (number_behind next acts) later))
-
-behind-join : (number : ℕ) (acts later : List Act) (found : Option SocketFrames)
-    → option_map (socket_behind (number_behind number acts) later) (option_map (socket_behind number acts) found)
-    ≡ option_map (socket_behind number (acts ++ later)) found
-behind-join number acts later None = refl
-behind-join number acts later (Some socket) =
-    let first = given_from socket.host socket.socket number acts in
-    let second = given_from socket.host socket.socket (number_behind number acts) later in
-    ap (λ (frames : List Timed). Some (record socket { frames = frames }))
-    (append_assoc socket.frames first second
-    ∙ ap (λ (frames : List Timed). socket.frames ++ frames) (sym (given-join socket.host socket.socket number acts later)))
-
-pub noted_join : (acts later : List Act) (a b c : Record) → AreNoted acts a b → AreNoted later b c → AreNoted (acts ++ later) a c
-noted_join acts later a b c one two = record {
-  number = two.number ∙ ap (λ (n : ℕ). number_behind n later) one.number
-      ∙ sym (fold-append (λ (n : ℕ) (act : Act). next_number n) a.number acts later);
-  hosts = subst (λ (happened : List Happening). TalliesGrow happened a.hosts.items c.hosts.items)
-      (sym (flat_map-append said_in acts later))
-      (grows_join (history acts) (history later) a.hosts.items b.hosts.items c.hosts.items one.hosts two.hosts);
-  sockets = λ k. two.sockets k
-      ∙ ap (λ (n : ℕ). option_map (socket_behind n later) (slice_get b.sockets.items k)) one.number
-      ∙ ap (option_map (socket_behind (number_behind a.number acts) later)) (one.sockets k)
-      ∙ behind-join a.number acts later (slice_get a.sockets.items k);
-}
-
-nothing-more : (number : ℕ) (found : Option SocketFrames) → found ≡ option_map (socket_behind number []) found
-nothing-more number None = refl
-nothing-more number (Some socket) =
-    ap (λ (frames : List Timed). Some (record socket { frames = frames })) (sym (append-nil socket.frames))
-
-pub noted_none : (a : Record) → AreNoted [] a a
-noted_none a = record {
-  number = refl;
-  hosts = grows_not a.hosts.items;
-  sockets = λ k. nothing-more a.number (slice_get a.sockets.items k);
-}
-
--- The first of these events are recorded, and these are left.
-pub record HasNoted (events rest : List Event) (replies left : List Reply) (old new : Record) : Type 0 where
-  pub done : List Act
-  pub parts : ran events replies ≡ done ++ ran rest left
-  pub noted : AreNoted done old new
-
-pub all_left : (events : List Event) (replies : List Reply) (before : Record) → HasNoted events events replies replies before before
-all_left events replies before = record { done = []; parts = refl; noted = noted_none before }
-
-pub one_noted : (events rest later : List Event) (one : Event) (replies left others : List Reply) (reply : Reply) (old mid new : Record)
-    → HasNoted events rest replies left old mid → rest ≡ one ∷ later → left ≡ reply ∷ others
-    → AreNoted (Ran one reply ∷ []) mid new → HasNoted events later replies others old new
-one_noted events rest later one replies left others reply old mid new has is there more = record {
-  done = has.done ++ Ran one reply ∷ [];
-  parts = has.parts ∙ ap (λ (r : List Event). has.done ++ ran r left) is
-      ∙ ap (λ (l : List Reply). has.done ++ ran (one ∷ later) l) there
-      ∙ sym (append_assoc has.done (Ran one reply ∷ []) (ran later others));
-  noted = noted_join has.done (Ran one reply ∷ []) old mid new has.noted more;
-}
-
-ends : (events rest : List Event) (replies left : List Reply) (old new : Record) → HasNoted events rest replies left old new
-    → ran rest left ≡ [] → AreNoted (ran events replies) old new
-ends events rest replies left old new has none =
-    subst (λ (acts : List Act). AreNoted acts old new)
-    (sym (has.parts ∙ ap (λ (more : List Act). has.done ++ more) none ∙ append-nil has.done)) has.noted
-
-pub all_noted : (events rest : List Event) (replies left : List Reply) (old new : Record) → HasNoted events rest replies left old new
-    → rest ≡ [] → AreNoted (ran events replies) old new
-all_noted events rest replies left old new has is =
-    ends events rest replies left old new has (ap (λ (r : List Event). ran r left) is)
-
-ran-none : (events : List Event) → ran events [] ≡ []
-ran-none [] = refl
-ran-none (one ∷ events) = refl
-
-pub none_left : (events rest : List Event) (replies left : List Reply) (old new : Record) → HasNoted events rest replies left old new
-    → left ≡ [] → AreNoted (ran events replies) old new
-none_left events rest replies left old new has is =
-    ends events rest replies left old new has (ap (λ (l : List Reply). ran rest l) is ∙ ran-none rest)
-
--- An event at all hosts.
-
-pub send_grows : (host : ℕ) (frame : Vec ℕ Global) (ticks : Vec Tick Global) (one : Event) (reply : Reply) (ts : List Tick)
-    (os : List Numbered) (a b c : List Tally) → one ≡ event.Send host frame ticks → ts ≡ ticks.items → os ≡ reply.outcomes.list
-    → ((f : List ℕ) → TalliesGrow (accepted_of host f reply.answer) a b) → TalliesGrow (told ts os) b c → TalliesGrow (said one reply) a c
-send_grows host frame ticks one reply ts os a b c is ticks_are outcomes_are sent ticked =
-    let tells : told ts os ≡ told ticks.items reply.outcomes.list =
-    ap (λ (t : List Tick). told t os) ticks_are ∙ ap (λ (o : List Numbered). told ticks.items o) outcomes_are in
-    subst (λ (e : Event). TalliesGrow (said e reply) a c) (sym is)
-    (grows_join (accepted_of host frame.items reply.answer) (told ticks.items reply.outcomes.list) a b c (sent frame.items)
-    (subst (λ (t : List Happening). TalliesGrow t b c) tells ticked))
-
-pub recv_grows : (host socket : ℕ) (ticks : Vec Tick Global) (one : Event) (reply : Reply) (ts : List Tick)
-    (os : List Numbered) (a b c : List Tally) → one ≡ event.Recv host socket ticks → ts ≡ ticks.items → os ≡ reply.outcomes.list
-    → TalliesGrow (told ts os) a b → ((s : ℕ) → TalliesGrow (given_of host s reply.answer) b c) → TalliesGrow (said one reply) a c
-recv_grows host socket ticks one reply ts os a b c is ticks_are outcomes_are ticked received =
-    let tells : told ts os ≡ told ticks.items reply.outcomes.list =
-    ap (λ (t : List Tick). told t os) ticks_are ∙ ap (λ (o : List Numbered). told ticks.items o) outcomes_are in
-    subst (λ (e : Event). TalliesGrow (said e reply) a c) (sym is)
-    (grows_join (told ticks.items reply.outcomes.list) (given_of host socket reply.answer) a b c
-    (subst (λ (t : List Happening). TalliesGrow t a b) tells ticked) (received socket))
-
--- for the answer of a socket
-pub ruleset answer_rules = (said_answer, gets_none, gets_given)

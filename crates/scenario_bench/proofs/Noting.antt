@@ -1,14 +1,14 @@
 -- What the parts of an event add to the record.
-use Rattle.std.proofs.Common.{◌≡◌, ◌<◌, ◌≤◌, ◌==◌, ◌++◌, ◌∷◌, [], ℕ, Bool, true, false, List, Option, Some, None, length}
+use Rattle.std.proofs.Common.{◌≡◌, ◌<◌, ◌≤◌, ◌==◌, ◌∷◌, [], ℕ, Bool, true, false, List, Option, Some, None, length}
 use Rattle.std.proofs.Common.{slice_get, slice_set, option_map, if◌then◌else◌, inl, inr, refl, sym, ap, subst, ◌∙◌, arith}
 use Rattle.std.proofs.lemmas.Bool.Decides.{eqb_tells}
-use Rattle.std.proofs.lemmas.List.Sums.{fold-append}
 use Rattle.std.proofs.lemmas.Option.{slice_get_within}
 use Rattle.circular_buffer.proofs.Places.{slice_get-set_other, slice_get-set_same}
-use Rattle.delivery.specs.Happenings.{Happening, Moved, told_of}
+use Rattle.delivery.specs.Happenings.{Moved, told_of}
 use Rattle.adapter.specs.Outcomes.{FrameOutcome}
 use Rattle.adapter.specs.declared.outcome.Outcome.TheVariants as outcome
-use Rattle.scenario_bench.specs.Tallies.{IsPassage, TalliesGrow, TallyCounts, counted_at, counted_by, counted_once, passage_by}
+use Rattle.scenario_bench.specs.RecordingLaws.{stays}
+use Rattle.scenario_bench.specs.Tallies.{IsPassage, TalliesGrow, TallyCounts, counted_at, counted_once, passage_by}
 use Rattle.scenario_bench.specs.Tallies.{tally_behind}
 use Rattle.scenario_bench.specs.declared.tally.Passage.{Passage}
 use Rattle.scenario_bench.specs.declared.tally.Passage.TheVariants as passage
@@ -67,22 +67,6 @@ counts_there hosts host one tally new there is = set-there hosts host tally new 
 
 pub counts_nowhere : (hosts : List Tally) (host : ℕ) (one : Passage) → length hosts ≤ host → TallyCounts host one hosts hosts
 counts_nowhere hosts host one below = set-nowhere hosts host (counted_once one) below
-
-stays : (k : ℕ) (found : Option Tally) → found ≡ option_map (tally_behind [] k) found
-stays k None = refl
-stays k (Some tally) = refl
-
-pub grows_not : (hosts : List Tally) → TalliesGrow [] hosts hosts
-grows_not hosts k = stays k (slice_get hosts k)
-
-further : (xs ys : List Happening) (k : ℕ) (found : Option Tally)
-    → option_map (tally_behind ys k) (option_map (tally_behind xs k) found) ≡ option_map (tally_behind (xs ++ ys) k) found
-further xs ys k None = refl
-further xs ys k (Some tally) = ap (λ (t : Tally). Some t) (sym (fold-append (counted_by k) tally xs ys))
-
-pub grows_join : (xs ys : List Happening) (a b c : List Tally) → TalliesGrow xs a b → TalliesGrow ys b c → TalliesGrow (xs ++ ys) a c
-grows_join xs ys a b c one two k =
-    two k ∙ ap (option_map (tally_behind ys k)) (one k) ∙ further xs ys k (slice_get a k)
 
 -- Passages in outcomes.
 

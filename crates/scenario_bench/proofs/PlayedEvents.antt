@@ -1,5 +1,5 @@
 -- Events that were played, in order.
-use Rattle.std.proofs.Common.{◌≡◌, ◌<◌, ◌≤◌, ◌-◌, ◌++◌, ◌∷◌, [], zero, suc, ℕ, List, length, map, refl, sym, ap, subst, ◌∙◌, arith}
+use Rattle.std.proofs.Common.{◌≡◌, ◌<◌, ◌≤◌, ◌-◌, ◌++◌, ◌∷◌, [], false, zero, suc, ℕ, List, length, map, refl, sym, ap, subst, ◌∙◌, arith}
 use Rattle.std.proofs.Common.{append_assoc, append-nil}
 use Rattle.std.proofs.lemmas.Grind.{flat_map-append}
 use Rattle.std.specs.List.{flat_map}
@@ -18,7 +18,8 @@ use Rattle.network_plan.specs.declared.event.Event.{Event}
 use Rattle.network_plan.specs.declared.reply.Reply.{Reply}
 use Rattle.stations.specs.Stations.{world_at}
 use Rattle.wire.specs.DrainedNetworks.{NetworkDrains}
-use Rattle.wire.specs.Runs.{RunsTo}
+use Rattle.wire.specs.Runs.{RunTold}
+use Rattle.scenario_bench.specs.Recording.{RecordsReplies}
 use Rattle.scenario.specs.SoFar.{Drains, Host, Said, Sends, event_of, said_of}
 use Rattle.scenario_bench.specs.Acts.{Drained, act_of, ran}
 use Rattle.scenario_bench.specs.DrainedView.{drained_frame}
@@ -28,7 +29,7 @@ use Rattle.scenario_bench.specs.Tallies.{AreNoted}
 use Rattle.scenario_bench.specs.declared.play.Play.{Play}
 use Rattle.scenario_bench.proofs.JoinedActs.{acts-ran, leads-drained, leads-join, leads-none, leads-ran}
 use Rattle.scenario_bench.proofs.NotedDrains.{noted_moves}
-use Rattle.scenario_bench.proofs.NotedEvents.{noted_join, noted_none}
+use Rattle.scenario_bench.specs.RecordingLaws.{noted_join, noted_none}
 
 pub played_none : (a : Play) → HasPlayed [] a a
 played_none a = record {
@@ -48,15 +49,15 @@ played_join said later a b c one two = record {
 }
 
 -- events that were run are recorded
-pub played : (events : List Event) (before replies slice : List Reply) (a b : Play) → RunsTo a.lan events before replies b.lan
-    → before ≡ [] → slice ≡ replies → AreNoted (ran events slice) a.record b.record → HasPlayed (map event_of events) a b
-played events before replies slice a b runs none same noted =
-    let first : RunsTo a.lan events [] replies b.lan = subst (λ (rs : List Reply). RunsTo a.lan events rs replies b.lan) none runs in
+pub played : (events : List Event) (a b : Play) → RunTold RecordsReplies events a.lan b.lan a.record b.record → b.record.failed ≡ false
+    → HasPlayed (map event_of events) a b
+played events a b told sound =
+    let first = told.runs in
     record {
       acts = ran events first.replies;
       are = acts-ran a.lan events first.replies b.lan first.states;
-      leads = leads-ran a.lan events replies b.lan first;
-      noted = subst (λ (rs : List Reply). AreNoted (ran events rs) a.record b.record) (same ∙ first.appended) noted;
+      leads = leads-ran a.lan events told.replies b.lan first;
+      noted = subst (λ (rs : List Reply). AreNoted (ran events rs) a.record b.record) first.appended (told.told sound).noted;
     }
 
 -- the frames of a drain are recorded

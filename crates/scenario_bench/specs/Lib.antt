@@ -4,6 +4,8 @@ pub mod Acts
 pub mod Given
 pub mod SocketLists
 pub mod Tallies
+pub mod Recording
+pub mod RecordingLaws
 pub mod PlayedEvents
 pub mod GivenView
 pub mod DrainedView

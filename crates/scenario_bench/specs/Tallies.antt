@@ -5,8 +5,6 @@ use Rattle.rx_engine.specs.declared.arrival.Fate.{Fate}
 use Rattle.rx_engine.specs.declared.arrival.Fate.TheVariants as fate
 use Rattle.pcap_trace.specs.Format.{Timed}
 use Rattle.delivery.specs.Happenings.{Happening, Accepted, Put, Reached, Moved, Given, given}
-use Rattle.stations.specs.declared.tick.Tick.{Tick}
-use Rattle.stations.specs.declared.tick.Tick.TheVariants.{Deliver, Go, Step}
 use Rattle.adapter.specs.Outcomes.{FrameOutcome}
 use Rattle.adapter.specs.declared.outcome.Outcome.TheVariants as outcome
 use Rattle.scenario_bench.specs.Acts.{Act, history}
@@ -93,12 +91,6 @@ with_said number happened socket = with_frames (map (numbered number) (given soc
 
 abbrev pub GetsSaid : (number : ℕ) → List Happening → (old new : List SocketFrames) → Type 0
 GetsSaid number happened old new = (k : ℕ) → slice_get new k ≡ option_map (with_said number happened) (slice_get old k)
-
--- the host of a tick, if it isn't a Go
-abbrev pub host_named : Tick → Option ℕ
-host_named Go = None
-host_named (Step host kind) = Some host
-host_named (Deliver host) = Some host
 
 -- sockets at these places, without frames
 abbrev pub empty_sockets : List (ℕ × ℕ) → List SocketFrames

@@ -1,5 +1,6 @@
 //! The frames that a socket returned.
 
+use descriptors::LONGEST_LEGAL;
 use pcap_trace::{Frames, RecordWriter, Sink, WriteError};
 use std::alloc::{AllocError, Global};
 use std::marker::Model;
@@ -45,6 +46,21 @@ impl GivenFrames {
             numbers: Vec::new(alloc),
             frames: Frames::new(alloc),
         }
+    }
+
+    /// Makes room for a frame that a socket returns, if it is this socket. The frames stay.
+    ///
+    /// # Errors
+    ///
+    /// If memory is refused.
+    pub(crate) fn reserve(&mut self, host: usize, socket: usize) -> Result<(), AllocError>
+        ensures { self.new ≡ self.old }
+    {
+        if self.host != host || self.socket != socket {
+            return Ok(());
+        }
+        self.numbers.reserve(1)?;
+        self.frames.reserve(LONGEST_LEGAL)
     }
 
     /// Appends a frame that a socket returned, if it is this socket.

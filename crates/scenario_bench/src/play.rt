@@ -19,7 +19,7 @@ use crate::drained::DrainedFrames;
 use crate::events::{drawn, pieces_of, send, set_behind_send};
 use crate::record::Record;
 use crate::summary::{HostSummary, Summary};
-use network_plan::{Event, HostPlan, Plan, Reply};
+use network_plan::{Event, HostPlan, Plan};
 use pcap_trace::{RecordWriter, Sink, Trace, WriteError};
 use rand_core::SeedableRng;
 use rand_core::utils::NextWord;
@@ -33,7 +33,6 @@ use wire::Lan;
 struct Play {
     lan: Lan,
     record: Record,
-    replies: Vec<Reply>,
 }
 
 impl Play {
@@ -44,22 +43,19 @@ impl Play {
     {
         let lan = Lan::new(alloc, plan)?;
         let record = Record::new(alloc, plan.hosts.as_slice())?;
-        Ok(Play {
-            lan,
-            record,
-            replies: Vec::new(alloc),
-        })
+        Ok(Play { lan, record })
     }
 
-    /// Runs these events, and records their replies.
+    /// Runs these events, and records what comes of them.
     #[tactic(auto, using(crate::proofs::PlayedEvents::played))]
-    fn run(&mut self, alloc: Global, events: &[Event]) -> Result<(), BenchError>
+    fn run(&mut self, events: &[Event]) -> Result<(), BenchError>
         ensures ok { OnOk result (HasPlayed (map event_of events.now) self.old self.new) }
         ensures err { IfErr result IsWanting }
     {
-        self.replies.clear();
-        self.lan.run(alloc, events, &mut self.replies)?;
-        self.record.note_all(events, self.replies.as_slice())?;
+        self.lan.play(events, &mut self.record)?;
+        if self.record.failed {
+            return Err(BenchError::Memory);
+        }
         Ok(())
     }
 
@@ -91,9 +87,9 @@ impl Play {
         let mut behind = Vec::new(alloc);
         for frame in trace.frames.iter() {
             let events = [send(alloc, host, frame)?];
-            self.run(alloc, &events)?;
+            self.run(&events)?;
             set_behind_send(alloc, plans, host, pieces_of(frame.len()), &mut behind)?;
-            self.run(alloc, behind.as_slice())?;
+            self.run(behind.as_slice())?;
         }
         Ok(())
     }
@@ -116,7 +112,7 @@ impl Play {
         let mut left = count;
         while left > 0 {
             let events = [drawn(alloc, plans, generator.next_word())?];
-            self.run(alloc, &events)?;
+            self.run(&events)?;
             left -= 1;
         }
         Ok(())
@@ -137,7 +133,7 @@ impl Play {
         ensures err { IfErr result IsWanting }
     {
         match command {
-            Command::Event(event) => self.run(alloc, std::slice::from_ref(event)),
+            Command::Event(event) => self.run(std::slice::from_ref(event)),
             Command::Feed { host, trace } => match traces.get(*trace) {
                 Some(trace) => self.feed(alloc, plans, *host, trace),
                 None => Ok(()),

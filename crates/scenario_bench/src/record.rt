@@ -1,22 +1,26 @@
 //! The record of a run: counts for each host, and the frames that each socket returned.
 ghost use Rattle.std.specs.Prelude.{◌≡◌, ◌≤◌, ◌++◌, ◌∷◌, [], ℕ, List, IfOk, OnOk, length, map, replicate};
-ghost use Rattle.delivery.specs.Happenings.{host_of, told, told_of};
+ghost use Rattle.adapter.specs.Outcomes.{with_frame};
+ghost use Rattle.delivery.specs.Happenings.{host_of, told_of};
+ghost use Rattle.network_plan.specs.Answers.{answer_with};
 ghost use Rattle.scenario.specs.SoFar.{hosts_of};
-ghost use Rattle.scenario_bench.specs.Acts.{Drained, Ran, ran};
+ghost use Rattle.scenario_bench.specs.Acts.{Drained};
 ghost use Rattle.scenario_bench.specs.DrainedView.{drained_frame};
 ghost use Rattle.scenario_bench.specs.Given.{numbered, sockets_from, sockets_of};
+ghost use Rattle.scenario_bench.specs.Recording.{Answers, answered};
 ghost use Rattle.scenario_bench.specs.Tallies.{AreNoted, GetsGiven, GetsSaid, IsPassage, TalliesGrow, TallyCounts};
 ghost use Rattle.scenario_bench.specs.Tallies.{empty_sockets, no_tally};
 ghost use Rattle.wire.specs.DrainedNetworks.{said_of_drain};
-ghost use Rattle.wire.specs.Runs.{accepted_of, given_of, said};
+ghost use Rattle.wire.specs.Runs.{accepted_of, given_of};
 
 use crate::drained::DrainedFrame;
 use crate::given::GivenFrames;
 use crate::tally::{Passage, Tally};
 use adapter::{Fate, Outcome};
-use network_plan::{Answer, Event, HostPlan, Reply};
-use stations::{HeapFrame, Numbered, Tick};
+use network_plan::{Answer, Event, HostPlan};
+use stations::{Observer, Tick};
 use std::alloc::{AllocError, Global};
+use wire::RunObserver;
 
 /// The record of a run.
 #[derive(Drop)]
@@ -27,6 +31,9 @@ pub(crate) struct Record {
     pub(crate) hosts: Vec<Tally>,
     /// The frames of each socket, hosts in order and their sockets in order.
     pub(crate) sockets: Vec<GivenFrames>,
+    /// Whether memory was refused for a frame that a socket returned. It isn't, since there is room for the frame before
+    /// its event; the proof doesn't rest on that.
+    pub(crate) failed: bool,
 }
 
 /// The host that a tick names, or 0 for a Go, which names none.
@@ -40,20 +47,9 @@ fn host_of(tick: Tick) -> usize
     }
 }
 
-/// The host of a tick, or none for a Go.
-fn host_named(tick: Tick) -> Option<usize>
-    ensures { result ≡ Rattle.scenario_bench.specs.Tallies.host_named tick }
-{
-    match tick {
-        Tick::Go => None,
-        Tick::Step(host, _) => Some(host),
-        Tick::Deliver(host) => Some(host),
-    }
-}
-
 /// The passage of a frame in an outcome, if there is one.
-fn passage_of(outcome: &Outcome<HeapFrame>) -> Option<Passage>
-    ensures { IsPassage outcome.now result }
+fn passage_of(outcome: &Outcome<()>) -> Option<Passage>
+    ensures { (frame : List ℕ) → IsPassage (with_frame frame outcome.now) result }
 {
     match outcome {
         Outcome::Put(_) => Some(Passage::Put),
@@ -114,30 +110,11 @@ fn count(hosts: &mut [Tally], host: usize, passage: Passage)
 
 /// Records the outcome of a tick at a host.
 #[tactic(auto, using(crate::proofs::Noting::told_passage, crate::proofs::Noting::told_nothing))]
-fn note_outcome(hosts: &mut [Tally], host: usize, outcome: &Outcome<HeapFrame>)
-    ensures { TalliesGrow (told_of host outcome.now) hosts.old hosts.new }
+fn note_outcome(hosts: &mut [Tally], host: usize, outcome: &Outcome<()>)
+    ensures { (frame : List ℕ) → TalliesGrow (told_of host (with_frame frame outcome.now)) hosts.old hosts.new }
 {
     if let Some(passage) = passage_of(outcome) {
         count(hosts, host, passage);
-    }
-}
-
-/// Records the outcomes of the ticks of a call. Each tick except a Go has one.
-fn note_ticks(hosts: &mut [Tally], ticks: &[Tick], outcomes: &[Numbered])
-    ensures { TalliesGrow (told ticks.now outcomes.now) hosts.old hosts.new }
-{
-    let mut rest = ticks;
-    let mut left = outcomes;
-    while let Some((tick, later)) = rest.split_first() {
-        rest = later;
-        let Some(host) = host_named(*tick) else {
-            continue;
-        };
-        let Some((first, others)) = left.split_first() else {
-            return;
-        };
-        note_outcome(hosts, host, &first.outcome);
-        left = others;
     }
 }
 
@@ -158,66 +135,25 @@ fn note_frame(
     Ok(())
 }
 
+/// Makes room for a frame that a socket returns.
+fn reserve_frame(sockets: &mut [GivenFrames], host: usize, socket: usize) -> Result<(), AllocError>
+    ensures { sockets.new ≡ sockets.old }
+{
+    for place in 0..sockets.len() {
+        sockets[place].reserve(host, socket)?;
+    }
+    Ok(())
+}
+
 /// Records the answer to a send.
-#[tactic(auto, using(crate::proofs::Noting::grows_not))]
-fn note_sent(hosts: &mut [Tally], host: usize, answer: &Answer)
-    ensures { (frame : List ℕ) → TalliesGrow (accepted_of host frame answer.now) hosts.old hosts.new }
+#[tactic(auto, using(crate::specs::RecordingLaws::grows_not))]
+fn note_sent(hosts: &mut [Tally], host: usize, answer: Answer<()>)
+    ensures { (frame given : List ℕ)
+        → TalliesGrow (accepted_of host frame (answer_with given answer)) hosts.old hosts.new }
 {
     if let Answer::Sent(Ok(())) = answer {
         count(hosts, host, Passage::Accepted);
     }
-}
-
-/// Records the answer of a socket.
-#[tactic(auto, using(crate::proofs::Noting::grows_not))]
-fn note_received(hosts: &mut [Tally], host: usize, answer: &Answer)
-    ensures { (socket : ℕ) → TalliesGrow (given_of host socket answer.now) hosts.old hosts.new }
-{
-    if let Answer::Received(Ok(_)) = answer {
-        count(hosts, host, Passage::Given);
-    }
-}
-
-/// Records the passages of an event at all hosts.
-#[tactic(auto, using(crate::proofs::Noting::grows_not))]
-fn note_passages(hosts: &mut [Tally], event: &Event, reply: &Reply)
-    ensures { TalliesGrow (said event.now reply.now) hosts.old hosts.new }
-{
-    let outcomes = reply.outcomes.as_slice();
-    match event {
-        Event::Send { host, ticks, .. } => {
-            note_sent(hosts, *host, &reply.answer);
-            note_ticks(hosts, ticks.as_slice(), outcomes);
-        }
-        Event::Recv { host, ticks, .. } => {
-            note_ticks(hosts, ticks.as_slice(), outcomes);
-            note_received(hosts, *host, &reply.answer);
-        }
-        Event::Interrupt { ticks, .. } => note_ticks(hosts, ticks.as_slice(), outcomes),
-        Event::Tick(tick) => {
-            if let Some(first) = outcomes.first() {
-                note_outcome(hosts, host_of(*tick), &first.outcome);
-            }
-        }
-    }
-}
-
-/// Records the frame that the event with this number returned, if there is one.
-#[tactic(auto, using(crate::proofs::NotedEvents::answer_rules))]
-fn note_given(
-    sockets: &mut [GivenFrames],
-    number: u64,
-    event: &Event,
-    reply: &Reply,
-) -> Result<(), AllocError>
-    ensures { OnOk result (GetsSaid number (said event.now reply.now) sockets.old sockets.new) }
-{
-    if let Event::Recv { host, socket, .. } = event {
-        if let Answer::Received(Ok(frame)) = &reply.answer {
-            note_frame(sockets, *host, *socket, number, frame.as_slice())?;
-        }
-    }
-    Ok(())
 }
 
 /// Records the frames that a drained host delivered, each for its socket.
@@ -257,18 +193,34 @@ impl Record {
             number: 0,
             hosts,
             sockets,
+            failed: false,
         })
     }
 
-    /// Records the next event and its reply.
-    #[tactic(auto, using(crate::proofs::NotedEvents::noted))]
-    fn note(&mut self, event: &Event, reply: &Reply) -> Result<(), AllocError>
-        ensures { OnOk result (AreNoted (Ran event.now reply.now ∷ []) self.old self.new) }
+    /// Records the answer of a socket, with its frame.
+    fn note_received(&mut self, host: usize, socket: usize, answer: Answer<()>, frame: &[u8])
+        requires fits { length frame.now ≤ 1518 }
+        ensures { Answers (given_of host socket (answer_with frame.now answer)) self.old self.new }
     {
-        note_passages(self.hosts.as_mut_slice(), event, reply);
-        note_given(self.sockets.as_mut_slice(), self.number, event, reply)?;
-        self.number = self.number.saturating_add(1);
-        Ok(())
+        if let Answer::Received(Ok(())) = answer {
+            count(self.hosts.as_mut_slice(), host, Passage::Given);
+            let sockets = self.sockets.as_mut_slice();
+            if note_frame(sockets, host, socket, self.number, frame).is_err() {
+                self.failed = true;
+            }
+        }
+    }
+
+    /// Records the answer of an event, with the frame that a socket returned.
+    fn note_answer(&mut self, event: &Event, answer: Answer<()>, frame: &[u8])
+        requires fits { length frame.now ≤ 1518 }
+        ensures { Answers (answered event.now (answer_with frame.now answer)) self.old self.new }
+    {
+        match event {
+            Event::Send { host, .. } => note_sent(self.hosts.as_mut_slice(), *host, answer),
+            Event::Recv { host, socket, .. } => self.note_received(*host, *socket, answer, frame),
+            Event::Interrupt { .. } | Event::Tick(_) => {}
+        }
     }
 
     /// Records the next drain: the frames that a host delivered. The number of frames that its adapter moved isn't
@@ -287,21 +239,48 @@ impl Record {
         self.number = self.number.saturating_add(1);
         Ok(())
     }
+}
 
-    /// Records each of these events and its reply.
-    pub(crate) fn note_all(&mut self, events: &[Event], replies: &[Reply]) -> Result<(), AllocError>
-        ensures { OnOk result (AreNoted (ran events.now replies.now) self.old self.new) }
-    {
-        let mut rest = events;
-        let mut left = replies;
-        while let (Some((event, later)), Some((reply, others))) = (
-            rest.split_first(),
-            left.split_first(),
-        ) {
-            self.note(event, reply)?;
-            rest = later;
-            left = others;
+impl Observer for Record {
+    ghost use Rattle.scenario_bench.specs.RecordingLaws.{ticks_compose};
+    ghost use Rattle.scenario_bench.specs.Recording.{HearsTicks};
+
+    ghost heard = { HearsTicks };
+
+    ghost places = { λ now. 18446744073709551616 };
+
+    ghost composes = { ticks_compose };
+
+    fn note(&mut self, tick: Tick, _accesses: u64, outcome: Outcome<()>, _frame: &[u8]) {
+        note_outcome(self.hosts.as_mut_slice(), host_of(tick), &outcome);
+    }
+}
+
+impl RunObserver for Record {
+    ghost use Rattle.std.specs.Prelude.{⊤};
+    ghost use Rattle.scenario_bench.specs.RecordingLaws.{replies_compose};
+    ghost use Rattle.scenario_bench.specs.Recording.{RecordsReplies};
+
+    ghost ran = { RecordsReplies };
+
+    ghost ready = { λ now one. ⊤ };
+
+    ghost composes_runs = { replies_compose };
+
+    fn make_room(&mut self, event: &Event, _ticks: usize) -> bool {
+        if self.failed {
+            return false;
         }
-        Ok(())
+        match event {
+            Event::Recv { host, socket, .. } => {
+                reserve_frame(self.sockets.as_mut_slice(), *host, *socket).is_ok()
+            }
+            _ => true,
+        }
+    }
+
+    fn answer(&mut self, event: &Event, _accesses: u64, answer: Answer<()>, frame: &[u8]) {
+        self.note_answer(event, answer, frame);
+        self.number = self.number.saturating_add(1);
     }
 }

@@ -20,13 +20,13 @@ use Rattle.bus.proofs.StepsThenAccess.{happens_accesses, past-with_access}
 use Rattle.stations.proofs.Places.{set-after, set-same}
 use Rattle.stations.specs.AtomicSteps.{At, OccursAt, tick_of}
 use Rattle.stations.specs.Stations.{StationState, stations_after, wire_of, world_at}
-use Rattle.stations.specs.declared.outcomes.Numbered.{Numbered}
+use Rattle.stations.specs.declared.observer.Observer.{Ghosts as OfObserver}
 use Rattle.stations.specs.declared.tick.Tick.{Tick}
 use Rattle.stations.specs.declared.tick.Tick.TheVariants.{Go}
 use Rattle.stations.proofs.HostTrails.{steps-alone, trail-of, world-here}
 use Rattle.stations.proofs.TickLoops.{counted-ticks}
-use Rattle.stations.specs.AtomicRunLaws.{counted_join, leads_join, noted_join, past_join}
-use Rattle.stations.specs.AtomicRuns.{counted_of, events_at, most_accesses, noted_of, past_at}
+use Rattle.stations.specs.AtomicRunLaws.{counted_join, leads_join, past_join, steps_told_join}
+use Rattle.stations.specs.AtomicRuns.{counted_of, events_at, most_accesses, past_at, steps_told}
 use Rattle.stations.specs.Retelling.{Prepared, Retells, SameLent, bytes_here, world_here}
 use Rattle.stations.specs.RetellingLaws.{same_lent_on}
 use Rattle.stations.specs.declared.lent_bus.LentBus.{LentBus}
@@ -61,23 +61,23 @@ load-leaves ss new host address size below same =
     ]
 
 -- What the access leaves beside the network.
-pub record LeavesRest (p b : LentBus) : Type 0 where
+pub record LeavesRest {O : Type 0} {g : OfObserver O} (p b : LentBus O g) : Type 0 where
   pub lent : SameLent p b
   pub ticks : b.ticks.now ≡ p.ticks.now
   pub accesses : b.accesses ≡ p.accesses
-  pub outcomes : b.outcomes.now.list ≡ p.outcomes.now.list
+  pub observer : b.observer.now ≡ p.observer.now
 
-abbrev pub never_lively : LentBus → Type 0
+abbrev pub never_lively : {O : Type 0} {g : OfObserver O} → LentBus O g → Type 0
 never_lively bus = ⊥
 
 -- the calling host's trail up to the access
-trail-here : (a p : LentBus) (prepared : Prepared a p) → Trail (events_at a.host prepared.plays.steps) (world_here a) (world_here p)
+trail-here : {O : Type 0} {g : OfObserver O} (a p : LentBus O g) (prepared : Prepared a p) → Trail (events_at a.host prepared.plays.steps) (world_here a) (world_here p)
 trail-here a p prepared =
     subst (λ (h : ℕ). Trail (events_at a.host prepared.plays.steps) (world_here a) (world_at p.network.now h)) (sym prepared.lent.host)
     (trail-of a.host a.host prepared.plays.steps a.network.now p.network.now (prepared.plays.leads a.host))
 
 -- The size of memory stays while ticks are played.
-pub size-prepared : (a p : LentBus) → Prepared a p → bytes_here p ≡ bytes_here a
+pub size-prepared : {O : Type 0} {g : OfObserver O} (a p : LentBus O g) → Prepared a p → bytes_here p ≡ bytes_here a
 size-prepared a p prepared =
     let steps = prepared.plays.steps in
     let happens = trail_happens (events_at a.host steps) (world_here a) (world_here p) (steps-alone a.host steps prepared.plays.are)
@@ -85,9 +85,9 @@ size-prepared a p prepared =
     happens.steady.size
 
 -- What the access leaves of the bus itself, after the ticks before it.
-pub access-keeps : (a p b : LentBus) → Prepared a p → SameLent p b → bytes_here b ≡ bytes_here p
-    → StaysWhole bytes_here SameLent (λ (bus : LentBus). ⊤) never_lively a b
-access-keeps a p b prepared same size = record {
+pub access-keeps : {O : Type 0} {g : OfObserver O} (a p b : LentBus O g) → Prepared a p → SameLent p b → bytes_here b ≡ bytes_here p
+    → StaysWhole bytes_here SameLent (λ (bus : LentBus O g). ⊤) never_lively a b
+access-keeps {O} {g} a p b prepared same size = record {
   extent = size ∙ size-prepared a p prepared;
   lent_stays = same_lent_on a p b prepared.lent same;
   honest = λ honest. honest;
@@ -95,11 +95,11 @@ access-keeps a p b prepared same size = record {
 }
 
 -- The access behind what comes before it is as the law says.
-pub acted : (a p b : LentBus) (access : Access) (effect : World → World → Type 0) → Prepared a p → LeavesRest p b
+pub acted : {O : Type 0} {g : OfObserver O} (a p b : LentBus O g) (access : Access) (effect : World → World → Type 0) → Prepared a p → LeavesRest p b
     → p.host < length p.network.now → b.network.now ≡ stations_after p.host (Accesses access) p.network.now
     → IsAnswered access (world_here p) → IsAdapter (world_here p).adapter → effect (world_here p) (world_here b)
     → Acts (view world_here Retells never_lively) a b access effect
-acted a p b access effect prepared leaves below state answered adapter does =
+acted {O} {g} a p b access effect prepared leaves below state answered adapter does =
     let plays = prepared.plays in
     let steps = plays.steps in
     let events = events_at a.host steps in
@@ -111,8 +111,8 @@ acted a p b access effect prepared leaves below state answered adapter does =
     subst (λ (h : ℕ). OccursAt h (Accesses access) p.network.now) host (occurs-access p.network.now p.host access below answered) in
     let behind : b.network.now ≡ stations_after a.host (Accesses access) p.network.now =
     state ∙ ap (λ (h : ℕ). stations_after h (Accesses access) p.network.now) host in
-    let noted : noted_of a.accesses (steps ++ last ∷ []) ≡ noted_of a.accesses steps =
-    noted_join a.accesses steps (last ∷ []) ∙ append-nil (noted_of a.accesses steps) in
+    let heard : steps_told a.accesses steps ≡ steps_told a.accesses (steps ++ last ∷ []) =
+    sym (steps_told_join a.accesses steps (last ∷ []) ∙ append-nil (steps_told a.accesses steps)) in
     let count : counted_of a.accesses (steps ++ last ∷ []) ≡ min (a.accesses + 1) most_accesses =
     counted_join a.accesses steps (last ∷ []) ∙ ap (λ (n : ℕ). min (n + 1) most_accesses) still in
     record {
@@ -133,7 +133,9 @@ acted a p b access effect prepared leaves below state answered adapter does =
             map-append tick_of steps (last ∷ [])
             ∙ ap (λ (list : List Tick). list ++ Go ∷ []) plays.played;
         waiting = leaves.ticks ∙ prepared.waiting;
-        noted = leaves.outcomes ∙ plays.noted ∙ ap (λ (list : List Numbered). a.outcomes.now.list ++ list) (sym noted);
+        heard =
+            subst (λ (o : O). g.heard a.observer.now o (steps_told a.accesses (steps ++ last ∷ []))) (sym leaves.observer)
+            (subst (g.heard a.observer.now p.observer.now) heard plays.heard);
         accesses = record {
           number = leaves.accesses ∙ prepared.count ∙ sym count;
           count = omega (arith, leaves.accesses, prepared.count);

@@ -1,13 +1,16 @@
 -- Two runs of atomic steps are one.
-use Rattle.std.proofs.Common.{◌≡◌, ℕ, List, [], ◌∷◌, ◌++◌, refl, sym, ap, subst, ◌∙◌, append_assoc}
+use Rattle.std.proofs.Common.{◌≡◌, ℕ, List, [], ◌∷◌, ◌++◌, map, refl, sym, ap, subst, ◌∙◌, append_assoc}
 use Rattle.std.proofs.lemmas.Grind.{flat_map-append}
 use Rattle.bus.specs.PastOfStretch.{joined}
 use Rattle.bus.specs.TrailLaws.{past_of-append}
 use Rattle.bus.specs.Trails.{past_of}
-use Rattle.stations.specs.AtomicSteps.{AtomicStep, after}
+use Rattle.bus.specs.declared.event.Event.TheVariants.{Accesses, Arrives, Steps}
+use Rattle.stations.specs.AtomicSteps.{At, AtomicStep, Idles, after}
 use Rattle.stations.specs.Stations.{StationState}
+use Rattle.stations.specs.Outcomes.{note_of}
+use Rattle.stations.specs.ToldTicks.{TickTold}
 use Rattle.stations.specs.declared.outcomes.Numbered.{Numbered}
-use Rattle.stations.specs.AtomicRuns.{LeadsTo, counted_by, counted_of, events_at, events_by, noted_by, noted_of, past_at}
+use Rattle.stations.specs.AtomicRuns.{LeadsTo, counted_by, counted_of, events_at, events_by, noted_by, noted_of, numbered, past_at, step_told, steps_told}
 
 pub leads_join : (caller : ℕ) (first later : List AtomicStep) (a b c : List StationState) → LeadsTo caller first a b
     → LeadsTo caller later b c
@@ -21,6 +24,23 @@ noted_join n [] later = refl
 noted_join n (step ∷ first) later =
     ap (λ (list : List Numbered). noted_by n step ++ list) (noted_join (counted_by n step) first later)
     ∙ sym (append_assoc (noted_by n step) (noted_of (counted_by n step) first) (noted_of (counted_of (counted_by n step) first) later))
+
+pub steps_told_join : (n : ℕ) (first later : List AtomicStep) → steps_told n (first ++ later) ≡ steps_told n first
+    ++ steps_told (counted_of n first) later
+steps_told_join n [] later = refl
+steps_told_join n (step ∷ first) later =
+    ap (λ (list : List TickTold). step_told n step ++ list) (steps_told_join (counted_by n step) first later)
+    ∙ sym (append_assoc (step_told n step) (steps_told (counted_by n step) first) (steps_told (counted_of (counted_by n step) first) later))
+
+-- What is noted of steps is what an observer is told of them, without the ticks.
+pub steps_told_noted : (n : ℕ) (steps : List AtomicStep) → map note_of (steps_told n steps) ≡ noted_of n steps
+steps_told_noted n [] = refl
+steps_told_noted n (At host (Steps kind wire_free answer) ∷ later) =
+    ap (λ (list : List Numbered). numbered n (At host (Steps kind wire_free answer)) ++ list) (steps_told_noted n later)
+steps_told_noted n (At host (Arrives frame fate) ∷ later) =
+    ap (λ (list : List Numbered). numbered n (At host (Arrives frame fate)) ++ list) (steps_told_noted n later)
+steps_told_noted n (At host (Accesses access) ∷ later) = steps_told_noted (counted_by n (At host (Accesses access))) later
+steps_told_noted n (Idles tick ∷ later) = ap (λ (list : List Numbered). numbered n (Idles tick) ++ list) (steps_told_noted n later)
 
 pub counted_join : (n : ℕ) (first later : List AtomicStep) → counted_of n (first ++ later) ≡ counted_of (counted_of n first) later
 counted_join n [] later = refl

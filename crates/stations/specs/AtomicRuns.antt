@@ -7,6 +7,8 @@ use Rattle.bus.specs.declared.event.Event.{Event}
 use Rattle.bus.specs.declared.event.Event.TheVariants.{Accesses, Arrives, Steps}
 use Rattle.stations.specs.AtomicSteps.{At, AtomicStep, CanHappen, Idles, after, outcome_of}
 use Rattle.stations.specs.Stations.{StationState}
+use Rattle.stations.specs.ToldTicks.{TickTold, tick_told}
+use Rattle.adapter.specs.declared.outcome.Outcome.TheVariants.{Delivered, Nothing}
 use Rattle.stations.specs.declared.outcomes.Numbered.{Numbered}
 use Rattle.stations.specs.declared.tick.Tick.{Tick}
 use Rattle.stations.specs.declared.tick.Tick.TheVariants.{Deliver, Go, Step}
@@ -72,6 +74,18 @@ counted_by n (Idles tick) = n
 abbrev pub noted_of : ℕ → List AtomicStep → List Numbered
 noted_of n [] = []
 noted_of n (step ∷ later) = noted_by n step ++ noted_of (counted_by n step) later
+
+-- What an observer is told of them: each outcome with its tick.
+
+abbrev pub step_told : ℕ → AtomicStep → List TickTold
+step_told n (At host (Steps kind wire_free answer)) = tick_told (Step host kind) n answer ∷ []
+step_told n (At host (Arrives frame fate)) = tick_told (Deliver host) n (Delivered frame fate) ∷ []
+step_told n (At host (Accesses access)) = []
+step_told n (Idles tick) = tick_told tick n Nothing ∷ []
+
+abbrev pub steps_told : ℕ → List AtomicStep → List TickTold
+steps_told n [] = []
+steps_told n (step ∷ later) = step_told n step ++ steps_told (counted_by n step) later
 
 abbrev pub counted_of : ℕ → List AtomicStep → ℕ
 counted_of n [] = n

@@ -1,5 +1,5 @@
 -- The atomic steps of a network: one access of a driver, one step of an adapter, one delivery; and ticks that find nothing to do.
-use Rattle.std.specs.Prelude.{⊤, ◌≡◌, ◌↔◌, IsTrue, ℕ, None, Some, List, [], slice_get}
+use Rattle.std.specs.Prelude.{⊤, ◌≡◌, ◌≤◌, ◌+◌, ◌∷◌, ◌↔◌, IsTrue, ℕ, None, Some, List, [], slice_get}
 use Rattle.rx_engine.specs.declared.arrival.Fate.{Fate}
 use Rattle.adapter.specs.Receiving.{IsFate}
 use Rattle.adapter.specs.State.{IsAdapter}
@@ -7,7 +7,8 @@ use Rattle.adapter.specs.declared.step.StepKind.TheVariants.{TxPut}
 use Rattle.bus.specs.Trails.{Occurs}
 use Rattle.bus.specs.declared.event.Event.{Event}
 use Rattle.bus.specs.declared.event.Event.TheVariants.{Accesses, Arrives, Steps}
-use Rattle.stations.specs.Outcomes.{IsNoted, OutcomeList}
+use Rattle.stations.specs.ToldTicks.{tick_told}
+use Rattle.stations.specs.declared.observer.Observer.{Ghosts as OfObserver}
 use Rattle.stations.specs.Stations.{StationState, WireHasRoom, backlog_at, station_after, stations_after, wire_at, world_at}
 use Rattle.adapter.specs.Outcomes.{FrameOutcome}
 use Rattle.adapter.specs.declared.outcome.Outcome.TheVariants.{Delivered, Nothing}
@@ -89,9 +90,17 @@ pub record Plays (old : List StationState) (tick : Tick) (outcome : FrameOutcome
   pub happens : CanHappen step old
   pub leaves : new ≡ after step old
 
--- And it is noted, behind so many accesses.
-pub record PlaysNoted (old : List StationState) (tick : Tick) (accesses : ℕ) (before behind : OutcomeList)
-    (new : List StationState) : Type 0 where
+-- A network, and the observer of what is played on it.
+pub record Watched (O : Type 0) : Type 0 where
+  pub stations : List StationState
+  pub observer : O
+
+abbrev pub watched : {O : Type 0} → List StationState → O → Watched O
+watched stations observer = record { stations = stations; observer = observer }
+
+-- A tick is played, after so many accesses, and the observer is told its outcome.
+pub record PlaysNoted {O : Type 0} (observers : OfObserver O) (tick : Tick) (accesses : ℕ) (old new : Watched O) : Type 0 where
   pub outcome : FrameOutcome
-  pub plays : Plays old tick outcome new
-  pub noted : IsNoted accesses outcome before behind
+  pub plays : Plays old.stations tick outcome new.stations
+  pub heard : observers.heard old.observer new.observer (tick_told tick accesses outcome ∷ [])
+  pub room : observers.places old.observer ≤ observers.places new.observer + 1

@@ -3,7 +3,9 @@ pub mod Ends
 pub mod EndView
 pub mod NetworkView
 pub mod FrameRoom
+pub mod ToldTicks
 pub mod Outcomes
+pub mod OutcomesLaws
 pub mod AtomicSteps
 pub mod AtomicRuns
 pub mod AtomicRunLaws

@@ -1,6 +1,6 @@
 -- What came of ticks, as plain data.
-use Rattle.std.specs.Prelude.{◌≡◌, ◌≤◌, ◌+◌, ◌++◌, ◌∷◌, [], ℕ, List, length, vec_capacity}
-use Rattle.adapter.specs.Outcomes.{FrameOutcome}
+use Rattle.std.specs.Prelude.{◌≡◌, ◌≤◌, ◌+◌, ◌++◌, ℕ, List, length, map, vec_capacity}
+use Rattle.stations.specs.ToldTicks.{TickTold}
 use Rattle.stations.specs.declared.outcomes.Numbered.{Numbered}
 use Rattle.stations.specs.declared.outcomes.Outcomes.TheInside.{Inside}
 
@@ -16,7 +16,13 @@ outcomes_of inside = record { list = inside.list.items; room = length inside.spa
 pub record HasPlaces (inside : Inside) : Type 0 where
   pub places : length inside.list.items + length inside.spare.items ≤ vec_capacity inside.list
 
--- An outcome is noted after the others, with so many accesses of the call. There is room for at least one less.
-pub record IsNoted (accesses : ℕ) (outcome : FrameOutcome) (before behind : OutcomeList) : Type 0 where
-  pub list : behind.list ≡ before.list ++ record { accesses = accesses; outcome = outcome } ∷ []
-  pub room : before.room ≤ behind.room + 1
+-- an outcome, with the number of accesses before it
+abbrev pub note_of : TickTold → Numbered
+note_of told = record { accesses = told.accesses; outcome = told.outcome }
+
+-- What was told was appended, in order.
+abbrev pub Collects : (before after : OutcomeList) → List TickTold → Type 0
+Collects before after told = after.list ≡ before.list ++ map note_of told
+
+abbrev pub places_of : OutcomeList → ℕ
+places_of outcomes = outcomes.room

@@ -1,17 +1,15 @@
--- Ticks are played on all stations, and noted.
-use Rattle.std.specs.Prelude.{◌≡◌, ◌≤◌, ◌+◌, ◌++◌, ℕ, List, All, length, map}
-use Rattle.stations.specs.AtomicSteps.{AtomicStep, tick_of}
-use Rattle.stations.specs.Outcomes.{OutcomeList}
-use Rattle.stations.specs.Stations.{StationState}
+-- Ticks are played on all stations, and an observer is told what comes of them.
+use Rattle.std.specs.Prelude.{◌≡◌, ◌≤◌, ◌+◌, ℕ, List, All, length, map}
+use Rattle.stations.specs.AtomicSteps.{AtomicStep, Watched, tick_of}
+use Rattle.stations.specs.declared.observer.Observer.{Ghosts as OfObserver}
 use Rattle.stations.specs.declared.tick.Tick.{Tick}
-use Rattle.stations.specs.AtomicRuns.{IsTick, LeadsTo, noted_of}
+use Rattle.stations.specs.AtomicRuns.{IsTick, LeadsTo, steps_told}
 
--- These ticks were played, one atomic step for each in order, and each outcome noted behind so many accesses.
-pub record PlaysTicks (old : List StationState) (ticks : List Tick) (accesses : ℕ) (before behind : OutcomeList) (new : List StationState)
-    : Type 0 where
+-- These ticks were played, one atomic step for each in order, and the observer was told each outcome, with so many accesses before it.
+pub record PlaysTicks {O : Type 0} (observers : OfObserver O) (ticks : List Tick) (accesses : ℕ) (old new : Watched O) : Type 0 where
   pub steps : List AtomicStep
   pub are : All IsTick steps
-  pub leads : (caller : ℕ) → LeadsTo caller steps old new
+  pub leads : (caller : ℕ) → LeadsTo caller steps old.stations new.stations
   pub played : map tick_of steps ≡ ticks
-  pub noted : behind.list ≡ before.list ++ noted_of accesses steps
-  pub room : before.room ≤ behind.room + length ticks
+  pub heard : observers.heard old.observer new.observer (steps_told accesses steps)
+  pub room : observers.places old.observer ≤ observers.places new.observer + length ticks

@@ -1,57 +1,62 @@
 -- What a lent bus is, and what it tells of what happened.
-use Rattle.std.specs.Prelude.{◌≡◌, ◌+◌, ◌++◌, ℕ, List, [], length, map, min}
+use Rattle.std.specs.Prelude.{◌≡◌, ◌+◌, ℕ, List, [], length, map, min}
 use Rattle.adapter.specs.World.{World}
 use Rattle.bus.specs.PastOfStretch.{Past}
 use Rattle.bus.specs.TickGroups.{behind_group, group_of, played_in, waiting_after, without_go}
-use Rattle.stations.specs.AtomicSteps.{AtomicStep, tick_of}
+use Rattle.stations.specs.AtomicSteps.{AtomicStep, Watched, tick_of, watched}
+use Rattle.stations.specs.declared.observer.Observer.{Ghosts as OfObserver}
 use Rattle.stations.specs.Stations.{world_at}
 use Rattle.stations.specs.declared.tick.Tick.TheVariants.{Go}
-use Rattle.stations.specs.AtomicRuns.{LeadsTo, counted_of, is_go, most_accesses, noted_of, past_at}
+use Rattle.stations.specs.AtomicRuns.{LeadsTo, counted_of, is_go, most_accesses, past_at, steps_told}
 use Rattle.stations.specs.PlayedTicks.{PlaysTicks}
 use Rattle.stations.specs.declared.lent_bus.LentBus.{LentBus}
 
 -- the world of the host whose call it is
-abbrev pub world_here : LentBus → World
+abbrev pub world_here : {O : Type 0} {g : OfObserver O} → LentBus O g → World
 world_here bus = world_at bus.network.now bus.host
 
-abbrev pub bytes_here : LentBus → ℕ
+abbrev pub bytes_here : {O : Type 0} {g : OfObserver O} → LentBus O g → ℕ
 bytes_here bus = length (world_here bus).memory
 
--- The same network and the same outcomes are lent, to the call of the same host.
-pub record SameLent (a b : LentBus) : Type 0 where
+-- the network and the observer that are lent
+abbrev pub watched_by : {O : Type 0} {g : OfObserver O} → LentBus O g → Watched O
+watched_by bus = watched bus.network.now bus.observer.now
+
+-- The same network and the same observer are lent, to the call of the same host.
+pub record SameLent {O : Type 0} {g : OfObserver O} (a b : LentBus O g) : Type 0 where
   pub network : b.network.ghost_name ≡ a.network.ghost_name
-  pub outcomes : b.outcomes.ghost_name ≡ a.outcomes.ghost_name
+  pub observer : b.observer.ghost_name ≡ a.observer.ghost_name
   pub host : b.host ≡ a.host
 
 -- the count of the calling host's accesses
-pub record CountsAccesses (a b : LentBus) (steps : List AtomicStep) (past : Past) : Type 0 where
+pub record CountsAccesses {O : Type 0} {g : OfObserver O} (a b : LentBus O g) (steps : List AtomicStep) (past : Past) : Type 0 where
   -- Each access among the steps counts.
   pub number : b.accesses ≡ counted_of a.accesses steps
   -- So the count grows by the driver's accesses, up to the greatest count.
   pub count : min b.accesses most_accesses ≡ min (a.accesses + length past.accesses) most_accesses
 
 -- What happened from one state to another: these atomic steps, exactly those of the groups of ticks that belong to these accesses, each
--- group before its access; and the outcome of each tick is noted in order, with the number of accesses before it.
-pub record Retells (a b : LentBus) (past : Past) : Type 0 where
+-- group before its access; and the observer was told the outcome of each tick in order, with the number of accesses before it.
+pub record Retells {O : Type 0} {g : OfObserver O} (a b : LentBus O g) (past : Past) : Type 0 where
   pub lent : SameLent a b
   pub steps : List AtomicStep
   pub leads : LeadsTo a.host steps a.network.now b.network.now
   pub past_is : past ≡ past_at a.host steps
   pub played : map tick_of steps ≡ played_in is_go Go [] past.accesses a.ticks.now
   pub waiting : b.ticks.now ≡ waiting_after is_go past.accesses a.ticks.now
-  pub noted : b.outcomes.now.list ≡ a.outcomes.now.list ++ noted_of a.accesses steps
+  pub heard : g.heard a.observer.now b.observer.now (steps_told a.accesses steps)
   pub accesses : CountsAccesses a b steps past
 
 -- What comes before an access: the next group of ticks is played, and the access is counted.
-pub record Prepared (a b : LentBus) : Type 0 where
+pub record Prepared {O : Type 0} {g : OfObserver O} (a b : LentBus O g) : Type 0 where
   pub lent : SameLent a b
-  pub plays : PlaysTicks a.network.now (group_of is_go a.ticks.now) a.accesses a.outcomes.now b.outcomes.now b.network.now
+  pub plays : PlaysTicks g (group_of is_go a.ticks.now) a.accesses (watched_by a) (watched_by b)
   pub waiting : b.ticks.now ≡ behind_group is_go a.ticks.now
   pub count : b.accesses ≡ min (a.accesses + 1) most_accesses
 
 -- What comes behind the last access: all ticks that are left are played.
-pub record Finished (a b : LentBus) : Type 0 where
+pub record Finished {O : Type 0} {g : OfObserver O} (a b : LentBus O g) : Type 0 where
   pub lent : SameLent a b
-  pub plays : PlaysTicks a.network.now (without_go is_go a.ticks.now) a.accesses a.outcomes.now b.outcomes.now b.network.now
+  pub plays : PlaysTicks g (without_go is_go a.ticks.now) a.accesses (watched_by a) (watched_by b)
   pub none : b.ticks.now ≡ []
   pub count : b.accesses ≡ a.accesses

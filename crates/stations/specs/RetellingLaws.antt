@@ -1,42 +1,44 @@
 -- What a lent bus tells of two stretches it tells of both together.
-use Rattle.std.proofs.Common.{◌≡◌, ◌+◌, ◌++◌, ℕ, List, [], length, map, min, refl, sym, ap, subst, ◌∙◌, append_assoc, arith, length-append}
-use Rattle.std.proofs.lemmas.List.{append-nil, map-append}
+use Rattle.std.proofs.Common.{◌≡◌, ◌+◌, ◌++◌, ℕ, List, [], length, map, min, refl, sym, ap, subst, ◌∙◌, arith, length-append}
+use Rattle.std.proofs.lemmas.List.{map-append}
 use Rattle.bus.specs.PastOfStretch.{Past, joined, nothing}
 use Rattle.bus.specs.TickGroupLaws.{played_joins, waiting_joins}
 use Rattle.bus.specs.TickGroups.{played_in, waiting_after}
 use Rattle.stations.specs.AtomicSteps.{tick_of}
-use Rattle.stations.specs.declared.outcomes.Numbered.{Numbered}
+use Rattle.stations.specs.ToldTicks.{ComposesTold}
+use Rattle.stations.specs.declared.observer.Observer.{Ghosts as OfObserver}
 use Rattle.stations.specs.declared.tick.Tick.{Tick}
 use Rattle.stations.specs.declared.tick.Tick.TheVariants.{Go}
-use Rattle.stations.specs.AtomicRunLaws.{counted_join, leads_join, noted_join, past_join}
-use Rattle.stations.specs.AtomicRuns.{LeadsTo, counted_of, is_go, most_accesses, noted_of, past_at}
+use Rattle.stations.specs.AtomicRunLaws.{counted_join, leads_join, past_join, steps_told_join}
+use Rattle.stations.specs.AtomicRuns.{LeadsTo, counted_of, is_go, most_accesses, past_at, steps_told}
 use Rattle.stations.specs.Retelling.{Retells, SameLent}
 use Rattle.stations.specs.declared.lent_bus.LentBus.{LentBus}
 
-pub same_lent_here : (a : LentBus) → SameLent a a
-same_lent_here a = record { network = refl; outcomes = refl; host = refl }
+pub same_lent_here : {O : Type 0} {g : OfObserver O} (a : LentBus O g) → SameLent a a
+same_lent_here a = record { network = refl; observer = refl; host = refl }
 
-pub same_lent_on : (a b c : LentBus) → SameLent a b → SameLent b c → SameLent a c
+pub same_lent_on : {O : Type 0} {g : OfObserver O} (a b c : LentBus O g) → SameLent a b → SameLent b c → SameLent a c
 same_lent_on a b c one two = record {
   network = two.network ∙ one.network;
-  outcomes = two.outcomes ∙ one.outcomes;
+  observer = two.observer ∙ one.observer;
   host = two.host ∙ one.host;
 }
 
-pub retells_none : (a : LentBus) → Retells a a nothing
-retells_none a = record {
+pub retells_none : {O : Type 0} {g : OfObserver O} → ComposesTold g.heard → (a : LentBus O g) → Retells a a nothing
+retells_none composes a = record {
   lent = same_lent_here a;
   steps = [];
   leads = refl;
   past_is = refl;
   played = refl;
   waiting = refl;
-  noted = sym (append-nil a.outcomes.now.list);
+  heard = composes.stays a.observer.now;
   accesses = record { number = refl; count = omega arith };
 }
 
-pub retells_join : (a b c : LentBus) (first later : Past) → Retells a b first → Retells b c later → Retells a c (joined first later)
-retells_join a b c first later one two =
+unfoldable pub retells_join : {O : Type 0} {g : OfObserver O} → ComposesTold g.heard → (a b c : LentBus O g) (first later : Past) → Retells a b first → Retells b c later
+    → Retells a c (joined first later)
+retells_join {O} {g} composes a b c first later one two =
     let host = one.lent.host in
     record {
       lent = same_lent_on a b c one.lent two.lent;
@@ -57,13 +59,11 @@ retells_join a b c first later one two =
       waiting =
           two.waiting ∙ ap (waiting_after is_go later.accesses) one.waiting
           ∙ sym (waiting_joins is_go first.accesses later.accesses a.ticks.now);
-      noted =
-          two.noted
-          ∙ ap (λ (list : List Numbered). list ++ noted_of b.accesses two.steps) one.noted
-          ∙ append_assoc a.outcomes.now.list (noted_of a.accesses one.steps) (noted_of b.accesses two.steps)
-          ∙ ap (λ (list : List Numbered). a.outcomes.now.list ++ list)
-          (ap (λ (n : ℕ). noted_of a.accesses one.steps ++ noted_of n two.steps) one.accesses.number
-          ∙ sym (noted_join a.accesses one.steps two.steps));
+      heard =
+          subst (g.heard a.observer.now c.observer.now)
+          (ap (λ (n : ℕ). steps_told a.accesses one.steps ++ steps_told n two.steps) one.accesses.number
+          ∙ sym (steps_told_join a.accesses one.steps two.steps))
+          (composes.joins a.observer.now b.observer.now c.observer.now _ _ one.heard two.heard);
       accesses = record {
         number =
             two.accesses.number ∙ ap (λ (n : ℕ). counted_of n two.steps) one.accesses.number
@@ -72,6 +72,6 @@ retells_join a b c first later one two =
       };
     }
 
-pub retells_count : (a b : LentBus) (past : Past) → Retells a b past
+pub retells_count : {O : Type 0} {g : OfObserver O} (a b : LentBus O g) (past : Past) → Retells a b past
     → min b.accesses most_accesses ≡ min (min a.accesses most_accesses + length past.accesses) most_accesses
 retells_count a b past told = omega (arith, told.accesses.count)

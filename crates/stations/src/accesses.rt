@@ -3,9 +3,10 @@
 ghost use Rattle.std.specs.Prelude.{◌≡◌, length, min};
 
 use crate::lent_bus::LentBus;
+use crate::observer::Observer;
 use bus::{Bus, HonestBus};
 
-impl<'a> Bus for LentBus<'a> {
+impl<'a, 't, O: Observer> Bus for LentBus<'a, 't, O> {
     ghost use Rattle.std.specs.Prelude.{◌≡◌, length, ⊤};
     ghost use Rattle.std.proofs.Common.{refl};
     ghost use Rattle.stations.specs.Retelling.{Retells, SameLent, bytes_here, world_here};
@@ -24,8 +25,8 @@ impl<'a> Bus for LentBus<'a> {
     ghost lent_stays = { SameLent };
 
     ghost composes = { record {
-      stays = retells_none;
-      joins = retells_join;
+      stays = retells_none O.composes;
+      joins = retells_join O.composes;
       lent_stays_here = same_lent_here;
       lent_stays_on = same_lent_on;
     } };
@@ -57,7 +58,7 @@ impl<'a> Bus for LentBus<'a> {
     }
 }
 
-impl<'a> HonestBus for LentBus<'a> {
+impl<'a, 't, O: Observer> HonestBus for LentBus<'a, 't, O> {
     ghost use Rattle.std.specs.Prelude.{min};
     ghost use Rattle.stations.specs.AtomicRuns.{most_accesses};
     ghost use Rattle.stations.specs.RetellingLaws.{retells_count};

@@ -3,29 +3,29 @@
 ghost use Rattle.std.specs.Prelude.{◌<◌, ◌≤◌, length};
 
 use crate::network::Network;
-use crate::outcomes::Outcomes;
+use crate::observer::Observer;
 use crate::tick::Tick;
 
 /// A network, lent to the call of one host, and the ticks that are to be played before its accesses.
 ///
 /// Before an access the ticks up to the next `Go` are played, and none if none are left.
 #[derive(Drop)]
-pub struct LentBus<'a> {
+pub struct LentBus<'a, 't, O: Observer> {
     /// The network.
     pub network: &'a mut Network,
     /// The ticks that are still to be played, with a `Go` for the next access.
-    pub ticks: &'a [Tick],
+    pub ticks: &'t [Tick],
     /// The host whose call it is.
     pub host: usize,
     /// How many accesses the call has made, up to the greatest `u64`.
     pub accesses: u64,
-    /// What came of the ticks that were played, each with the number of accesses before it.
-    pub outcomes: &'a mut Outcomes,
+    /// It is told what comes of each tick, with the number of accesses before it.
+    pub observer: &'a mut O,
     ghost there: { host < length network.now },
-    ghost room: { length ticks.now ≤ outcomes.now.room },
+    ghost room: { length ticks.now ≤ O.places observer.now },
 }
 
-impl<'a> LentBus<'a> {
+impl<'a, 't, O: Observer> LentBus<'a, 't, O> {
     ghost use Rattle.stations.specs.Retelling.{Finished, Prepared};
 
     /// Plays the next group of ticks, and counts the access after it.
@@ -33,7 +33,7 @@ impl<'a> LentBus<'a> {
         ensures { Prepared self.old self.new }
     {
         let accesses = self.accesses;
-        self.ticks = self.network.play_group(self.ticks, accesses, self.outcomes);
+        self.ticks = self.network.play_group(self.ticks, accesses, self.observer);
         self.accesses = accesses.saturating_add(1);
     }
 
@@ -42,7 +42,7 @@ impl<'a> LentBus<'a> {
         ensures { Finished self.old self.new }
     {
         self.network
-            .play_rest(self.ticks, self.accesses, self.outcomes);
+            .play_rest(self.ticks, self.accesses, self.observer);
         self.ticks = &[];
     }
 }

@@ -2,14 +2,15 @@
 //! all of them, one step of one adapter or one delivery at a time; and the bus that lends them to a call of one host.
 //!
 //! A wire has no time of its own: a frame that a host puts onto it waits at each other end until it is delivered there.
-//! Before each access of a call ticks are played on all hosts, as its caller chose them, and what came of each is
-//! noted.
+//! Before each access of a call ticks are played on all hosts, as its caller chose them, and an observer is told what
+//! came of each.
 #![tactic(auto)]
 
 mod accesses;
 mod heap_frame;
 mod lent_bus;
 mod network;
+mod observer;
 mod outcomes;
 mod playing;
 mod tick;
@@ -18,6 +19,7 @@ mod wires;
 pub use heap_frame::HeapFrame;
 pub use lent_bus::LentBus;
 pub use network::Network;
+pub use observer::{Nobody, Observer};
 pub use outcomes::{Numbered, Outcomes};
 pub use tick::Tick;
 pub use wires::END_FRAMES;

@@ -1,6 +1,8 @@
 // The outcomes of a call's ticks, in order.
 
 use crate::heap_frame::HeapFrame;
+use crate::observer::Observer;
+use crate::tick::Tick;
 use adapter::Outcome;
 use std::alloc::{AllocError, Global};
 use std::marker::Model;
@@ -14,7 +16,8 @@ pub struct Numbered {
     pub outcome: Outcome<HeapFrame>,
 }
 
-/// The outcomes of a call's ticks, the first first, with room for as many as were asked for, and for a frame of each.
+/// An observer that collects: the outcomes of a call's ticks, the first first, with room for as many as were asked for,
+/// and for a frame of each.
 ///
 /// In contracts it is the list of them and the room that is left, an `OutcomeList`.
 #[derive(Debug, Drop)]
@@ -37,11 +40,7 @@ impl Model for Outcomes {
 }
 
 impl Outcomes {
-    ghost use Rattle.std.specs.Prelude.{◌≡◌, ◌≤◌, ◌<◌, [], IfOk, List, length, ℕ};
-    ghost use Rattle.descriptors.specs.Frames.{longest_frame};
-    ghost use Rattle.adapter.specs.Outcomes.{with_frame};
-    ghost use Rattle.stations.specs.Outcomes.{IsNoted, OutcomeList};
-    ghost use Rattle.adapter.specs.declared.outcome.Outcome.TheVariants.{Put};
+    ghost use Rattle.std.specs.Prelude.{◌≡◌, ◌≤◌, [], IfOk};
 
     /// No outcome, and no room for any. It takes no memory.
     pub fn new(alloc: Global) -> Outcomes
@@ -57,30 +56,30 @@ impl Outcomes {
     ///
     /// # Errors
     ///
-    /// Want of memory alone.
+    /// If memory is refused.
     pub fn with_room(alloc: Global, room: usize) -> Result<Outcomes, AllocError>
         ensures none { IfOk result (λ outcomes. outcomes.list ≡ []) }
         ensures room { IfOk result (λ outcomes. room ≤ outcomes.room) }
     {
-        let list = Vec::with_capacity(alloc, room)?;
-        let mut spare = Vec::with_capacity(alloc, room)?;
-        for _ in 0..room {
-            spare.push(HeapFrame::with_room(alloc)?)?;
-        }
-        Ok(Outcomes { list, spare })
+        let mut outcomes = Outcomes::new(alloc);
+        outcomes.reserve(alloc, room)?;
+        Ok(outcomes)
     }
 
-    /// Notes an outcome after the others, with its frame, if it has one. The frame has at most 1,518 bytes.
-    pub fn note(&mut self, accesses: u64, outcome: Outcome<()>, frame: &[u8])
-        requires room { 0 < self.old.room }
-        requires fits { length frame.now ≤ longest_frame }
-        ensures { IsNoted accesses (with_frame frame.now outcome) self.old self.new }
+    /// Makes room for so many more outcomes, and for a frame of each.
+    ///
+    /// # Errors
+    ///
+    /// If memory is refused. The outcomes stay.
+    pub fn reserve(&mut self, alloc: Global, more: usize) -> Result<(), AllocError>
+        ensures stays { self.new.list ≡ self.old.list }
+        ensures room { IfOk result (λ done. more ≤ self.new.room) }
     {
-        if let Some(mut kept) = self.spare.pop() {
-            kept.fill(frame);
-            let outcome = outcome.with_frame(kept);
-            let _ = self.list.push(Numbered { accesses, outcome });
+        self.list.reserve(more)?;
+        while self.spare.len() < more {
+            self.spare.push(HeapFrame::with_room(alloc)?)?;
         }
+        Ok(())
     }
 
     /// The outcomes, in order.
@@ -88,5 +87,27 @@ impl Outcomes {
         ensures { result.now ≡ self.now.list }
     {
         self.list.as_slice()
+    }
+}
+
+impl Observer for Outcomes {
+    ghost use Rattle.stations.specs.Outcomes.{Collects, places_of};
+    ghost use Rattle.stations.specs.OutcomesLaws.{collects_join, collects_none};
+
+    ghost heard = { Collects };
+
+    ghost places = { places_of };
+
+    ghost composes = { record {
+      stays = collects_none;
+      joins = collects_join;
+    } };
+
+    fn note(&mut self, _tick: Tick, accesses: u64, outcome: Outcome<()>, frame: &[u8]) {
+        if let Some(mut kept) = self.spare.pop() {
+            kept.fill(frame);
+            let outcome = outcome.with_frame(kept);
+            let _ = self.list.push(Numbered { accesses, outcome });
+        }
     }
 }

@@ -4,96 +4,110 @@ ghost use Rattle.std.specs.Prelude.{◌≡◌, ◌<◌, ◌≤◌, length};
 ghost use Rattle.adapter.specs.declared.step.StepKind.TheVariants.{TxPut};
 ghost use Rattle.bus.specs.TickGroups.{behind_group, group_of, without_go};
 ghost use Rattle.stations.specs.AtomicRuns.{is_go};
-ghost use Rattle.stations.specs.AtomicSteps.{PlaysNoted};
+ghost use Rattle.stations.specs.AtomicSteps.{PlaysNoted, watched};
 ghost use Rattle.stations.specs.PlayedTicks.{PlaysTicks};
 ghost use Rattle.stations.specs.declared.tick.Tick.TheVariants as tick;
 
 use crate::network::Network;
-use crate::outcomes::Outcomes;
+use crate::observer::Observer;
 use crate::tick::Tick;
 use adapter::{Outcome, StepKind};
 
 impl Network {
-    /// Plays a tick, and appends its outcome together with the number of accesses that the call made before it.
-    pub fn play(&mut self, tick: Tick, accesses: u64, outcomes: &mut Outcomes)
-        requires room { 0 < outcomes.old.room }
-        ensures { PlaysNoted self.old tick accesses outcomes.old outcomes.new self.new }
+    /// Plays a tick. The observer is told its outcome, with the number of accesses that the call made before it.
+    pub fn play<O: Observer>(&mut self, tick: Tick, accesses: u64, observer: &mut O)
+        requires room { 0 < O.places observer.old }
+        ensures { PlaysNoted O.Observer tick accesses (watched self.old observer.old)
+            (watched self.new observer.new) }
     {
         match tick {
-            Tick::Go => outcomes.note(accesses, Outcome::Nothing, &[]),
-            Tick::Step(host, kind) => self.play_step(host, kind, accesses, outcomes),
-            Tick::Deliver(host) => self.deliver(host, accesses, outcomes),
+            Tick::Go => observer.note(tick, accesses, Outcome::Nothing, &[]),
+            Tick::Step(host, kind) => self.play_step(host, kind, accesses, observer),
+            Tick::Deliver(host) => self.deliver(host, accesses, observer),
         }
     }
 
     /// A host's adapter takes a step.
-    fn play_step(&mut self, host: usize, kind: StepKind, accesses: u64, outcomes: &mut Outcomes)
-        requires room { 0 < outcomes.old.room }
-        ensures { PlaysNoted self.old (tick.Step host kind) accesses outcomes.old outcomes.new self.new }
+    fn play_step<O: Observer>(
+        &mut self,
+        host: usize,
+        kind: StepKind,
+        accesses: u64,
+        observer: &mut O,
+    )
+        requires room { 0 < O.places observer.old }
+        ensures { PlaysNoted O.Observer (tick.Step host kind) accesses (watched self.old observer.old)
+            (watched self.new observer.new) }
     {
+        let tick = Tick::Step(host, kind);
         if host >= self.machines.len() {
-            outcomes.note(accesses, Outcome::Nothing, &[]);
+            observer.note(tick, accesses, Outcome::Nothing, &[]);
             return;
         }
         match kind {
-            StepKind::TxPut => self.put(host, accesses, outcomes),
+            StepKind::TxPut => self.put(host, accesses, observer),
             _ => {
                 let outcome = self.machines[host].step(kind, true);
-                outcomes.note(accesses, outcome, &[]);
+                observer.note(tick, accesses, outcome, &[]);
             }
         }
     }
 
     /// A host's adapter puts its oldest frame onto the wire, if each other end has room. The frame then waits there.
-    fn put(&mut self, host: usize, accesses: u64, outcomes: &mut Outcomes)
+    fn put<O: Observer>(&mut self, host: usize, accesses: u64, observer: &mut O)
         requires there { host < length self.old }
-        requires room { 0 < outcomes.old.room }
-        ensures { PlaysNoted self.old (tick.Step host TxPut) accesses outcomes.old outcomes.new self.new }
+        requires room { 0 < O.places observer.old }
+        ensures { PlaysNoted O.Observer (tick.Step host TxPut) accesses (watched self.old observer.old)
+            (watched self.new observer.new) }
     {
+        let tick = Tick::Step(host, StepKind::TxPut);
         let wire = self.wires.wire(host);
         let wire_free = self.wires.have_room(host, wire);
         let Some(frame) = self.machines[host].to_put() else {
-            outcomes.note(accesses, Outcome::Nothing, &[]);
+            observer.note(tick, accesses, Outcome::Nothing, &[]);
             return;
         };
         if !wire_free {
-            outcomes.note(accesses, Outcome::WireFull, &[]);
+            observer.note(tick, accesses, Outcome::WireFull, &[]);
             return;
         }
-        outcomes.note(accesses, Outcome::Put(()), frame);
+        observer.note(tick, accesses, Outcome::Put(()), frame);
         self.wires.put(host, wire, frame);
         self.machines[host].step(StepKind::TxPut, true);
     }
 
     /// The oldest frame that waits at a host's end is delivered.
-    fn deliver(&mut self, host: usize, accesses: u64, outcomes: &mut Outcomes)
-        requires room { 0 < outcomes.old.room }
-        ensures { PlaysNoted self.old (tick.Deliver host) accesses outcomes.old outcomes.new self.new }
+    fn deliver<O: Observer>(&mut self, host: usize, accesses: u64, observer: &mut O)
+        requires room { 0 < O.places observer.old }
+        ensures { PlaysNoted O.Observer (tick.Deliver host) accesses (watched self.old observer.old)
+            (watched self.new observer.new) }
     {
+        let tick = Tick::Deliver(host);
         if host >= self.machines.len() {
-            outcomes.note(accesses, Outcome::Nothing, &[]);
+            observer.note(tick, accesses, Outcome::Nothing, &[]);
             return;
         }
         let Some(frame) = self.wires.front(host) else {
-            outcomes.note(accesses, Outcome::Nothing, &[]);
+            observer.note(tick, accesses, Outcome::Nothing, &[]);
             return;
         };
         let fate = self.machines[host].arrive(frame);
-        outcomes.note(accesses, Outcome::Delivered((), fate), frame);
+        observer.note(tick, accesses, Outcome::Delivered((), fate), frame);
         self.wires.pop(host);
     }
 
     /// Plays the ticks up to the next `Go`, and returns those after it.
-    pub(crate) fn play_group<'t>(
+    pub(crate) fn play_group<'t, O: Observer>(
         &mut self,
         ticks: &'t [Tick],
         accesses: u64,
-        outcomes: &mut Outcomes,
+        observer: &mut O,
     ) -> &'t [Tick]
-        requires room { length ticks.now ≤ outcomes.old.room }
-        ensures plays { PlaysTicks self.old (group_of is_go ticks.now) accesses outcomes.old outcomes.new self.new }
+        requires room { length ticks.now ≤ O.places observer.old }
+        ensures plays { PlaysTicks O.Observer (group_of is_go ticks.now) accesses (watched self.old observer.old)
+            (watched self.new observer.new) }
         ensures rest { result.now ≡ behind_group is_go ticks.now }
-        ensures room { length result.now ≤ outcomes.new.room }
+        ensures room { length result.now ≤ O.places observer.new }
     {
         let mut rest = ticks;
         while let Some((tick, more)) = rest.split_first() {
@@ -101,15 +115,16 @@ impl Network {
             if let Tick::Go = tick {
                 break;
             }
-            self.play(*tick, accesses, outcomes);
+            self.play(*tick, accesses, observer);
         }
         rest
     }
 
-    /// Plays all ticks, skips each `Go`, and appends each outcome together with this number of accesses.
-    pub fn play_rest(&mut self, ticks: &[Tick], accesses: u64, outcomes: &mut Outcomes)
-        requires room { length ticks.now ≤ outcomes.old.room }
-        ensures { PlaysTicks self.old (without_go is_go ticks.now) accesses outcomes.old outcomes.new self.new }
+    /// Plays all ticks but each `Go`. The observer is told each outcome, with this number of accesses.
+    pub fn play_rest<O: Observer>(&mut self, ticks: &[Tick], accesses: u64, observer: &mut O)
+        requires room { length ticks.now ≤ O.places observer.old }
+        ensures { PlaysTicks O.Observer (without_go is_go ticks.now) accesses (watched self.old observer.old)
+            (watched self.new observer.new) }
     {
         let mut rest = ticks;
         while let Some((tick, more)) = rest.split_first() {
@@ -117,7 +132,7 @@ impl Network {
             if let Tick::Go = tick {
                 continue;
             }
-            self.play(*tick, accesses, outcomes);
+            self.play(*tick, accesses, observer);
         }
     }
 }

@@ -15,7 +15,9 @@ use Rattle.network_plan.specs.declared.reply.Reply.{Reply}
 use Rattle.wire.specs.EventParts.{CallPlayed, IsInterruptAnswer, IsRecvAnswer, IsSendAnswer, TickPlayed, ticked}
 use Rattle.wire.specs.Equations.{Delivers}
 use Rattle.wire.specs.Networks.{NetworkStands, NetworkState}
-use Rattle.wire.specs.Runs.{EventRuns, RunsTo, StatesRun, accepted_of, caller_of, given_of, happenings, said}
+use Rattle.stations.specs.ToldTicks.{ComposesTold, TickTold}
+use Rattle.wire.specs.RunObservers.{ComposesRuns, EventTold}
+use Rattle.wire.specs.Runs.{EventRuns, RunTold, RunsTo, StatesRun, accepted_of, caller_of, given_of, happenings, said}
 use Rattle.wire.proofs.Delivering.{delivers-join, delivers-none}
 use Rattle.wire.proofs.Playing.{ticks-go}
 use Rattle.wire.proofs.Tellings.{tells-steps}
@@ -121,6 +123,37 @@ runs-more old events before behind middle event reply last new runs one is = rec
       (delivers-join k (happenings events runs.replies) (said event reply) old.stations middle.stations new.stations was some.0 now
       (wires-of old events runs.replies middle runs.states) (runs.delivers k was some.0 then some.1)
       (one.go.delivers k some.0 now some.1 here));
+}
+
+-- What an observer is told of them.
+
+pub told-none : {O : Type 0} {heard : O → O → List TickTold → Type 0} {ran : O → O → List Event → List Reply → Type 0}
+    {ready : O → Event → Type 0} → ComposesRuns heard ran ready → ComposesTold heard → (old : NetworkState) (from : O)
+    → RunTold ran [] old old from from
+told-none runs ticks old from = record { replies = []; told = runs.quiet from from (ticks.stays from); runs = runs-none old [] }
+
+-- After these events the observer was asked to make room, and was told nothing.
+pub told-asked : {O : Type 0} {heard : O → O → List TickTold → Type 0} {ran : O → O → List Event → List Reply → Type 0}
+    {ready : O → Event → Type 0} → ComposesRuns heard ran ready → (events : List Event) (old new : NetworkState) (from to asked : O)
+    → RunTold ran events old new from to → heard to asked [] → RunTold ran events old new from asked
+told-asked {O} {heard} {ran} runs events old new from to asked told nothing = record {
+  replies = told.replies;
+  told =
+      subst (λ (replies : List Reply). ran from asked events replies) (append-nil told.replies)
+      (subst (λ (list : List Event). ran from asked list (told.replies ++ [])) (append-nil events)
+      (runs.joins from to asked events [] told.replies [] told.told (runs.quiet to asked nothing)));
+  runs = told.runs;
+}
+
+pub told-more : {O : Type 0} {heard : O → O → List TickTold → Type 0} {ran : O → O → List Event → List Reply → Type 0}
+    {ready : O → Event → Type 0} → ComposesRuns heard ran ready → (events : List Event) (event : Event) (old mid new : NetworkState)
+    (from to later : O)
+    → RunTold ran events old mid from to → EventTold ran event to later (λ reply. EventRuns mid event reply new)
+    → RunTold ran (events ++ event ∷ []) old new from later
+told-more runs events event old mid new from to later told one = record {
+  replies = told.replies ++ one.reply ∷ [];
+  told = runs.joins from to later events (event ∷ []) told.replies (one.reply ∷ []) told.told one.told;
+  runs = runs-more old events [] told.replies mid event one.reply (told.replies ++ one.reply ∷ []) new told.runs one.holds refl;
 }
 
 -- Runs join.

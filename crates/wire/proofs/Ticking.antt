@@ -1,11 +1,12 @@
 -- A tick by itself.
-use Rattle.std.proofs.Common.{◌≡◌, ◌≢◌, ◌++◌, ◌∷◌, [], false, List, refl, sym, ap, ◌∙◌}
+use Rattle.std.proofs.Common.{◌≡◌, ◌≢◌, ◌∷◌, [], false, List, refl, sym, ap, subst, ◌∙◌}
 use Rattle.std.proofs.lemmas.List.Elements.{All-cons}
 use Rattle.bus.proofs.Lists.{all-none}
 use Rattle.bus.specs.declared.event.Event.TheVariants.{Accesses, Arrives, Steps}
 use Rattle.bus.specs.TickGroups.{without_go}
-use Rattle.stations.specs.AtomicSteps.{At, AtomicStep, Idles, PlaysNoted, outcome_of}
-use Rattle.stations.specs.Outcomes.{OutcomeList}
+use Rattle.stations.specs.AtomicSteps.{At, AtomicStep, Idles, Plays, outcome_of}
+use Rattle.stations.specs.ToldTicks.{tick_told}
+use Rattle.wire.specs.RunObservers.{Replies, ending}
 use Rattle.stations.specs.Stations.{StationState}
 use Rattle.stations.specs.declared.outcomes.Numbered.{Numbered}
 use Rattle.adapter.specs.Outcomes.{FrameOutcome}
@@ -39,41 +40,37 @@ alone Go steps outcomes not is = absurd (cc)
 alone (Step host kind) steps outcomes not is = is
 alone (Deliver host) steps outcomes not is = is
 
-pub tick-played : (tick : Tick) (old new : List StationState) (before : OutcomeList) (reply : Reply) → before.list ≡ []
-    → is_go tick ≡ false → reply.answer ≡ Ticked → reply.accesses ≡ 0 → PlaysNoted old tick 0 before reply.outcomes new
-    → TickPlayed tick reply old new
-tick-played tick old new before reply empty not answer zero plays =
-    let step = plays.plays.step in
-    let leads = leads-alone old new tick plays.outcome plays.plays not in
-    let one : reply.outcomes.list ≡ record { accesses = 0; outcome = plays.outcome } ∷ [] =
-    plays.noted.list ∙ ap (λ (list : List Numbered). list ++ record { accesses = 0; outcome = plays.outcome } ∷ []) empty in
+pub tick-played : (tick : Tick) (old new : List StationState) (outcome : FrameOutcome) (reply : Reply) → is_go tick ≡ false
+    → Plays old tick outcome new → Replies (ending 0 Ticked (tick_told tick 0 outcome ∷ [])) reply → TickPlayed tick reply old new
+tick-played tick old new outcome reply not plays replies =
+    let step = plays.step in
+    let leads = leads-alone old new tick outcome plays not in
+    let one : reply.outcomes.list ≡ record { accesses = 0; outcome = outcome } ∷ [] = replies.outcomes in
     let are = All-cons IsTick step [] leads.is_tick (all-none IsTick) in
     record {
       steps = step ∷ [];
       are = are;
       leads = leads.leads;
-      said = ap (told_alone tick) one ∙ said-alone old new tick plays.outcome plays.plays;
+      said = ap (told_alone tick) one ∙ said-alone old new tick outcome plays;
       replied = λ hosts. record {
-        played = ap (λ (t : Tick). without_go is_go (t ∷ [])) plays.plays.tick_is;
+        played = ap (λ (t : Tick). without_go is_go (t ∷ [])) plays.tick_is;
         accesses = λ k. none-alone k (step ∷ []) are;
-        counted = zero ∙ sym (counted-tick step leads.is_tick);
+        counted = replies.accesses ∙ sym (counted-tick step leads.is_tick);
         outcomes =
             alone tick (step ∷ []) reply.outcomes.list not
-            (one ∙ ap (λ (o : FrameOutcome). record { accesses = 0; outcome = o } ∷ []) (sym plays.plays.outcome_is)
+            (one ∙ ap (λ (o : FrameOutcome). record { accesses = 0; outcome = o } ∷ []) (sym plays.outcome_is)
             ∙ sym (noted-tick step leads.is_tick));
         numbered = ap noted_numbers one;
-        answer = answer;
+        answer = replies.answer;
         others = refl;
       };
     }
 
 -- Go does nothing.
-pub go-played : (old : List StationState) (before : OutcomeList) (reply : Reply) → before.list ≡ [] → reply.answer ≡ Ticked
-    → reply.accesses ≡ 0 → reply.outcomes.list ≡ before.list ++ record { accesses = 0; outcome = Nothing } ∷ []
+go-alone : (old : List StationState) (reply : Reply) → Replies (ending 0 Ticked (tick_told Go 0 Nothing ∷ [])) reply
     → TickPlayed Go reply old old
-go-played old before reply empty answer zero noted =
-    let one : reply.outcomes.list ≡ record { accesses = 0; outcome = Nothing } ∷ [] =
-    noted ∙ ap (λ (list : List Numbered). list ++ record { accesses = 0; outcome = Nothing } ∷ []) empty in
+go-alone old reply replies =
+    let one : reply.outcomes.list ≡ record { accesses = 0; outcome = Nothing } ∷ [] = replies.outcomes in
     record {
       steps = [];
       are = all-none IsTick;
@@ -82,13 +79,19 @@ go-played old before reply empty answer zero noted =
       replied = λ hosts. record {
         played = refl;
         accesses = λ k. none-alone k [] (all-none IsTick);
-        counted = zero;
+        counted = replies.accesses;
         outcomes = (refl, one);
         numbered = ap noted_numbers one;
-        answer = answer;
+        answer = replies.answer;
         others = refl;
       };
     }
+
+pub go-played : (tick : Tick) (old : List StationState) (reply : Reply) → tick ≡ Go
+    → Replies (ending 0 Ticked (tick_told tick 0 Nothing ∷ [])) reply → TickPlayed tick reply old old
+go-played tick old reply go replies =
+    subst (λ (t : Tick). TickPlayed t reply old old) (sym go)
+    (go-alone old reply (record { answer = replies.answer; accesses = replies.accesses; outcomes = replies.outcomes }))
 
 pub not-go : (tick : Tick) → tick ≢ Go → is_go tick ≡ false
 not-go Go other = absurd (other refl)

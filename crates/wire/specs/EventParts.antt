@@ -9,17 +9,20 @@ use Rattle.packet_socket.specs.declared.receive.RecvError.{RecvError}
 use Rattle.adapter.specs.HostFrames.{frames_held}
 use Rattle.adapter.specs.State.{AdapterState}
 use Rattle.bus.specs.TickGroups.{without_go}
-use Rattle.stations.specs.AtomicSteps.{AtomicStep, tick_of}
+use Rattle.stations.specs.AtomicSteps.{AtomicStep, Watched, tick_of, watched}
 use Rattle.stations.specs.Stations.{StationState, world_at}
 use Rattle.stations.specs.declared.outcomes.Numbered.{Numbered}
 use Rattle.adapter.specs.declared.outcome.Outcome.TheVariants.{Nothing}
 use Rattle.stations.specs.declared.tick.Tick.{Tick}
 use Rattle.stations.specs.declared.tick.Tick.TheVariants.{Deliver, Go, Step}
-use Rattle.stations.specs.AtomicRuns.{IsTick, LeadsTo, counted_of, is_go, noted_of, past_at}
+use Rattle.stations.specs.AtomicRuns.{IsTick, LeadsTo, counted_of, is_go, noted_of, past_at, steps_told}
+use Rattle.stations.specs.PlayedTicks.{PlaysTicks}
+use Rattle.stations.specs.declared.observer.Observer.{Ghosts as OfObserver}
 use Rattle.delivery.specs.Happenings.{Happening, happened_in, told_alone}
 use Rattle.delivery.specs.TickNumbers.{numbers, noted_numbers}
-use Rattle.network_plan.specs.declared.reply.Answer.{Answer}
+use Rattle.network_plan.specs.Answers.{FrameAnswer}
 use Rattle.network_plan.specs.declared.reply.Answer.TheVariants.{Interrupted, NoHost, Received, Sent, Ticked}
+use Rattle.network_plan.specs.declared.event.Event.{Event}
 use Rattle.network_plan.specs.declared.reply.Reply.{Reply}
 use Rattle.packet_socket.specs.HostCalls.{socket_frames, waiting_frames}
 use Rattle.host_calls.specs.InterruptCauses.{TellsCauses}
@@ -31,6 +34,7 @@ use Rattle.delivery.specs.StepAnswers.{AreAnswered, OfEachTick, counts_at}
 use Rattle.host_calls.specs.ConnectedHosts.{ConnectedHost, connected}
 use Rattle.wire.specs.Equations.{Delivers}
 use Rattle.wire.specs.Networks.{IsHost, NetworkStands, NetworkState}
+use Rattle.wire.specs.RunObservers.{TellsReply, ending}
 
 -- The atomic steps of an event, as every host finds them.
 
@@ -54,7 +58,7 @@ pub record HostsGo (caller : ℕ) (happened : List Happening) (steps : List Atom
 
 -- What a call of a host that is there answers.
 
-pub record IsSendAnswer (host : ℕ) (frame : List ℕ) (answer : Answer) (steps : List AtomicStep) (old new : ConnectedHost) : Type 0 where
+pub record IsSendAnswer (host : ℕ) (frame : List ℕ) (answer : FrameAnswer) (steps : List AtomicStep) (old new : ConnectedHost) : Type 0 where
   pub result : SendAnswer
   pub is : answer ≡ Sent result
   pub answers : AnswersSend result frame old.host new.host (world_at old.stations host)
@@ -64,7 +68,7 @@ pub record IsSendAnswer (host : ℕ) (frame : List ℕ) (answer : Answer) (steps
   -- Exactly the slots that are written back before the last load of a descriptor are freed.
   pub frees_first : FreesFirstBy result host frame steps old new
 
-pub record IsRecvAnswer (host socket : ℕ) (answer : Answer) (steps : List AtomicStep) (old new : ConnectedHost) : Type 0 where
+pub record IsRecvAnswer (host socket : ℕ) (answer : FrameAnswer) (steps : List AtomicStep) (old new : ConnectedHost) : Type 0 where
   pub result : Result (List ℕ) RecvError
   pub is : answer ≡ Received result
   pub answers : AnswersRecv result socket old.host (world_at old.stations host)
@@ -84,7 +88,7 @@ pub record ReadsIcr (host : ℕ) (steps : List AtomicStep) (adapter : AdapterSta
   pub causes : ℕ
   pub tells : TellsCauses host steps causes adapter result
 
-pub record IsInterruptAnswer (host : ℕ) (answer : Answer) (steps : List AtomicStep) (old new : ConnectedHost) : Type 0 where
+pub record IsInterruptAnswer (host : ℕ) (answer : FrameAnswer) (steps : List AtomicStep) (old new : ConnectedHost) : Type 0 where
   pub result : Handled
   pub is : answer ≡ Interrupted result
   pub reads : ReadsIcr host steps (world_at old.stations host).adapter result
@@ -129,12 +133,19 @@ pub record IsCallReply (reply : Reply) (steps : List AtomicStep) (old new : Netw
 -- A call was made, and this replies to it. This record isn't part of the contract of `Lan::run`: it is the contract of a private function
 -- that plays one call, from which an `EventRuns` is built.
 pub record CallPlayed (call : TickedCall) (happened : List Happening) (reply : Reply)
-    (answers : Answer → List AtomicStep → ConnectedHost → ConnectedHost → Type 0) (old new : NetworkState) : Type 0 where
+    (answers : FrameAnswer → List AtomicStep → ConnectedHost → ConnectedHost → Type 0) (old new : NetworkState) : Type 0 where
   pub steps : List AtomicStep
   pub go : HostsGo call.host happened steps old new
   pub replied : IsCallReply reply steps old new call
   pub answer : (h h' : HostState) → IsHost old call.host h → IsHost new call.host h'
       → answers reply.answer steps (connected h old.stations) (connected h' new.stations)
+
+-- The ticks of a call for a host that isn't there were played, and the observer was told that there is no such host.
+pub record AbsentTold {O : Type 0} (observers : OfObserver O) (ran : O → O → List Event → List Reply → Type 0) (event : Event)
+    (ticks : List Tick) (old new : Watched O) : Type 0 where
+  pub ticked : O
+  pub plays : PlaysTicks observers (without_go is_go ticks) 0 old (watched new.stations ticked)
+  pub tells : TellsReply ran event (ending 0 NoHost (steps_told 0 plays.steps)) old.observer new.observer
 
 -- A tick that is played in no call, and its reply.
 

@@ -1,5 +1,8 @@
 pub mod Networks
 pub mod Equations
+pub mod RunObservers
+pub mod RunObserverLaws
+pub mod Collecting
 pub mod EventParts
 pub mod Runs
 pub mod DrainedNetworks

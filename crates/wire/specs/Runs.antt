@@ -6,7 +6,7 @@ use Rattle.stations.specs.declared.tick.Tick.{Tick}
 use Rattle.delivery.specs.Happenings.{Accepted, Given, Happening, told, told_alone}
 use Rattle.network_plan.specs.declared.event.Event.{Event}
 use Rattle.network_plan.specs.declared.event.Event.TheVariants.{Interrupt, Recv, Send, Tick as Alone}
-use Rattle.network_plan.specs.declared.reply.Answer.{Answer}
+use Rattle.network_plan.specs.Answers.{FrameAnswer}
 use Rattle.network_plan.specs.declared.reply.Answer.TheVariants.{Received, Sent, Ticked}
 use Rattle.network_plan.specs.declared.reply.Reply.{Reply}
 use Rattle.host_calls.specs.ConnectedHosts.{ConnectedHost, connected}
@@ -17,12 +17,12 @@ use Rattle.wire.specs.Networks.{IsHost, NetworkStands, NetworkState}
 -- What an event and its reply say of frames.
 
 -- a frame that was accepted, by the answer
-abbrev pub accepted_of : (host : ℕ) (frame : List ℕ) → Answer → List Happening
+abbrev pub accepted_of : (host : ℕ) (frame : List ℕ) → FrameAnswer → List Happening
 accepted_of host frame (Sent (Ok u)) = Accepted host frame ∷ []
 accepted_of host frame _ = []
 
 -- a frame that was given, by the answer
-abbrev pub given_of : (host socket : ℕ) → Answer → List Happening
+abbrev pub given_of : (host socket : ℕ) → FrameAnswer → List Happening
 given_of host socket (Received (Ok frame)) = Given host socket frame ∷ []
 given_of host socket _ = []
 
@@ -56,7 +56,7 @@ OfEvent (Interrupt host ticks) OfCall OfTick = OfCall (ticked host ticks.items)
 OfEvent (Alone tick) OfCall OfTick = OfTick tick
 
 -- what a host that is there answers
-abbrev pub IsCallAnswer : Event → Answer → List AtomicStep → (old new : ConnectedHost) → Type 0
+abbrev pub IsCallAnswer : Event → FrameAnswer → List AtomicStep → (old new : ConnectedHost) → Type 0
 IsCallAnswer (Send host frame ticks) answer = IsSendAnswer host frame.items answer
 IsCallAnswer (Recv host socket ticks) answer = IsRecvAnswer host socket answer
 IsCallAnswer (Interrupt host ticks) answer = IsInterruptAnswer host answer
@@ -92,3 +92,10 @@ pub record RunsTo (old : NetworkState) (events : List Event) (before behind : Li
   -- the equations over the whole run
   pub delivers : (k : ℕ) (h h' : HostState) → IsHost old k h → IsHost new k h'
       → Delivers k (happenings events replies) old.stations new.stations h h'
+
+-- These events were run, and the observer was told a reply to each.
+pub record RunTold {O : Type 0} (ran : O → O → List Event → List Reply → Type 0) (events : List Event) (old new : NetworkState)
+    (from to : O) : Type 0 where
+  pub replies : List Reply
+  pub told : ran from to events replies
+  pub runs : RunsTo old events [] replies new

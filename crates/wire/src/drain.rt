@@ -10,7 +10,7 @@ ghost use Rattle.wire.specs.Networks.{IsHost, NetworkStands};
 use crate::Lan;
 use host_calls::Outlet;
 use packet_socket::Host;
-use stations::{Network, Outcomes};
+use stations::Network;
 
 /// How many frames a receive packet buffer has room for, at most.
 const MOST_BUFFERED: usize = 24;
@@ -46,20 +46,13 @@ impl Lan {
         ensures drains { NetworkDrains self.old host result (S.frames sink.old) (S.frames sink.new) self.new }
         ensures left { length (S.frames sink.old) + S.places sink.old ≤ length (S.frames sink.new) + S.places sink.new }
     {
-        let outcomes = Outcomes::new(*self.hosts.allocator());
         let hosts = self.hosts.as_mut_slice();
-        drain(hosts, &mut self.network, host, outcomes, sink)
+        drain(hosts, &mut self.network, host, sink)
     }
 }
 
-/// The same, over the parts of a network. No outcome is noted.
-fn drain<S: Outlet>(
-    hosts: &mut [Host],
-    network: &mut Network,
-    host: usize,
-    outcomes: Outcomes,
-    sink: &mut S,
-) -> u64
+/// The same, over the parts of a network.
+fn drain<S: Outlet>(hosts: &mut [Host], network: &mut Network, host: usize, sink: &mut S) -> u64
     requires stands { NetworkStands (record { hosts = hosts.old; stations = network.old }) }
     requires room { (state : HostState) → IsHost (record { hosts = hosts.old; stations = network.old }) host state
         → state.driver.layout.buffers + 24 ≤ S.places sink.old }
@@ -70,6 +63,5 @@ fn drain<S: Outlet>(
     if host >= hosts.len() {
         return 0;
     }
-    let mut outcomes = outcomes;
-    host_calls::drain(&mut hosts[host], network, host, &mut outcomes, sink)
+    host_calls::drain(&mut hosts[host], network, host, sink)
 }

@@ -1,177 +1,175 @@
 // One event, over all hosts and their stations.
 
-ghost use Rattle.std.specs.Prelude.{◌≡◌, ◌≤◌, ◌<◌, ◌++◌, [], length, IfOk};
-ghost use Rattle.driver.specs.Parts.{IsFrameSize};
-ghost use Rattle.host_calls.specs.CallAnswers.{frame_in};
+ghost use Rattle.std.specs.Prelude.{◌≡◌, ◌≤◌, ◌++◌, ◌∷◌, [], length};
 ghost use Rattle.bus.specs.TickGroups.{without_go};
 ghost use Rattle.delivery.specs.Happenings.{told};
-ghost use Rattle.stations.specs.AtomicRuns.{is_go};
-ghost use Rattle.stations.specs.PlayedTicks.{PlaysTicks};
-ghost use Rattle.network_plan.specs.declared.reply.Answer.TheVariants.{NoHost};
-ghost use Rattle.wire.specs.EventParts.{CallPlayed, IsInterruptAnswer, IsRecvAnswer, IsSendAnswer, TickPlayed, ticked};
+ghost use Rattle.wire.specs.EventParts.{AbsentTold, CallPlayed, IsInterruptAnswer, IsRecvAnswer, IsSendAnswer};
+ghost use Rattle.wire.specs.EventParts.{TickPlayed, ticked};
 ghost use Rattle.wire.specs.Networks.{NetworkStands};
+ghost use Rattle.wire.specs.RunObservers.{EventTold, played_ticks};
 ghost use Rattle.wire.specs.Runs.{accepted_of, given_of};
+ghost use Rattle.stations.specs.AtomicRuns.{is_go};
+ghost use Rattle.stations.specs.AtomicSteps.{watched};
 
+use crate::run_observer::RunObserver;
 use adapter::Outcome;
 use host_calls::recv_into;
-use network_plan::{Answer, Reply};
-use packet_socket::{Host, RecvError};
-use stations::{HeapFrame, Network, Outcomes, Tick};
+use network_plan::{Answer, Event};
+use packet_socket::Host;
+use stations::{Network, Tick};
+
+/// The call of an event: the host that is called, and the ticks that are played in the call.
+#[derive(Clone, Copy, Drop)]
+pub(crate) struct Call<'a> {
+    pub(crate) event: &'a Event,
+    pub(crate) host: usize,
+    pub(crate) ticks: &'a [Tick],
+}
 
 /// A call for a host that isn't there: its ticks are played.
-fn no_host(network: &mut Network, ticks: &[Tick], outcomes: Outcomes) -> Reply
-    requires room { length ticks.now ≤ outcomes.room }
-    ensures answer { result.answer ≡ NoHost }
-    ensures none { result.accesses ≡ 0 }
-    ensures plays { PlaysTicks network.old (without_go is_go ticks.now) 0 outcomes result.outcomes network.new }
+fn no_host<O: RunObserver>(network: &mut Network, call: &Call, observer: &mut O)
+    requires answer { O.ready observer.old call.now.event.now }
+    requires room { length call.now.ticks.now ≤ O.places observer.old }
+    requires ticks { without_go is_go call.now.ticks.now ≡ played_ticks call.now.event.now }
+    ensures { AbsentTold O.Observer O.ran call.now.event.now call.now.ticks.now (watched network.old observer.old)
+        (watched network.new observer.new) }
 {
-    let mut outcomes = outcomes;
-    network.play_rest(ticks, 0, &mut outcomes);
-    Reply {
-        answer: Answer::NoHost,
-        accesses: 0,
-        outcomes,
-    }
+    network.play_rest(call.ticks, 0, observer);
+    observer.answer(call.event, 0, Answer::NoHost, &[]);
 }
 
 /// A host sends a frame, while ticks are played.
 #[inline(never)]
-pub(crate) fn send(
+pub(crate) fn send<O: RunObserver>(
     hosts: &mut [Host],
     network: &mut Network,
-    host: usize,
+    call: &Call,
     frame: &[u8],
-    ticks: &[Tick],
-    outcomes: Outcomes,
-) -> Reply
+    observer: &mut O,
+)
     requires stands { NetworkStands (record { hosts = hosts.old; stations = network.old }) }
-    requires empty { outcomes.list ≡ [] }
-    requires room { length ticks.now ≤ outcomes.room }
-    ensures { CallPlayed (ticked host ticks.now)
-        (accepted_of host frame.now result.answer ++ told ticks.now result.outcomes.list) result
-        (IsSendAnswer host frame.now) (record { hosts = hosts.old; stations = network.old })
-        (record { hosts = hosts.new; stations = network.new }) }
+    requires answer { O.ready observer.old call.now.event.now }
+    requires room { length call.now.ticks.now ≤ O.places observer.old }
+    requires ticks { without_go is_go call.now.ticks.now ≡ played_ticks call.now.event.now }
+    ensures { EventTold O.ran call.now.event.now observer.old observer.new (λ reply. CallPlayed
+        (ticked call.now.host call.now.ticks.now)
+        (accepted_of call.now.host frame.now reply.answer ++ told call.now.ticks.now reply.outcomes.list) reply
+        (IsSendAnswer call.now.host frame.now) (record { hosts = hosts.old; stations = network.old })
+        (record { hosts = hosts.new; stations = network.new })) }
 {
-    if host >= hosts.len() {
-        return no_host(network, ticks, outcomes);
+    if call.host >= hosts.len() {
+        no_host(network, call, observer);
+        return;
     }
-    let mut outcomes = outcomes;
-    let called = host_calls::send(&mut hosts[host], network, host, frame, ticks, &mut outcomes);
-    Reply {
-        answer: Answer::Sent(called.answer),
-        accesses: called.accesses,
-        outcomes,
-    }
+    let called = host_calls::send(
+        &mut hosts[call.host],
+        network,
+        call.host,
+        frame,
+        call.ticks,
+        observer,
+    );
+    observer.answer(
+        call.event,
+        called.accesses,
+        Answer::Sent(called.answer),
+        &[],
+    );
 }
 
-/// Room for a frame that a socket gives: the bytes that it is copied to, and the frame that is returned.
-#[derive(Drop)]
-pub(crate) struct FrameRoom<'a> {
-    pub(crate) bytes: &'a mut [u8; 1518],
-    pub(crate) frame: HeapFrame,
-}
-
-/// The answer with its frame, in place of how many of these bytes it has.
-fn shown(
-    frame: HeapFrame,
-    bytes: &[u8; 1518],
-    answer: Result<usize, RecvError>,
-) -> Result<HeapFrame, RecvError>
-    requires { IfOk answer IsFrameSize }
-    ensures { result ≡ frame_in bytes.now answer }
-{
-    let mut frame = frame;
-    match answer {
-        Ok(size) => {
-            frame.fill(&bytes[..size]);
-            Ok(frame)
-        }
-        Err(error) => Err(error),
-    }
-}
-
-/// A host asks for the oldest frame of a socket, while ticks are played.
+/// A host asks for the oldest frame of a socket, while ticks are played. The frame is copied to the front of `given`.
 #[inline(never)]
-pub(crate) fn recv(
+pub(crate) fn recv<O: RunObserver>(
     hosts: &mut [Host],
     network: &mut Network,
-    host: usize,
+    call: &Call,
     socket: usize,
-    ticks: &[Tick],
-    outcomes: Outcomes,
-    room: FrameRoom,
-) -> Reply
+    given: &mut [u8; 1518],
+    observer: &mut O,
+)
     requires stands { NetworkStands (record { hosts = hosts.old; stations = network.old }) }
-    requires empty { outcomes.list ≡ [] }
-    requires room { length ticks.now ≤ outcomes.room }
-    ensures { CallPlayed (ticked host ticks.now)
-        (told ticks.now result.outcomes.list ++ given_of host socket result.answer) result
-        (IsRecvAnswer host socket) (record { hosts = hosts.old; stations = network.old })
-        (record { hosts = hosts.new; stations = network.new }) }
+    requires answer { O.ready observer.old call.now.event.now }
+    requires room { length call.now.ticks.now ≤ O.places observer.old }
+    requires ticks { without_go is_go call.now.ticks.now ≡ played_ticks call.now.event.now }
+    ensures { EventTold O.ran call.now.event.now observer.old observer.new (λ reply. CallPlayed
+        (ticked call.now.host call.now.ticks.now)
+        (told call.now.ticks.now reply.outcomes.list ++ given_of call.now.host socket reply.answer) reply
+        (IsRecvAnswer call.now.host socket) (record { hosts = hosts.old; stations = network.old })
+        (record { hosts = hosts.new; stations = network.new })) }
 {
-    if host >= hosts.len() {
-        return no_host(network, ticks, outcomes);
+    if call.host >= hosts.len() {
+        no_host(network, call, observer);
+        return;
     }
-    let FrameRoom { bytes, frame } = room;
-    let mut outcomes = outcomes;
     let called = recv_into(
-        &mut hosts[host],
+        &mut hosts[call.host],
         network,
-        host,
+        call.host,
         socket,
-        ticks,
-        &mut outcomes,
-        bytes,
+        call.ticks,
+        observer,
+        given,
     );
-    Reply {
-        answer: Answer::Received(shown(frame, bytes, called.answer)),
-        accesses: called.accesses,
-        outcomes,
+    match called.answer {
+        Ok(size) => {
+            let answer = Answer::Received(Ok(()));
+            observer.answer(call.event, called.accesses, answer, &given[..size]);
+        }
+        Err(error) => {
+            let answer = Answer::Received(Err(error));
+            observer.answer(call.event, called.accesses, answer, &[]);
+        }
     }
 }
 
 /// A host handles an interrupt, while ticks are played.
 #[inline(never)]
-pub(crate) fn interrupt(
+pub(crate) fn interrupt<O: RunObserver>(
     hosts: &mut [Host],
     network: &mut Network,
-    host: usize,
-    ticks: &[Tick],
-    outcomes: Outcomes,
-) -> Reply
+    call: &Call,
+    observer: &mut O,
+)
     requires stands { NetworkStands (record { hosts = hosts.old; stations = network.old }) }
-    requires empty { outcomes.list ≡ [] }
-    requires room { length ticks.now ≤ outcomes.room }
-    ensures { CallPlayed (ticked host ticks.now) (told ticks.now result.outcomes.list) result (IsInterruptAnswer host)
-        (record { hosts = hosts.old; stations = network.old })
-        (record { hosts = hosts.new; stations = network.new }) }
+    requires answer { O.ready observer.old call.now.event.now }
+    requires room { length call.now.ticks.now ≤ O.places observer.old }
+    requires ticks { without_go is_go call.now.ticks.now ≡ played_ticks call.now.event.now }
+    ensures { EventTold O.ran call.now.event.now observer.old observer.new (λ reply. CallPlayed
+        (ticked call.now.host call.now.ticks.now) (told call.now.ticks.now reply.outcomes.list) reply
+        (IsInterruptAnswer call.now.host) (record { hosts = hosts.old; stations = network.old })
+        (record { hosts = hosts.new; stations = network.new })) }
 {
-    if host >= hosts.len() {
-        return no_host(network, ticks, outcomes);
+    if call.host >= hosts.len() {
+        no_host(network, call, observer);
+        return;
     }
-    let mut outcomes = outcomes;
-    let called = host_calls::interrupt(&mut hosts[host], network, host, ticks, &mut outcomes);
-    Reply {
-        answer: Answer::Interrupted(called.answer),
-        accesses: called.accesses,
-        outcomes,
-    }
+    let called = host_calls::interrupt(
+        &mut hosts[call.host],
+        network,
+        call.host,
+        call.ticks,
+        observer,
+    );
+    let answer = Answer::Interrupted(called.answer);
+    observer.answer(call.event, called.accesses, answer, &[]);
 }
 
 /// A tick by itself. `Go` does nothing.
-pub(crate) fn tick(network: &mut Network, tick: Tick, outcomes: Outcomes) -> Reply
-    requires empty { outcomes.list ≡ [] }
-    requires room { 1 ≤ outcomes.room }
-    ensures { TickPlayed tick result network.old network.new }
+pub(crate) fn tick<O: RunObserver>(
+    network: &mut Network,
+    event: &Event,
+    tick: Tick,
+    observer: &mut O,
+)
+    requires answer { O.ready observer.old event.now }
+    requires room { 1 ≤ O.places observer.old }
+    requires ticks { tick ∷ [] ≡ played_ticks event.now }
+    ensures { EventTold O.ran event.now observer.old observer.new
+        (λ reply. TickPlayed tick reply network.old network.new) }
 {
-    let mut outcomes = outcomes;
     match tick {
-        Tick::Go => outcomes.note(0, Outcome::Nothing, &[]),
-        _ => network.play(tick, 0, &mut outcomes),
+        Tick::Go => observer.note(tick, 0, Outcome::Nothing, &[]),
+        _ => network.play(tick, 0, observer),
     }
-    Reply {
-        answer: Answer::Ticked,
-        accesses: 0,
-        outcomes,
-    }
+    observer.answer(event, 0, Answer::Ticked, &[]);
 }

@@ -1,10 +1,12 @@
 // Hosts on wires.
 
-use crate::events::{self, FrameRoom};
+use crate::collector::Collector;
+use crate::events::{self, Call};
+use crate::run_observer::RunObserver;
 use network_plan::{Event, Reply, Stopped};
 use packet_socket::Host;
-use stations::{HeapFrame, Network, Outcomes};
-use std::alloc::{AllocError, Global};
+use stations::Network;
+use std::alloc::Global;
 use std::marker::Model;
 
 /// Hosts on wires.
@@ -14,7 +16,7 @@ use std::marker::Model;
 pub struct Lan {
     pub(crate) hosts: Vec<Host>,
     pub(crate) network: Network,
-    /// The bytes of the last frame that a socket gave, before they are copied into its reply.
+    /// The bytes of the last frame that a socket gave, which are lent to the observer.
     pub(crate) given: [u8; 1518],
 }
 
@@ -31,44 +33,73 @@ impl Model for Lan {
 }
 
 impl Lan {
-    ghost use Rattle.std.specs.Prelude.{◌≡◌, ◌<◌, IfErr, IfOk, OnErr, OnOk, length, take};
-    ghost use Rattle.wire.specs.Runs.{EventRuns, RunsTo};
+    ghost use Rattle.std.specs.Prelude.{◌<◌, IfErr, OnOk, length, take};
+    ghost use Rattle.wire.specs.RunObservers.{EventTold, HasRoom};
+    ghost use Rattle.wire.specs.Runs.{EventRuns, RunTold, RunsTo};
 
-    /// Runs one event. It allocates its memory before its first tick.
-    fn event(&mut self, alloc: Global, event: &Event) -> Result<Reply, AllocError>
-        ensures ok { IfOk result (λ reply. EventRuns self.old event.now reply self.new) }
-        ensures err { OnErr result (self.new ≡ self.old) }
+    /// Runs one event. The observer has room for all that comes of it.
+    fn event<O: RunObserver>(&mut self, event: &Event, observer: &mut O)
+        requires room { HasRoom O.ready O.places event.now observer.old }
+        ensures { EventTold O.ran event.now observer.old observer.new
+            (λ reply. EventRuns self.old event.now reply self.new) }
     {
         let hosts = self.hosts.as_mut_slice();
         let network = &mut self.network;
         match event {
             Event::Send { host, frame, ticks } => {
-                let outcomes = Outcomes::with_room(alloc, ticks.len())?;
-                let frame = frame.as_slice();
-                Ok(events::send(hosts, network, *host, frame, ticks.as_slice(), outcomes))
+                let call = Call {
+                    event,
+                    host: *host,
+                    ticks: ticks.as_slice(),
+                };
+                events::send(hosts, network, &call, frame.as_slice(), observer);
             }
             Event::Recv {
                 host,
                 socket,
                 ticks,
             } => {
-                let outcomes = Outcomes::with_room(alloc, ticks.len())?;
-                let room = FrameRoom {
-                    bytes: &mut self.given,
-                    frame: HeapFrame::with_room(alloc)?,
+                let call = Call {
+                    event,
+                    host: *host,
+                    ticks: ticks.as_slice(),
                 };
-                let ticks = ticks.as_slice();
-                Ok(events::recv(hosts, network, *host, *socket, ticks, outcomes, room))
+                events::recv(hosts, network, &call, *socket, &mut self.given, observer);
             }
             Event::Interrupt { host, ticks } => {
-                let outcomes = Outcomes::with_room(alloc, ticks.len())?;
-                Ok(events::interrupt(hosts, network, *host, ticks.as_slice(), outcomes))
+                let call = Call {
+                    event,
+                    host: *host,
+                    ticks: ticks.as_slice(),
+                };
+                events::interrupt(hosts, network, &call, observer);
             }
-            Event::Tick(tick) => {
-                let outcomes = Outcomes::with_room(alloc, 1)?;
-                Ok(events::tick(network, *tick, outcomes))
-            }
+            Event::Tick(tick) => events::tick(network, event, *tick, observer),
         }
+    }
+
+    /// Runs events in order. The observer is told what comes of each. It is asked to make room for an event before the
+    /// first tick of it.
+    ///
+    /// # Errors
+    ///
+    /// If the observer has no room for an event. The events before it were run and told, and it changed nothing.
+    pub fn play<O: RunObserver>(
+        &mut self,
+        events: &[Event],
+        observer: &mut O,
+    ) -> Result<(), Stopped>
+        ensures ok { OnOk result (RunTold O.ran events.now self.old self.new observer.old observer.new) }
+        ensures stopped { IfErr result (λ stopped. (stopped.done < length events.now)
+            × RunTold O.ran (take stopped.done events.now) self.old self.new observer.old observer.new) }
+    {
+        for (done, event) in events.iter().enumerate() {
+            if !observer.make_room(event, event.tick_count()) {
+                return Err(Stopped { done });
+            }
+            self.event(event, observer);
+        }
+        Ok(())
     }
 
     /// Runs events in order, and appends a reply for each.
@@ -87,15 +118,10 @@ impl Lan {
         ensures stopped { IfErr result (λ stopped. (stopped.done < length events.now)
             × RunsTo self.old (take stopped.done events.now) replies.old.items replies.new.items self.new) }
     {
-        for (done, event) in events.iter().enumerate() {
-            if replies.reserve(1).is_err() {
-                return Err(Stopped { done });
-            }
-            let Ok(reply) = self.event(alloc, event) else {
-                return Err(Stopped { done });
-            };
-            let _ = replies.push(reply);
-        }
-        Ok(())
+        let held = std::mem::replace(replies, Vec::new(alloc));
+        let mut collector = Collector::new(alloc, held);
+        let ran = self.play(events, &mut collector);
+        *replies = collector.replies;
+        ran
     }
 }

@@ -2,6 +2,7 @@
 //! interleaved at every access.
 #![tactic(auto)]
 
+mod collector;
 mod counts;
 mod drain;
 mod events;
@@ -10,6 +11,7 @@ mod hosts;
 mod lan;
 mod law;
 mod new;
+mod run_observer;
 
 pub use counts::Counts;
 pub use host::bring_up_host;
@@ -18,3 +20,4 @@ pub use hosts::bring_up;
 pub use lan::Lan;
 pub use law::runs_join;
 pub use network_plan::{Answer, Event, Reply, Stopped};
+pub use run_observer::RunObserver;

@@ -1,11 +1,10 @@
-use Rattle.delivery.proofs.Laws.{lent-calls, outcomes-tell}
+use Rattle.delivery.proofs.Laws.{outcomes-tell}
 use Rattle.delivery.proofs.Telling.{leads-alone, said-alone}
 use Rattle.delivery.proofs.delivery_law.outcomes_tell_steps.Goals as goal
 
 pub returns : goal.returns
 returns c = record {
   call = λ call a m b plays. outcomes-tell call.caller call.ticks call.accesses call.first call.last a m b plays;
-  lent = lent-calls;
   alone = said-alone;
   leads = leads-alone;
 }

@@ -1,5 +1,4 @@
 use Rattle.std.proofs.Common.{rules, refl, true, List}
-use Rattle.stations.specs.Outcomes.{OutcomeList}
 use Rattle.stations.specs.Stations.{StationState}
 use Rattle.host_calls.specs.CallAnswers.{RecvRuns, frame_in}
 use Rattle.host_calls.specs.ConnectedHosts.{connected, played_call}
@@ -8,7 +7,7 @@ use Rattle.host_calls.proofs.Receiving.{any-answers, any-leaves, any-legal, any-
 use Rattle.host_calls.proofs.calls.recv_into.Goals as goal
 
 pub returns-clause-gives : goal.returns-clause-gives
-returns-clause-gives c =
+returns-clause-gives g c =
     let h = c.args.host.now in
     let h' = c.recv-answer.new.self in
     let into = c.recv-answer.new.into in
@@ -17,12 +16,12 @@ returns-clause-gives c =
     let ends = c.finish.new.self in
     let ensures = c.recv-answer.ensures in
     let receives = ensures.receives true (record { honest = tt; ready = c.requires.ready }) in
-    lent-back (λ (stations : List StationState) (noted : OutcomeList). RecvRuns
-    (played_call c.args.place c.args.ticks.now c.args.outcomes.now noted ends.accesses) c.args.socket (frame_in into result)
+    lent-back (λ (stations : List StationState) told. RecvRuns
+    (played_call c.args.place c.args.ticks.now (g.O.Observer.heard c.args.observer.now told) ends.accesses) c.args.socket (frame_in into result)
     (connected h c.args.network.now) (connected h' stations))
-    ends.network.now _ ends.outcomes.now _ (search rules) (search rules)
+    ends.network.now _ ends.observer.now _ (search rules) (search rules)
     (record {
-      runs = any-runs _ m ends h h' c.args.socket result c.args.into.now into refl (search rules) c.requires.ready receives ensures.ok
+      runs = any-runs g.met.O.Observer.composes _ m ends h h' c.args.socket result c.args.into.now into refl (search rules) c.requires.ready receives ensures.ok
           ensures.err c.finish.ensures;
       answers = any-answers _ m h h' c.args.socket result into receives ensures.no_socket ensures.empty;
       leaves = any-leaves _ m ends h h' c.args.socket result c.args.into.now into refl (search rules) ensures.ok ensures.err
@@ -30,6 +29,6 @@ returns-clause-gives c =
     })
 
 pub returns-clause-size : goal.returns-clause-size
-returns-clause-size c =
+returns-clause-size g c =
     any-legal c.args.host.now c.recv-answer.new.self c.args.socket c.recv-answer.result c.args.into.now c.recv-answer.new.into
     c.recv-answer.ensures.ok

@@ -3,7 +3,7 @@ use Rattle.host_calls.proofs.EarlyOutcomes.{early-outcomes_bear_zero}
 use Rattle.host_calls.proofs.causes_law.answers_tell_causes.Goals as goal
 
 pub returns : goal.returns
-returns c = record {
+returns g c = record {
   answers = answers-tell_causes;
   calls = calls-tell_causes;
   stay = first-reads_stay;

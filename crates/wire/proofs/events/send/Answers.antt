@@ -1,57 +1,70 @@
-use Rattle.std.proofs.Common.{◌++◌, [], List, refl, sym, ap, subst, slice_index_or}
+use Rattle.std.proofs.Common.{◌++◌, [], List, refl, sym, subst, slice_index_or}
 use Rattle.std.proofs.lemmas.Option.{slice_get-get_or}
 use Rattle.delivery.specs.Happenings.{Happening, of_host, told}
+use Rattle.stations.specs.AtomicRuns.{steps_told}
 use Rattle.stations.specs.Stations.{wire_at}
 use Rattle.driver.specs.SendSteps.{accepted_by}
 use Rattle.network_plan.specs.declared.reply.Answer.TheVariants.{Sent}
-use Rattle.wire.specs.Runs.{accepted_of}
-use Rattle.network_plan.specs.declared.reply.Answer.{Answer}
-use Rattle.wire.specs.EventParts.{IsSendAnswer}
 use Rattle.host_calls.specs.CallAnswers.{LeavesSend, MakesSend}
+use Rattle.host_calls.specs.ConnectedHosts.{connected, played_call}
+use Rattle.wire.specs.EventParts.{IsSendAnswer}
+use Rattle.wire.specs.Runs.{accepted_of}
 use Rattle.wire.proofs.Delivering.{Tells}
-use Rattle.wire.proofs.Playing.{absent-played, call-played}
+use Rattle.wire.proofs.Playing.{absent-played, call-played, told-of_call}
 use Rattle.wire.proofs.Tellings.{tells-send}
 use Rattle.wire.proofs.events.send.Goals as goal
 
-pub returns-then-host-hosts : goal.returns-then-host-hosts
-returns-then-host-hosts c =
-    absent-played c.args.host c.args.ticks.now (record { hosts = c.args.hosts.now; stations = c.args.network.now })
-    c.no_host.new.network c.args.outcomes c.no_host.result
-    (accepted_of c.args.host c.args.frame.now c.no_host.result.answer ++ told c.args.ticks.now c.no_host.result.outcomes.list)
-    (IsSendAnswer c.args.host c.args.frame.now) c.requires.stands c.if-host-hosts.true c.requires.empty c.no_host.ensures.answer
-    c.no_host.ensures.none c.no_host.ensures.plays (ap (λ (answer : Answer). accepted_of c.args.host c.args.frame.now answer
-    ++ told c.args.ticks.now c.no_host.result.outcomes.list) c.no_host.ensures.answer)
+pub returns-then-call-hosts : goal.returns-then-call-hosts
+returns-then-call-hosts g c =
+    absent-played c.args.call.now.host c.args.call.now.event.now c.args.call.now.ticks.now
+    (record { hosts = c.args.hosts.now; stations = c.args.network.now }) c.no_host.new.network c.args.observer.now c.no_host.new.observer
+    (λ answer list. accepted_of c.args.call.now.host c.args.frame.now answer ++ told c.args.call.now.ticks.now list)
+    (IsSendAnswer c.args.call.now.host c.args.frame.now) c.requires.stands c.if-call-hosts.true c.no_host.ensures (λ list. refl)
 
 pub send-called-requires-clause-ready : goal.send-called-requires-clause-ready
-send-called-requires-clause-ready c =
-    let host = slice_index_or c.args.hosts.now c.args.host c.index-hosts-host.result in
-    (c.requires.stands.each c.args.host host
-    (slice_get-get_or c.args.hosts.now c.args.host c.index-hosts-host.result c.if-host-hosts.false)).ready
+send-called-requires-clause-ready g c =
+    let host = slice_index_or c.args.hosts.now c.args.call.now.host c.index-hosts-call.result in
+    (c.requires.stands.each c.args.call.now.host host
+    (slice_get-get_or c.args.hosts.now c.args.call.now.host c.index-hosts-call.result c.if-call-hosts.false)).ready
+
+pub answer-requires-clause-room : goal.answer-requires-clause-room
+answer-requires-clause-room g c =
+    g.met.O.RunObserver.composes_runs.keeps_room c.args.observer.now c.send-called.new.observer c.args.call.now.event.now
+    (steps_told 0 c.send-called.ensures.runs.steps) c.send-called.ensures.runs.of_call.heard c.requires.answer
 
 pub returns : goal.returns
-returns c =
-    let host = slice_index_or c.args.hosts.now c.args.host c.index-hosts-host.result in
-    let runs = c.send-called.ensures.runs in
-    call-played c.args.host c.args.ticks.now (record { hosts = c.args.hosts.now; stations = c.args.network.now })
-    c.send-called.new.network c.args.outcomes c.send-called.new.outcomes host c.send-called.new.host [] []
-    (accepted_by c.send-called.result.answer c.args.frame.now)
-    (MakesSend c.send-called.result.answer c.args.frame.now host c.send-called.new.host)
-    (accepted_of c.args.host c.args.frame.now
-    (Sent c.send-called.result.answer) ++ told c.args.ticks.now c.send-called.new.outcomes.list) _
-    (IsSendAnswer c.args.host c.args.frame.now) c.requires.stands
-    (slice_get-get_or c.args.hosts.now c.args.host c.index-hosts-host.result c.if-host-hosts.false) c.if-host-hosts.false
-    c.requires.empty refl (λ none. absurd (cc)) runs
-    (λ k said.
-    subst (λ (list : List Happening). Tells k
-    (accepted_of c.args.host c.args.frame.now (Sent c.send-called.result.answer) ++ list) runs.steps (wire_at c.args.network.now)
-    (of_host k c.args.host []) (of_host k c.args.host (accepted_by c.send-called.result.answer c.args.frame.now))) (sym said)
-    (tells-send k c.args.host c.args.frame.now c.send-called.result.answer runs.steps (wire_at c.args.network.now)))
-    (record {
-      result = c.send-called.result.answer;
-      is = refl;
-      answers = c.send-called.ensures.answers;
-      leaves = subst (LeavesSend c.send-called.result.answer host c.send-called.new.host) runs.of_call.counted
-          c.send-called.ensures.leaves;
-      makes = runs.makes;
-      frees_first = c.send-called.ensures.frees_first;
-    })
+returns g c =
+    let host = slice_index_or c.args.hosts.now c.args.call.now.host c.index-hosts-call.result in
+    let called = c.send-called in
+    let runs = called.ensures.runs in
+    let old = connected host c.args.network.now in
+    let new = connected called.new.host called.new.network in
+    let heard = g.O.Observer.heard c.args.observer.now called.new.observer in
+    let tells = c.answer.ensures c.args.observer.now (steps_told 0 runs.steps) runs.of_call.heard
+    (told-of_call c.args.call.now.event.now (played_call c.args.call.now.host c.args.call.now.ticks.now heard called.result.accesses) old new
+    c.requires.ticks runs) in
+    record {
+      reply = tells.reply;
+      told = tells.told;
+      holds =
+          call-played c.args.call.now.host c.args.call.now.ticks.now (record { hosts = c.args.hosts.now; stations = c.args.network.now })
+          called.new.network heard called.result.accesses (Sent called.result.answer) host called.new.host [] []
+          (accepted_by called.result.answer c.args.frame.now) (MakesSend called.result.answer c.args.frame.now host called.new.host)
+          (λ answer list. accepted_of c.args.call.now.host c.args.frame.now answer ++ told c.args.call.now.ticks.now list) tells.reply
+          (IsSendAnswer c.args.call.now.host c.args.frame.now) c.requires.stands
+          (slice_get-get_or c.args.hosts.now c.args.call.now.host c.index-hosts-call.result c.if-call-hosts.false) c.if-call-hosts.false
+          (λ none. absurd (cc)) runs tells.replies
+          (λ k said.
+          subst (λ (list : List Happening). Tells k
+          (accepted_of c.args.call.now.host c.args.frame.now (Sent called.result.answer) ++ list) runs.steps (wire_at c.args.network.now)
+          (of_host k c.args.call.now.host []) (of_host k c.args.call.now.host (accepted_by called.result.answer c.args.frame.now))) (sym said)
+          (tells-send k c.args.call.now.host c.args.frame.now called.result.answer runs.steps (wire_at c.args.network.now)))
+          (record {
+            result = called.result.answer;
+            is = refl;
+            answers = called.ensures.answers;
+            leaves = subst (LeavesSend called.result.answer host called.new.host) runs.of_call.counted called.ensures.leaves;
+            makes = runs.makes;
+            frees_first = called.ensures.frees_first;
+          });
+    }

@@ -11,32 +11,32 @@ use Rattle.stations.proofs.LentAccesses.{access-keeps, acted, size-prepared, wor
 use Rattle.stations.proofs.accesses.LentBusBus.store.Goals as goal
 
 pub invariant_of-self : goal.invariant_of-self
-invariant_of-self c =
+invariant_of-self g c =
     let p = c.prepare.new.self in
     let stays = ap (λ (list : List StationState). length list) c.store.ensures.state
     ∙ length-event p.host (Accesses (Stores c.args.address c.args.bytes.now)) p.network.now in
     record { there = omega (arith, p.there, stays); room = p.room }
 
 pub store-requires-clause-lies : goal.store-requires-clause-lies
-store-requires-clause-lies c = omega (arith, c.requires, size-prepared c.args.self.now c.prepare.new.self c.prepare.ensures)
+store-requires-clause-lies g c = omega (arith, c.requires, size-prepared c.args.self.now c.prepare.new.self c.prepare.ensures)
 
 pub returns-clause-keeps : goal.returns-clause-keeps
-returns-clause-keeps c =
+returns-clause-keeps g c =
     let p = c.prepare.new.self in
     let there =
     world-there p.network.now c.store.new.self p.host
     (Stores c.args.address c.args.bytes.now) p.there tt c.store.ensures.state in
-    access-keeps c.args.self.now p _ c.prepare.ensures (record { network = refl; outcomes = refl; host = refl })
+    access-keeps c.args.self.now p _ c.prepare.ensures (record { network = refl; observer = refl; host = refl })
     (ap (λ (w : World). length w.memory) there
     ∙ length-with_bytes (world_here p).memory c.args.bytes.now c.args.address
     (omega (arith, c.requires, size-prepared c.args.self.now p c.prepare.ensures)))
 
 pub returns-clause-acts : goal.returns-clause-acts
-returns-clause-acts c = λ honest.
+returns-clause-acts g c = λ honest.
     let p = c.prepare.new.self in
     let there =
     world-there p.network.now c.store.new.self p.host
     (Stores c.args.address c.args.bytes.now) p.there tt c.store.ensures.state in
     acted c.args.self.now p _ (Stores c.args.address c.args.bytes.now) _ c.prepare.ensures
-    (record { lent = record { network = refl; outcomes = refl; host = refl }; ticks = refl; accesses = refl; outcomes = refl })
+    (record { lent = record { network = refl; observer = refl; host = refl }; ticks = refl; accesses = refl; observer = refl })
     p.there c.store.ensures.state tt c.store.ensures.adapter there

@@ -3,7 +3,7 @@ use Rattle.stations.proofs.Lengths.{length-stays}
 use Rattle.stations.proofs.lent_bus.LentBus.prepare.Goals as goal
 
 pub invariant_of-self : goal.invariant_of-self
-invariant_of-self c =
+invariant_of-self g c =
     let plays = c.play_group-self.ensures.plays in
     let host = c.args.self.now.host in
     let stays = length-stays host plays.steps c.args.self.now.network.now c.play_group-self.new.self (plays.leads host) in

@@ -11,7 +11,7 @@ use Rattle.stations.proofs.Spreading.{delivers-frame, delivers-none}
 use Rattle.stations.proofs.network.Network.deliver.Goals as goal
 
 pub returns-then-host-len : goal.returns-then-host-len
-returns-then-host-len c =
+returns-then-host-len g c =
     let ms = c.self.inside.machines.items in
     let es = c.self.inside.wires in
     let ss = c.args.self.now in
@@ -24,11 +24,12 @@ returns-then-host-len c =
     record {
       outcome = Nothing;
       plays = plays-nothing ss (Deliver host) (ap backlog_of (slice_get_past ss host past));
-      noted = c.note.ensures;
+      heard = c.note.ensures.heard;
+      room = c.note.ensures.room;
     }
 
 pub returns-in_default : goal.returns-in_default
-returns-in_default c =
+returns-in_default g c =
     let ms = c.self.inside.machines.items in
     let es = c.self.inside.wires in
     let ss = c.args.self.now in
@@ -39,11 +40,12 @@ returns-in_default c =
       plays =
           delivers-none ms es ss host c.self.view_is there
           ((c.front.ensures.none there.end there.has_end).0 (cc c.in_default.is));
-      noted = c.note-in_default.ensures;
+      heard = c.note-in_default.ensures.heard;
+      room = c.note-in_default.ensures.room;
     }
 
 pub invariant_of-self : goal.invariant_of-self
-invariant_of-self c =
+invariant_of-self g c =
     let ms = c.self.inside.machines.items in
     let es = c.self.inside.wires in
     let host = c.args.host in
@@ -57,7 +59,7 @@ invariant_of-self c =
     }
 
 pub returns : goal.returns
-returns c =
+returns g c =
     let ms = c.self.inside.machines.items in
     let es = c.self.inside.wires in
     let ss = c.args.self.now in
@@ -76,5 +78,6 @@ returns c =
           c.arrive-fate.new.self c.in-Some.frame.now c.arrive-fate.result c.self.view_is seen
           (λ end is. subst (λ (found : Option (Bor (List ℕ))). IfSome found (λ frame. slice_get end.line 0 ≡ Some frame.now))
           c.in-Some.is (c.front.ensures.oldest end is)) c.arrive-fate.ensures.occurs c.arrive-fate.ensures.state c.pop.ensures;
-      noted = c.note-2.ensures;
+      heard = c.note-2.ensures.heard;
+      room = c.note-2.ensures.room;
     }

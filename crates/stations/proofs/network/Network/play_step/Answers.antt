@@ -1,8 +1,8 @@
-use Rattle.std.proofs.Common.{◌≤◌, [], List, length, true, ap, arith, sym, subst}
+use Rattle.std.proofs.Common.{◌≤◌, ◌∷◌, [], List, length, true, ap, arith, sym, subst}
 use Rattle.std.proofs.lemmas.Option.{slice_get_past}
 use Rattle.adapter.specs.Outcomes.{FrameOutcome, framed, oldest}
 use Rattle.adapter.specs.declared.outcome.Outcome.TheVariants.{Nothing}
-use Rattle.stations.specs.Outcomes.{IsNoted}
+use Rattle.stations.specs.ToldTicks.{tick_told}
 use Rattle.stations.specs.Stations.{StationState}
 use Rattle.stations.specs.declared.tick.Tick.TheVariants.{Step}
 use Rattle.stations.proofs.Hosts.{length-both, shows}
@@ -11,7 +11,7 @@ use Rattle.stations.proofs.Spreading.{machine-steps}
 use Rattle.stations.proofs.network.Network.play_step.Goals as goal
 
 pub returns-then-host-len : goal.returns-then-host-len
-returns-then-host-len c =
+returns-then-host-len g c =
     let ms = c.self.inside.machines.items in
     let es = c.self.inside.wires in
     let ss = c.args.self.now in
@@ -24,11 +24,12 @@ returns-then-host-len c =
     record {
       outcome = Nothing;
       plays = plays-nothing ss (Step host c.args.kind) (slice_get_past ss host past);
-      noted = c.note.ensures;
+      heard = c.note.ensures.heard;
+      room = c.note.ensures.room;
     }
 
 pub put-requires-clause-there : goal.put-requires-clause-there
-put-requires-clause-there c =
+put-requires-clause-there g c =
     let ms = c.self.inside.machines.items in
     let es = c.self.inside.wires in
     omega (
@@ -38,7 +39,7 @@ put-requires-clause-there c =
     )
 
 pub returns-in_default : goal.returns-in_default
-returns-in_default c =
+returns-in_default g c =
     let ms = c.self.inside.machines.items in
     let es = c.self.inside.wires in
     let ss = c.args.self.now in
@@ -59,8 +60,10 @@ returns-in_default c =
       plays =
           machine-steps ms es ss host m c.step-outcome.new.self c.args.kind
           answer c.self.view_is seen c.in_default.not-TxPut occurs.0 none occurs.1 c.step-outcome.ensures.state;
-      noted =
-          subst (λ (o : FrameOutcome). IsNoted c.args.accesses o c.args.outcomes.now c.note-in_default.new.self)
+      heard =
+          subst (λ (o : FrameOutcome). g.O.Observer.heard c.args.observer.now c.note-in_default.new.self
+          (tick_told (Step host c.args.kind) c.args.accesses o ∷ []))
           (sym (no-frame c.args.kind true m.world.memory m.world.adapter outcome (oldest m.world.adapter.transmitter.buffer) []
-          c.in_default.not-TxPut occurs.1)) c.note-in_default.ensures;
+          c.in_default.not-TxPut occurs.1)) c.note-in_default.ensures.heard;
+      room = c.note-in_default.ensures.room;
     }

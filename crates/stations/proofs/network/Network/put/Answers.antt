@@ -12,7 +12,7 @@ use Rattle.stations.proofs.Spreading.{FindsWire, finds-no_frame, finds-wire, fin
 use Rattle.stations.proofs.network.Network.put.Goals as goal
 
 pub wire-wire-requires : goal.wire-wire-requires
-wire-wire-requires c =
+wire-wire-requires g c =
     let ms = c.self.inside.machines.items in
     let es = c.self.inside.wires in
     let ss = c.args.self.now in
@@ -22,7 +22,7 @@ wire-wire-requires c =
     }
 
 pub index-requires : goal.index-requires
-index-requires c =
+index-requires g c =
     let ms = c.self.inside.machines.items in
     let es = c.self.inside.wires in
     let ss = c.args.self.now in
@@ -30,7 +30,7 @@ index-requires c =
     omega (arith, below-machines ms es ss host c.self.view_is c.self.invariant.ends c.requires.there)
 
 pub index_mut-requires : goal.index_mut-requires
-index_mut-requires c =
+index_mut-requires g c =
     let ms = c.self.inside.machines.items in
     let es = c.self.inside.wires in
     let ss = c.args.self.now in
@@ -38,7 +38,7 @@ index_mut-requires c =
     omega (arith, below-machines ms es ss host c.self.view_is c.self.invariant.ends c.requires.there)
 
 pub returns-in_default : goal.returns-in_default
-returns-in_default c =
+returns-in_default g c =
     let ms = c.self.inside.machines.items in
     let es = c.self.inside.wires in
     let ss = c.args.self.now in
@@ -52,11 +52,12 @@ returns-in_default c =
       plays =
           finds-no_frame ms es ss host c.wire-wire.result c.have_room-wire_free.result m found
           (c.to_put.ensures.none.0 (cc c.in_default.is));
-      noted = c.note.ensures;
+      heard = c.note.ensures.heard;
+      room = c.note.ensures.room;
     }
 
 pub returns-then-not-wire_free : goal.returns-then-not-wire_free
-returns-then-not-wire_free c =
+returns-then-not-wire_free g c =
     let ms = c.self.inside.machines.items in
     let es = c.self.inside.wires in
     let ss = c.args.self.now in
@@ -70,11 +71,12 @@ returns-then-not-wire_free c =
       plays =
           finds-wire_full ms es ss host c.wire-wire.result c.have_room-wire_free.result m found
           (λ empty. not-none _ _ c.in-Some.is (c.to_put.ensures.none.1 empty)) (cc c.if-not-wire_free.true);
-      noted = c.note-then-not-wire_free.ensures;
+      heard = c.note-then-not-wire_free.ensures.heard;
+      room = c.note-then-not-wire_free.ensures.room;
     }
 
 pub invariant_of-self : goal.invariant_of-self
-invariant_of-self c =
+invariant_of-self g c =
     let ms = c.self.inside.machines.items in
     let es = c.self.inside.wires in
     let host = c.args.host in
@@ -85,7 +87,7 @@ invariant_of-self c =
     }
 
 pub returns : goal.returns
-returns c =
+returns g c =
     let ms = c.self.inside.machines.items in
     let es = c.self.inside.wires in
     let ss = c.args.self.now in
@@ -112,5 +114,6 @@ returns c =
           (λ empty. not-none _ _ c.in-Some.is
           (c.to_put.ensures.none.1 (ap (λ (x : MachineState). x.world.adapter.transmitter.buffer) same ∙ empty)))
           frame c.step.ensures.occurs c.step.ensures.state c.put.ensures;
-      noted = c.note-2.ensures;
+      heard = c.note-2.ensures.heard;
+      room = c.note-2.ensures.room;
     }

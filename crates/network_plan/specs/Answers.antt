@@ -1,0 +1,27 @@
+-- Events and answers of calls, with the frame that a socket gave (our choice).
+use Rattle.std.specs.Prelude.{◌∷◌, [], Err, List, Ok, ℕ}
+use Rattle.stations.specs.declared.tick.Tick.{Tick}
+use Rattle.network_plan.specs.declared.event.Event.{Event}
+use Rattle.network_plan.specs.declared.event.Event.TheVariants.{Interrupt, Recv, Send, Tick as Alone}
+use Rattle.network_plan.specs.declared.reply.Answer.{Answer}
+use Rattle.network_plan.specs.declared.reply.Answer.TheVariants.{Interrupted, NoHost, Received, Sent, Ticked}
+
+-- an answer with the bytes of its frame
+abbrev pub FrameAnswer : Type 0
+FrameAnswer = Answer (List ℕ)
+
+-- the same answer, with this frame if it has one
+abbrev pub answer_with : {F G : Type 0} → G → Answer F → Answer G
+answer_with frame (Sent sent) = Sent sent
+answer_with frame (Received (Ok old)) = Received (Ok frame)
+answer_with frame (Received (Err error)) = Received (Err error)
+answer_with frame (Interrupted handled) = Interrupted handled
+answer_with frame Ticked = Ticked
+answer_with frame NoHost = NoHost
+
+-- the ticks of an event, each Go among them
+abbrev pub ticks_of : Event → List Tick
+ticks_of (Send host frame ticks) = ticks.items
+ticks_of (Recv host socket ticks) = ticks.items
+ticks_of (Interrupt host ticks) = ticks.items
+ticks_of (Alone tick) = tick ∷ []

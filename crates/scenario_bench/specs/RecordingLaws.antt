@@ -1,0 +1,136 @@
+-- What a record makes of what it is told in two intervals.
+use Rattle.std.proofs.Common.{◌≡◌, ◌++◌, ◌∷◌, [], ℕ, List, None, Option, Some, length, map}
+use Rattle.std.proofs.Common.{option_map, slice_get, refl, sym, ap, subst, ◌∙◌, append_assoc, append-nil, arith, length-append}
+use Rattle.std.specs.Prelude.{⊤}
+use Rattle.std.specs.List.{flat_map}
+use Rattle.std.proofs.lemmas.Grind.{flat_map-append}
+use Rattle.std.proofs.lemmas.List.Sums.{fold-append}
+use Rattle.pcap_trace.specs.Format.{Timed}
+use Rattle.delivery.specs.Happenings.{Happening, given}
+use Rattle.network_plan.specs.declared.event.Event.{Event}
+use Rattle.network_plan.specs.declared.reply.Reply.{Reply}
+use Rattle.stations.specs.ToldTicks.{ComposesTold}
+use Rattle.wire.specs.RunObservers.{ComposesRuns, happened_of}
+use Rattle.scenario_bench.specs.Acts.{Act, Ran, history, ran, said_in}
+use Rattle.scenario_bench.specs.Given.{given_from, next_number, numbered}
+use Rattle.scenario_bench.specs.Recording.{HearsTicks, RecordsReplies}
+use Rattle.scenario_bench.specs.SocketLists.{SocketFrames}
+use Rattle.scenario_bench.specs.Tallies.{AreNoted, TalliesGrow, counted_by, number_behind, socket_behind, tally_behind}
+use Rattle.scenario_bench.specs.declared.record.Record.{Record}
+use Rattle.scenario_bench.specs.declared.tally.Tally.{Tally}
+
+-- Numbers of hosts.
+
+pub stays : (k : ℕ) (found : Option Tally) → found ≡ option_map (tally_behind [] k) found
+stays k None = refl
+stays k (Some tally) = refl
+
+pub grows_not : (hosts : List Tally) → TalliesGrow [] hosts hosts
+grows_not hosts k = stays k (slice_get hosts k)
+
+further : (xs ys : List Happening) (k : ℕ) (found : Option Tally)
+    → option_map (tally_behind ys k) (option_map (tally_behind xs k) found) ≡ option_map (tally_behind (xs ++ ys) k) found
+further xs ys k None = refl
+further xs ys k (Some tally) = ap (λ (t : Tally). Some t) (sym (fold-append (counted_by k) tally xs ys))
+
+pub grows_join : (xs ys : List Happening) (a b c : List Tally) → TalliesGrow xs a b → TalliesGrow ys b c → TalliesGrow (xs ++ ys) a c
+grows_join xs ys a b c one two k =
+    two k ∙ ap (option_map (tally_behind ys k)) (one k) ∙ further xs ys k (slice_get a k)
+
+-- Acts, one list after the other.
+
+given-join : (host socket number : ℕ) (acts later : List Act) → given_from host socket number (acts ++ later)
+    ≡ given_from host socket number acts ++ given_from host socket (number_behind number acts) later
+given-join host socket number [] later = refl
+given-join host socket number (act ∷ acts) later =
+    let first = map (numbered number) (given host socket (said_in act)) in
+    let next = next_number number in
+    ap (λ (rest : List Timed). first ++ rest) (given-join host socket next acts later)
+    ∙ sym (append_assoc first (given_from host socket next acts) (given_from host socket (number_behind next acts) later))
+
+behind-join : (number : ℕ) (acts later : List Act) (found : Option SocketFrames)
+    → option_map (socket_behind (number_behind number acts) later) (option_map (socket_behind number acts) found)
+    ≡ option_map (socket_behind number (acts ++ later)) found
+behind-join number acts later None = refl
+behind-join number acts later (Some socket) =
+    let first = given_from socket.host socket.socket number acts in
+    let second = given_from socket.host socket.socket (number_behind number acts) later in
+    ap (λ (frames : List Timed). Some (record socket { frames = frames }))
+    (append_assoc socket.frames first second
+    ∙ ap (λ (frames : List Timed). socket.frames ++ frames) (sym (given-join socket.host socket.socket number acts later)))
+
+pub noted_join : (acts later : List Act) (a b c : Record) → AreNoted acts a b → AreNoted later b c → AreNoted (acts ++ later) a c
+noted_join acts later a b c one two = record {
+  number = two.number ∙ ap (λ (n : ℕ). number_behind n later) one.number
+      ∙ sym (fold-append (λ (n : ℕ) (act : Act). next_number n) a.number acts later);
+  hosts = subst (λ (happened : List Happening). TalliesGrow happened a.hosts.items c.hosts.items)
+      (sym (flat_map-append said_in acts later))
+      (grows_join (history acts) (history later) a.hosts.items b.hosts.items c.hosts.items one.hosts two.hosts);
+  sockets = λ k. two.sockets k
+      ∙ ap (λ (n : ℕ). option_map (socket_behind n later) (slice_get b.sockets.items k)) one.number
+      ∙ ap (option_map (socket_behind (number_behind a.number acts) later)) (one.sockets k)
+      ∙ behind-join a.number acts later (slice_get a.sockets.items k);
+}
+
+nothing-more : (number : ℕ) (found : Option SocketFrames) → found ≡ option_map (socket_behind number []) found
+nothing-more number None = refl
+nothing-more number (Some socket) =
+    ap (λ (frames : List Timed). Some (record socket { frames = frames })) (sym (append-nil socket.frames))
+
+pub noted_none : (a : Record) → AreNoted [] a a
+noted_none a = record {
+  number = refl;
+  hosts = grows_not a.hosts.items;
+  sockets = λ k. nothing-more a.number (slice_get a.sockets.items k);
+}
+
+-- What the record is told.
+
+pub ticks_compose : ComposesTold HearsTicks
+ticks_compose = record {
+  stays = λ a. record { failed = refl; number = refl; sockets = refl; hosts = grows_not a.hosts.items };
+  joins = λ a b c first later one two. record {
+    failed = two.failed ∙ one.failed;
+    number = two.number ∙ one.number;
+    sockets = two.sockets ∙ one.sockets;
+    hosts =
+        subst (λ (happened : List Happening). TalliesGrow happened a.hosts.items c.hosts.items)
+        (sym (flat_map-append happened_of first later))
+        (grows_join (flat_map happened_of first) (flat_map happened_of later) a.hosts.items b.hosts.items c.hosts.items one.hosts
+        two.hosts);
+  };
+}
+
+-- as many replies as events
+ran-join : (events later : List Event) (replies others : List Reply) → length replies ≡ length events
+    → ran (events ++ later) (replies ++ others) ≡ ran events replies ++ ran later others
+ran-join [] later [] others same = refl
+ran-join [] later (reply ∷ replies) others same = absurd (omega (arith, same))
+ran-join (one ∷ events) later [] others same = absurd (omega (arith, same))
+ran-join (one ∷ events) later (reply ∷ replies) others same =
+    ap (λ (acts : List Act). Ran one reply ∷ acts) (ran-join events later replies others (omega (arith, same)))
+
+pub replies_compose : ComposesRuns HearsTicks RecordsReplies (λ now one. ⊤)
+replies_compose = record {
+  quiet = λ a b heard sound. record {
+    before = sym heard.failed ∙ sound;
+    each = refl;
+    noted = record {
+      number = heard.number;
+      hosts = heard.hosts;
+      sockets = λ k.
+          ap (λ (sockets : List SocketFrames). slice_get sockets k) heard.sockets ∙ (noted_none a).sockets k;
+    };
+  };
+  joins = λ a b c events later replies others one two sound.
+      let last = two sound in
+      let first = one last.before in
+      record {
+        before = first.before;
+        each = omega (arith, first.each, last.each, length-append events later, length-append replies others);
+        noted =
+            subst (λ (acts : List Act). AreNoted acts a c) (sym (ran-join events later replies others first.each))
+            (noted_join (ran events replies) (ran later others) a b c first.noted last.noted);
+      };
+  keeps_room = λ a b event told heard room. tt;
+}

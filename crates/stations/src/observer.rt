@@ -1,0 +1,49 @@
+// Who is told what comes of ticks.
+
+ghost use Rattle.std.specs.Prelude.{◌≤◌, ◌<◌, ◌+◌, ◌∷◌, [], ℕ, List, length};
+ghost use Rattle.descriptors.specs.Frames.{longest_frame};
+ghost use Rattle.adapter.specs.Outcomes.{with_frame};
+ghost use Rattle.stations.specs.ToldTicks.{ComposesTold, TickTold, tick_told};
+
+use crate::tick::Tick;
+use adapter::Outcome;
+
+/// Is told what comes of each tick, after the tick. A frame is lent to it; it copies what it keeps.
+pub trait Observer {
+    /// It was told this from one of its states to another, in order.
+    ghost heard: { Self → Self → List TickTold → Type 0 };
+
+    /// It has room for so many more outcomes.
+    ghost places: { Self → ℕ };
+
+    /// A tick was played, after so many accesses of its call, and this is its outcome. The frame is the one that was
+    /// put or delivered; it has at most 1,518 bytes.
+    fn note(&mut self, tick: Tick, accesses: u64, outcome: Outcome<()>, frame: &[u8])
+        requires room { 0 < places self.old }
+        requires fits { length frame.now ≤ longest_frame }
+        ensures heard { heard self.old self.new (tick_told tick accesses (with_frame frame.now outcome) ∷ []) }
+        ensures room { places self.old ≤ places self.new + 1 };
+
+    /// From a state to itself it was told nothing, and what it was told in two consecutive intervals it was told in both
+    /// together.
+    ghost composes: { ComposesTold heard };
+}
+
+/// An observer that keeps nothing: for calls in which no tick is played.
+#[derive(Clone, Copy, Debug, PartialEq, Eq, Drop)]
+pub struct Nobody;
+
+impl Observer for Nobody {
+    ghost use Rattle.std.specs.Prelude.{⊤};
+
+    ghost heard = { λ before after told. ⊤ };
+
+    ghost places = { λ nobody. 18446744073709551616 };
+
+    ghost composes = { record {
+      stays = λ a. tt;
+      joins = λ a b c first later one two. tt;
+    } };
+
+    fn note(&mut self, _tick: Tick, _accesses: u64, _outcome: Outcome<()>, _frame: &[u8]) {}
+}

@@ -1,0 +1,33 @@
+use Rattle.std.proofs.Common.{◌≡◌, ◌+◌, ◌<◌, ◌++◌, ◌∷◌, [], List, length, take, slice_index_or, arith, sym, subst}
+use Rattle.std.proofs.lemmas.Grind.{common_steps}
+use Rattle.network_plan.specs.declared.event.Event.{Event}
+use Rattle.wire.specs.RunObservers.{EventTold}
+use Rattle.wire.specs.Runs.{EventRuns, RunTold}
+use Rattle.wire.proofs.Running.{told-asked, told-more, told-none}
+use Rattle.wire.proofs.lan.Lan.play.Goals as goal
+
+pub loop-done-init : goal.loop-done-init
+loop-done-init g c = told-none g.met.O.RunObserver.composes_runs g.met.O.Observer.composes c.args.self.now c.args.observer.now
+
+pub loop-done-preserved : goal.loop-done-preserved
+loop-done-preserved g c =
+    let runs = g.met.O.RunObserver.composes_runs in
+    let before = take c.loop-done.done c.args.events.now in
+    let event = slice_index_or c.args.events.now c.loop-done.done c.index-events-done.result in
+    let below : c.loop-done.done < length c.args.events.now = omega arith in
+    let more : take (c.loop-done.done + 1) c.args.events.now ≡ before ++ event ∷ [] = grind (arith, common_steps) in
+    let asked = told-asked runs before c.args.self.now c.loop-done.self c.args.observer.now c.loop-done.observer c.make_room.new.self
+    c.loop-done.invariant c.make_room.ensures.nothing in
+    let told = told-more runs before event c.args.self.now c.loop-done.self c.event.new.self c.args.observer.now c.make_room.new.self
+    c.event.new.observer asked
+    (subst (λ (e : Event). EventTold g.O.RunObserver.ran e c.make_room.new.self c.event.new.observer
+    (λ reply. EventRuns c.loop-done.self e reply c.event.new.self)) c.index-events-done.is c.event.ensures) in
+    subst (λ (events : List Event). RunTold g.O.RunObserver.ran events c.args.self.now c.event.new.self c.args.observer.now
+    c.event.new.observer) (sym more) told
+
+pub returns-then-not-make_room-clause-stopped : goal.returns-then-not-make_room-clause-stopped
+returns-then-not-make_room-clause-stopped g c = (
+  omega arith,
+  told-asked g.met.O.RunObserver.composes_runs (take c.loop-done.done c.args.events.now) c.args.self.now c.loop-done.self
+      c.args.observer.now c.loop-done.observer c.make_room.new.self c.loop-done.invariant c.make_room.ensures.nothing,
+)

@@ -1,0 +1,65 @@
+-- What a collector of replies makes of what it is told (our choice).
+use Rattle.std.proofs.Common.{◌≡◌, ◌<◌, ◌++◌, [], ℕ, List, is_some, length, true, vec_capacity, refl, sym, ap, ◌∙◌, append_assoc}
+use Rattle.std.proofs.lemmas.List.{append-nil}
+use Rattle.stations.specs.Outcomes.{Collects, places_of}
+use Rattle.stations.specs.OutcomesLaws.{collects_join, collects_none}
+use Rattle.stations.specs.ToldTicks.{ComposesTold, TickTold}
+use Rattle.network_plan.specs.declared.event.Event.{Event}
+use Rattle.network_plan.specs.declared.reply.Reply.{Reply}
+use Rattle.wire.specs.RunObservers.{ComposesRuns}
+use Rattle.wire.specs.declared.collector.Collector.{Collector}
+
+-- There is a place for one more reply, and room for its frame.
+pub record HasPlaceForReply (now : Collector) : Type 0 where
+  pub place : length now.replies.items < vec_capacity now.replies
+  pub frame : is_some now.frame ≡ true
+
+-- Ticks are collected for the next reply.
+pub record CollectsTicks (old new : Collector) (ticks : List TickTold) : Type 0 where
+  pub outcomes : Collects old.outcomes new.outcomes ticks
+  pub replies : new.replies.items ≡ old.replies.items
+  pub keeps_room : HasPlaceForReply old → HasPlaceForReply new
+
+-- Replies are collected. No outcome is left for the next reply.
+pub record AppendsReplies (replies : List Reply) (old new : Collector) : Type 0 where
+  pub appended : new.replies.items ≡ old.replies.items ++ replies
+  pub none_left : new.outcomes.list ≡ []
+
+-- So it is if no outcome was left at the beginning.
+abbrev pub CollectsReplies : Collector → Collector → List Event → List Reply → Type 0
+CollectsReplies old new events replies = old.outcomes.list ≡ [] → AppendsReplies replies old new
+
+abbrev pub places_in : Collector → ℕ
+places_in now = places_of now.outcomes
+
+abbrev pub IsReady : Collector → Event → Type 0
+IsReady now event = HasPlaceForReply now
+
+pub ticks_composes : ComposesTold CollectsTicks
+ticks_composes = record {
+  stays = λ a. record { outcomes = collects_none a.outcomes; replies = refl; keeps_room = λ room. room };
+  joins = λ a b c first later one two. record {
+    outcomes = collects_join a.outcomes b.outcomes c.outcomes first later one.outcomes two.outcomes;
+    replies = two.replies ∙ one.replies;
+    keeps_room = λ room. two.keeps_room (one.keeps_room room);
+  };
+}
+
+pub replies_compose : ComposesRuns CollectsTicks CollectsReplies IsReady
+replies_compose = record {
+  quiet = λ a b heard empty. record {
+    appended = heard.replies ∙ sym (append-nil a.replies.items);
+    none_left = heard.outcomes ∙ append-nil a.outcomes.list ∙ empty;
+  };
+  joins = λ a b c events later replies others one two empty.
+      let first = one empty in
+      let then = two first.none_left in
+      record {
+        appended =
+            then.appended
+            ∙ ap (λ (list : List Reply). list ++ others) first.appended
+            ∙ append_assoc a.replies.items replies others;
+        none_left = then.none_left;
+      };
+  keeps_room = λ a b event told heard room. heard.keeps_room room;
+}

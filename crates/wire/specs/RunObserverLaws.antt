@@ -1,0 +1,38 @@
+-- What is told of the ticks of a call is what happens in them.
+use Rattle.std.proofs.Common.{◌≡◌, ◌++◌, ◌∷◌, [], List, map, refl, sym, ap, ◌∙◌}
+use Rattle.std.specs.List.{flat_map}
+use Rattle.bus.specs.TickGroups.{without_go}
+use Rattle.delivery.specs.Happenings.{Happening, host_of, told, told_of}
+use Rattle.stations.specs.AtomicRuns.{is_go}
+use Rattle.stations.specs.Outcomes.{note_of}
+use Rattle.stations.specs.ToldTicks.{TickTold}
+use Rattle.stations.specs.declared.tick.Tick.{Tick}
+use Rattle.stations.specs.declared.tick.Tick.TheVariants.{Deliver, Go, Step}
+use Rattle.wire.specs.RunObservers.{happened_of, tick_in}
+
+first : (a b : Tick) (list others : List Tick) → b ∷ others ≡ a ∷ list → b ≡ a
+first a b list others same = cc
+
+rest : (a b : Tick) (list others : List Tick) → b ∷ others ≡ a ∷ list → others ≡ list
+rest a b list others same = cc
+
+-- if one outcome was told of each tick that isn't a Go, in order
+pub told_happened : (ticks : List Tick) (ones : List TickTold) → map tick_in ones ≡ without_go is_go ticks
+    → told ticks (map note_of ones) ≡ flat_map happened_of ones
+told_happened [] [] same = refl
+told_happened [] (one ∷ later) same = absurd (cc)
+told_happened (Go ∷ ticks) ones same = told_happened ticks ones same
+told_happened (Step host kind ∷ ticks) [] same = absurd (cc)
+told_happened (Step host kind ∷ ticks) (one ∷ later) same =
+    let others = without_go is_go ticks in
+    ap (λ (list : List Happening). told_of host one.outcome ++ list)
+    (told_happened ticks later (rest (Step host kind) one.tick others (map tick_in later) same))
+    ∙ ap (λ (t : Tick). told_of (host_of t) one.outcome ++ flat_map happened_of later)
+    (sym (first (Step host kind) one.tick others (map tick_in later) same))
+told_happened (Deliver host ∷ ticks) [] same = absurd (cc)
+told_happened (Deliver host ∷ ticks) (one ∷ later) same =
+    let others = without_go is_go ticks in
+    ap (λ (list : List Happening). told_of host one.outcome ++ list)
+    (told_happened ticks later (rest (Deliver host) one.tick others (map tick_in later) same))
+    ∙ ap (λ (t : Tick). told_of (host_of t) one.outcome ++ flat_map happened_of later)
+    (sym (first (Deliver host) one.tick others (map tick_in later) same))

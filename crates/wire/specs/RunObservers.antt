@@ -1,0 +1,73 @@
+-- What an observer of a run is told (our choice).
+use Rattle.std.specs.Prelude.{◌≡◌, ◌≤◌, ◌++◌, ◌∷◌, [], ℕ, List, length, map}
+use Rattle.bus.specs.TickGroups.{without_go}
+use Rattle.delivery.specs.Happenings.{Happening, host_of, told_of}
+use Rattle.stations.specs.AtomicRuns.{is_go}
+use Rattle.stations.specs.Outcomes.{note_of}
+use Rattle.stations.specs.ToldTicks.{TickTold}
+use Rattle.network_plan.specs.Answers.{FrameAnswer, ticks_of}
+use Rattle.stations.specs.declared.tick.Tick.{Tick}
+use Rattle.network_plan.specs.declared.event.Event.{Event}
+use Rattle.network_plan.specs.declared.event.Event.TheVariants.{Interrupt, Recv, Send, Tick as Alone}
+use Rattle.network_plan.specs.declared.reply.Reply.{Reply}
+
+-- It has room for the answer of this event, and for an outcome of each of its ticks.
+pub record HasRoom {O : Type 0} (ready : O → Event → Type 0) (places : O → ℕ) (event : Event) (now : O) : Type 0 where
+  pub answer : ready now event
+  pub ticks : length (ticks_of event) ≤ places now
+
+-- the ticks of an event that are played: each but a Go, in order; and a tick by itself, also a Go
+abbrev pub played_ticks : Event → List Tick
+played_ticks (Send host frame ticks) = without_go is_go ticks.items
+played_ticks (Recv host socket ticks) = without_go is_go ticks.items
+played_ticks (Interrupt host ticks) = without_go is_go ticks.items
+played_ticks (Alone tick) = tick ∷ []
+
+abbrev pub tick_in : TickTold → Tick
+tick_in told = told.tick
+
+-- what is told of a tick, as a happening
+abbrev pub happened_of : TickTold → List Happening
+happened_of told = told_of (host_of told.tick) told.outcome
+
+-- It was told an outcome of each tick of this event that is played, in order.
+abbrev pub AreOfTicks : Event → List TickTold → Type 0
+AreOfTicks event ticks = map tick_in ticks ≡ played_ticks event
+
+-- how an event ended: its number of accesses, its answer, and what was told of its ticks
+pub record Ending : Type 0 where
+  pub accesses : ℕ
+  pub answer : FrameAnswer
+  pub ticks : List TickTold
+
+abbrev pub ending : (accesses : ℕ) → FrameAnswer → List TickTold → Ending
+ending accesses answer ticks = record { accesses = accesses; answer = answer; ticks = ticks }
+
+-- The reply says so.
+pub record Replies (ending : Ending) (reply : Reply) : Type 0 where
+  pub answer : reply.answer ≡ ending.answer
+  pub accesses : reply.accesses ≡ ending.accesses
+  pub outcomes : reply.outcomes.list ≡ map note_of ending.ticks
+
+-- An event ended so, and the observer was told a reply that says so.
+pub record TellsReply {O : Type 0} (ran : O → O → List Event → List Reply → Type 0) (event : Event) (ending : Ending) (old new : O)
+    : Type 0 where
+  pub reply : Reply
+  pub replies : Replies ending reply
+  pub told : ran old new (event ∷ []) (reply ∷ [])
+
+-- The observer was told a reply of this event, of which something holds.
+pub record EventTold {O : Type 0} (ran : O → O → List Event → List Reply → Type 0) (event : Event) (old new : O) (Holds : Reply → Type 0)
+    : Type 0 where
+  pub reply : Reply
+  pub holds : Holds reply
+  pub told : ran old new (event ∷ []) (reply ∷ [])
+
+-- If an observer was told nothing, it was told no reply. What it was told in two consecutive intervals, it was told in both together. And
+-- whatever it is told of ticks, it keeps the room for the answer.
+pub record ComposesRuns {O : Type 0} (heard : O → O → List TickTold → Type 0) (ran : O → O → List Event → List Reply → Type 0)
+    (ready : O → Event → Type 0) : Type 0 where
+  pub quiet : (a b : O) → heard a b [] → ran a b [] []
+  pub joins : (a b c : O) (events later : List Event) (replies others : List Reply) → ran a b events replies → ran b c later others
+      → ran a c (events ++ later) (replies ++ others)
+  pub keeps_room : (a b : O) (event : Event) (told : List TickTold) → heard a b told → ready a event → ready b event

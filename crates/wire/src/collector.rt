@@ -1,0 +1,96 @@
+// The observer of a run that collects its replies.
+
+ghost use Rattle.std.specs.Prelude.{◌≡◌, IsOk};
+
+use crate::run_observer::RunObserver;
+use adapter::Outcome;
+use network_plan::{Answer, Event, Reply};
+use stations::{HeapFrame, Observer, Outcomes, Tick};
+use std::alloc::{AllocError, Global};
+
+/// Collects a reply for each event of a run.
+#[derive(Drop)]
+pub(crate) struct Collector {
+    pub(crate) alloc: Global,
+    pub(crate) replies: Vec<Reply>,
+    /// The outcomes of the event's ticks.
+    pub(crate) outcomes: Outcomes,
+    /// Room for a frame that a socket gives.
+    pub(crate) frame: Option<HeapFrame>,
+}
+
+impl Collector {
+    ghost use Rattle.std.specs.Prelude.{◌≡◌, ◌≤◌, [], IfOk};
+    ghost use Rattle.wire.specs.Collecting.{CollectsTicks, HasPlaceForReply};
+
+    /// Appends replies to these.
+    pub(crate) fn new(alloc: Global, replies: Vec<Reply>) -> Collector
+        ensures replies { result.replies ≡ replies }
+        ensures none { result.outcomes.list ≡ [] }
+    {
+        Collector {
+            alloc,
+            replies,
+            outcomes: Outcomes::new(alloc),
+            frame: None,
+        }
+    }
+
+    /// Makes room for the reply to an event with this many ticks.
+    ///
+    /// # Errors
+    ///
+    /// If memory is refused.
+    fn reserve(&mut self, ticks: usize) -> Result<(), AllocError>
+        ensures nothing { CollectsTicks self.old self.new [] }
+        ensures reply { IfOk result (λ done. HasPlaceForReply self.new) }
+        ensures ticks { IfOk result (λ done. ticks ≤ self.new.outcomes.room) }
+    {
+        self.replies.reserve(1)?;
+        self.outcomes.reserve(self.alloc, ticks)?;
+        if self.frame.is_none() {
+            self.frame = Some(HeapFrame::with_room(self.alloc)?);
+        }
+        Ok(())
+    }
+}
+
+impl Observer for Collector {
+    ghost use Rattle.wire.specs.Collecting.{CollectsTicks, places_in, ticks_composes};
+
+    ghost heard = { CollectsTicks };
+
+    ghost places = { places_in };
+
+    ghost composes = { ticks_composes };
+
+    fn note(&mut self, tick: Tick, accesses: u64, outcome: Outcome<()>, frame: &[u8]) {
+        self.outcomes.note(tick, accesses, outcome, frame);
+    }
+}
+
+impl RunObserver for Collector {
+    ghost use Rattle.wire.specs.Collecting.{CollectsReplies, IsReady, replies_compose};
+
+    ghost ran = { CollectsReplies };
+
+    ghost ready = { IsReady };
+
+    ghost composes_runs = { replies_compose };
+
+    fn make_room(&mut self, _event: &Event, ticks: usize) -> bool {
+        self.reserve(ticks).is_ok()
+    }
+
+    fn answer(&mut self, _event: &Event, accesses: u64, answer: Answer<()>, frame: &[u8]) {
+        if let Some(mut given) = self.frame.take() {
+            given.fill(frame);
+            let outcomes = std::mem::replace(&mut self.outcomes, Outcomes::new(self.alloc));
+            self.replies.push_reserved(Reply {
+                answer: answer.with_frame(given),
+                accesses,
+                outcomes,
+            });
+        }
+    }
+}

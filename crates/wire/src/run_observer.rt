@@ -1,0 +1,39 @@
+// Who is told what comes of a run.
+
+ghost use Rattle.std.specs.Prelude.{◌≡◌, ◌≤◌, [], List, IsTrue, length};
+ghost use Rattle.descriptors.specs.Frames.{longest_frame};
+ghost use Rattle.network_plan.specs.Answers.{answer_with, ticks_of};
+ghost use Rattle.network_plan.specs.declared.event.Event.{Event};
+ghost use Rattle.network_plan.specs.declared.reply.Reply.{Reply};
+ghost use Rattle.stations.specs.ToldTicks.{TickTold};
+ghost use Rattle.wire.specs.RunObservers.{AreOfTicks, ComposesRuns, HasRoom, TellsReply, ending};
+
+use network_plan::{Answer, Event};
+use stations::Observer;
+
+/// Is told what comes of a run: the outcome of each tick, as any [`Observer`], and the answer that ends an event.
+pub trait RunObserver: Observer {
+    /// It was told these replies of these events from one of its states to another, in order.
+    ghost ran: { Self → Self → List Event → List Reply → Type 0 };
+
+    /// It has room for the answer of an event.
+    ghost ready: { Self → Event → Type 0 };
+
+    /// Makes room for all that comes of an event with this many ticks, before its first tick. Returns whether there is
+    /// room.
+    fn make_room(&mut self, event: &Event, ticks: usize) -> bool
+        requires count { ticks ≡ length (ticks_of event.now) }
+        ensures nothing { Self.heard self.old self.new [] }
+        ensures room { IsTrue result → HasRoom ready Self.places event.now self.new };
+
+    /// The answer that ends an event, and how many accesses its call made. The frame is the one that a socket gave; it
+    /// has at most 1,518 bytes.
+    fn answer(&mut self, event: &Event, accesses: u64, answer: Answer<()>, frame: &[u8])
+        requires room { ready self.old event.now }
+        requires fits { length frame.now ≤ longest_frame }
+        ensures { (begin : Self) (ticks : List TickTold) → Self.heard begin self.old ticks → AreOfTicks event.now ticks
+            → TellsReply ran event.now (ending accesses (answer_with frame.now answer) ticks) begin self.new };
+
+    /// What it was told composes.
+    ghost composes_runs: { ComposesRuns Self.heard ran ready };
+}
