@@ -56,7 +56,8 @@ pub trait Bus {
         requires { address + length into.old ≤ extent self.old }
         ensures keeps { StaysWhole extent lent_stays honest lively self.old self.new }
         ensures length { length into.new ≡ length into.old }
-        ensures acts { honest self.old → Acts (view world happened lively) self.old self.new (Loads address (length into.old))
+        ensures acts { honest self.old → Acts (view world happened lively) self.old self.new
+            (Loads address (length into.old))
             (λ before after. (into.new ≡ bytes_at before.memory address (length into.old)) × (after ≡ before)) };
 
     /// Stores bytes from `address` on, which must lie below [`size`](Bus::size).

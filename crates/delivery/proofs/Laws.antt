@@ -33,7 +33,8 @@ outcomes-tell caller ticks accesses first last a m b plays = record {
 }
 
 -- A call over a lent bus.
-pub lent-calls : {O : Type 0} {g : OfObserver O} → ComposesTold g.heard → (a m b : LentBus O g) (past : Past) (told : Retells a m past) (finished : Finished m b)
+pub lent-calls : {O : Type 0} {g : OfObserver O} → ComposesTold g.heard
+    → (a m b : LentBus O g) (past : Past) (told : Retells a m past) (finished : Finished m b)
     → a.accesses ≡ 0 → IsToldCall a m b past told.steps finished.plays.steps
 lent-calls {O} {g} composes a m b past told finished zero =
     let first = told.steps in

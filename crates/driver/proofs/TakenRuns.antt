@@ -82,7 +82,8 @@ pub received-same : (first : HandedOut) (later : List HandedOut) (list : List pa
 received-same first later list size type same is read long =
     let pieces = first ∷ later in
     let shape : List parts.Part → ℕ → ℕ → Received = λ ps n t. record { parts = ps; length = n; ether_type = t } in
-    let long_is : length (frame_of pieces) ≡ size = length-frame pieces ∙ ap (λ (ps : List parts.Part). sum (lengths_in ps)) same ∙ sym is in
+    let long_is : length (frame_of pieces) ≡ size = length-frame pieces ∙ ap (λ (ps : List parts.Part). sum (lengths_in ps)) same ∙ sym
+    is in
     ap (λ (ps : List parts.Part). shape ps (length (frame_of pieces)) (ether_type (frame_of pieces))) same
     ∙ ap (λ (n : ℕ). shape list n (ether_type (frame_of pieces))) long_is
     ∙ ap (shape list size) (sym (read ∙ type-first first.bytes (frame_of later) long))
@@ -114,7 +115,8 @@ only-parts begun (Last bytes ∷ later) none = absurd (omega (arith, ap length n
 one-frame : (seen : ℕ) (numbers : List ℕ) → length numbers ≡ suc seen → receive_buffer_bytes * seen ≤ longest_frame → AreOfOneFrame numbers
 one-frame seen numbers many few = record { least = omega (arith, many); most = omega (arith, many, few) }
 
-pub record TakesRun {B : Type 0} (bus : Ghosts B) (up : Bool) (run : Run) (list : List parts.Part) (others : List ℕ) (b : B) (d : DriverState)
+pub record TakesRun {B : Type 0} (bus : Ghosts B) (up : Bool) (run : Run) (list : List parts.Part) (others : List ℕ) (b : B)
+    (d : DriverState)
     : Type 0 where
   pub pieces : List HandedOut
   pub same : parts_of pieces ≡ list

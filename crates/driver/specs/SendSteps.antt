@@ -24,16 +24,16 @@ pub record FreesOldest (d d' : DriverState) : Type 0 where
   pub some : 0 < d.sending
   pub freed : d' ≡ with_freed d
 
--- Its descriptor is loaded once, if any slot is outstanding. If it isn't freed, no slot is written back after the load.
+-- The oldest slot's descriptor is loaded once, if any slot is outstanding. If the slot isn't freed, no slot is written back after the load.
 pub record LooksBack {B : Type 0} (bus : Ghosts B) (freed : Bool) (old new : Moment B) : Type 0 where
   pub ran : Ran bus true (only (oldest_loads old.driver (min old.driver.sending 1))) old new
   pub none : OnFalse freed (written_back new.driver.oldest_transmit (bus.world new.bus) ≡ [])
 
 -- the number of descriptors loaded: one for each slot that is freed, and one for the first that isn't, if any is left
-abbrev pub slots_looked_at : (before left : ℕ) → ℕ
-slots_looked_at before left = before - left + min left 1
+abbrev pub slots_looked_at : (outstanding left : ℕ) → ℕ
+slots_looked_at outstanding left = outstanding - left + min left 1
 
--- the loads of their descriptors
+-- the loads by which slots are freed, if `left` slots stay outstanding
 abbrev pub loads_to_free : DriverState → (left : ℕ) → List Access
 loads_to_free d left = oldest_loads d (slots_looked_at d.sending left)
 
@@ -59,13 +59,13 @@ accesses_by (Err TooShort) d d' frame = []
 accesses_by (Err TooLong) d d' frame = []
 accesses_by (Err RingFull) d d' frame = loads_to_free d d'.sending
 
--- All slots but one are outstanding, and none of them is written back.
+-- All slots but one are outstanding, and none of them is written back. So no slot can be freed now.
 abbrev pub IsFull : {B : Type 0} → Ghosts B → Moment B → Type 0
 IsFull bus now = (now.driver.sending + 1 ≡ now.driver.layout.tx) × (written_back now.driver.oldest_transmit (bus.world now.bus) ≡ [])
 
 -- The frame was accepted.
 pub record IsAccepted {B : Type 0} (bus : Ghosts B) (old new : Moment B) : Type 0 where
-  -- At least as many slots were freed as were written back at entry.
+  -- At least as many slots were freed as were written back at entry. The + 1 is the frame's own slot.
   pub freed : length (written_back old.driver.oldest_transmit (bus.world old.bus)) + new.driver.sending ≤ old.driver.sending + 1
   -- At least one slot is outstanding.
   pub some : 0 < new.driver.sending
@@ -108,7 +108,8 @@ pub record FreesThenSends {B : Type 0} (bus : Ghosts B) (frame : List ℕ) (old 
   pub more : new.driver ≡ with_transmit_slots freed.driver freed.driver.oldest_transmit (freed.driver.sending + 1)
   pub sends : Ran bus true (sent_now freed.driver frame) freed new
 
--- Slots are freed first, up to one that isn't written back, or until none is left. Then the frame is sent if it is accepted.
+-- Slots are freed first, up to one that isn't written back, or until none is left. Then the frame is sent if it is accepted. For RingFull,
+-- no slot could be freed (`same` of `StaysFull`).
 abbrev pub FreesFirst : {B : Type 0} → Ghosts B → List ℕ → SendAnswer → (old new : Moment B) → Type 0
 FreesFirst bus frame (Ok u) old new = FreesThenSends bus frame old new
 FreesFirst bus frame (Err TooShort) old new = ⊤
@@ -116,6 +117,7 @@ FreesFirst bus frame (Err TooLong) old new = ⊤
 FreesFirst bus frame (Err RingFull) old new = Reclaims bus old new
 
 -- What `transmit` does, by its answer. For Ok, `frees_first` states most, and `ran` and `answer` follow from it; they are kept for users.
+-- For RingFull, `frees_first` repeats `ran` and `at_return` of `answer`.
 pub record Sends {B : Type 0} (bus : Ghosts B) (frame : List ℕ) (result : SendAnswer) (old new : Moment B) : Type 0 where
   pub ran : Ran bus true (sent_by result old.driver new.driver frame) old new
   pub answer : IsTransmitAnswer bus result old new

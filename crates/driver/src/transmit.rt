@@ -138,6 +138,7 @@ impl Driver {
     ///
     /// First it frees the oldest transmit slots whose descriptors have DD, by one load each; if slots are left, the
     /// oldest one's descriptor is loaded, too. `bus` must have at least `layout().size()` bytes.
+    /// Over a bus that doesn't obey the law, the contract states only what `others`, `nothing` and the errors say.
     ///
     /// # Errors
     ///
@@ -145,7 +146,7 @@ impl Driver {
     /// [`TooLong`](SendError::TooLong) if it has more than 1,518; both without an access. E22
     /// [`RingFull`](SendError::RingFull) if all slots of the transmit ring but one are still outstanding after the call
     /// has freed those whose descriptors have DD. If the bus obeys the law and the driver is ready with its transmit
-    /// side up, E22 means exactly one load and an unchanged driver.
+    /// side up, E22 means exactly one load (a ring has at least 8 slots) and an unchanged driver.
     pub fn transmit<B: Bus>(&mut self, bus: &mut B, frame: &[u8]) -> Result<(), SendError>
         requires memory { size_of self.old.layout ≤ B.extent bus.old }
         ensures keeps { Keeps B.Bus bus.old bus.new }

@@ -1,5 +1,5 @@
--- A driver's calls: a driver in its world, what it did in an interval, and what changed. `Ran` and `WhereReady` state this over any bus
--- that obeys the law. The order of the accesses is our choice.
+-- A driver's calls: a driver in its world, what it did in an interval, and what changed (`Ran`). `WhereReady` states it for a bus that obeys
+-- the law. The order of the accesses is our choice.
 use Rattle.std.specs.Prelude.{◌≡◌, ◌≤◌, ◌<◌, ◌⊎◌, ◌^◌, ◌+◌, ◌-◌, ◌%◌, ◌++◌, ◌∷◌, ◌&&◌, []}
 use Rattle.std.specs.Prelude.{ℕ, Bool, true, List, IsTrue, length, map}
 use Rattle.std.specs.Prelude.{min, nat_lt}
@@ -282,7 +282,7 @@ pub record IsReady {B : Type 0} (bus : Ghosts B) (up : Bool) (now : Moment B) : 
   pub ready : ReadyWith up now.driver (bus.world now.bus)
 
 -- If the bus obeys the law and the driver is ready before a call, `Holds` relates the moments before and after it. It does so for each list
--- of frames that others hold, and with the transmit side set up or off.
+-- of pieces of frames that others hold, and with the transmit side set up or off.
 abbrev pub WhereReady : {B : Type 0} → Ghosts B → (old new : Moment B) → (Bool → Moment B → Moment B → Type 0) → Type 0
 WhereReady bus old new Holds =
     (up : Bool) (held : List HandedOut) → IsReady bus up (held_at held old) → Holds up (held_at held old) (held_at held new)

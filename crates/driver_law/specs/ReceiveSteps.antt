@@ -39,7 +39,8 @@ StagedCanBeOffered =
 abbrev pub pieces_in : World → (slots numbers : List ℕ) → List HandedOut
 pieces_in world [] numbers = []
 pieces_in world (slot ∷ slots) [] = []
-pieces_in world (slot ∷ slots) (number ∷ numbers) = record { number = number; bytes = frame_named world slot } ∷ pieces_in world slots numbers
+pieces_in world (slot ∷ slots) (number ∷ numbers) = record { number = number; bytes = frame_named world slot } ∷ pieces_in world slots
+    numbers
 
 -- the driver after its oldest slots, as many as `count`, left the ring; it has the other buffers for those that remain
 abbrev pub after_slots : DriverState → (count : ℕ) → (others : List ℕ) → List HandedOut → DriverState

@@ -93,7 +93,8 @@ mine-answer caller early a b causes run some =
       ]
     ]
 
-by-answer : {O : Type 0} {g : OfObserver O} (a m : LentBus O g) (h h' : HostState) (asked : Asked lent true (driver_at lent (host_at a h))) (result : Handled)
+by-answer : {O : Type 0} {g : OfObserver O} (a m : LentBus O g) (h h' : HostState) (asked : Asked lent true
+    (driver_at lent (host_at a h))) (result : Handled)
     (early : List AtomicStep) (b : List StationState)
     → HostReady h (world_here a) → HostHandlesBy lent result (host_at a h) (host_at m h') asked
     → EarlyRun a.host early a.network.now b asked.causes
@@ -105,13 +106,15 @@ by-answer a m h h' asked (answers.Handled taken) early b ready behind run =
     mine-answer a.host early a.network.now b asked.causes run behind.some
 
 -- The answer is that of the causes read.
-by-causes : {O : Type 0} {g : OfObserver O} (a m : LentBus O g) (h h' : HostState) (asked : Asked lent true (driver_at lent (host_at a h))) (result : Handled)
+by-causes : {O : Type 0} {g : OfObserver O} (a m : LentBus O g) (h h' : HostState) (asked : Asked lent true
+    (driver_at lent (host_at a h))) (result : Handled)
     → HostHandlesBy lent result (host_at a h) (host_at m h') asked
     → ((result ≡ NotMine) ↔ (¬ (Meet asked.causes handled_causes)))
 by-causes a m h h' asked NotMine behind = (λ is. behind.leaves.none, λ none. refl)
 by-causes a m h h' asked (answers.Handled taken) behind = (λ is. absurd (cc), λ none. absurd (none behind.some))
 
-pub calls-tell_causes : {O : Type 0} {g : OfObserver O} (a m b : LentBus O g) (h h' : HostState) (result : Handled) (past : Past) (more : List Access)
+pub calls-tell_causes : {O : Type 0} {g : OfObserver O} (a m b : LentBus O g) (h h' : HostState) (result : Handled) (past : Past)
+    (more : List Access)
     → HostReady h (world_here a) → (handles : HostHandles lent result true (host_at a h) (host_at m h')) → (retells : Retells a b past)
     → past.accesses ≡ Reads ICR handles.asked.causes ∷ more
     → TellsCauses a.host retells.steps handles.asked.causes (world_here a).adapter result
@@ -132,7 +135,8 @@ calls-tell_causes a m b h h' result past more ready handles retells reads =
           });
     }
 
-pub answers-tell_causes : {O : Type 0} {g : OfObserver O} (a m : LentBus O g) (h h' : HostState) (result : Handled) → HostReady h (world_here a)
+pub answers-tell_causes : {O : Type 0} {g : OfObserver O} (a m : LentBus O g) (h h' : HostState) (result : Handled)
+    → HostReady h (world_here a)
     → (handles : HostHandles lent result true (host_at a h) (host_at m h'))
     → TellsCauses a.host handles.asked.reads.reports.steps handles.asked.causes (world_here a).adapter result
 answers-tell_causes a m h h' result ready handles =

@@ -104,7 +104,8 @@ abbrev pub lent_call : {O : Type 0} {g : OfObserver O} (a b : LentBus O g) → P
 lent_call {O} {g} a b = played_call a.host a.ticks.now (g.heard a.observer.now b.observer.now) b.accesses
 
 -- A call of which the lent bus tells, and the ticks that are left.
-pub call-runs_by : {O : Type 0} {g : OfObserver O} → ComposesTold g.heard → (a m b : LentBus O g) (past : Past) (h h' : HostState) (taken : List (List ℕ)) (given : List Given)
+pub call-runs_by : {O : Type 0} {g : OfObserver O} → ComposesTold g.heard
+    → (a m b : LentBus O g) (past : Past) (h h' : HostState) (taken : List (List ℕ)) (given : List Given)
     (accepted : List (List ℕ)) (made : List Access → Type 0)
     → a.accesses ≡ 0 → (retells : Retells a m past)
     → HostFlowsTo true (in_world h (world_here a)) (in_world h' (world_here m)) (did taken given accepted) past
@@ -169,7 +170,8 @@ call-runs_by composes a m b past h h' taken given accepted made zero retells flo
       refl,
     )
 
-pub call-runs : {O : Type 0} {g : OfObserver O} → ComposesTold g.heard → (a m b : LentBus O g) (past : Past) (h h' : HostState) (taken : List (List ℕ)) (given : List Given) (accepted : List (List ℕ))
+pub call-runs : {O : Type 0} {g : OfObserver O} → ComposesTold g.heard
+    → (a m b : LentBus O g) (past : Past) (h h' : HostState) (taken : List (List ℕ)) (given : List Given) (accepted : List (List ℕ))
     (made : List Access → Type 0)
     → a.accesses ≡ 0 → Retells a m past
     → HostFlowsTo true (in_world h (world_here a)) (in_world h' (world_here m)) (did taken given accepted) past
@@ -180,7 +182,8 @@ pub call-runs : {O : Type 0} {g : OfObserver O} → ComposesTold g.heard → (a 
     → Finished m b
     → CallRuns (lent_call a b) (did taken given accepted) made (connected h a.network.now) (connected h' b.network.now)
 call-runs composes a m b past h h' taken given accepted made zero retells flows accesses writes makes work refilled offered finished =
-    (call-runs_by composes a m b past h h' taken given accepted made zero retells flows accesses writes makes work refilled offered finished).0
+    (call-runs_by composes a m b past h h' taken given accepted made zero retells flows accesses writes makes work refilled offered
+    finished).0
 
 -- Every other host.
 pub others-run : (caller k : ℕ) (steps : List AtomicStep) (a b : List StationState) (h : HostState) → k ≢ caller

@@ -109,7 +109,8 @@ stores-memory counts slot (number ∷ later) = All-cons IsOfMemory _ _ tt (store
 
 all-tail_write : (own : Counts) (slot : ℕ) (staged : List ℕ) → slot < own.rx → All (IsOfDriver own) (tail_write slot staged)
 all-tail_write own slot [] below = all-none (IsOfDriver own)
-all-tail_write own slot (number ∷ later) below = All-cons (IsOfDriver own) (Writes RDT slot) [] (inl (refl, below)) (all-none (IsOfDriver own))
+all-tail_write own slot (number ∷ later) below = All-cons (IsOfDriver own) (Writes RDT slot) [] (inl (refl, below)) (all-none
+    (IsOfDriver own))
 
 tail-last : (slot : ℕ) (staged : List ℕ) → OnlyLastWrites (tail_write slot staged)
 tail-last slot [] = tt

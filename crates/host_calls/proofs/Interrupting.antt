@@ -71,7 +71,8 @@ tells-on caller first last steps causes adapter result tells is =
       answer = tells.answer;
     })
 
-leaves-runs : {O : Type 0} {g : OfObserver O} → ComposesTold g.heard → (a m b : LentBus O g) (h h' : HostState) → a.accesses ≡ 0 → HostReady h (world_here a)
+leaves-runs : {O : Type 0} {g : OfObserver O} → ComposesTold g.heard → (a m b : LentBus O g) (h h' : HostState) → a.accesses ≡ 0
+    → HostReady h (world_here a)
     → HostHandles lent NotMine true (host_at a h) (host_at m h') → Finished m b
     → InterruptRuns (lent_call a b) NotMine (connected h a.network.now) (connected h' b.network.now)
 leaves-runs {O} {g} composes a m b h h' zero ready handles finished =
@@ -106,7 +107,8 @@ numbers-joined (pieces ∷ later) =
     map-append (λ (one : HandedOut). one.number) pieces (pieces_of later)
     ∙ ap (λ (numbers : List ℕ). numbers_of pieces ++ numbers) (numbers-joined later)
 
-works-runs : {O : Type 0} {g : OfObserver O} → ComposesTold g.heard → (a m b : LentBus O g) (h h' : HostState) (n : ℕ) → a.accesses ≡ 0 → HostReady h (world_here a) → IsRefilled h'.driver
+works-runs : {O : Type 0} {g : OfObserver O} → ComposesTold g.heard → (a m b : LentBus O g) (h h' : HostState) (n : ℕ) → a.accesses ≡ 0
+    → HostReady h (world_here a) → IsRefilled h'.driver
     → h'.driver.staged ≡ [] → OnlyReceives h.driver h'.driver → HostHandles lent (answers.Handled n) true (host_at a h) (host_at m h')
     → Finished m b
     → InterruptRuns (lent_call a b) (answers.Handled n) (connected h a.network.now) (connected h' b.network.now)
@@ -129,7 +131,8 @@ works-runs composes a m b h h' n zero ready refilled offered only_receives handl
     let driver_accesses = handles-of_driver own h.driver works.misses.misses numbers works.loads
     served.offered (next_receive h'.driver) (subst (λ (c : Counts). next_receive h'.driver < c.rx) counts below) in
     -- what happened up to the last load, after it, and in all
-    let first = retellings-join composes a handles.asked.after_read split.middle past split.before handles.asked.reads.reports split.reaches in
+    let first = retellings-join composes a handles.asked.after_read split.middle past split.before handles.asked.reads.reports
+    split.reaches in
     let work = retellings-join composes handles.asked.after_read split.middle m split.before split.behind split.reaches split.leaves in
     let both = joined split.before split.behind in
     let whole = retellings-join composes a handles.asked.after_read m past both handles.asked.reads.reports work.0 in
@@ -215,10 +218,12 @@ works-runs composes a m b h h' n zero ready refilled offered only_receives handl
       };
     }
 
-pub interrupt-runs : {O : Type 0} {g : OfObserver O} → ComposesTold g.heard → (a m b : LentBus O g) (h h' : HostState) (result : Handled) → a.accesses ≡ 0 → HostReady h (world_here a)
+pub interrupt-runs : {O : Type 0} {g : OfObserver O} → ComposesTold g.heard
+    → (a m b : LentBus O g) (h h' : HostState) (result : Handled) → a.accesses ≡ 0 → HostReady h (world_here a)
     → OnlyReceives h.driver h'.driver → IfHandled result (HostServes h h')
     → HostHandles lent result true (host_at a h) (host_at m h') → Finished m b
     → InterruptRuns (lent_call a b) result (connected h a.network.now) (connected h' b.network.now)
-interrupt-runs composes a m b h h' NotMine zero ready only_receives serves handles finished = leaves-runs composes a m b h h' zero ready handles finished
+interrupt-runs composes a m b h h' NotMine zero ready only_receives serves handles finished = leaves-runs composes a m b h h' zero ready
+    handles finished
 interrupt-runs composes a m b h h' (answers.Handled n) zero ready only_receives serves handles finished =
     works-runs composes a m b h h' n zero ready serves.refilled serves.offered only_receives handles finished

@@ -32,7 +32,8 @@ use Rattle.host_calls.specs.ConnectedHosts.{connected}
 use Rattle.host_calls.proofs.Calling.{call-runs, flows-of, lent_call, work-goes}
 use Rattle.host_calls.proofs.DriversAccesses.{receives-last, receives-of_driver}
 
-pub recv-runs : {O : Type 0} {g : OfObserver O} → ComposesTold g.heard → (a m b : LentBus O g) (h h' : HostState) (socket size : ℕ) (bytes : List ℕ) → a.accesses ≡ 0 → HostReady h (world_here a)
+pub recv-runs : {O : Type 0} {g : OfObserver O} → ComposesTold g.heard
+    → (a m b : LentBus O g) (h h' : HostState) (socket size : ℕ) (bytes : List ℕ) → a.accesses ≡ 0 → HostReady h (world_here a)
     → length bytes ≡ size → Receives lent (record { socket = socket; frame = bytes }) size true (host_at a h) (host_at m h')
     → IsRefilled h'.driver → h'.driver.staged ≡ [] → Finished m b
     → CallRuns (lent_call a b) (did [] (given_by socket (Ok bytes)) []) (MakesRecv (Ok bytes) socket h h') (connected h a.network.now)
@@ -65,7 +66,8 @@ recv-runs composes a m b h h' socket size bytes zero ready long receives refille
     (λ before. refilled) (λ before. offered) finished
 
 -- If no frame is given, only ticks are played.
-pub none-runs : {O : Type 0} {g : OfObserver O} → ComposesTold g.heard → (a m b : LentBus O g) (h h' : HostState) (socket : ℕ) (error : RecvError) → a.accesses ≡ 0 → HostReady h (world_here a)
+pub none-runs : {O : Type 0} {g : OfObserver O} → ComposesTold g.heard
+    → (a m b : LentBus O g) (h h' : HostState) (socket : ℕ) (error : RecvError) → a.accesses ≡ 0 → HostReady h (world_here a)
     → m ≡ a → h' ≡ h → Finished m b
     → CallRuns (lent_call a b) (did [] (given_by socket (Err error)) []) (MakesRecv (Err error) socket h h') (connected h a.network.now)
     (connected h' b.network.now)
@@ -146,14 +148,16 @@ ok-leaves h h' socket size accesses bytes received fits leaves others = record {
   others = others;
 }
 
-pub err-leaves : {O : Type 0} {g : OfObserver O} (a m b : LentBus O g) (h h' : HostState) (socket : ℕ) (error : RecvError) → a.accesses ≡ 0 → m ≡ a → h' ≡ h → Finished m b
+pub err-leaves : {O : Type 0} {g : OfObserver O} (a m b : LentBus O g) (h h' : HostState) (socket : ℕ) (error : RecvError)
+    → a.accesses ≡ 0 → m ≡ a → h' ≡ h → Finished m b
     → LeavesRecv (Err error) socket h h' b.accesses
 err-leaves {O} {g} a m b h h' socket error zero same stays finished =
     (stays, finished.count ∙ ap (λ (bus : LentBus O g). bus.accesses) same ∙ zero)
 
 -- By the answer.
 
-pub any-runs : {O : Type 0} {g : OfObserver O} → ComposesTold g.heard → (a m b : LentBus O g) (h h' : HostState) (socket : ℕ) (result : Result ℕ RecvError) (before into : List ℕ) → a.accesses ≡ 0
+pub any-runs : {O : Type 0} {g : OfObserver O} → ComposesTold g.heard
+    → (a m b : LentBus O g) (h h' : HostState) (socket : ℕ) (result : Result ℕ RecvError) (before into : List ℕ) → a.accesses ≡ 0
     → length into ≡ 1518 → HostReady h (world_here a) → ReturnsBy lent socket into result true (host_at a h) (host_at m h')
     → IfOk result (Returns h h' socket before into) → IfErr result (λ error. (m ≡ a) × (h' ≡ h) × (into ≡ before)) → Finished m b
     → CallRuns (lent_call a b) (did [] (given_by socket (frame_in into result)) []) (MakesRecv (frame_in into result) socket h h')
@@ -165,7 +169,8 @@ any-runs composes a m b h h' socket (Ok size) before into zero long ready receiv
 any-runs composes a m b h h' socket (Err error) before into zero long ready receives ok err finished =
     none-runs composes a m b h h' socket error zero ready err.0 err.1 finished
 
-pub any-answers : {O : Type 0} {g : OfObserver O} (a m : LentBus O g) (h h' : HostState) (socket : ℕ) (result : Result ℕ RecvError) (into : List ℕ)
+pub any-answers : {O : Type 0} {g : OfObserver O} (a m : LentBus O g) (h h' : HostState) (socket : ℕ) (result : Result ℕ RecvError)
+    (into : List ℕ)
     → ReturnsBy lent socket into result true (host_at a h) (host_at m h')
     → ((result ≡ Err NoSocket) ↔ (length h.kinds ≤ socket))
     → ((result ≡ Err Empty) ↔ ((socket < length h.kinds) × (queue_at h.queues socket ≡ [])))
@@ -175,7 +180,8 @@ any-answers a m h h' socket (Ok size) into receives none empty =
 any-answers a m h h' socket (Err error) into receives none empty =
     err-answers (Err error) error socket h (world_here a) refl none empty
 
-pub any-leaves : {O : Type 0} {g : OfObserver O} (a m b : LentBus O g) (h h' : HostState) (socket : ℕ) (result : Result ℕ RecvError) (before into : List ℕ) → a.accesses ≡ 0
+pub any-leaves : {O : Type 0} {g : OfObserver O} (a m b : LentBus O g) (h h' : HostState) (socket : ℕ) (result : Result ℕ RecvError)
+    (before into : List ℕ) → a.accesses ≡ 0
     → length into ≡ 1518 → IfOk result (Returns h h' socket before into)
     → IfErr result (λ error. (m ≡ a) × (h' ≡ h) × (into ≡ before))
     → Finished m b → LeavesRecv (frame_in into result) socket h h' b.accesses

@@ -18,7 +18,8 @@ use Rattle.stations.specs.declared.tick.Tick.TheVariants.{Go}
 use Rattle.host_calls.specs.CallsOfHosts.{EndsWithAccess}
 
 -- The steps of two retellings are those of both.
-pub retellings-join : {O : Type 0} {g : OfObserver O} → ComposesTold g.heard → (a b c : LentBus O g) (first later : Past) (one : Retells a b first) (two : Retells b c later)
+pub retellings-join : {O : Type 0} {g : OfObserver O} → ComposesTold g.heard
+    → (a b c : LentBus O g) (first later : Past) (one : Retells a b first) (two : Retells b c later)
     → ((both : Retells a c (joined first later)) × (both.steps ≡ one.steps ++ two.steps))
 unfolding retells_join
 retellings-join composes a b c first later one two = (retells_join composes a b c first later one two, refl)
@@ -59,7 +60,8 @@ steps-end caller [] a b leads ends = tt
 steps-end caller (step ∷ []) a b leads ends = access-at-go caller step leads.1 ends
 steps-end caller (step ∷ next ∷ later) a b leads ends = steps-end caller (next ∷ later) (after step a) b leads.2 ends
 
-pub retelling-ends : {O : Type 0} {g : OfObserver O} (a b : LentBus O g) (past : Past) (retells : Retells a b past) → EndsWithAccess retells.steps
+pub retelling-ends : {O : Type 0} {g : OfObserver O} (a b : LentBus O g) (past : Past) (retells : Retells a b past)
+    → EndsWithAccess retells.steps
 retelling-ends a b past retells =
     steps-end a.host retells.steps a.network.now b.network.now retells.leads
     (subst EndsWithGo (sym retells.played) (played-ends past.accesses a.ticks.now))

@@ -49,7 +49,8 @@ sends-as (Err TooLong) h h' a b frame = refl
 sends-as (Err RingFull) h h' a b frame = refl
 
 -- The call over a report of the bus with these accesses. The report need not be that of `sent`.
-send-runs : {O : Type 0} {g : OfObserver O} → ComposesTold g.heard → (a m b : LentBus O g) (h h' : HostState) (frame : List ℕ) (result : SendAnswer) (past : Past) → a.accesses ≡ 0
+send-runs : {O : Type 0} {g : OfObserver O} → ComposesTold g.heard
+    → (a m b : LentBus O g) (h h' : HostState) (frame : List ℕ) (result : SendAnswer) (past : Past) → a.accesses ≡ 0
     → HostReady h (world_here a)
     → h' ≡ record h { driver = with_transmit_slots h.driver h'.driver.oldest_transmit h'.driver.sending }
     → HostSends lent frame result (host_at a h) (host_at m h')
@@ -87,7 +88,8 @@ SentCall a b h h' frame result =
     × FreesFirstBy result a.host frame runs.steps (connected h a.network.now) (connected h' b.network.now)
 
 -- A frame that can't be sent: nothing is looked at.
-refused-call : {O : Type 0} {g : OfObserver O} → ComposesTold g.heard → (a m b : LentBus O g) (h h' : HostState) (frame : List ℕ) (error : SendError) → a.accesses ≡ 0 → HostReady h (world_here a)
+refused-call : {O : Type 0} {g : OfObserver O} → ComposesTold g.heard
+    → (a m b : LentBus O g) (h h' : HostState) (frame : List ℕ) (error : SendError) → a.accesses ≡ 0 → HostReady h (world_here a)
     → h' ≡ record h { driver = with_transmit_slots h.driver h'.driver.oldest_transmit h'.driver.sending }
     → HostSends lent frame (Err error) (host_at a h) (host_at m h') → Finished m b
     → CallRuns (lent_call a b) (did [] [] []) (MakesSend (Err error) frame h h') (connected h a.network.now)
@@ -105,7 +107,8 @@ left-over d world ready none =
     record { none = none; frames = omega (arith, count, ap length none) }
 
 -- No slot is free: slots are looked at, and then only ticks are played.
-full-call : {O : Type 0} {g : OfObserver O} → ComposesTold g.heard → (a m b : LentBus O g) (h h' : HostState) (frame : List ℕ) → a.accesses ≡ 0 → HostReady h (world_here a)
+full-call : {O : Type 0} {g : OfObserver O} → ComposesTold g.heard → (a m b : LentBus O g) (h h' : HostState) (frame : List ℕ)
+    → a.accesses ≡ 0 → HostReady h (world_here a)
     → h' ≡ record h { driver = with_transmit_slots h.driver h'.driver.oldest_transmit h'.driver.sending }
     → HostSends lent frame (Err RingFull) (host_at a h) (host_at m h') → Finished m b
     → SentCall a b h h' frame (Err RingFull)
@@ -140,7 +143,8 @@ sends-same d d' frame counts tail =
     ap (λ (layout : Counts). at layout (transmit_tail d')) counts ∙ ap (at d.layout) tail
 
 -- Slots are freed, and then the frame is sent.
-accepted-call : {O : Type 0} {g : OfObserver O} → ComposesTold g.heard → (a m b : LentBus O g) (h h' : HostState) (frame : List ℕ) (u : Unit {0}) → a.accesses ≡ 0 → HostReady h (world_here a)
+accepted-call : {O : Type 0} {g : OfObserver O} → ComposesTold g.heard
+    → (a m b : LentBus O g) (h h' : HostState) (frame : List ℕ) (u : Unit {0}) → a.accesses ≡ 0 → HostReady h (world_here a)
     → h' ≡ record h { driver = with_transmit_slots h.driver h'.driver.oldest_transmit h'.driver.sending }
     → HostSends lent frame (Ok u) (host_at a h) (host_at m h') → Finished m b
     → SentCall a b h h' frame (Ok u)
@@ -191,18 +195,22 @@ accepted-call composes a m b h h' frame u zero ready others sent finished =
       },
     )
 
-pub sent-call : {O : Type 0} {g : OfObserver O} → ComposesTold g.heard → (a m b : LentBus O g) (h h' : HostState) (frame : List ℕ) (result : SendAnswer) → a.accesses ≡ 0 → HostReady h (world_here a)
+pub sent-call : {O : Type 0} {g : OfObserver O} → ComposesTold g.heard
+    → (a m b : LentBus O g) (h h' : HostState) (frame : List ℕ) (result : SendAnswer) → a.accesses ≡ 0 → HostReady h (world_here a)
     → h' ≡ record h { driver = with_transmit_slots h.driver h'.driver.oldest_transmit h'.driver.sending }
     → HostSends lent frame result (host_at a h) (host_at m h') → Finished m b
     → SentCall a b h h' frame result
-sent-call composes a m b h h' frame (Ok u) zero ready others sent finished = accepted-call composes a m b h h' frame u zero ready others sent finished
+sent-call composes a m b h h' frame (Ok u) zero ready others sent finished = accepted-call composes a m b h h' frame u zero ready others
+    sent finished
 sent-call composes a m b h h' frame (Err TooShort) zero ready others sent finished =
     (refused-call composes a m b h h' frame TooShort zero ready others sent finished, tt)
 sent-call composes a m b h h' frame (Err TooLong) zero ready others sent finished =
     (refused-call composes a m b h h' frame TooLong zero ready others sent finished, tt)
-sent-call composes a m b h h' frame (Err RingFull) zero ready others sent finished = full-call composes a m b h h' frame zero ready others sent finished
+sent-call composes a m b h h' frame (Err RingFull) zero ready others sent finished = full-call composes a m b h h' frame zero ready
+    others sent finished
 
-full-count : {O : Type 0} {g : OfObserver O} (old new : Moment (LentBus O g)) (result : SendAnswer) → result ≡ Err RingFull → IsTransmitAnswer lent result old new
+full-count : {O : Type 0} {g : OfObserver O} (old new : Moment (LentBus O g)) (result : SendAnswer) → result ≡ Err RingFull
+    → IsTransmitAnswer lent result old new
     → length (frames_to_send (world_here old.bus)) + length (written_back old.driver.oldest_transmit (world_here old.bus))
     ≡ old.driver.sending
     → length (frames_to_send (world_here old.bus)) + 1 ≡ old.driver.layout.tx
@@ -210,7 +218,8 @@ full-count old new result is answer count =
     let full : IsTransmitAnswer lent (Err RingFull) old new = subst (λ (r : SendAnswer). IsTransmitAnswer lent r old new) is answer in
     omega (arith, full.at_entry.0, ap length full.at_entry.1, count)
 
-still-full : {O : Type 0} {g : OfObserver O} (old new : Moment (LentBus O g)) (result : SendAnswer) → result ≡ Err RingFull → IsTransmitAnswer lent result old new
+still-full : {O : Type 0} {g : OfObserver O} (old new : Moment (LentBus O g)) (result : SendAnswer) → result ≡ Err RingFull
+    → IsTransmitAnswer lent result old new
     → new.driver.layout ≡ old.driver.layout → new.driver.sending + 1 ≡ old.driver.layout.tx
 still-full old new result is answer same =
     let full : IsTransmitAnswer lent (Err RingFull) old new = subst (λ (r : SendAnswer). IsTransmitAnswer lent r old new) is answer in
@@ -221,7 +230,8 @@ frees-by : {O : Type 0} {g : OfObserver O} (a m : LentBus O g) (h h' : HostState
 frees-by a m h h' (Ok u) answer = record { freed = answer.freed; some = answer.some }
 frees-by a m h h' (Err error) answer = tt
 
-pub send-answers : {O : Type 0} {g : OfObserver O} (a m : LentBus O g) (h h' : HostState) (frame : List ℕ) (result : SendAnswer) → HostReady h (world_here a)
+pub send-answers : {O : Type 0} {g : OfObserver O} (a m : LentBus O g) (h h' : HostState) (frame : List ℕ) (result : SendAnswer)
+    → HostReady h (world_here a)
     → ((result ≡ Err TooShort) ↔ (length frame < shortest_sent)) → ((result ≡ Err TooLong) ↔ (longest_frame < length frame))
     → h'.driver.layout ≡ h.driver.layout
     → IsTransmitAnswer lent result (driver_at lent (host_at a h)) (driver_at lent (host_at m h'))

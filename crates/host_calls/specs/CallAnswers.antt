@@ -30,7 +30,8 @@ use Rattle.host_calls.specs.InterruptCauses.{TellsCauses}
 use Rattle.host_calls.specs.CallsOfHosts.{CallRuns, StepsUpTo}
 use Rattle.host_calls.specs.ConnectedHosts.{ConnectedHost, PlayedCall}
 
--- A frame was accepted. Each transmit slot that was written back when the call began is freed, and the frame's slot is outstanding.
+-- A frame was accepted. Each transmit slot that was written back when the call began is freed, and the frame's slot is outstanding (as
+-- `IsAccepted` of `transmit` has it).
 pub record FreesWrittenBack (h h' : HostState) (world : World) : Type 0 where
   pub freed : length (written_back h.driver.oldest_transmit world) + h'.driver.sending ≤ h.driver.sending + 1
   pub some : 0 < h'.driver.sending
@@ -40,7 +41,7 @@ FreesBy (Ok u) h h' world = FreesWrittenBack h h' world
 FreesBy (Err error) h h' world = ⊤
 
 -- Sending. A frame is too short exactly below 14 bytes, and too long exactly above 1,518. The ring is full only if, when the call began,
--- one frame fewer than it has slots was still to be sent; and then all slots but one are outstanding when the call ends.
+-- the number of frames to be sent was one less than the number of transmit slots. Then all slots but one are outstanding when the call ends.
 pub record AnswersSend (result : SendAnswer) (frame : List ℕ) (h h' : HostState) (world : World) : Type 0 where
   pub too_short : (result ≡ Err TooShort) ↔ (length frame < shortest_sent)
   pub too_long : (result ≡ Err TooLong) ↔ (longest_frame < length frame)

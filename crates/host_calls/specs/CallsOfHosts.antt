@@ -39,14 +39,14 @@ EndsWithAccess [] = ⊤
 EndsWithAccess (step ∷ []) = ¬ IsNoAccess step
 EndsWithAccess (step ∷ next ∷ later) = EndsWithAccess (next ∷ later)
 
--- The atomic steps of a call of host k, up to the last of these accesses, its first ones; and the steps behind it.
+-- The atomic steps of a call of host k, in two parts: up to the last of `accesses`, which are the call's first accesses; and after it.
 pub record StepsUpTo (k : ℕ) (accesses : List Access) (steps : List AtomicStep) (old : List StationState) : Type 0 where
   pub first : List AtomicStep
   pub later : List AtomicStep
   pub split : steps ≡ first ++ later
   pub made : (past_at k first).accesses ≡ accesses
   pub ends : EndsWithAccess first
-  -- the stations right behind that access
+  -- the stations after that access, before any further step
   pub middle : List StationState
   pub leads : LeadsTo k first old middle
 
@@ -56,8 +56,11 @@ pub record StepsOfCall (call : PlayedCall) (steps : List AtomicStep) (old new : 
   pub leads : LeadsTo call.caller steps old new
   -- the steps that aren't accesses are the ticks that aren't Go, in order
   pub played : without_go is_go (map tick_of steps) ≡ without_go is_go call.ticks
+  -- what the observer was told
   pub heard : call.heard (steps_told 0 steps)
+  -- The outcomes, with the ticks, determine what happened to frames.
   pub said : told call.ticks (noted_of 0 steps) ≡ happened_in steps
+  -- Each outcome has the number of accesses before its tick's group, and at most that of all accesses.
   pub numbered : noted_numbers (noted_of 0 steps) ≡ numbers call.ticks 0 call.accesses
   pub counted : call.accesses ≡ counted_of 0 steps
 
@@ -68,7 +71,7 @@ pub record HostRuns (k : ℕ) (steps : List AtomicStep) (done : HostDid) (old ne
   pub accesses : All (IsOfDriver old.host.driver.layout) (past_at k steps).accesses
   pub work : HasNoForgottenWork old.host.driver (world_at old.stations k) → HasNoForgottenWork new.host.driver (world_at new.stations k)
   pub refilled : IsRefilled old.host.driver → IsRefilled new.host.driver
-  -- no slot is staged and not offered
+  -- If no slot was staged, none is.
   pub offered : old.host.driver.staged ≡ [] → new.host.driver.staged ≡ []
 
 -- A call of a host: the atomic steps that it and its ticks made, and what the host did. `made` says which accesses it makes, in order.

@@ -37,7 +37,8 @@ pub fn send<O: Observer>(
     requires there { place < length network.old }
     requires ready { HostReady host.old (world_at network.old place) }
     requires room { length ticks.now ≤ O.places observer.old }
-    ensures { SendRuns (played_call place ticks.now (O.heard observer.old observer.new) result.accesses) frame.now result.answer
+    ensures { SendRuns (played_call place ticks.now (O.heard observer.old observer.new) result.accesses) frame.now
+        result.answer
         (connected host.old network.old) (connected host.new network.new) }
 {
     let mut bus = LentBus {
@@ -108,7 +109,8 @@ pub fn recv<O: Observer>(
     requires there { place < length network.old }
     requires ready { HostReady host.old (world_at network.old place) }
     requires room { length ticks.now ≤ O.places observer.old }
-    ensures { RecvRuns (played_call place ticks.now (O.heard observer.old observer.new) result.accesses) socket result.answer
+    ensures { RecvRuns (played_call place ticks.now (O.heard observer.old observer.new) result.accesses) socket
+        result.answer
         (connected host.old network.old) (connected host.new network.new) }
 {
     let mut bytes = [0; 1518];
@@ -141,7 +143,8 @@ pub fn interrupt<O: Observer>(
     requires there { place < length network.old }
     requires ready { HostReady host.old (world_at network.old place) }
     requires room { length ticks.now ≤ O.places observer.old }
-    ensures { InterruptRuns (played_call place ticks.now (O.heard observer.old observer.new) result.accesses) result.answer
+    ensures { InterruptRuns (played_call place ticks.now (O.heard observer.old observer.new) result.accesses)
+        result.answer
         (connected host.old network.old) (connected host.new network.new) }
 {
     let mut bus = LentBus {

@@ -192,7 +192,7 @@ pub record HostSends {B : Type 0} (bus : Ghosts B) (frame : List ℕ) (result : 
   pub answer : IsTransmitAnswer bus result (driver_at bus old) (driver_at bus new)
   -- For Ok and RingFull, slots are freed first, up to one that isn't written back, or until none is left. For Ok, the frame is sent then.
   -- The drivers here hold the queued frames (`driver_at`). So for Ok, `slots` and `more` also state that the bytes of the queued frames
-  -- don't change. For RingFull, this follows from `ran.accounts` and `ran.ran.goes.flows.holds`.
+  -- don't change. For RingFull, `same` of `answer` states this.
   pub frees_first : FreesFirst bus frame result (driver_at bus old) (driver_at bus new)
 
 abbrev pub HostTransmits : {B : Type 0} → Ghosts B → List ℕ → SendAnswer → (old new : HostMoment B) → Type 0

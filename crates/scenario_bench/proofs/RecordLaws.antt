@@ -34,8 +34,10 @@ rest a b list others same = cc
 -- What happens in an event: by its ticks, and by its answer, in the one order or the other.
 
 counts-commute : (a b : Bool) (one : Passage) (tally : Tally)
-    → (if a then counted_once passage.Accepted (if b then counted_once one tally else tally) else (if b then counted_once one tally else tally))
-    ≡ (if b then counted_once one (if a then counted_once passage.Accepted tally else tally) else (if a then counted_once passage.Accepted tally else tally))
+    → (if a then counted_once passage.Accepted (if b then counted_once one tally else tally) else
+    (if b then counted_once one tally else tally))
+    ≡ (if b then counted_once one (if a then counted_once passage.Accepted tally else tally) else
+    (if a then counted_once passage.Accepted tally else tally))
 counts-commute true true passage.Accepted tally = refl
 counts-commute true true passage.Put tally = refl
 counts-commute true true passage.Reached tally = refl
@@ -167,6 +169,7 @@ records-reply one given accesses ticks begin ticked after number heard of_ticks 
             ∙ with-as ticked.number (answered one given) (said one reply) (λ host socket. answered-as host socket one reply)
             (slice_get ticked.sockets.items k)
             ∙ ap (λ (n : ℕ). option_map (with_said n (said one reply)) (slice_get ticked.sockets.items k)) heard.number
-            ∙ ap (λ (sockets : List SocketFrames). option_map (with_said begin.number (said one reply)) (slice_get sockets k)) heard.sockets);
+            ∙ ap (λ (sockets : List SocketFrames). option_map (with_said begin.number (said one reply)) (slice_get sockets k))
+            heard.sockets);
       };
     }

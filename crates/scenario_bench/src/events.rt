@@ -16,19 +16,6 @@ use std::alloc::{AllocError, Global};
 /// Bytes of a broadcast without data: two addresses and the type (IEEE 802.3, 3.1.1).
 const HEADER: usize = 14;
 
-/// A host sends these bytes, without ticks.
-pub(crate) fn send(alloc: Global, host: usize, bytes: &[u8]) -> Result<Event, AllocError>
-    ensures { IfOk result (λ event. event_of event ≡ Sends host bytes.now []) }
-{
-    let mut frame = Vec::with_capacity(alloc, bytes.len())?;
-    frame.extend_from_slice(bytes)?;
-    Ok(Event::Send {
-        host,
-        frame,
-        ticks: Vec::new(alloc),
-    })
-}
-
 /// A host asks a socket for a frame, without ticks.
 fn recv(alloc: Global, host: usize, socket: usize) -> Event
     ensures { event_of result ≡ Receives host socket [] }
@@ -151,48 +138,81 @@ fn broadcast_of(image: &Image) -> [u8; HEADER]
     ]
 }
 
-/// The ticks of a drawn interrupt: a frame finishes after its first access.
-fn late_frame(alloc: Global, host: usize) -> Result<Vec<Tick>, AllocError>
-    ensures { IfOk result (λ ticks. ticks.items ≡ lists.late_frame host) }
-{
-    let mut ticks = Vec::with_capacity(alloc, 3)?;
-    ticks.push(Tick::Go)?;
-    ticks.push(Tick::Step(host, StepKind::RxData))?;
-    ticks.push(Tick::Step(host, StepKind::RxDone))?;
-    Ok(ticks)
+/// Memory for events that are run one at a time. The next event uses the memory of the event before it.
+#[derive(Drop)]
+pub(crate) struct EventMemory {
+    alloc: Global,
+    frame: Vec<u8>,
+    ticks: Vec<Tick>,
 }
 
-/// An interrupt with these ticks.
-fn late_interrupt(alloc: Global, host: usize) -> Result<Event, AllocError>
-    ensures { IfOk result (λ event. event_of event ≡ Interrupts host (lists.late_frame host)) }
-{
-    Ok(Event::Interrupt {
-        host,
-        ticks: late_frame(alloc, host)?,
-    })
-}
+impl EventMemory {
+    /// No memory yet.
+    pub(crate) fn new(alloc: Global) -> EventMemory {
+        EventMemory {
+            alloc,
+            frame: Vec::new(alloc),
+            ticks: Vec::new(alloc),
+        }
+    }
 
-/// The event that a random word draws: its low three bits choose the kind, the others the host.
-pub(crate) fn drawn(alloc: Global, plans: &[HostPlan], word: u32) -> Result<Event, AllocError>
-    requires { 0 < length plans.now }
-    ensures { IfOk result (λ event. event_of event ≡ lists.event_drawn (hosts_of plans.now) word) }
-{
-    let host = (word / 8) as usize % plans.len();
-    event_of_kind(alloc, word % 8, host, &plans[host].image)
-}
+    /// Takes back the memory of an event that was run.
+    pub(crate) fn take_back(&mut self, event: Event) {
+        match event {
+            Event::Send { frame, .. } => self.frame = frame,
+            Event::Interrupt { ticks, .. } => self.ticks = ticks,
+            Event::Recv { .. } | Event::Tick(_) => {}
+        }
+    }
 
-/// The event of a kind, of eight, at a host with this EEPROM.
-fn event_of_kind(alloc: Global, kind: u32, host: usize, image: &Image) -> Result<Event, AllocError>
-    ensures { IfOk result (λ event. event_of event ≡ lists.event_of_kind kind host (address_bytes image.now)) }
-{
-    match kind {
-        0 => Ok(step(host, StepKind::TxTake)),
-        1 => Ok(step(host, StepKind::TxPut)),
-        2 => Ok(step(host, StepKind::RxData)),
-        3 => Ok(step(host, StepKind::RxDone)),
-        4 => Ok(Event::Tick(Tick::Deliver(host))),
-        5 => late_interrupt(alloc, host),
-        6 => Ok(recv(alloc, host, 0)),
-        _ => send(alloc, host, &broadcast_of(image)),
+    /// A host sends these bytes, without ticks.
+    pub(crate) fn send(&mut self, host: usize, bytes: &[u8]) -> Result<Event, AllocError>
+        ensures { IfOk result (λ event. event_of event ≡ Sends host bytes.now []) }
+    {
+        let mut frame = std::mem::replace(&mut self.frame, Vec::new(self.alloc));
+        frame.clear();
+        frame.extend_from_slice(bytes)?;
+        Ok(Event::Send {
+            host,
+            frame,
+            ticks: Vec::new(self.alloc),
+        })
+    }
+
+    /// A host handles an interrupt, and a frame finishes after its first access.
+    fn late_interrupt(&mut self, host: usize) -> Result<Event, AllocError>
+        ensures { IfOk result (λ event. event_of event ≡ Interrupts host (lists.late_frame host)) }
+    {
+        let mut ticks = std::mem::replace(&mut self.ticks, Vec::new(self.alloc));
+        ticks.clear();
+        ticks.push(Tick::Go)?;
+        ticks.push(Tick::Step(host, StepKind::RxData))?;
+        ticks.push(Tick::Step(host, StepKind::RxDone))?;
+        Ok(Event::Interrupt { host, ticks })
+    }
+
+    /// The event that a random word draws: its low three bits choose the kind, the others the host.
+    pub(crate) fn drawn(&mut self, plans: &[HostPlan], word: u32) -> Result<Event, AllocError>
+        requires { 0 < length plans.now }
+        ensures { IfOk result (λ event. event_of event ≡ lists.event_drawn (hosts_of plans.now) word) }
+    {
+        let host = (word / 8) as usize % plans.len();
+        self.event_of_kind(word % 8, host, &plans[host].image)
+    }
+
+    /// The event of a kind, of eight, at a host with this EEPROM.
+    fn event_of_kind(&mut self, kind: u32, host: usize, image: &Image) -> Result<Event, AllocError>
+        ensures { IfOk result (λ event. event_of event ≡ lists.event_of_kind kind host (address_bytes image.now)) }
+    {
+        match kind {
+            0 => Ok(step(host, StepKind::TxTake)),
+            1 => Ok(step(host, StepKind::TxPut)),
+            2 => Ok(step(host, StepKind::RxData)),
+            3 => Ok(step(host, StepKind::RxDone)),
+            4 => Ok(Event::Tick(Tick::Deliver(host))),
+            5 => self.late_interrupt(host),
+            6 => Ok(recv(self.alloc, host, 0)),
+            _ => self.send(host, &broadcast_of(image)),
+        }
     }
 }

@@ -16,7 +16,7 @@ ghost use Rattle.wire.specs.Networks.{IsHost};
 
 use crate::bench_error::BenchError;
 use crate::drained::DrainedFrames;
-use crate::events::{drawn, pieces_of, send, set_behind_send};
+use crate::events::{EventMemory, pieces_of, set_behind_send};
 use crate::record::Record;
 use crate::summary::{HostSummary, Summary};
 use network_plan::{Event, HostPlan, Plan};
@@ -84,10 +84,12 @@ impl Play {
             (HasPlayed (flat_map (lists.fed (hosts_of plans.now) host) trace.now.frames) self.old self.new) }
         ensures err { IfErr result IsWanting }
     {
+        let mut memory = EventMemory::new(alloc);
         let mut behind = Vec::new(alloc);
         for frame in trace.frames.iter() {
-            let events = [send(alloc, host, frame)?];
-            self.run(&events)?;
+            let event = memory.send(host, frame)?;
+            self.run(std::slice::from_ref(&event))?;
+            memory.take_back(event);
             set_behind_send(alloc, plans, host, pieces_of(frame.len()), &mut behind)?;
             self.run(behind.as_slice())?;
         }
@@ -108,11 +110,13 @@ impl Play {
             (map (lists.event_drawn (hosts_of plans.now)) (lists.words_drawn count start)) self.old self.new) }
         ensures err { IfErr result IsWanting }
     {
+        let mut memory = EventMemory::new(alloc);
         let mut generator = Lcg64Xsh32::seed_from_u64(start);
         let mut left = count;
         while left > 0 {
-            let events = [drawn(alloc, plans, generator.next_word())?];
-            self.run(&events)?;
+            let event = memory.drawn(plans, generator.next_word())?;
+            self.run(std::slice::from_ref(&event))?;
+            memory.take_back(event);
             left -= 1;
         }
         Ok(())

@@ -71,7 +71,8 @@ abbrev pub never_lively : {O : Type 0} {g : OfObserver O} → LentBus O g → Ty
 never_lively bus = ⊥
 
 -- the calling host's trail up to the access
-trail-here : {O : Type 0} {g : OfObserver O} (a p : LentBus O g) (prepared : Prepared a p) → Trail (events_at a.host prepared.plays.steps) (world_here a) (world_here p)
+trail-here : {O : Type 0} {g : OfObserver O} (a p : LentBus O g) (prepared : Prepared a p)
+    → Trail (events_at a.host prepared.plays.steps) (world_here a) (world_here p)
 trail-here a p prepared =
     subst (λ (h : ℕ). Trail (events_at a.host prepared.plays.steps) (world_here a) (world_at p.network.now h)) (sym prepared.lent.host)
     (trail-of a.host a.host prepared.plays.steps a.network.now p.network.now (prepared.plays.leads a.host))
@@ -95,7 +96,8 @@ access-keeps {O} {g} a p b prepared same size = record {
 }
 
 -- The access behind what comes before it is as the law says.
-pub acted : {O : Type 0} {g : OfObserver O} (a p b : LentBus O g) (access : Access) (effect : World → World → Type 0) → Prepared a p → LeavesRest p b
+pub acted : {O : Type 0} {g : OfObserver O} (a p b : LentBus O g) (access : Access) (effect : World → World → Type 0) → Prepared a p
+    → LeavesRest p b
     → p.host < length p.network.now → b.network.now ≡ stations_after p.host (Accesses access) p.network.now
     → IsAnswered access (world_here p) → IsAdapter (world_here p).adapter → effect (world_here p) (world_here b)
     → Acts (view world_here Retells never_lively) a b access effect

@@ -54,7 +54,8 @@ plays-none composes now n = record {
   room = omega arith;
 }
 
-pub plays-more : {O : Type 0} {g : OfObserver O} → ComposesTold g.heard → (old mid new : Watched O) (ticks : List Tick) (tick : Tick) (n : ℕ)
+pub plays-more : {O : Type 0} {g : OfObserver O} → ComposesTold g.heard
+    → (old mid new : Watched O) (ticks : List Tick) (tick : Tick) (n : ℕ)
     → PlaysTicks g ticks n old mid → is_go tick ≡ false → PlaysNoted g tick n mid new → PlaysTicks g (ticks ++ tick ∷ []) n old new
 plays-more {O} {g} composes old mid new ticks tick n plays other one =
     let step = one.plays.step in
@@ -140,7 +141,8 @@ pub all-begins-played : {O : Type 0} {g : OfObserver O} → ComposesTold g.heard
     → length ticks ≤ g.places now.observer → AllPlayed g ticks n ticks now now
 all-begins-played composes ticks n now room = record { front = []; split = refl; plays = plays-none composes now n; room = room }
 
-pub group-more : {O : Type 0} {g : OfObserver O} → ComposesTold g.heard → (old mid new : Watched O) (ticks rest : List Tick) (tick : Tick) (n : ℕ)
+pub group-more : {O : Type 0} {g : OfObserver O} → ComposesTold g.heard
+    → (old mid new : Watched O) (ticks rest : List Tick) (tick : Tick) (n : ℕ)
     → GroupPlayed g ticks n (tick ∷ rest) old mid → tick ≢ Go → PlaysNoted g tick n mid new → GroupPlayed g ticks n rest old new
 group-more composes old mid new ticks rest tick n so_far other one = record {
   front = so_far.front ++ tick ∷ [];
@@ -149,7 +151,8 @@ group-more composes old mid new ticks rest tick n so_far other one = record {
   room = omega (arith, so_far.room, one.room);
 }
 
-pub all-more : {O : Type 0} {g : OfObserver O} → ComposesTold g.heard → (old mid new : Watched O) (ticks rest : List Tick) (tick : Tick) (n : ℕ)
+pub all-more : {O : Type 0} {g : OfObserver O} → ComposesTold g.heard
+    → (old mid new : Watched O) (ticks rest : List Tick) (tick : Tick) (n : ℕ)
     → AllPlayed g ticks n (tick ∷ rest) old mid → tick ≢ Go → PlaysNoted g tick n mid new → AllPlayed g ticks n rest old new
 all-more composes old mid new ticks rest tick n so_far other one = record {
   front = so_far.front ++ tick ∷ [];
@@ -158,7 +161,8 @@ all-more composes old mid new ticks rest tick n so_far other one = record {
   room = omega (arith, so_far.room, one.room);
 }
 
-pub all-skip : {O : Type 0} {g : OfObserver O} (old mid : Watched O) (ticks rest : List Tick) (n : ℕ) → AllPlayed g ticks n (Go ∷ rest) old mid
+pub all-skip : {O : Type 0} {g : OfObserver O} (old mid : Watched O) (ticks rest : List Tick) (n : ℕ)
+    → AllPlayed g ticks n (Go ∷ rest) old mid
     → AllPlayed g ticks n rest old mid
 all-skip old mid ticks rest n so_far = record {
   front = so_far.front;
@@ -168,7 +172,8 @@ all-skip old mid ticks rest n so_far = record {
 }
 
 -- At a Go, and at the end, the group is played.
-pub group-go : {O : Type 0} {g : OfObserver O} (old mid : Watched O) (ticks rest : List Tick) (n : ℕ) → GroupPlayed g ticks n (Go ∷ rest) old mid
+pub group-go : {O : Type 0} {g : OfObserver O} (old mid : Watched O) (ticks rest : List Tick) (n : ℕ)
+    → GroupPlayed g ticks n (Go ∷ rest) old mid
     → PlaysTicks g (group_of is_go ticks) n old mid × (rest ≡ behind_group is_go ticks)
 group-go {O} {g} old mid ticks rest n so_far = (
   subst (λ (list : List Tick). PlaysTicks g list n old mid) (sym (so_far.split.group ∙ append-nil so_far.front)) so_far.plays,

@@ -36,7 +36,8 @@ retells_none composes a = record {
   accesses = record { number = refl; count = omega arith };
 }
 
-unfoldable pub retells_join : {O : Type 0} {g : OfObserver O} → ComposesTold g.heard → (a b c : LentBus O g) (first later : Past) → Retells a b first → Retells b c later
+unfoldable pub retells_join : {O : Type 0} {g : OfObserver O} → ComposesTold g.heard → (a b c : LentBus O g) (first later : Past)
+    → Retells a b first → Retells b c later
     → Retells a c (joined first later)
 retells_join {O} {g} composes a b c first later one two =
     let host = one.lent.host in

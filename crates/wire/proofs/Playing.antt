@@ -113,7 +113,8 @@ pub call-played : (caller : ℕ) (ticks : List Tick) (old : NetworkState) (stati
     (connected h' stations))
     → Replies (ending accesses answer (steps_told 0 runs.steps)) reply
     → ((k : ℕ) → told ticks (noted_of 0 runs.steps) ≡ happened_in runs.steps
-    → Tells k (happened answer (noted_of 0 runs.steps)) runs.steps (wire_at old.stations) (of_host k caller given) (of_host k caller accepted))
+    → Tells k (happened answer (noted_of 0 runs.steps)) runs.steps (wire_at old.stations) (of_host k caller given)
+    (of_host k caller accepted))
     → answers answer runs.steps (connected h old.stations) (connected h' stations)
     → CallPlayed (ticked caller ticks) (happened reply.answer reply.outcomes.list) reply answers old
     (record { hosts = slice_set old.hosts caller h'; stations = stations })

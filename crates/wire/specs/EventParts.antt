@@ -58,15 +58,16 @@ pub record HostsGo (caller : ℕ) (happened : List Happening) (steps : List Atom
 
 -- What a call of a host that is there answers.
 
-pub record IsSendAnswer (host : ℕ) (frame : List ℕ) (answer : FrameAnswer) (steps : List AtomicStep) (old new : ConnectedHost) : Type 0 where
-  pub result : SendAnswer
-  pub is : answer ≡ Sent result
-  pub answers : AnswersSend result frame old.host new.host (world_at old.stations host)
-  pub leaves : LeavesSend result old.host new.host (counted_of 0 steps)
-  -- the accesses of its driver are exactly these, in order
-  pub makes : MakesSend result frame old.host new.host (past_at host steps).accesses
-  -- Exactly the slots that are written back before the last load of a descriptor are freed.
-  pub frees_first : FreesFirstBy result host frame steps old new
+pub record IsSendAnswer (host : ℕ) (frame : List ℕ) (answer : FrameAnswer) (steps : List AtomicStep) (old new : ConnectedHost) : Type 0
+  where
+    pub result : SendAnswer
+    pub is : answer ≡ Sent result
+    pub answers : AnswersSend result frame old.host new.host (world_at old.stations host)
+    pub leaves : LeavesSend result old.host new.host (counted_of 0 steps)
+    -- the accesses of its driver are exactly these, in order
+    pub makes : MakesSend result frame old.host new.host (past_at host steps).accesses
+    -- Exactly the slots that are written back before the last load of a descriptor are freed.
+    pub frees_first : FreesFirstBy result host frame steps old new
 
 pub record IsRecvAnswer (host socket : ℕ) (answer : FrameAnswer) (steps : List AtomicStep) (old new : ConnectedHost) : Type 0 where
   pub result : Result (List ℕ) RecvError

@@ -17,11 +17,13 @@ returns-clause-gives g c =
     let ensures = c.recv-answer.ensures in
     let receives = ensures.receives true (record { honest = tt; ready = c.requires.ready }) in
     lent-back (λ (stations : List StationState) told. RecvRuns
-    (played_call c.args.place c.args.ticks.now (g.O.Observer.heard c.args.observer.now told) ends.accesses) c.args.socket (frame_in into result)
+    (played_call c.args.place c.args.ticks.now (g.O.Observer.heard c.args.observer.now told) ends.accesses) c.args.socket
+    (frame_in into result)
     (connected h c.args.network.now) (connected h' stations))
     ends.network.now _ ends.observer.now _ (search rules) (search rules)
     (record {
-      runs = any-runs g.met.O.Observer.composes _ m ends h h' c.args.socket result c.args.into.now into refl (search rules) c.requires.ready receives ensures.ok
+      runs = any-runs g.met.O.Observer.composes _ m ends h h' c.args.socket result c.args.into.now into refl (search rules)
+          c.requires.ready receives ensures.ok
           ensures.err c.finish.ensures;
       answers = any-answers _ m h h' c.args.socket result into receives ensures.no_socket ensures.empty;
       leaves = any-leaves _ m ends h h' c.args.socket result c.args.into.now into refl (search rules) ensures.ok ensures.err

@@ -16,7 +16,8 @@ returns g c =
     let ends = c.finish.new.self in
     let others = c.send-answer.ensures.others in
     let sent = c.send-answer.ensures.transmits (record { honest = tt; ready = c.requires.ready }) in
-    let call = sent-call g.met.O.Observer.composes _ c.send-answer.new.bus ends h h' frame result refl c.requires.ready others sent c.finish.ensures in
+    let call = sent-call g.met.O.Observer.composes _ c.send-answer.new.bus ends h h' frame result refl c.requires.ready others sent
+    c.finish.ensures in
     lent-back (λ (stations : List StationState) told. SendRuns
     (played_call c.args.place c.args.ticks.now (g.O.Observer.heard c.args.observer.now told) ends.accesses) frame result
     (connected h c.args.network.now) (connected h' stations))

@@ -16,7 +16,8 @@ returns-in-Ok g c =
       given = given_by c.args.socket (Ok c.in-Ok.frame);
       appended = search rules;
       room = omega arith;
-      on = given-steps c.args.place c.args.socket c.in-Ok.frame c.args.network.now c.recv.new.network _ c.recv.result.accesses c.args.host.now c.recv.new.host
+      on = given-steps c.args.place c.args.socket c.in-Ok.frame c.args.network.now c.recv.new.network _ c.recv.result.accesses
+          c.args.host.now c.recv.new.host
           (MakesRecv (Ok c.in-Ok.frame) c.args.socket c.args.host.now c.recv.new.host) c.requires.stands.ready
           (subst (λ (answer : Result (List ℕ) RecvError). CallRuns
           (played_call c.args.place [] _ c.recv.result.accesses)

@@ -42,7 +42,8 @@ returns g c =
     let new = connected called.new.host called.new.network in
     let heard = g.O.Observer.heard c.args.observer.now called.new.observer in
     let tells = c.answer.ensures c.args.observer.now (steps_told 0 runs.steps) runs.of_call.heard
-    (told-of_call c.args.call.now.event.now (played_call c.args.call.now.host c.args.call.now.ticks.now heard called.result.accesses) old new
+    (told-of_call c.args.call.now.event.now (played_call c.args.call.now.host c.args.call.now.ticks.now heard called.result.accesses)
+    old new
     c.requires.ticks runs) in
     record {
       reply = tells.reply;

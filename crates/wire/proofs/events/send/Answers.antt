@@ -41,7 +41,8 @@ returns g c =
     let new = connected called.new.host called.new.network in
     let heard = g.O.Observer.heard c.args.observer.now called.new.observer in
     let tells = c.answer.ensures c.args.observer.now (steps_told 0 runs.steps) runs.of_call.heard
-    (told-of_call c.args.call.now.event.now (played_call c.args.call.now.host c.args.call.now.ticks.now heard called.result.accesses) old new
+    (told-of_call c.args.call.now.event.now (played_call c.args.call.now.host c.args.call.now.ticks.now heard called.result.accesses)
+    old new
     c.requires.ticks runs) in
     record {
       reply = tells.reply;
@@ -57,7 +58,8 @@ returns g c =
           (λ k said.
           subst (λ (list : List Happening). Tells k
           (accepted_of c.args.call.now.host c.args.frame.now (Sent called.result.answer) ++ list) runs.steps (wire_at c.args.network.now)
-          (of_host k c.args.call.now.host []) (of_host k c.args.call.now.host (accepted_by called.result.answer c.args.frame.now))) (sym said)
+          (of_host k c.args.call.now.host []) (of_host k c.args.call.now.host (accepted_by called.result.answer c.args.frame.now)))
+          (sym said)
           (tells-send k c.args.call.now.host c.args.frame.now called.result.answer runs.steps (wire_at c.args.network.now)))
           (record {
             result = called.result.answer;

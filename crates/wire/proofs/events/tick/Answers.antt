@@ -14,7 +14,8 @@ returns g c =
     elim c.match-tick.branch [
       | in-Go w ↦
           let tells = c.answer.ensures c.args.observer.now (tick_told tick 0 Nothing ∷ [])
-          (subst (λ now. g.O.Observer.heard c.args.observer.now now (tick_told tick 0 Nothing ∷ [])) (sym w.observer-is) w.note.ensures.heard)
+          (subst (λ now. g.O.Observer.heard c.args.observer.now now (tick_told tick 0 Nothing ∷ [])) (sym w.observer-is)
+          w.note.ensures.heard)
           c.requires.ticks in
           record {
             reply = tells.reply;
@@ -33,6 +34,7 @@ returns g c =
             told = tells.told;
             holds =
                 subst (λ (ss : List StationState). TickPlayed tick tells.reply old ss) (sym w.network-is)
-                (tick-played tick old w.play.new.self plays.outcome tells.reply (not-go tick w.in_default.not-Go) plays.plays tells.replies);
+                (tick-played tick old w.play.new.self plays.outcome tells.reply (not-go tick w.in_default.not-Go) plays.plays
+                tells.replies);
           }
     ]

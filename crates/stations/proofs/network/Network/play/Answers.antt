@@ -10,7 +10,8 @@ pub returns-in-Go : goal.returns-in-Go
 returns-in-Go g c =
     record {
       outcome = Nothing;
-      plays = subst (λ (tick : Tick). Plays c.args.self.now tick Nothing c.args.self.now) (sym c.in-Go.is) (plays-nothing c.args.self.now Go tt);
+      plays = subst (λ (tick : Tick). Plays c.args.self.now tick Nothing c.args.self.now) (sym c.in-Go.is)
+          (plays-nothing c.args.self.now Go tt);
       heard = c.note.ensures.heard;
       room = c.note.ensures.room;
     }

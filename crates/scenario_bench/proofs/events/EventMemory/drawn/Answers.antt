@@ -3,7 +3,7 @@ use Rattle.std.specs.Prelude.{IfOk}
 use Rattle.network_plan.specs.declared.event.Event.{Event}
 use Rattle.scenario.specs.SoFar.{Said, event_of}
 use Rattle.scenario_bench.proofs.EventsOfCommands.{event_drawn-there}
-use Rattle.scenario_bench.proofs.events.drawn.Goals as goal
+use Rattle.scenario_bench.proofs.events.EventMemory.drawn.Goals as goal
 
 pub returns : goal.returns
 returns c =
