@@ -7,19 +7,19 @@ ghost use Rattle.delivery.specs.DeliveryLaws.{WiresDecideToward};
 
 use stations::Observer;
 
-/// What is noted of ticks tells what their atomic steps did.
-/// - `call`: of a call, in order and exactly; and each outcome bears the number of accesses before it,
-///   which is that of its tick's group, or of the whole call where that is less.
-/// - `alone`: of one tick that is played by itself, too, also of a Go.
-/// - `leads`: where that tick isn't a Go, its step leads from the one state of all stations to the other.
+/// The outcomes of ticks determine what their atomic steps did.
+/// - `call`: this holds for the ticks of a call, in order. Each outcome has a number, the number of accesses before it:
+///   the number of its tick's group, or the number of accesses of the complete call if that is less.
+/// - `alone`: this also holds for one tick that is played outside a call, even if it is a Go.
+/// - `leads`: if that tick isn't a Go, its step leads from the one state of all stations to the other.
 pub fn outcomes_tell_steps()
     ensures call { OutcomesTellSteps }
     ensures alone { OneOutcomeTellsItsStep }
     ensures leads { OneTickLeads }
 {}
 
-/// A call over a lent bus, with its ticks played to the end, is one that [`outcomes_tell_steps`] speaks of. Its observer
-/// was told the outcome of each tick.
+/// `call` of [`outcomes_tell_steps`] applies to each call over a lent bus, after all its ticks were played. The bus's
+/// observer was told the outcome of each tick.
 pub fn lent_calls_are_told<O: Observer>()
     ensures { LentCallsAreTold O.Observer }
 {}

@@ -18,7 +18,7 @@ pub record PlayedCall : Type 1 where
   -- the host's number
   pub caller : ℕ
   pub ticks : List Tick
-  -- The observer was told this from the begin of the call to the end of its ticks.
+  -- The observer was told exactly this list, from the start of the call to the end of its last tick.
   pub heard : List TickTold → Type 0
   -- how many accesses it made, up to the greatest u64
   pub accesses : ℕ

@@ -15,8 +15,7 @@ use packet_socket::Host;
 use stations::{Network, Nobody};
 
 /// Drains a host: gives each frame that it holds for its sockets to `sink`, and returns the number of steps. `place` is
-/// the host's number. No tick is played in its calls. `sink` keeps the room that it doesn't
-/// need.
+/// the host's number. No tick is played in its calls. `sink` keeps the room that it doesn't need.
 ///
 /// Each step is the first of these that applies. If a piece of a frame is in progress, the host's adapter writes back
 /// its descriptor. If the interrupt line is asserted, the host handles an interrupt. If a frame waits for a socket,

@@ -7,8 +7,8 @@ use thiserror::Error;
 
 /// What a call answered.
 ///
-/// `F` is what the answer holds of the frame that a socket gave: a [`Reply`] holds the frame itself, on the heap. An
-/// observer of a run is lent the frame beside the answer, which holds nothing of it then (`()`).
+/// `F` is the type of the frame in [`Received`](Answer::Received). A [`Reply`] contains the frame itself, on the heap
+/// (`HeapFrame`). An observer of a run gets an answer without a frame (`()`), and borrows the frame separately.
 #[derive(Debug, Drop, PartialEq, Eq)]
 pub enum Answer<F> {
     /// A send was accepted, or refused.
@@ -57,7 +57,8 @@ pub struct Reply {
     pub outcomes: Outcomes,
 }
 
-/// Memory ran out at the border of an event: the first `done` events were run and answered, and nothing else changed.
+/// A run ended before an event, because its observer had no memory for what comes of it. The first `done` events were
+/// run and reported, and nothing else changed.
 #[derive(Clone, Copy, Debug, PartialEq, Eq, Error)]
 #[error("E47 Memory")]
 pub struct Stopped {

@@ -48,7 +48,8 @@ impl Frames {
         self.len() == 0
     }
 
-    /// Makes room for a frame more, of at most so many bytes. The frames stay.
+    /// Makes room for one more frame, of at most this many bytes. The list doesn't change. The contract doesn't state
+    /// how much room there is then.
     ///
     /// # Errors
     ///

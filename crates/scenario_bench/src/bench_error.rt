@@ -23,9 +23,9 @@ pub enum BenchError {
     /// Its plan was refused. Nothing was written.
     #[error("{0}")]
     Plan(PlanError),
-    /// Memory was refused in a run. Nothing was written. `done` doesn't count from the first event of the scenario: it
-    /// is 0 at a single or a drawn event, and in a feed it counts from the send of a frame, or from the event after
-    /// that.
+    /// Before an event, memory was refused for the frame that a socket may return. Nothing was written. `done` doesn't
+    /// count from the first event of the scenario: it is 0 at a single or a drawn event, and in a feed it counts from
+    /// the send of a frame, or from the event after that.
     #[error("{0}")]
     Run(Stopped),
     /// Memory was refused elsewhere. Nothing was written.

@@ -31,8 +31,8 @@ pub(crate) struct Record {
     pub(crate) hosts: Vec<Tally>,
     /// The frames of each socket, hosts in order and their sockets in order.
     pub(crate) sockets: Vec<GivenFrames>,
-    /// Whether memory was refused for a frame that a socket returned. It isn't, since there is room for the frame before
-    /// its event; the proof doesn't rest on that.
+    /// Whether memory was refused for a frame that a socket returned. This doesn't happen, because the memory is
+    /// allocated before the frame's event. But the proof doesn't use this fact.
     pub(crate) failed: bool,
 }
 

@@ -8,24 +8,24 @@ ghost use Rattle.stations.specs.ToldTicks.{ComposesTold, TickTold, tick_told};
 use crate::tick::Tick;
 use adapter::Outcome;
 
-/// Is told what comes of each tick, after the tick. A frame is lent to it; it copies what it keeps.
+/// Is told the outcome of each tick, in order. A frame is lent to it; it must copy a frame that it needs later.
 pub trait Observer {
-    /// It was told this from one of its states to another, in order.
+    /// Between these two of its states, it was told exactly this list, in order.
     ghost heard: { Self → Self → List TickTold → Type 0 };
 
-    /// It has room for so many more outcomes.
+    /// The number of further outcomes for which it has room.
     ghost places: { Self → ℕ };
 
-    /// A tick was played, after so many accesses of its call, and this is its outcome. The frame is the one that was
-    /// put or delivered; it has at most 1,518 bytes.
+    /// A tick is played, and this is its outcome. `accesses` is the number of accesses that its call made before it.
+    /// The frame is the one that was put or delivered, if there is one; it has at most 1,518 bytes.
     fn note(&mut self, tick: Tick, accesses: u64, outcome: Outcome<()>, frame: &[u8])
         requires room { 0 < places self.old }
         requires fits { length frame.now ≤ longest_frame }
         ensures heard { heard self.old self.new (tick_told tick accesses (with_frame frame.now outcome) ∷ []) }
         ensures room { places self.old ≤ places self.new + 1 };
 
-    /// From a state to itself it was told nothing, and what it was told in two consecutive intervals it was told in both
-    /// together.
+    /// From a state to itself it was told nothing, and what it was told in two consecutive intervals it was told in
+    /// both together.
     ghost composes: { ComposesTold heard };
 }
 

@@ -16,8 +16,7 @@ pub struct Numbered {
     pub outcome: Outcome<HeapFrame>,
 }
 
-/// An observer that collects: the outcomes of a call's ticks, the first first, with room for as many as were asked for,
-/// and for a frame of each.
+/// An observer that collects the outcomes of a call's ticks, in order. Room for an outcome includes room for its frame.
 ///
 /// In contracts it is the list of them and the room that is left, an `OutcomeList`.
 #[derive(Debug, Drop)]
@@ -52,7 +51,7 @@ impl Outcomes {
         }
     }
 
-    /// No outcome, with room for so many.
+    /// No outcome, with room for this many.
     ///
     /// # Errors
     ///
@@ -66,11 +65,11 @@ impl Outcomes {
         Ok(outcomes)
     }
 
-    /// Makes room for so many more outcomes, and for a frame of each.
+    /// Makes room for this many further outcomes, and for a frame of each. The list doesn't change.
     ///
     /// # Errors
     ///
-    /// If memory is refused. The outcomes stay.
+    /// If memory is refused.
     pub fn reserve(&mut self, alloc: Global, more: usize) -> Result<(), AllocError>
         ensures stays { self.new.list ≡ self.old.list }
         ensures room { IfOk result (λ done. more ≤ self.new.room) }

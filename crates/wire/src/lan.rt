@@ -83,7 +83,8 @@ impl Lan {
     ///
     /// # Errors
     ///
-    /// If the observer has no room for an event. The events before it were run and told, and it changed nothing.
+    /// If the observer has no room for an event. The events before this one were run and told, and this event changed
+    /// nothing.
     pub fn play<O: RunObserver>(
         &mut self,
         events: &[Event],

@@ -13,7 +13,7 @@ use stations::Observer;
 
 /// Is told what comes of a run: the outcome of each tick, as any [`Observer`], and the answer that ends an event.
 pub trait RunObserver: Observer {
-    /// It was told these replies of these events from one of its states to another, in order.
+    /// Between these two of its states, it was told what is in these replies, one reply for each event, in order.
     ghost ran: { Self → Self → List Event → List Reply → Type 0 };
 
     /// It has room for the answer of an event.
@@ -26,14 +26,15 @@ pub trait RunObserver: Observer {
         ensures nothing { Self.heard self.old self.new [] }
         ensures room { IsTrue result → HasRoom ready Self.places event.now self.new };
 
-    /// The answer that ends an event, and how many accesses its call made. The frame is the one that a socket gave; it
-    /// has at most 1,518 bytes.
+    /// The answer that ends an event, and how many accesses its call made. The frame is the one that a socket gave, if
+    /// there is one; it has at most 1,518 bytes.
     fn answer(&mut self, event: &Event, accesses: u64, answer: Answer<()>, frame: &[u8])
         requires room { ready self.old event.now }
         requires fits { length frame.now ≤ longest_frame }
         ensures { (begin : Self) (ticks : List TickTold) → Self.heard begin self.old ticks → AreOfTicks event.now ticks
             → TellsReply ran event.now (ending accesses (answer_with frame.now answer) ticks) begin self.new };
 
-    /// What it was told composes.
+    /// What it was told in two consecutive intervals, it was told in both together. Ticks don't use its room for an
+    /// answer.
     ghost composes_runs: { ComposesRuns Self.heard ran ready };
 }

@@ -135,7 +135,7 @@ fn the_code_of_the_readme_of_stations_where_a_bus_is_lent(rt: HostRuntime) -> Re
         ticks: &ticks,
         host: 0,
         accesses: 0,
-        outcomes: &mut outcomes,
+        observer: &mut outcomes,
     };
     bus.write(EERD, 1); // word 0 is asked for
     assert_eq!(rt; bus.read(EERD), 0x0002_0010); // the word, and DONE
