@@ -34,12 +34,12 @@ pub record Answers (happened : List Happening) (old new : Record) : Type 0 where
   pub hosts : TalliesGrow happened old.hosts.items new.hosts.items
   pub sockets : new.failed ≡ false → GetsSaid old.number happened old.sockets.items new.sockets.items
 
--- Events and their replies are recorded.
+-- Events and their replies are recorded, and memory wasn't refused before.
 pub record RecordsRun (events : List Event) (replies : List Reply) (old new : Record) : Type 0 where
   pub before : old.failed ≡ false
   pub each : length replies ≡ length events
   pub noted : AreNoted (ran events replies) old new
 
--- So it is if memory wasn't refused.
+-- Events and their replies are recorded, unless memory was refused for a frame.
 abbrev pub RecordsReplies : Record → Record → List Event → List Reply → Type 0
 RecordsReplies old new events replies = new.failed ≡ false → RecordsRun events replies old new

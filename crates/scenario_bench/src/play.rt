@@ -87,8 +87,9 @@ impl Play {
         let mut memory = EventMemory::new(alloc);
         let mut behind = Vec::new(alloc);
         for frame in trace.frames.iter() {
-            let event = memory.send(host, frame)?;
-            self.run(std::slice::from_ref(&event))?;
+            let events = [memory.send(host, frame)?];
+            self.run(&events)?;
+            let [event] = events;
             memory.take_back(event);
             set_behind_send(alloc, plans, host, pieces_of(frame.len()), &mut behind)?;
             self.run(behind.as_slice())?;
@@ -114,8 +115,9 @@ impl Play {
         let mut generator = Lcg64Xsh32::seed_from_u64(start);
         let mut left = count;
         while left > 0 {
-            let event = memory.drawn(plans, generator.next_word())?;
-            self.run(std::slice::from_ref(&event))?;
+            let events = [memory.drawn(plans, generator.next_word())?];
+            self.run(&events)?;
+            let [event] = events;
             memory.take_back(event);
             left -= 1;
         }

@@ -25,7 +25,7 @@ pub record AppendsReplies (replies : List Reply) (old new : Collector) : Type 0 
   pub appended : new.replies.items ≡ old.replies.items ++ replies
   pub none_left : new.outcomes.list ≡ []
 
--- So it is if no outcome was left at the beginning.
+-- Replies are collected, if no outcome was left over at the beginning.
 abbrev pub CollectsReplies : Collector → Collector → List Event → List Reply → Type 0
 CollectsReplies old new events replies = old.outcomes.list ≡ [] → AppendsReplies replies old new
 

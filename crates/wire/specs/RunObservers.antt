@@ -43,7 +43,7 @@ pub record Ending : Type 0 where
 abbrev pub ending : (accesses : ℕ) → FrameAnswer → List TickTold → Ending
 ending accesses answer ticks = record { accesses = accesses; answer = answer; ticks = ticks }
 
--- The reply says so.
+-- A reply that says how an event ended.
 pub record Replies (ending : Ending) (reply : Reply) : Type 0 where
   pub answer : reply.answer ≡ ending.answer
   pub accesses : reply.accesses ≡ ending.accesses
