@@ -1,13 +1,13 @@
 -- Frames are taken one after the other.
 use Rattle.std.proofs.Common.{◌≡◌, ◌≤◌, ◌+◌, ◌++◌, ◌∷◌, [], ◌∙◌}
 use Rattle.std.proofs.Common.{Bool, IsTrue, true, ℕ, List, length, map, refl, sym, ap, subst}
-use Rattle.std.proofs.Common.{append_assoc, length-append, length-take, take, arith}
+use Rattle.std.proofs.Common.{append_assoc, length-append, length-take, sum, take, arith}
 use Rattle.std.specs.List.{concat}
 use Rattle.std.proofs.lemmas.Grind.{flat_map-append}
 use Rattle.std.proofs.lemmas.List.{append-nil, length-map, map-append}
 use Rattle.std.specs.List.{All}
 use Rattle.std.proofs.lemmas.List.Elements.{All-append, All-cons}
-use Rattle.bus.proofs.Lists.{all-none}
+use Rattle.bus.proofs.Lists.{all-head, all-none}
 use Rattle.dma_memory.specs.Layout.{Counts}
 use Rattle.dma_memory.specs.Owners.{copies}
 use Rattle.dma_memory.specs.OwnersLaws.{copies-append}
@@ -24,16 +24,17 @@ use Rattle.driver_law.specs.Calls.{Ran, WhereReady, at, ether_type_load, only, r
 use Rattle.driver_law.specs.DriverState.{DriverState, HandedOut, frame_of, holding, numbers_of}
 use Rattle.driver_law.specs.ReadyDrivers.{ReadyWith, Stands}
 use Rattle.driver_law.specs.ReceiveSteps.{after_slots}
-use Rattle.driver.specs.HandlerSteps.{AreOfOneFrame, HandsOn, HandsOver, HasEtherType, LeavesRing, Scene, Takes, TakesSlots}
+use Rattle.driver.specs.HandlerSteps.{AreOfOneFrame, HandsOn, HandsOver, HasEtherType, IsTaken, LeavesRing, Scene, Takes, TakesSlots}
 use Rattle.driver.specs.HandlerSteps.{WhereReadyIn, WhereTaken, part_none, run_buffers, run_of, scene, whole_frames}
 use Rattle.driver.specs.Looks.{FindsFrame}
-use Rattle.driver.specs.Parts.{FillBuffers, buffers_in, buffers_of, joined_frames, parts_of, pieces_of, received_of}
+use Rattle.driver.specs.Parts.{AreFrames, FillBuffers, FitIntoBuffers, IsFrameSize, IsWholeFrame, buffers_in, buffers_of, joined_frames}
+use Rattle.driver.specs.Parts.{lengths_in, parts_of, pieces_of, received_of}
 use Rattle.driver.specs.declared.look.Run.{Run}
 use Rattle.driver.specs.declared.parts.Part.{Part}
 use Rattle.driver.specs.declared.receiver.Received.{Received}
 use Rattle.driver.specs.declared.receiver.Receiver.{Ghosts as OfReceiver}
 use Rattle.driver.proofs.ShownRuns.{part-append, slots-next, slots-none}
-use Rattle.driver.proofs.TakenRuns.{buffers-pieces, concat-numbers, is-kept, takes-run}
+use Rattle.driver.proofs.TakenRuns.{buffers-pieces, concat-numbers, is-kept, length-frame, takes-run}
 
 -- So many frames were taken, and shown to the receiver.
 pub record Walks {B R : Type 0} (bus : Ghosts B) (receivers : OfReceiver R) (n : ℕ) (old new : Scene B R) : Type 0 where
@@ -46,7 +47,15 @@ pub walks-none : {B R : Type 0} (bus : Ghosts B) (receivers : OfReceiver R)
 walks-none bus receivers stays waits b r d = record {
   slots = slots-none receivers waits r d;
   takes = λ up held is. record {
-    frames = record { taken = []; kept = []; shown = waits r; part = part_none; count = refl; groups = all-none AreOfOneFrame };
+    frames = record {
+      taken = [];
+      kept = [];
+      shown = waits r;
+      part = part_none;
+      count = refl;
+      groups = all-none AreOfOneFrame;
+      each = all-none IsTaken;
+    };
     oldest = refl;
     bad = refl;
     ran = subst (λ (list : List HandedOut). Ran bus up (only []) (at b (holding held d)) (at b (holding list d)))
@@ -57,6 +66,30 @@ walks-none bus receivers stays waits b r d = record {
 
 -- One frame more: the run that is found from b to c leaves the ring, from d2 to d3, and is passed on from c to e, from d3 to d4.
 
+-- A whole run has the size of a frame, and its parts fill their buffers.
+record IsWholeRun (list : List Part) : Type 0 where
+  size : IsFrameSize (sum (lengths_in list))
+  fits : FitIntoBuffers (lengths_in list)
+  fill : FillBuffers (lengths_in list)
+
+whole-run : (received : List Received) (list : List Part) → map (λ (one : Received). one.parts) received ≡ list ∷ []
+    → AreFrames received → FillBuffers (lengths_in list) → IsWholeRun list
+whole-run [] list same frames fill = absurd (cc)
+whole-run (one ∷ later) list same frames fill =
+    let is : one.parts ≡ list = cc in
+    let whole = all-head IsWholeFrame one later frames in
+    record {
+      size = subst (λ (ps : List Part). IsFrameSize (sum (lengths_in ps))) is (subst IsFrameSize whole.sum whole.size);
+      fits = subst (λ (ps : List Part). FitIntoBuffers (lengths_in ps)) is whole.fits;
+      fill = fill;
+    }
+
+is-taken : (pieces : List HandedOut) → IsWholeRun (parts_of pieces) → IsTaken pieces
+is-taken pieces run = record {
+  whole = record { size = subst IsFrameSize (sym (length-frame pieces)) run.size; sum = length-frame pieces; fits = run.fits };
+  fill = run.fill;
+}
+
 -- Over a bus that obeys the law it is shown.
 takes-next : {up : Bool} {B R : Type 0} (bus : Ghosts B) (receivers : OfReceiver R)
     → ((b : B) → bus.happened b b nothing)
@@ -66,7 +99,7 @@ takes-next : {up : Bool} {B R : Type 0} (bus : Ghosts B) (receivers : OfReceiver
     → (a b c e : B) (r s t : R) (d1 d2 d3 d4 : DriverState) (n slots : ℕ) (run : Run) (parts : List Part) (held : List HandedOut)
     → d2.oldest_receive ≡ place d1.layout.rx d1.oldest_receive slots → slots + length d2.buffers ≡ length d1.buffers
     → d2.layout ≡ d1.layout → length (buffers_in parts) ≡ run.count → LeavesRing run parts d2 d3
-    → d4 ≡ record d3 { pool = d4.pool; bad = d4.bad }
+    → d4 ≡ record d3 { pool = d4.pool; bad = d4.bad } → IsWholeRun parts
     → (before : Takes bus receivers n up (scene a (holding held d1) r) (scene b (holding held d2) s))
     → FindsFrame bus run up (at b (holding (held ++ pieces_of before.frames.kept) d2))
     (at c (holding (held ++ pieces_of before.frames.kept) d2))
@@ -76,7 +109,7 @@ takes-next : {up : Bool} {B R : Type 0} (bus : Ghosts B) (receivers : OfReceiver
     (scene e (holding ((held ++ pieces_of before.frames.kept) ++ pieces) d4) t))
     → Takes bus receivers (n + 1) up (scene a (holding held d1) r) (scene e (holding held d4) t)
 takes-next {up} bus receivers stays joins also a b c e r s t d1 d2 d3 d4 n slots run parts held oldest_is outstanding known size leaves
-    given before finds over =
+    given legal before finds over =
     let held2 = held ++ pieces_of before.frames.kept in
     let take = takes-run bus stays b c d2 d3 (holding held2 d2) run parts size leaves refl finds finds.ran.goes.flows.ready in
     let pieces = take.pieces in
@@ -171,6 +204,9 @@ takes-next {up} bus receivers stays joins also a b c e r s t d1 d2 d3 d4 n slots
         groups = subst (All AreOfOneFrame) (sym (map-append numbers_of before.frames.taken (pieces ∷ [])))
             (All-append AreOfOneFrame (map numbers_of before.frames.taken) (numbers_of pieces ∷ []) before.frames.groups
             (All-cons AreOfOneFrame (numbers_of pieces) [] take.group (all-none AreOfOneFrame)));
+        each =
+            All-append IsTaken before.frames.taken (pieces ∷ []) before.frames.each
+            (All-cons IsTaken pieces [] (is-taken pieces (subst IsWholeRun (sym take.same) legal)) (all-none IsTaken));
       };
       oldest =
           before.oldest
@@ -217,12 +253,15 @@ walks-next bus receivers stays joins also a b c e r s t d1 d2 d3 d4 n m run part
           let there = ready-on bus (at a (holding held d1)) (at b (holding later d2)) keeps1 is before.ran in
           let found = finds up later there in
           let shown : whole ≡ true = whole_is ∙ found.is_run.whole in
+          let sizes = whole-run hands.shows.received parts
+          (hands.shows.frames ∙ ap (λ (b : Bool). whole_frames (run_of parts b ∷ [])) shown) hands.shows.sizes
+          (subst FillBuffers (sym leaves.lengths) (full (subst IsTrue (sym found.is_run.whole) refl))) in
           subst (λ (k : ℕ). Takes bus receivers k up (scene a (holding held d1) r) (scene e (holding held d4) t))
           (ap (λ (b : Bool). n + length (whole_frames (run_of parts b ∷ []))) (sym shown) ∙ more)
           (takes-next bus receivers stays joins also a b c e r s t d1 d2 d3 d4 n (length (run_buffers slots.runs)) run parts held
           slots.next (omega (arith, ap length slots.oldest, length-append (run_buffers slots.runs) d2.buffers))
           (ap (λ (d : DriverState). d.layout) others)
-          size leaves given before found
+          size leaves given sizes before found
           (λ pieces ready same type_is. over up later pieces shown same type_is
           (record { honest = keeps2.honest there.honest; ready = ready })));
     }

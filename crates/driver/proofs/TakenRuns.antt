@@ -59,7 +59,7 @@ parts-same pieces list numbers sizes =
     ∙ ap (zipped (buffers_in list)) sizes ∙ zipped-parts list
 
 -- A frame is as long as its pieces together.
-length-frame : (pieces : List HandedOut) → length (frame_of pieces) ≡ sum (lengths_in (parts_of pieces))
+pub length-frame : (pieces : List HandedOut) → length (frame_of pieces) ≡ sum (lengths_in (parts_of pieces))
 length-frame [] = refl
 length-frame (one ∷ later) = omega (
   arith,

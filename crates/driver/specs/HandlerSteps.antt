@@ -1,6 +1,6 @@
--- What a driver takes off its receive ring, who holds it then, and what its interrupt handler does. The contract of `interrupt` names the
--- records from `Handles` and `Serves` down; those under "Taking frames" and "With a receiver" that these don't name are for the private
--- functions that it calls.
+-- What a driver takes off its receive ring, who holds it then, and what its interrupt handler does. To review the contract of `interrupt`,
+-- begin with `Handles` and `Serves`, at the end. `TakesAll` and `TakesSlots` are for `take_finished`. The other records that these don't
+-- name are for private functions.
 use Rattle.std.specs.Prelude.{⊤, ◌≡◌, ◌≤◌, ◌<◌, ◌⊎◌, ◌+◌, ◌-◌, ◌*◌, ◌^◌, ◌++◌, ◌∷◌, []}
 use Rattle.std.specs.Prelude.{ℕ, suc, Bool, not, All, List, count_by, filter, flat_map, length, map}
 use Rattle.std.specs.Prelude.{IsTrue, min, take}
@@ -23,7 +23,8 @@ use Rattle.driver_law.specs.Calls.{takes_from, with_missed}
 use Rattle.driver_law.specs.DriverState.{DriverState, HandedOut, frame_of, holding, next_receive, numbers_of, owners}
 use Rattle.driver_law.specs.ReceiveSteps.{after_slots}
 use Rattle.driver.specs.RefillSteps.{OffersAfter}
-use Rattle.driver.specs.Parts.{AreFrames, FillBuffers, buffers_in, buffers_of, joined_frames, lengths_in, parts_of, pieces_of, received_of}
+use Rattle.driver.specs.Parts.{AreFrames, FillBuffers, IsWholeFrame, buffers_in, buffers_of}
+use Rattle.driver.specs.Parts.{joined_frames, lengths_in, parts_of, pieces_of, received_of}
 use Rattle.driver.specs.declared.look.Run.{Run}
 use Rattle.driver.specs.declared.parts.Part.{Part}
 use Rattle.driver.specs.declared.receiver.Received.{Received}
@@ -156,10 +157,16 @@ pub record HandsOver {B R : Type 0} (bus : Ghosts B) (receivers : OfReceiver R) 
   pub ran :
       Ran bus up (only (ether_type_load old.driver.layout (numbers_of pieces))) (moment old) (at new.bus old.driver)
 
--- These are the buffers of one frame: at least one, and those before the last are full, and no longer together than the longest frame.
+-- These are the buffers of one frame: at least one. Those before the last, which are full, have at most `longest_frame` bytes in all.
 pub record AreOfOneFrame (numbers : List ℕ) : Type 0 where
   pub least : 1 ≤ length numbers
   pub most : receive_buffer_bytes * (length numbers - 1) ≤ longest_frame
+
+-- A frame that was taken, in these pieces. It has a legal size. Each piece but the last fills its buffer, and the last isn't empty, so the
+-- frame's length determines the number of pieces.
+pub record IsTaken (pieces : List HandedOut) : Type 0 where
+  pub whole : IsWholeFrame (received_of pieces)
+  pub fill : FillBuffers (lengths_in (parts_of pieces))
 
 -- n frames, each with its pieces, were shown to the receiver, in order. It keeps those in `kept`.
 pub record ShowsFrames {R : Type 0} (receivers : OfReceiver R) (n : ℕ) (before after : R) : Type 0 where
@@ -169,6 +176,7 @@ pub record ShowsFrames {R : Type 0} (receivers : OfReceiver R) (n : ℕ) (before
   pub part : IsPart kept taken
   pub count : length taken ≡ n
   pub groups : All AreOfOneFrame (map numbers_of taken)
+  pub each : All IsTaken taken
 
 -- n frames were taken off the ring, the oldest first, and shown to the receiver.
 pub record Takes {B R : Type 0} (bus : Ghosts B) (receivers : OfReceiver R) (n : ℕ) (up : Bool) (old new : Scene B R) : Type 0 where
@@ -181,7 +189,8 @@ pub record Takes {B R : Type 0} (bus : Ghosts B) (receivers : OfReceiver R) (n :
       (moment old) (held_at (old.driver.handed_out ++ pieces_of frames.kept) (moment new))
 
 -- Over any bus: these runs left the ring, the oldest first, and n of them were shown as whole frames. Which runs are bad, and where a bad
--- run ends, is open here: what a load returns is known only over a bus that obeys the law.
+-- run ends, is open here, so the count of bad runs may also be one for each slot: what a load returns is known only over a bus that obeys
+-- the law.
 pub record TakesSlots {R : Type 0} (receivers : OfReceiver R) (n : ℕ) (before after : R) (d d' : DriverState) : Type 0 where
   pub others : d' ≡ record d { oldest_receive = d'.oldest_receive; buffers = d'.buffers; pool = d'.pool; bad = d'.bad }
   pub runs : List RunOfSlots
@@ -243,8 +252,8 @@ taking_accesses d misses taken loads =
 abbrev pub offering_accesses : DriverState → (offered : List ℕ) → (tail : ℕ) → List Access
 offering_accesses d offered tail = stores_from d.layout (next_receive d) offered ++ tail_write tail (d.staged ++ offered)
 
--- The last look, in the world at a moment after its last load and before the next access, if these buffers are outstanding then, and the
--- oldest slot is at this place. No frame ends in finished slots. The descriptors of the finished slots, which contain the beginning of a
+-- The last look, in the world at a moment after its last load and before the next access. Then the buffers `rest` are outstanding, and
+-- `oldest` is the oldest slot's index. No frame ends in finished slots. The descriptors of the finished slots, which contain the beginning of a
 -- frame, were loaded, and that of the next outstanding slot, if there is one.
 pub record IsLook (oldest : ℕ) (rest : List ℕ) (world : World) (loads : ℕ) : Type 0 where
   pub none_left : frames_of (finished_pieces oldest world) ≡ []
@@ -270,7 +279,7 @@ pub record ReadsMisses (d d' : DriverState) : Type 0 where
   pub missed : d'.missed ≡ (with_missed misses d).missed
   pub exact : d'.exact ≡ (with_missed misses d).exact
 
--- The slots of the buffers `taken` were the oldest, and none of them is bad. Then slots are offered after the others: those that were
+-- The slots of the buffers `taken` were the oldest, and the count of bad runs doesn't change. Then slots are offered after the others: those that were
 -- staged, and new ones with the buffers `offered`. `oldest` and `newest` are equations of the whole lists of buffers: before the call, the
 -- buffers taken and the others; after it, the others, the staged and the offered ones.
 pub record TakesAndOffers (d d' : DriverState) (taken : List ℕ) : Type 0 where
@@ -317,7 +326,7 @@ pub record HandlesIt {B R : Type 0} (bus : Ghosts B) (receivers : OfReceiver R) 
   pub least : length (frames_ended (in_world_of bus (moment old))) ≤ n
   -- If RXT0 is in the mask at the beginning, no work is forgotten at the end.
   pub work : HasBit (bus.world old.bus).adapter.causes.mask rxt0 → HasNoForgottenWork new.driver (bus.world new.bus)
-  -- both parts together
+  -- the read of ICR and the work together
   pub flows : FlowsTo up (in_world_of bus (moment old))
       (in_world_of bus (held_at (old.driver.handed_out ++ pieces_of works.frames.kept) (moment new)))
       (driver_did (joined_frames works.frames.taken) []) (joined asked.reads.past works.ran.past)

@@ -122,10 +122,10 @@ impl Driver {
         true
     }
 
-    /// Takes the frames of finished receive slots, from the oldest slot on up to the first that isn't finished, each
-    /// as a run of slots up to one with EOP, or of six without. It shows each whole frame to the receiver, and returns
-    /// their number. Finished slots that no end of a frame follows remain in the ring. Over a bus that obeys the law,
-    /// each descriptor is loaded once, and after those of a frame bytes 12 and 13 of the frame.
+    /// Takes runs of finished receive slots, the oldest first, until a look finds neither EOP nor six finished slots. It
+    /// shows the frame of each whole run to the receiver, and returns their number. Finished slots that no end of a
+    /// frame follows remain in the ring. Over a bus that obeys the law, each descriptor is loaded once, and after those
+    /// of a frame bytes 12 and 13 of the frame.
     pub fn take_finished<B: Bus, R: Receiver>(&mut self, bus: &mut B, receiver: &mut R) -> usize
         requires memory { size_of self.old.layout ≤ B.extent bus.old }
         ensures keeps { Keeps B.Bus bus.old bus.new }

@@ -197,6 +197,7 @@ works {up} bus old new n sound sound' is asked it serves =
         frames = record {
           count = w.frames.count;
           groups = w.frames.groups;
+          each = w.frames.each;
           sorted = record {
             kinds = w.frames.shown.kinds;
             queues = subst (Queues before.kinds before.queues after.queues) w.frames.shown.claimed all.queues;

@@ -20,7 +20,7 @@ use Rattle.driver_law.specs.Calls.{call_did, driver_did, driver_in, frames_ended
 use Rattle.driver_law.specs.DriverState.{DriverState, HandedOut, buffer_at, frame_of, holding, next_receive, numbers_of, with_owners}
 use Rattle.driver_law.specs.ReadyDrivers.{ReadyWith}
 use Rattle.bring_up.specs.WrittenRegisters.{handled_causes}
-use Rattle.driver.specs.HandlerSteps.{AreOfOneFrame, Asked, DoesNothing, GrowsBy, IsLook, IsRun, IsSplit, ReadsMisses}
+use Rattle.driver.specs.HandlerSteps.{IsTaken, AreOfOneFrame, Asked, DoesNothing, GrowsBy, IsLook, IsRun, IsSplit, ReadsMisses}
 use Rattle.driver.specs.HandlerSteps.{RunOfSlots, TakesAndOffers, bad_runs, offering_accesses, run_buffers, taking_accesses, whole_frames}
 use Rattle.driver.specs.Parts.{AreFrames, IsFrameSize, joined_frames, part_loads, pieces_of, received_of}
 use Rattle.driver.specs.declared.parts.Part.{Part}
@@ -48,7 +48,7 @@ waiting_pieces counts memory received = map (waiting_piece counts memory) receiv
 abbrev pub waiting_frame : Counts → List ℕ → Received → List ℕ
 waiting_frame counts memory received = frame_of (waiting_pieces counts memory received)
 
--- the host's driver; the pieces of the frames in the host's queues are those that others hold
+-- the host's driver, whose `handed_out` is set to the pieces of the queued frames, with the bytes that are in memory now
 abbrev pub driver_of : HostState → World → DriverState
 driver_of host world = holding (flat_map (waiting_pieces host.driver.layout world.memory) (all_of host.queues)) host.driver
 
@@ -133,7 +133,7 @@ abbrev pub did_both : (first later : HostDid) → HostDid
 did_both first later = did (first.taken ++ later.taken) (first.given ++ later.given) (first.accepted ++ later.accepted)
 
 -- An interval in which the host did this with frames. `Holds` relates its driver at the beginning and at the end. The host is ready at the
--- end: `sizes`, and `ready` of `driver`.
+-- end: `sizes`, and what `Holds` says of the driver at the end.
 pub record HostInterval (Holds : DriverInWorld → DriverInWorld → DriverDid → Past → Type 0) (old new : HostInWorld) (done : HostDid)
     (past : Past) : Type 0 where
   pub sizes : AreFrames (all_of new.host.queues)
@@ -208,7 +208,7 @@ pub record LeavesQueue (h h' : HostState) (socket size : ℕ) (received : Receiv
   pub unclaimed : h'.unclaimed ≡ h.unclaimed
   pub long : size ≡ received.length
 
--- The frame is loaded, piece by piece. Then slots are offered with these buffers; the frame's buffers may be among them.
+-- The frame is loaded, piece by piece. Then slots are offered with the buffers `offered`; the frame's buffers may be among them.
 abbrev pub receive_accesses : (d d' : DriverState) → (parts : List Part) → (offered : List ℕ) → List Access
 receive_accesses d d' parts offered =
     part_loads d.layout parts
@@ -227,7 +227,8 @@ pub record Receives {B : Type 0} (bus : Ghosts B) (given : Given) (size : ℕ) (
   pub ran :
       HostRan bus up (only (receive_accesses old.host.driver new.host.driver received.parts offered)) (given ∷ []) old new
 
--- By the answer. `into` is the caller's bytes after the call; for Ok, its first `size` bytes are the frame returned.
+-- By the answer. `into` is the caller's bytes after the call; for Ok, its first `size` bytes are the frame returned. For an error, the
+-- clause `err` states that nothing changes.
 abbrev pub ReturnsBy : {B : Type 0} → Ghosts B → (socket : ℕ) → (into : List ℕ) → Result ℕ RecvError → Bool
     → (old new : HostMoment B) → Type 0
 ReturnsBy bus socket into (Ok size) = Receives bus (record { socket = socket; frame = take size into }) size
@@ -260,7 +261,7 @@ claimed_of kinds list = filter (λ (received : Received). has_socket kinds recei
 abbrev pub unclaimed_of : List SocketKind → List Received → ℕ
 unclaimed_of kinds list = count_by (λ (received : Received). has_none kinds received.ether_type) list
 
--- Entries went to the ends of their sockets' queues, in order, and nothing else changed.
+-- Entries went to the ends of their sockets' queues, in order, and no queue has another entry.
 pub record Queues (kinds : List SocketKind) (before after : List (List Received)) (kept : List Received) : Type 0 where
   pub ends : (socket : ℕ) → queue_at after socket ≡ queue_at before socket ++ socket_entries kinds socket kept
   pub all : IsPermutation (all_of before ++ kept) (all_of after)
@@ -307,6 +308,7 @@ pub record HostServes (h h' : HostState) (n : ℕ) : Type 0 where
 pub record AreSorted (n : ℕ) (h h' : HostState) (taken : List (List HandedOut)) : Type 0 where
   pub count : length taken ≡ n
   pub groups : All AreOfOneFrame (map numbers_of taken)
+  pub each : All IsTaken taken
   pub sorted : SortsFrames h h' (map received_of taken)
 
 -- The work after the read of ICR: n frames are taken and sorted. Then slots are offered. `ran` has the accesses, in order, and is split at
