@@ -16,7 +16,7 @@ use Rattle.stations.specs.declared.tick.Tick.{Tick}
 use Rattle.stations.specs.declared.tick.Tick.TheVariants.{Deliver, Go, Step}
 use Rattle.scenario.specs.SoFar.{Host, Said, Draws, Feeds, Interrupts, Receives, Sends, Ticks}
 
--- how many receive buffers a frame of this size needs after it is padded; one if `send` refuses the frame
+-- how many receive buffers a frame of this size needs after it is padded; one if it is too long for `send`
 abbrev pub pieces_of : (size : ℕ) → ℕ
 pieces_of size = if nat_le size longest_frame then div_ceil (max size shortest_frame) receive_buffer_bytes else 1
 

@@ -34,7 +34,8 @@ fn step(host: usize, kind: StepKind) -> Event
     Event::Tick(Tick::Step(host, kind))
 }
 
-/// How many receive buffers a frame of this size needs after it is padded; one if `send` refuses the frame.
+/// How many receive buffers a frame of this size needs after it is padded; one if the frame is too short or too long
+/// for `send` (E20, E21).
 pub(crate) fn pieces_of(size: usize) -> usize
     ensures { result ≡ lists.pieces_of size }
 {

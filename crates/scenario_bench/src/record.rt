@@ -36,7 +36,8 @@ pub(crate) struct Record {
     pub(crate) failed: bool,
 }
 
-/// The host that a tick names, or 0 for a Go, which names none.
+/// The host that a tick names. A Go names none, and 0 stands for it: the outcome of a Go is `Nothing`, which is not
+/// counted.
 fn host_of(tick: Tick) -> usize
     ensures { result ≡ host_of tick }
 {
@@ -263,7 +264,9 @@ impl RunObserver for Record {
 
     ghost ran = { RecordsReplies };
 
-    ghost ready = { λ now one. ⊤ };
+    ghost ready = { λ now event. ⊤ };
+
+    ghost refuses = { λ now event. ⊤ };
 
     ghost composes_runs = { replies_compose };
 

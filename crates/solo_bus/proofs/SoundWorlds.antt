@@ -81,7 +81,7 @@ sending-fits : (size : ℕ) (words : List ℕ) → 4096 ≤ size → FitBuffers 
 sending-fits size words fits =
     let w = requested size words in
     let offered = frames_can_be_offered 0 0 w (idle_rings_are_sound w (requested-idle size words fits))
-        (requested-can_send size words fits) in
+    (requested-can_send size words fits) in
     offered.received.fits 2048 (resting-fits size words w.memory)
 
 -- A frame has arrived.

@@ -99,7 +99,7 @@ pub record IsInterruptAnswer (host : ℕ) (answer : FrameAnswer) (steps : List A
   pub takes : TakesFrames host steps (joined_frames taken) old new
   -- the accesses of its driver are exactly these, in order
   pub makes : MakesInterrupt result (map numbers_of taken) old.host new.host (past_at host steps).accesses
-  -- Right after its last look, before any further tick, no frame ends in finished slots.
+  -- Right after its last load of a descriptor, before any further tick, no frame ends in finished slots.
   pub looks : LooksBy result (map numbers_of taken) host steps old new
 
 -- A call, and its reply.

@@ -11,12 +11,13 @@ use Rattle.network_plan.specs.declared.event.Event.{Event}
 use Rattle.network_plan.specs.declared.event.Event.TheVariants.{Interrupt, Recv, Send, Tick as Alone}
 use Rattle.network_plan.specs.declared.reply.Reply.{Reply}
 
--- It has room for the answer of this event, and for an outcome of each of its ticks.
+-- It has room for the answer of this event, and for as many outcomes as the event has ticks, each Go counted.
 pub record HasRoom {O : Type 0} (ready : O → Event → Type 0) (places : O → ℕ) (event : Event) (now : O) : Type 0 where
   pub answer : ready now event
   pub ticks : length (ticks_of event) ≤ places now
 
--- the ticks of an event that are played: each but a Go, in order; and a tick by itself, also a Go
+-- The ticks of an event whose outcomes are told, in order: of a call each but a Go, for a Go only lets the host go on to its next
+-- access; and a tick by itself, also a Go.
 abbrev pub played_ticks : Event → List Tick
 played_ticks (Send host frame ticks) = without_go is_go ticks.items
 played_ticks (Recv host socket ticks) = without_go is_go ticks.items

@@ -1,5 +1,5 @@
 -- Runs of events (our choice).
-use Rattle.std.specs.Prelude.{◌≡◌, ◌++◌, ◌∷◌, [], ℕ, List, Ok, length}
+use Rattle.std.specs.Prelude.{◌≡◌, ◌++◌, ◌∷◌, [], ℕ, List, Ok, Option, Some, length}
 use Rattle.packet_socket.specs.HostState.{HostState}
 use Rattle.stations.specs.AtomicSteps.{AtomicStep}
 use Rattle.stations.specs.declared.tick.Tick.{Tick}
@@ -48,7 +48,7 @@ caller_of (Recv host socket ticks) = host
 caller_of (Interrupt host ticks) = host
 caller_of (Alone tick) = 0
 
--- one thing of a call with its ticks, another of a tick by itself
+-- what holds of a call with its ticks, or of a tick by itself
 abbrev pub OfEvent : Event → (TickedCall → Type 0) → (Tick → Type 0) → Type 0
 OfEvent (Send host frame ticks) OfCall OfTick = OfCall (ticked host ticks.items)
 OfEvent (Recv host socket ticks) OfCall OfTick = OfCall (ticked host ticks.items)
@@ -93,9 +93,17 @@ pub record RunsTo (old : NetworkState) (events : List Event) (before behind : Li
   pub delivers : (k : ℕ) (h h' : HostState) → IsHost old k h → IsHost new k h'
       → Delivers k (happenings events replies) old.stations new.stations h h'
 
--- These events were run, and the observer was told a reply to each.
+-- These events were run, and the observer was told a reply to each. The run alone is described, so `runs` has no earlier replies.
 pub record RunTold {O : Type 0} (ran : O → O → List Event → List Reply → Type 0) (events : List Event) (old new : NetworkState)
     (from to : O) : Type 0 where
   pub replies : List Reply
   pub told : ran from to events replies
   pub runs : RunsTo old events [] replies new
+
+-- A run stopped before this event. The observer, told of all before it, refused to make room.
+pub record StopsAt {O : Type 0} (refuses : O → Event → Type 0) (next : Option Event) (Told : O → Type 0) : Type 0 where
+  pub event : Event
+  pub is : next ≡ Some event
+  pub asked : O
+  pub told : Told asked
+  pub refused : refuses asked event

@@ -70,11 +70,14 @@ impl Observer for Collector {
 }
 
 impl RunObserver for Collector {
+    ghost use Rattle.std.specs.Prelude.{⊤};
     ghost use Rattle.wire.specs.Collecting.{CollectsReplies, IsReady, replies_compose};
 
     ghost ran = { CollectsReplies };
 
     ghost ready = { IsReady };
+
+    ghost refuses = { λ now event. ⊤ };
 
     ghost composes_runs = { replies_compose };
 

@@ -154,7 +154,10 @@ pub(crate) fn interrupt<O: RunObserver>(
     observer.answer(call.event, called.accesses, answer, &[]);
 }
 
-/// A tick by itself. `Go` does nothing.
+/// A tick by itself. `Go` changes nothing, and its outcome is `Nothing`.
+///
+/// The network would play `Go` to the same outcome. But there it counts as an atomic step of its own, and in a reply it
+/// is none.
 pub(crate) fn tick<O: RunObserver>(
     network: &mut Network,
     event: &Event,

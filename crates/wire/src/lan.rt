@@ -33,9 +33,9 @@ impl Model for Lan {
 }
 
 impl Lan {
-    ghost use Rattle.std.specs.Prelude.{◌<◌, IfErr, OnOk, length, take};
+    ghost use Rattle.std.specs.Prelude.{◌<◌, IfErr, OnOk, length, slice_get, take};
     ghost use Rattle.wire.specs.RunObservers.{EventTold, HasRoom};
-    ghost use Rattle.wire.specs.Runs.{EventRuns, RunTold, RunsTo};
+    ghost use Rattle.wire.specs.Runs.{EventRuns, RunTold, RunsTo, StopsAt};
 
     /// Runs one event. The observer has room for all that comes of it.
     fn event<O: RunObserver>(&mut self, event: &Event, observer: &mut O)
@@ -78,13 +78,13 @@ impl Lan {
         }
     }
 
-    /// Runs events in order. The observer is told what comes of each. It is asked to make room for an event before the
-    /// first tick of it.
+    /// Runs events in order. Before each event the observer is asked to make room for it. Then it is told the outcome
+    /// of each tick, and the answer.
     ///
     /// # Errors
     ///
-    /// If the observer has no room for an event. The events before this one were run and told, and this event changed
-    /// nothing.
+    /// Only if the observer refuses to make room for an event. The events before that one were run and told, and it
+    /// changed nothing in the network.
     pub fn play<O: RunObserver>(
         &mut self,
         events: &[Event],
@@ -93,6 +93,8 @@ impl Lan {
         ensures ok { OnOk result (RunTold O.ran events.now self.old self.new observer.old observer.new) }
         ensures stopped { IfErr result (λ stopped. (stopped.done < length events.now)
             × RunTold O.ran (take stopped.done events.now) self.old self.new observer.old observer.new) }
+        ensures refused { IfErr result (λ stopped. StopsAt O.refuses (slice_get events.now stopped.done)
+            (RunTold O.ran (take stopped.done events.now) self.old self.new observer.old)) }
     {
         for (done, event) in events.iter().enumerate() {
             if !observer.make_room(event, event.tick_count()) {

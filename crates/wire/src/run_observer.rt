@@ -1,6 +1,7 @@
 // Who is told what comes of a run.
 
-ghost use Rattle.std.specs.Prelude.{◌≡◌, ◌≤◌, [], List, IsTrue, length};
+ghost use Rattle.std.specs.Bool.{OnFalse, OnTrue};
+ghost use Rattle.std.specs.Prelude.{◌≡◌, ◌≤◌, [], List, length};
 ghost use Rattle.descriptors.specs.Frames.{longest_frame};
 ghost use Rattle.network_plan.specs.Answers.{answer_with, ticks_of};
 ghost use Rattle.network_plan.specs.declared.event.Event.{Event};
@@ -12,6 +13,8 @@ use network_plan::{Answer, Event};
 use stations::Observer;
 
 /// Is told what comes of a run: the outcome of each tick, as any [`Observer`], and the answer that ends an event.
+///
+/// A run promises what `ran` says, and stops only if `refuses` says so.
 pub trait RunObserver: Observer {
     /// Between these two of its states, it was told what is in these replies, one reply for each event, in order.
     ghost ran: { Self → Self → List Event → List Reply → Type 0 };
@@ -19,15 +22,19 @@ pub trait RunObserver: Observer {
     /// It has room for the answer of an event.
     ghost ready: { Self → Event → Type 0 };
 
+    /// It may refuse to make room for an event.
+    ghost refuses: { Self → Event → Type 0 };
+
     /// Makes room for all that comes of an event with this many ticks, before its first tick. Returns whether there is
     /// room.
     fn make_room(&mut self, event: &Event, ticks: usize) -> bool
         requires count { ticks ≡ length (ticks_of event.now) }
         ensures nothing { Self.heard self.old self.new [] }
-        ensures room { IsTrue result → HasRoom ready Self.places event.now self.new };
+        ensures room { OnTrue result (HasRoom ready Self.places event.now self.new) }
+        ensures refused { OnFalse result (refuses self.old event.now) };
 
-    /// The answer that ends an event, and how many accesses its call made. The frame is the one that a socket gave, if
-    /// there is one; it has at most 1,518 bytes.
+    /// The answer that ends an event, and how many accesses its call made. The frame is the one that a socket gave, at
+    /// most 1,518 bytes. If the answer has no frame, these may be any bytes.
     fn answer(&mut self, event: &Event, accesses: u64, answer: Answer<()>, frame: &[u8])
         requires room { ready self.old event.now }
         requires fits { length frame.now ≤ longest_frame }

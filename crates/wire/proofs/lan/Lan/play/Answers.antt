@@ -1,5 +1,6 @@
-use Rattle.std.proofs.Common.{◌≡◌, ◌+◌, ◌<◌, ◌++◌, ◌∷◌, [], List, length, take, slice_index_or, arith, sym, subst}
+use Rattle.std.proofs.Common.{rules, ◌≡◌, ◌+◌, ◌<◌, ◌++◌, ◌∷◌, [], List, length, take, slice_index_or, arith, sym, subst}
 use Rattle.std.proofs.lemmas.Grind.{common_steps}
+use Rattle.std.proofs.lemmas.Option.{slice_get-get_or}
 use Rattle.network_plan.specs.declared.event.Event.{Event}
 use Rattle.wire.specs.RunObservers.{EventTold}
 use Rattle.wire.specs.Runs.{EventRuns, RunTold}
@@ -31,3 +32,15 @@ returns-then-not-make_room-clause-stopped g c = (
   told-asked g.met.O.RunObserver.composes_runs (take c.loop-done.done c.args.events.now) c.args.self.now c.loop-done.self
       c.args.observer.now c.loop-done.observer c.make_room.new.self c.loop-done.invariant c.make_room.ensures.nothing,
 )
+
+pub returns-then-not-make_room-clause-refused : goal.returns-then-not-make_room-clause-refused
+returns-then-not-make_room-clause-refused g c =
+    let event = slice_index_or c.args.events.now c.loop-done.done c.index-events-done.result in
+    let refused : g.O.RunObserver.refuses c.loop-done.observer c.index-events-done.result = search rules in
+    record {
+      event = event;
+      is = slice_get-get_or c.args.events.now c.loop-done.done c.index-events-done.result (omega arith);
+      asked = c.loop-done.observer;
+      told = c.loop-done.invariant;
+      refused = subst (λ (e : Event). g.O.RunObserver.refuses c.loop-done.observer e) c.index-events-done.is refused;
+    }
