@@ -47,18 +47,18 @@ use Rattle.packet_socket.specs.HostCalls.{did}
 use Rattle.host_calls.specs.ConnectedHosts.{connected}
 
 -- A step that was taken, by itself.
-pub record TakesStep (place : ℕ) (kind : StepKind) (answer : FrameOutcome) (a b : List StationState) : Type 0 where
-  pub adapter : IsAdapter (world_at a place).adapter
-  pub answers : Answers kind true (world_at a place).memory (world_at a place).adapter answer
-  pub leads : LeadsTo place (At place (Steps kind true answer) ∷ []) a b
-  pub world : world_at b place ≡ world_after_step kind answer (world_at a place)
+pub record TakesStep (number : ℕ) (kind : StepKind) (answer : FrameOutcome) (a b : List StationState) : Type 0 where
+  pub adapter : IsAdapter (world_at a number).adapter
+  pub answers : Answers kind true (world_at a number).memory (world_at a number).adapter answer
+  pub leads : LeadsTo number (At number (Steps kind true answer) ∷ []) a b
+  pub world : world_at b number ≡ world_after_step kind answer (world_at a number)
 
-pub takes-step : (place : ℕ) (kind : StepKind) (answer : FrameOutcome) (a b : List StationState) → place < length a → kind ≢ TxPut
-    → Occurs (Steps kind true answer) (world_at a place) → b ≡ stations_after place (Steps kind true answer) a
-    → TakesStep place kind answer a b
-takes-step place kind answer a b below other event is =
-    let found = slice_get-some a place below in
-    let occurs : OccursAt place (Steps kind true answer) a = record {
+pub takes-step : (number : ℕ) (kind : StepKind) (answer : FrameOutcome) (a b : List StationState) → number < length a → kind ≢ TxPut
+    → Occurs (Steps kind true answer) (world_at a number) → b ≡ stations_after number (Steps kind true answer) a
+    → TakesStep number kind answer a b
+takes-step number kind answer a b below other event is =
+    let found = slice_get-some a number below in
+    let occurs : OccursAt number (Steps kind true answer) a = record {
       wire = found.0.wire;
       on_wire = ap wire_of found.1;
       occurs = event;
@@ -68,38 +68,38 @@ takes-step place kind answer a b below other event is =
       adapter = event.0;
       answers = event.1;
       leads = (occurs, tt, is);
-      world = ap (λ (ss : List StationState). world_at ss place) is
-          ∙ world-here a place (Steps kind true answer) (eq-eqb place place refl) occurs;
+      world = ap (λ (ss : List StationState). world_at ss number) is
+          ∙ world-here a number (Steps kind true answer) (eq-eqb number number refl) occurs;
     }
 
-ticks : (place : ℕ) (kind : StepKind) (answer : FrameOutcome) → All IsTick (At place (Steps kind true answer) ∷ [])
-ticks place kind answer = All-cons IsTick (At place (Steps kind true answer)) [] tt (all-none IsTick)
+ticks : (number : ℕ) (kind : StepKind) (answer : FrameOutcome) → All IsTick (At number (Steps kind true answer) ∷ [])
+ticks number kind answer = All-cons IsTick (At number (Steps kind true answer)) [] tt (all-none IsTick)
 
-elsewhere : (place k : ℕ) (event : Event) → k ≢ place → events_at k (At place event ∷ []) ≡ []
-elsewhere place k event other =
-    elim (eqb_tells k place) [
+elsewhere : (number k : ℕ) (event : Event) → k ≢ number → events_at k (At number event ∷ []) ≡ []
+elsewhere number k event other =
+    elim (eqb_tells k number) [
       | inl same ↦ absurd (other same.1)
       | inr differ ↦ subst (λ (here : Bool). (if here then event ∷ [] else []) ++ [] ≡ []) (sym differ.0) refl
     ]
 
 -- The host itself does nothing meanwhile.
-pub step-runs : (place : ℕ) (kind : StepKind) (answer : FrameOutcome) (a b : List StationState) (h : HostState)
-    → CanBeDrained h (world_at a place) → TakesStep place kind answer a b
-    → HostRuns place (At place (Steps kind true answer) ∷ []) (did [] [] []) (connected h a) (connected h b)
-step-runs place kind answer a b h stands takes =
-    let steps = At place (Steps kind true answer) ∷ [] in
-    runs-alone place steps a b h stands.ready
-    (happens-alone place place steps a b (ticks place kind answer) takes.leads)
-    (none-alone place steps (ticks place kind answer))
+pub step-runs : (number : ℕ) (kind : StepKind) (answer : FrameOutcome) (a b : List StationState) (h : HostState)
+    → CanBeDrained h (world_at a number) → TakesStep number kind answer a b
+    → HostRuns number (At number (Steps kind true answer) ∷ []) (did [] [] []) (connected h a) (connected h b)
+step-runs number kind answer a b h stands takes =
+    let steps = At number (Steps kind true answer) ∷ [] in
+    runs-alone number steps a b h stands.ready
+    (happens-alone number number steps a b (ticks number kind answer) takes.leads)
+    (none-alone number steps (ticks number kind answer))
 
 -- How many frames are finished, in work and buffered together stays.
-held-stays : (place n : ℕ) (played : List AtomicStep) (a b : List StationState) (h : HostState) → LeadsTo place played a b
-    → happened_in played ≡ replicate n (Moved place) → HostRuns place played (did [] [] []) (connected h a) (connected h b)
-    → length (frames_held h.driver.oldest_receive (world_at b place)) ≡ length (frames_held h.driver.oldest_receive (world_at a place))
-held-stays place n played a b h leads moved runs =
-    let holds = held-flows [] (frames_held h.driver.oldest_receive (world_at b place))
-    (frames_held h.driver.oldest_receive (world_at a place)) (past_at place played).stored runs.flows.driver.holds
-    (nothing-stored place place played a b n leads moved) in
+held-stays : (number n : ℕ) (played : List AtomicStep) (a b : List StationState) (h : HostState) → LeadsTo number played a b
+    → happened_in played ≡ replicate n (Moved number) → HostRuns number played (did [] [] []) (connected h a) (connected h b)
+    → length (frames_held h.driver.oldest_receive (world_at b number)) ≡ length (frames_held h.driver.oldest_receive (world_at a number))
+held-stays number n played a b h leads moved runs =
+    let holds = held-flows [] (frames_held h.driver.oldest_receive (world_at b number))
+    (frames_held h.driver.oldest_receive (world_at a number)) (past_at number played).stored runs.flows.driver.holds
+    (nothing-stored number number played a b n leads moved) in
     omega (arith, holds)
 
 -- Work.
@@ -129,33 +129,33 @@ abbrev count_asked : World → ℕ
 count_asked world = count_pending world.adapter.receiver.work (count_line world.adapter.causes)
 
 -- A step of an adapter is one of the drain if it brings frames nearer to their end, and nothing else happens.
-step-on : (steps moves place : ℕ) (kind : StepKind) (answer : FrameOutcome) (a b : List StationState) (h : HostState)
-    → (kind ≡ RxData) ⊎ (kind ≡ RxDone) → CanBeDrained h (world_at a place) → TakesStep place kind answer a b
-    → happened_in (At place (Steps kind true answer) ∷ []) ≡ replicate moves (Moved place)
-    → count_buffered (world_at a place) ≡ moves + count_buffered (world_at b place)
-    → (world_at b place).adapter.filter ≡ (world_at a place).adapter.filter
-    → steps + moves + 4 * count_left (world_at b place) + count_asked (world_at b place) + count_ends (world_at a place)
-    ≤ 4 * count_left (world_at a place) + count_asked (world_at a place) + count_ends (world_at b place)
-    → 2 * count_left (world_at a place) + count_work (world_at a place)
-    ≤ steps + 2 * count_left (world_at b place) + count_work (world_at b place)
-    → StepsOn steps place [] (connected h a) (connected h b)
-step-on steps moves place kind answer a b h receives stands takes moved buffered filter fewer least =
-    let played = At place (Steps kind true answer) ∷ [] in
-    let runs = step-runs place kind answer a b h stands takes in
-    let total = held-stays place moves played a b h takes.leads moved runs in
-    let one = held-counted h.driver.oldest_receive (world_at a place) in
-    let two = held-counted h.driver.oldest_receive (world_at b place) in
+step-on : (steps moves number : ℕ) (kind : StepKind) (answer : FrameOutcome) (a b : List StationState) (h : HostState)
+    → (kind ≡ RxData) ⊎ (kind ≡ RxDone) → CanBeDrained h (world_at a number) → TakesStep number kind answer a b
+    → happened_in (At number (Steps kind true answer) ∷ []) ≡ replicate moves (Moved number)
+    → count_buffered (world_at a number) ≡ moves + count_buffered (world_at b number)
+    → (world_at b number).adapter.filter ≡ (world_at a number).adapter.filter
+    → steps + moves + 4 * count_left (world_at b number) + count_asked (world_at b number) + count_ends (world_at a number)
+    ≤ 4 * count_left (world_at a number) + count_asked (world_at a number) + count_ends (world_at b number)
+    → 2 * count_left (world_at a number) + count_work (world_at a number)
+    ≤ steps + 2 * count_left (world_at b number) + count_work (world_at b number)
+    → StepsOn steps number [] (connected h a) (connected h b)
+step-on steps moves number kind answer a b h receives stands takes moved buffered filter fewer least =
+    let played = At number (Steps kind true answer) ∷ [] in
+    let runs = step-runs number kind answer a b h stands takes in
+    let total = held-stays number moves played a b h takes.leads moved runs in
+    let one = held-counted h.driver.oldest_receive (world_at a number) in
+    let two = held-counted h.driver.oldest_receive (world_at b number) in
     record {
       played = played;
       leads = takes.leads;
-      only = All-cons (IsDrainStep place) (At place (Steps kind true answer)) [] (refl, receives) (all-none (IsDrainStep place));
+      only = All-cons (IsDrainStep number) (At number (Steps kind true answer)) [] (refl, receives) (all-none (IsDrainStep number));
       taken = [];
       runs = runs;
       moves = record {
         count = moves;
         moved = moved;
         buffered = buffered;
-        alone = λ k other. elsewhere place k (Steps kind true answer) other;
+        alone = λ k other. elsewhere number k (Steps kind true answer) other;
         filter = filter;
       };
       counts = record {
@@ -166,66 +166,66 @@ step-on steps moves place kind answer a b h receives stands takes moved buffered
     }
 
 -- The piece in work is finished.
-done-steps : (place : ℕ) (a b : List StationState) (h : HostState) → CanBeDrained h (world_at a place)
-    → TakesStep place RxDone outcome.Done a b → StepsOn 1 place [] (connected h a) (connected h b)
-done-steps place a b h stands takes =
-    let before = work-counted (world_at a place).adapter.receiver.work takes.answers in
-    let behind = work-none (world_at b place).adapter.receiver.work (ap (λ (w : World). w.adapter.receiver.work) takes.world) in
-    let same : count_buffered (world_at b place) ≡ count_buffered (world_at a place) =
+done-steps : (number : ℕ) (a b : List StationState) (h : HostState) → CanBeDrained h (world_at a number)
+    → TakesStep number RxDone outcome.Done a b → StepsOn 1 number [] (connected h a) (connected h b)
+done-steps number a b h stands takes =
+    let before = work-counted (world_at a number).adapter.receiver.work takes.answers in
+    let behind = work-none (world_at b number).adapter.receiver.work (ap (λ (w : World). w.adapter.receiver.work) takes.world) in
+    let same : count_buffered (world_at b number) ≡ count_buffered (world_at a number) =
     ap (λ (w : World). count_buffered w) takes.world in
-    let left : count_left (world_at b place) ≡ count_left (world_at a place) = ap (λ (w : World). count_left w) takes.world in
-    let ends = ending-most (world_at a place).adapter.receiver.work in
-    let pending = before.1 (count_line (world_at a place).adapter.causes) in
-    let pending' = behind.1 (count_line (world_at b place).adapter.causes) in
-    step-on 1 0 place RxDone outcome.Done a b h (inr refl) stands takes refl (omega (arith, same))
+    let left : count_left (world_at b number) ≡ count_left (world_at a number) = ap (λ (w : World). count_left w) takes.world in
+    let ends = ending-most (world_at a number).adapter.receiver.work in
+    let pending = before.1 (count_line (world_at a number).adapter.causes) in
+    let pending' = behind.1 (count_line (world_at b number).adapter.causes) in
+    step-on 1 0 number RxDone outcome.Done a b h (inr refl) stands takes refl (omega (arith, same))
     (ap (λ (w : World). w.adapter.filter) takes.world) (omega (arith, before.0, left, ends, pending, pending'))
     (omega (arith, before.0, behind.0, left))
 
 -- There was none.
-idle-steps : (place : ℕ) (kind : StepKind) (a b : List StationState) (h : HostState) → (kind ≡ RxData) ⊎ (kind ≡ RxDone)
-    → CanBeDrained h (world_at a place)
-    → TakesStep place kind outcome.Nothing a b → (world_at b place).adapter ≡ (world_at a place).adapter
-    → StepsOn 0 place [] (connected h a) (connected h b)
-idle-steps place kind a b h receives stands takes same =
+idle-steps : (number : ℕ) (kind : StepKind) (a b : List StationState) (h : HostState) → (kind ≡ RxData) ⊎ (kind ≡ RxDone)
+    → CanBeDrained h (world_at a number)
+    → TakesStep number kind outcome.Nothing a b → (world_at b number).adapter ≡ (world_at a number).adapter
+    → StepsOn 0 number [] (connected h a) (connected h b)
+idle-steps number kind a b h receives stands takes same =
     let buffer = ap (λ (s : AdapterState). length s.receiver.buffer) same in
     let left = ap (λ (s : AdapterState). pieces_left s.receiver.moved s.receiver.buffer) same in
     let work = ap (λ (s : AdapterState). length (slot_of_work s.receiver.work)) same in
     let ends = ap (λ (s : AdapterState). count_ending s.receiver.work) same in
     let pending = ap (λ (s : AdapterState). count_pending s.receiver.work (count_line s.causes)) same in
-    step-on 0 0 place kind outcome.Nothing a b h receives stands takes refl (omega (arith, buffer))
+    step-on 0 0 number kind outcome.Nothing a b h receives stands takes refl (omega (arith, buffer))
     (ap (λ (s : AdapterState). s.filter) same) (omega (arith, left, ends, pending)) (omega (arith, left, work))
 
 -- What a done step answers is that it finished a piece, or that there was none.
-pub finishes-done : (place : ℕ) (a b : List StationState) (h : HostState) (result : Outcome (Unit {0})) → place < length a
-    → Occurs (Steps RxDone true (framed result (world_at a place).adapter)) (world_at a place)
-    → b ≡ stations_after place (Steps RxDone true (framed result (world_at a place).adapter)) a → result ≡ outcome.Done
-    → CanBeDrained h (world_at a place) → StepsOn 1 place [] (connected h a) (connected h b)
-finishes-done place a b h outcome.Done below occurs is same stands =
-    done-steps place a b h stands (takes-step place RxDone outcome.Done a b below (λ e. absurd (cc e)) occurs is)
-finishes-done place a b h result below occurs is same stands = absurd (cc same)
+pub finishes-done : (number : ℕ) (a b : List StationState) (h : HostState) (result : Outcome (Unit {0})) → number < length a
+    → Occurs (Steps RxDone true (framed result (world_at a number).adapter)) (world_at a number)
+    → b ≡ stations_after number (Steps RxDone true (framed result (world_at a number).adapter)) a → result ≡ outcome.Done
+    → CanBeDrained h (world_at a number) → StepsOn 1 number [] (connected h a) (connected h b)
+finishes-done number a b h outcome.Done below occurs is same stands =
+    done-steps number a b h stands (takes-step number RxDone outcome.Done a b below (λ e. absurd (cc e)) occurs is)
+finishes-done number a b h result below occurs is same stands = absurd (cc same)
 
-pub finishes-none : (place : ℕ) (a b : List StationState) (h : HostState) (result : Outcome (Unit {0})) → place < length a
-    → Occurs (Steps RxDone true (framed result (world_at a place).adapter)) (world_at a place)
-    → b ≡ stations_after place (Steps RxDone true (framed result (world_at a place).adapter)) a → result ≢ outcome.Done
-    → CanBeDrained h (world_at a place) → StepsOn 0 place [] (connected h a) (connected h b)
-finishes-none place a b h outcome.Nothing below occurs is other stands =
-    let takes = takes-step place RxDone outcome.Nothing a b below (λ e. absurd (cc e)) occurs is in
-    idle-steps place RxDone a b h (inr refl) stands takes (ap (λ (w : World). w.adapter) takes.world)
-finishes-none place a b h outcome.Done below occurs is other stands = absurd (other refl)
-finishes-none place a b h result below occurs is other stands = absurd occurs.1
+pub finishes-none : (number : ℕ) (a b : List StationState) (h : HostState) (result : Outcome (Unit {0})) → number < length a
+    → Occurs (Steps RxDone true (framed result (world_at a number).adapter)) (world_at a number)
+    → b ≡ stations_after number (Steps RxDone true (framed result (world_at a number).adapter)) a → result ≢ outcome.Done
+    → CanBeDrained h (world_at a number) → StepsOn 0 number [] (connected h a) (connected h b)
+finishes-none number a b h outcome.Nothing below occurs is other stands =
+    let takes = takes-step number RxDone outcome.Nothing a b below (λ e. absurd (cc e)) occurs is in
+    idle-steps number RxDone a b h (inr refl) stands takes (ap (λ (w : World). w.adapter) takes.world)
+finishes-none number a b h outcome.Done below occurs is other stands = absurd (other refl)
+finishes-none number a b h result below occurs is other stands = absurd occurs.1
 
 -- After it no piece is in work.
-pub finishes-free : (place : ℕ) (a b : List StationState) (result : Outcome (Unit {0})) → place < length a
-    → Occurs (Steps RxDone true (framed result (world_at a place).adapter)) (world_at a place)
-    → b ≡ stations_after place (Steps RxDone true (framed result (world_at a place).adapter)) a
-    → (world_at b place).adapter.receiver.work ≡ None
-finishes-free place a b outcome.Done below occurs is =
-    let takes = takes-step place RxDone outcome.Done a b below (λ e. absurd (cc e)) occurs is in
+pub finishes-free : (number : ℕ) (a b : List StationState) (result : Outcome (Unit {0})) → number < length a
+    → Occurs (Steps RxDone true (framed result (world_at a number).adapter)) (world_at a number)
+    → b ≡ stations_after number (Steps RxDone true (framed result (world_at a number).adapter)) a
+    → (world_at b number).adapter.receiver.work ≡ None
+finishes-free number a b outcome.Done below occurs is =
+    let takes = takes-step number RxDone outcome.Done a b below (λ e. absurd (cc e)) occurs is in
     ap (λ (w : World). w.adapter.receiver.work) takes.world
-finishes-free place a b outcome.Nothing below occurs is =
-    let takes = takes-step place RxDone outcome.Nothing a b below (λ e. absurd (cc e)) occurs is in
+finishes-free number a b outcome.Nothing below occurs is =
+    let takes = takes-step number RxDone outcome.Nothing a b below (λ e. absurd (cc e)) occurs is in
     ap (λ (w : World). w.adapter.receiver.work) takes.world ∙ occurs.1
-finishes-free place a b result below occurs is = absurd occurs.1
+finishes-free number a b result below occurs is = absurd occurs.1
 
 -- A piece is moved out of the packet buffer: the last one of its frame,
 
@@ -233,44 +233,44 @@ some-buffered : (frames : List (List ℕ)) → frames ≢ [] → 0 < length fram
 some-buffered [] some = absurd (some refl)
 some-buffered (frame ∷ frames) some = omega arith
 
-moved-steps : (place : ℕ) (a b : List StationState) (h : HostState) → CanBeDrained h (world_at a place)
-    → (world_at a place).adapter.receiver.work ≡ None → TakesStep place RxData outcome.Moved a b
-    → StepsOn 1 place [] (connected h a) (connected h b)
-moved-steps place a b h stands free takes =
-    let world = world_at a place in
+moved-steps : (number : ℕ) (a b : List StationState) (h : HostState) → CanBeDrained h (world_at a number)
+    → (world_at a number).adapter.receiver.work ≡ None → TakesStep number RxData outcome.Moved a b
+    → StepsOn 1 number [] (connected h a) (connected h b)
+moved-steps number a b h stands free takes =
+    let world = world_at a number in
     let engine = world.adapter.receiver in
     let before = work-none engine.work free in
-    let behind : (count_work (world_at b place) ≡ 1) × ((line : ℕ) → count_pending (world_at b place).adapter.receiver.work line ≡ 3) =
-    work-counted (world_at b place).adapter.receiver.work
+    let behind : (count_work (world_at b number) ≡ 1) × ((line : ℕ) → count_pending (world_at b number).adapter.receiver.work line ≡ 3) =
+    work-counted (world_at b number).adapter.receiver.work
     (λ none. let e = sym (ap (λ (w : World). w.adapter.receiver.work) takes.world) ∙ none in absurd (cc e)) in
     let some = takes.answers.0.ready.frames in
     let long = some-buffered engine.buffer some in
-    let fewer : count_buffered (world_at b place) ≡ count_buffered world - 1 =
+    let fewer : count_buffered (world_at b number) ≡ count_buffered world - 1 =
     ap (λ (w : World). count_buffered w) takes.world ∙ length-drop 1 engine.buffer in
-    let left : count_left (world_at b place) ≡ pieces_left 0 (drop 1 engine.buffer) = ap (λ (w : World). count_left w) takes.world in
-    let ends : count_ends (world_at b place) ≡ 1 = ap (λ (w : World). count_ends w) takes.world in
+    let left : count_left (world_at b number) ≡ pieces_left 0 (drop 1 engine.buffer) = ap (λ (w : World). count_left w) takes.world in
+    let ends : count_ends (world_at b number) ≡ 1 = ap (λ (w : World). count_ends w) takes.world in
     let short = leb-true (left_bytes engine) (buffer_size world) takes.answers.2 in
     let one = left-last engine.moved engine.buffer some takes.adapter.receiver.frames takes.adapter.receiver.begun
     (omega (arith, short, stands.ready.ready.law.whole.sized stands.enabled)) in
     let pending = before.1 (count_line world.adapter.causes) in
-    let pending' = behind.1 (count_line (world_at b place).adapter.causes) in
-    step-on 1 1 place RxData outcome.Moved a b h (inl refl) stands takes refl (omega (arith, long, fewer))
+    let pending' = behind.1 (count_line (world_at b number).adapter.causes) in
+    step-on 1 1 number RxData outcome.Moved a b h (inl refl) stands takes refl (omega (arith, long, fewer))
     (ap (λ (w : World). w.adapter.filter) takes.world)
     (omega (arith, left, one, ends, ap (λ (work : Option Work). count_ending work) free, pending, pending'))
     (omega (arith, before.0, behind.0, left, one))
 
 -- or another.
-part-steps : (place : ℕ) (a b : List StationState) (h : HostState) → CanBeDrained h (world_at a place)
-    → (world_at a place).adapter.receiver.work ≡ None → TakesStep place RxData outcome.Part a b
-    → StepsOn 1 place [] (connected h a) (connected h b)
-part-steps place a b h stands free takes =
-    let world = world_at a place in
+part-steps : (number : ℕ) (a b : List StationState) (h : HostState) → CanBeDrained h (world_at a number)
+    → (world_at a number).adapter.receiver.work ≡ None → TakesStep number RxData outcome.Part a b
+    → StepsOn 1 number [] (connected h a) (connected h b)
+part-steps number a b h stands free takes =
+    let world = world_at a number in
     let engine = world.adapter.receiver in
     let before = work-none engine.work free in
-    let behind : (count_work (world_at b place) ≡ 1) × ((line : ℕ) → count_pending (world_at b place).adapter.receiver.work line ≡ 3) =
-    work-counted (world_at b place).adapter.receiver.work
+    let behind : (count_work (world_at b number) ≡ 1) × ((line : ℕ) → count_pending (world_at b number).adapter.receiver.work line ≡ 3) =
+    work-counted (world_at b number).adapter.receiver.work
     (λ none. let e = sym (ap (λ (w : World). w.adapter.receiver.work) takes.world) ∙ none in absurd (cc e)) in
-    let same : count_buffered (world_at b place) ≡ count_buffered world = ap (λ (w : World). count_buffered w) takes.world in
+    let same : count_buffered (world_at b number) ≡ count_buffered world = ap (λ (w : World). count_buffered w) takes.world in
     let more = leb-false (left_bytes engine) (buffer_size world) takes.answers.2 in
     let sized : buffer_size world ≡ receive_buffer_bytes = stands.ready.ready.law.whole.sized stands.enabled in
     let size : piece_size world.adapter ≡ receive_buffer_bytes =
@@ -281,46 +281,46 @@ part-steps place a b h stands free takes =
       more,
       sized,
     ) in
-    let left : count_left (world_at b place) ≡ pieces_left (engine.moved + receive_buffer_bytes) engine.buffer =
+    let left : count_left (world_at b number) ≡ pieces_left (engine.moved + receive_buffer_bytes) engine.buffer =
     ap (λ (w : World). count_left w) takes.world ∙ ap (λ (n : ℕ). pieces_left (engine.moved + n) engine.buffer) size in
     let one = left-part engine.moved engine.buffer (omega (arith, more, sized)) in
     let pending = before.1 (count_line world.adapter.causes) in
-    let pending' = behind.1 (count_line (world_at b place).adapter.causes) in
-    step-on 1 0 place RxData outcome.Part a b h (inl refl) stands takes refl (omega (arith, same))
+    let pending' = behind.1 (count_line (world_at b number).adapter.causes) in
+    step-on 1 0 number RxData outcome.Part a b h (inl refl) stands takes refl (omega (arith, same))
     (ap (λ (w : World). w.adapter.filter) takes.world)
     (omega (arith, left, one, ap (λ (work : Option Work). count_ending work) free, pending, pending'))
     (omega (arith, before.0, behind.0, left, one))
 
-pub moves-piece : (place : ℕ) (a b : List StationState) (h : HostState) (result : Outcome (Unit {0})) → place < length a
-    → Occurs (Steps RxData true (framed result (world_at a place).adapter)) (world_at a place)
-    → b ≡ stations_after place (Steps RxData true (framed result (world_at a place).adapter)) a
-    → (result ≡ outcome.Part) ⊎ (result ≡ outcome.Moved) → CanBeDrained h (world_at a place)
-    → (world_at a place).adapter.receiver.work ≡ None → StepsOn 1 place [] (connected h a) (connected h b)
-moves-piece place a b h outcome.Part below occurs is one stands free =
-    part-steps place a b h stands free (takes-step place RxData outcome.Part a b below (λ e. absurd (cc e)) occurs is)
-moves-piece place a b h outcome.Moved below occurs is one stands free =
-    moved-steps place a b h stands free (takes-step place RxData outcome.Moved a b below (λ e. absurd (cc e)) occurs is)
-moves-piece place a b h result below occurs is one stands free = elim one [ inl same ↦ absurd (cc same) | inr same ↦ absurd (cc same) ]
+pub moves-piece : (number : ℕ) (a b : List StationState) (h : HostState) (result : Outcome (Unit {0})) → number < length a
+    → Occurs (Steps RxData true (framed result (world_at a number).adapter)) (world_at a number)
+    → b ≡ stations_after number (Steps RxData true (framed result (world_at a number).adapter)) a
+    → (result ≡ outcome.Part) ⊎ (result ≡ outcome.Moved) → CanBeDrained h (world_at a number)
+    → (world_at a number).adapter.receiver.work ≡ None → StepsOn 1 number [] (connected h a) (connected h b)
+moves-piece number a b h outcome.Part below occurs is one stands free =
+    part-steps number a b h stands free (takes-step number RxData outcome.Part a b below (λ e. absurd (cc e)) occurs is)
+moves-piece number a b h outcome.Moved below occurs is one stands free =
+    moved-steps number a b h stands free (takes-step number RxData outcome.Moved a b below (λ e. absurd (cc e)) occurs is)
+moves-piece number a b h result below occurs is one stands free = elim one [ inl same ↦ absurd (cc same) | inr same ↦ absurd (cc same) ]
 
 -- Nothing is moved: then there was no frame to move, as no fault stops an engine that goes on.
-pub record MovesNone (place : ℕ) (a b : List StationState) (h : HostState) : Type 0 where
-  pub on : StepsOn 0 place [] (connected h a) (connected h b)
-  pub takes : TakesStep place RxData outcome.Nothing a b
-  pub same : (world_at b place).adapter ≡ (world_at a place).adapter
+pub record MovesNone (number : ℕ) (a b : List StationState) (h : HostState) : Type 0 where
+  pub on : StepsOn 0 number [] (connected h a) (connected h b)
+  pub takes : TakesStep number RxData outcome.Nothing a b
+  pub same : (world_at b number).adapter ≡ (world_at a number).adapter
 
-pub moves-none : (place : ℕ) (a b : List StationState) (h : HostState) (result : Outcome (Unit {0})) → place < length a
-    → Occurs (Steps RxData true (framed result (world_at a place).adapter)) (world_at a place)
-    → b ≡ stations_after place (Steps RxData true (framed result (world_at a place).adapter)) a → result ≢ outcome.Part
-    → result ≢ outcome.Moved → CanBeDrained h (world_at a place) → MovesNone place a b h
-moves-none place a b h outcome.Nothing below occurs is not_part other stands =
-    let takes = takes-step place RxData outcome.Nothing a b below (λ e. absurd (cc e)) occurs is in
+pub moves-none : (number : ℕ) (a b : List StationState) (h : HostState) (result : Outcome (Unit {0})) → number < length a
+    → Occurs (Steps RxData true (framed result (world_at a number).adapter)) (world_at a number)
+    → b ≡ stations_after number (Steps RxData true (framed result (world_at a number).adapter)) a → result ≢ outcome.Part
+    → result ≢ outcome.Moved → CanBeDrained h (world_at a number) → MovesNone number a b h
+moves-none number a b h outcome.Nothing below occurs is not_part other stands =
+    let takes = takes-step number RxData outcome.Nothing a b below (λ e. absurd (cc e)) occurs is in
     let same = ap (λ (w : World). w.adapter) takes.world in
-    record { on = idle-steps place RxData a b h (inl refl) stands takes same; takes = takes; same = same }
-moves-none place a b h outcome.Fault below occurs is not_part other stands =
-    let takes = takes-step place RxData outcome.Fault a b below (λ e. absurd (cc e)) occurs is in
-    let runs = (step-runs place RxData outcome.Fault a b h stands takes).flows.driver.ready.law.runs.receiver_runs in
+    record { on = idle-steps number RxData a b h (inl refl) stands takes same; takes = takes; same = same }
+moves-none number a b h outcome.Fault below occurs is not_part other stands =
+    let takes = takes-step number RxData outcome.Fault a b below (λ e. absurd (cc e)) occurs is in
+    let runs = (step-runs number RxData outcome.Fault a b h stands takes).flows.driver.ready.law.runs.receiver_runs in
     let stopped = ap (λ (w : World). w.adapter.receiver.stopped) takes.world in
     let contrary : true ≡ false = sym stopped ∙ runs in absurd (cc contrary)
-moves-none place a b h outcome.Part below occurs is not_part other stands = absurd (not_part refl)
-moves-none place a b h outcome.Moved below occurs is not_part other stands = absurd (other refl)
-moves-none place a b h result below occurs is not_part other stands = absurd occurs.1
+moves-none number a b h outcome.Part below occurs is not_part other stands = absurd (not_part refl)
+moves-none number a b h outcome.Moved below occurs is not_part other stands = absurd (other refl)
+moves-none number a b h result below occurs is not_part other stands = absurd occurs.1

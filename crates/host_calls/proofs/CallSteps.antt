@@ -47,22 +47,22 @@ use Rattle.host_calls.proofs.SocketCounts.{given-sum, held-flows, queues-flow, s
 use Rattle.host_calls.proofs.PiecesLeft.{count_ending, held-counted}
 
 -- What a call without ticks leaves.
-record Quiet (place : ℕ) (played : List AtomicStep) (a b : List StationState) : Type 0 where
+record Quiet (number : ℕ) (played : List AtomicStep) (a b : List StationState) : Type 0 where
   happened : happened_in played ≡ []
-  engine : LeavesEngine (world_at a place).adapter (world_at b place).adapter
-  alone : (k : ℕ) → k ≢ place → events_at k played ≡ []
-  only : All (IsDrainStep place) played
+  engine : LeavesEngine (world_at a number).adapter (world_at b number).adapter
+  alone : (k : ℕ) → k ≢ number → events_at k played ≡ []
+  only : All (IsDrainStep number) played
 
-quiet : (place : ℕ) (played : List AtomicStep) (a b : List StationState) (counts : Counts) → LeadsTo place played a b
-    → without_go is_go (map tick_of played) ≡ [] → All (IsOfDriver counts) (past_at place played).accesses → Quiet place played a b
-quiet place played a b counts leads none own =
-    let are = accesses-alone place played a b leads none in
+quiet : (number : ℕ) (played : List AtomicStep) (a b : List StationState) (counts : Counts) → LeadsTo number played a b
+    → without_go is_go (map tick_of played) ≡ [] → All (IsOfDriver counts) (past_at number played).accesses → Quiet number played a b
+quiet number played a b counts leads none own =
+    let are = accesses-alone number played a b leads none in
     record {
-      happened = nothing-happened place played are;
-      engine = trail-leaves counts (events_at place played) (world_at a place) (world_at b place) (events-here place place played are) own
-          (trail-of place place played a b leads);
-      alone = λ k other. events-elsewhere place k played other are;
-      only = drain-steps place played are;
+      happened = nothing-happened number played are;
+      engine = trail-leaves counts (events_at number played) (world_at a number) (world_at b number) (events-here number number played are) own
+          (trail-of number number played a b leads);
+      alone = λ k other. events-elsewhere number k played other are;
+      only = drain-steps number played are;
     }
 
 -- The line isn't asserted after a call if it wasn't before.
@@ -79,51 +79,51 @@ line-stays a b leaves = ⊎_elim
     omega (arith, e)) leaves.recorded
 
 -- How many frames a call moves between ring, adapter, queues and whom it gives them to.
-record Flows (place : ℕ) (a b : List StationState) (h h' : HostState) (taken : List (List ℕ)) (given : List Given) : Type 0 where
-  ring : length taken + length (frames_held h'.driver.oldest_receive (world_at b place)) ≡ length (frames_held h.driver.oldest_receive
-      (world_at a place))
+record Flows (number : ℕ) (a b : List StationState) (h h' : HostState) (taken : List (List ℕ)) (given : List Given) : Type 0 where
+  ring : length taken + length (frames_held h'.driver.oldest_receive (world_at b number)) ≡ length (frames_held h.driver.oldest_receive
+      (world_at a number))
   queues : length given + length (all_of h'.queues) ≤ length (all_of h.queues) + length taken
 
-flows : (place n : ℕ) (played : List AtomicStep) (a b : List StationState) (h h' : HostState) (taken : List (List ℕ))
+flows : (number n : ℕ) (played : List AtomicStep) (a b : List StationState) (h h' : HostState) (taken : List (List ℕ))
     (given : List Given)
-    → LeadsTo place played a b → happened_in played ≡ []
-    → HostRuns place played (did taken given []) (connected h a) (connected h' b)
+    → LeadsTo number played a b → happened_in played ≡ []
+    → HostRuns number played (did taken given []) (connected h a) (connected h' b)
     → length h.queues ≤ n → length h'.queues ≤ n → length given ≤ sum_to n (λ socket. length (given_for socket given))
-    → Flows place a b h h' taken given
-flows place n played a b h h' taken given leads none runs fits fits' known =
-    let stored = nothing-stored place place played a b 0 leads none in
-    let past = past_at place played in
-    let all = queues-flow n h (world_at a place) h' (world_at b place) taken given past.stored runs.flows.accounts
+    → Flows number a b h h' taken given
+flows number n played a b h h' taken given leads none runs fits fits' known =
+    let stored = nothing-stored number number played a b 0 leads none in
+    let past = past_at number played in
+    let all = queues-flow n h (world_at a number) h' (world_at b number) taken given past.stored runs.flows.accounts
     runs.flows.driver.holds fits fits' in
     record {
-      ring = held-flows taken (frames_held h'.driver.oldest_receive (world_at b place))
-          (frames_held h.driver.oldest_receive (world_at a place)) past.stored runs.flows.driver.holds stored;
+      ring = held-flows taken (frames_held h'.driver.oldest_receive (world_at b number))
+          (frames_held h.driver.oldest_receive (world_at a number)) past.stored runs.flows.driver.holds stored;
       queues = omega (arith, all, known);
     }
 
 -- One step that was a call.
-one-call : (place n : ℕ) (played : List AtomicStep) (a b : List StationState) (h h' : HostState) (taken : List (List ℕ))
+one-call : (number n : ℕ) (played : List AtomicStep) (a b : List StationState) (h h' : HostState) (taken : List (List ℕ))
     (given : List Given)
-    → HostReady h (world_at a place) → LeadsTo place played a b → without_go is_go (map tick_of played) ≡ []
-    → HostRuns place played (did taken given []) (connected h a) (connected h' b)
+    → HostReady h (world_at a number) → LeadsTo number played a b → without_go is_go (map tick_of played) ≡ []
+    → HostRuns number played (did taken given []) (connected h a) (connected h' b)
     → length h.queues ≤ n → length h'.queues ≤ n → length given ≤ sum_to n (λ socket. length (given_for socket given))
-    → (world_at a place).adapter.receiver.work ≡ None → length given ≤ 1
-    → 1 + (count_line (world_at b place).adapter.causes + length taken) ≤ count_line (world_at a place).adapter.causes
+    → (world_at a number).adapter.receiver.work ≡ None → length given ≤ 1
+    → 1 + (count_line (world_at b number).adapter.causes + length taken) ≤ count_line (world_at a number).adapter.causes
     + (length given + length taken)
-    → StepsOn 1 place given (connected h a) (connected h' b)
-one-call place n played a b h h' taken given ready leads none runs fits fits' known free few line =
-    let calm = quiet place played a b h.driver.layout leads none runs.accesses in
-    let flow = flows place n played a b h h' taken given leads calm.happened runs fits fits' known in
-    let before = work-none (world_at a place).adapter.receiver.work free in
-    let behind = work-none (world_at b place).adapter.receiver.work
+    → StepsOn 1 number given (connected h a) (connected h' b)
+one-call number n played a b h h' taken given ready leads none runs fits fits' known free few line =
+    let calm = quiet number played a b h.driver.layout leads none runs.accesses in
+    let flow = flows number n played a b h h' taken given leads calm.happened runs fits fits' known in
+    let before = work-none (world_at a number).adapter.receiver.work free in
+    let behind = work-none (world_at b number).adapter.receiver.work
     (ap (λ (engine : Receiver). engine.work) calm.engine.receiver ∙ free) in
     let buffer = ap (λ (engine : Receiver). length engine.buffer) calm.engine.receiver in
-    let pending = before.1 (count_line (world_at a place).adapter.causes) in
-    let pending' = behind.1 (count_line (world_at b place).adapter.causes) in
+    let pending = before.1 (count_line (world_at a number).adapter.causes) in
+    let pending' = behind.1 (count_line (world_at b number).adapter.causes) in
     let left = ap (λ (engine : Receiver). pieces_left engine.moved engine.buffer) calm.engine.receiver in
     let ends = ap (λ (engine : Receiver). count_ending engine.work) calm.engine.receiver in
-    let one = held-counted h.driver.oldest_receive (world_at a place) in
-    let two = held-counted h'.driver.oldest_receive (world_at b place) in
+    let one = held-counted h.driver.oldest_receive (world_at a number) in
+    let two = held-counted h'.driver.oldest_receive (world_at b number) in
     record {
       played = played;
       leads = leads;
@@ -150,35 +150,35 @@ first-event : (host : ℕ) (event : Event) (later : List AtomicStep) → events_
 first-event host event later =
     ap (λ (here : Bool). (if here then event ∷ [] else []) ++ events_at host later) (eq-eqb host host refl)
 
-clears : (place : ℕ) (played early : List AtomicStep) (a b : List StationState) (counts : Counts) (causes : ℕ) → LeadsTo place played a b
-    → without_go is_go (map tick_of played) ≡ [] → All (IsOfDriver counts) (past_at place played).accesses
-    → ReadsIcrFirst place played early causes → (world_at b place).adapter.causes.recorded ≡ 0
-clears place played early a b counts causes leads none own first =
-    let are = events-here place place played (accesses-alone place played a b leads none) in
-    let trail = trail-of place place played a b leads in
-    let is : events_at place played ≡ events_at place early ++ Accesses (Reads ICR causes) ∷ events_at place first.later =
-    ap (events_at place) first.split
-    ∙ flat_map-append (events_by place) early (At place (Accesses (Reads ICR causes)) ∷ first.later)
-    ∙ ap (λ (list : List Event). events_at place early ++ list) (first-event place (Accesses (Reads ICR causes)) first.later) in
-    trail-clears counts (events_at place early) causes (events_at place first.later) (world_at a place) (world_at b place)
+clears : (number : ℕ) (played early : List AtomicStep) (a b : List StationState) (counts : Counts) (causes : ℕ) → LeadsTo number played a b
+    → without_go is_go (map tick_of played) ≡ [] → All (IsOfDriver counts) (past_at number played).accesses
+    → ReadsIcrFirst number played early causes → (world_at b number).adapter.causes.recorded ≡ 0
+clears number played early a b counts causes leads none own first =
+    let are = events-here number number played (accesses-alone number played a b leads none) in
+    let trail = trail-of number number played a b leads in
+    let is : events_at number played ≡ events_at number early ++ Accesses (Reads ICR causes) ∷ events_at number first.later =
+    ap (events_at number) first.split
+    ∙ flat_map-append (events_by number) early (At number (Accesses (Reads ICR causes)) ∷ first.later)
+    ∙ ap (λ (list : List Event). events_at number early ++ list) (first-event number (Accesses (Reads ICR causes)) first.later) in
+    trail-clears counts (events_at number early) causes (events_at number first.later) (world_at a number) (world_at b number)
     (subst (λ (list : List Event). All IsAccess list) is are)
     (subst (λ (list : List Event). All (IsOfDriver counts) (past_of list).accesses) is own)
-    (subst (λ (list : List Event). Trail list (world_at a place) (world_at b place)) is trail)
+    (subst (λ (list : List Event). Trail list (world_at a number) (world_at b number)) is trail)
 
-pub handled-steps : (result : Handled) (place : ℕ) (a b : List StationState) (heard : List TickTold → Type 0) (accesses : ℕ)
+pub handled-steps : (result : Handled) (number : ℕ) (a b : List StationState) (heard : List TickTold → Type 0) (accesses : ℕ)
     (h h' : HostState)
-    → HostReady h (world_at a place) → InterruptRuns (played_call place [] heard accesses) result (connected h a) (connected h' b)
-    → (world_at a place).adapter.receiver.work ≡ None
-    → Meet (world_at a place).adapter.causes.recorded (world_at a place).adapter.causes.mask
-    → StepsOn 1 place [] (connected h a) (connected h' b)
-handled-steps result place a b heard accesses h h' ready runs free meets =
+    → HostReady h (world_at a number) → InterruptRuns (played_call number [] heard accesses) result (connected h a) (connected h' b)
+    → (world_at a number).adapter.receiver.work ≡ None
+    → Meet (world_at a number).adapter.causes.recorded (world_at a number).adapter.causes.mask
+    → StepsOn 1 number [] (connected h a) (connected h' b)
+handled-steps result number a b heard accesses h h' ready runs free meets =
     let of_call = runs.runs.of_call in
-    let recorded = clears place runs.runs.steps runs.tells.early a b h.driver.layout runs.causes of_call.leads of_call.played
+    let recorded = clears number runs.runs.steps runs.tells.early a b h.driver.layout runs.causes of_call.leads of_call.played
     runs.runs.runs.accesses runs.tells.first in
-    let causes = (world_at b place).adapter.causes in
+    let causes = (world_at b number).adapter.causes in
     let none : bit_and causes.recorded causes.mask ≡ 0 =
     ap (λ (r : ℕ). bit_and r causes.mask) recorded ∙ and_zero_l causes.mask in
-    one-call place (length h.queues + length h'.queues) runs.runs.steps a b h h' (joined_frames runs.taken) [] ready of_call.leads
+    one-call number (length h.queues + length h'.queues) runs.runs.steps a b h h' (joined_frames runs.taken) [] ready of_call.leads
     of_call.played runs.runs.runs (omega arith) (omega arith) (omega arith) free (omega arith) (omega (arith, none, meets))
 
 -- A frame that is given.
@@ -188,18 +188,18 @@ queue-there [] socket some = absurd (some refl)
 queue-there (queue ∷ later) zero some = omega arith
 queue-there (queue ∷ later) (suc socket) some = let rest = queue-there later socket some in omega (arith, rest)
 
-pub given-steps : (place socket : ℕ) (frame : List ℕ) (a b : List StationState) (heard : List TickTold → Type 0) (accesses : ℕ)
+pub given-steps : (number socket : ℕ) (frame : List ℕ) (a b : List StationState) (heard : List TickTold → Type 0) (accesses : ℕ)
     (h h' : HostState) (made : List Access → Type 0)
-    → HostReady h (world_at a place)
-    → CallRuns (played_call place [] heard accesses) (did [] (given_by socket (Ok frame)) []) made (connected h a) (connected h' b)
-    → (world_at a place).adapter.receiver.work ≡ None → StepsOn 1 place (given_by socket (Ok frame)) (connected h a) (connected h' b)
-given-steps place socket frame a b heard accesses h h' made ready runs free =
+    → HostReady h (world_at a number)
+    → CallRuns (played_call number [] heard accesses) (did [] (given_by socket (Ok frame)) []) made (connected h a) (connected h' b)
+    → (world_at a number).adapter.receiver.work ≡ None → StepsOn 1 number (given_by socket (Ok frame)) (connected h a) (connected h' b)
+given-steps number socket frame a b heard accesses h h' made ready runs free =
     let of_call = runs.of_call in
     let n = length h.queues + (length h'.queues + (socket + 1)) in
-    let calm = quiet place runs.steps a b h.driver.layout of_call.leads of_call.played runs.runs.accesses in
-    let line = line-stays (world_at a place).adapter (world_at b place).adapter calm.engine in
+    let calm = quiet number runs.steps a b h.driver.layout of_call.leads of_call.played runs.runs.accesses in
+    let line = line-stays (world_at a number).adapter (world_at b number).adapter calm.engine in
     let known = given-sum n (record { socket = socket; frame = frame }) (omega arith) in
-    one-call place n runs.steps a b h h' [] (given_by socket (Ok frame)) ready of_call.leads of_call.played runs.runs
+    one-call number n runs.steps a b h h' [] (given_by socket (Ok frame)) ready of_call.leads of_call.played runs.runs
     (omega arith) (omega arith) (omega (arith, known)) free (omega arith) (omega (arith, line))
 
 -- One was given, as one waited.
@@ -213,9 +213,9 @@ not-refused result NoSocket socket h world answers known some is =
     let none = answers.no_socket.0 is in omega (arith, none, known)
 
 -- There is room for it.
-pub room-left : (h : HostState) (world : World) (socket places : ℕ) → queue_at h.queues socket ≢ [] → count_frames h world ≤ places
-    → 0 < places
-room-left h world socket places some room =
+pub room-left : (h : HostState) (world : World) (socket left : ℕ) → queue_at h.queues socket ≢ [] → count_frames h world ≤ left
+    → 0 < left
+room-left h world socket left some room =
     let one = some-long (queue_at h.queues socket) some in
     let within = queue-within h.queues socket in
     omega (arith, one, within, room)

@@ -109,9 +109,9 @@ held-at_most h world stands adapter =
 
 -- The end.
 
-positive : (n place : ℕ) → HasBit n place → 0 < n
-positive zero place set = absurd (HasBit-zero place set)
-positive (suc n) place set = omega arith
+positive : (n number : ℕ) → HasBit n number → 0 < n
+positive zero number set = absurd (HasBit-zero number set)
+positive (suc n) number set = omega arith
 
 none-ended : (h : HostState) (world : World) → CanBeDrained h world → ¬ (Meet world.adapter.causes.recorded world.adapter.causes.mask)
     → frames_ended (driver_in h.driver world) ≡ []
@@ -138,10 +138,10 @@ some-offered : (h : HostState) (world : World) → CanBeDrained h world → fram
 some-offered h world stands none free empty rings buffers same =
     let ring = receive_ring world in
     let nowhere = length-map (offered_places ring) (address_of ring) in
-    let places = ap length (places-none ring same) in
+    let room = ap length (places-none ring same) in
     let slots = slots-counted h world stands in
     let work = (work-none world.adapter.receiver.work free).0 in
-    let few : length h.driver.buffers ≤ 5 = omega (arith, slots, nowhere, places, work, finished-most h world stands none) in
+    let few : length h.driver.buffers ≤ 5 = omega (arith, slots, nowhere, room, work, finished-most h world stands none) in
     ⊎_elim
     (λ (free_none : h.driver.pool ≡ []).
     let all = buffers-counted h world stands in
@@ -157,12 +157,12 @@ holds-none h world none = record {
 }
 
 -- No frame is held if no piece is in progress, the line isn't asserted, no frame waits for a socket, and no piece is moved.
-pub nothing-left : (place : ℕ) (a b : List StationState) (h : HostState) → CanBeDrained h (world_at a place) → MovesNone place a b h
-    → (world_at a place).adapter.receiver.work ≡ None
-    → ¬ (Meet (world_at a place).adapter.causes.recorded (world_at a place).adapter.causes.mask) → all_of h.queues ≡ []
-    → 8 ≤ h.driver.layout.rx → 8 ≤ h.driver.layout.buffers → HoldsNothing h (world_at b place)
-nothing-left place a b h stands moves free quiet empty rings buffers =
-    let world = world_at a place in
+pub nothing-left : (number : ℕ) (a b : List StationState) (h : HostState) → CanBeDrained h (world_at a number) → MovesNone number a b h
+    → (world_at a number).adapter.receiver.work ≡ None
+    → ¬ (Meet (world_at a number).adapter.causes.recorded (world_at a number).adapter.causes.mask) → all_of h.queues ≡ []
+    → 8 ≤ h.driver.layout.rx → 8 ≤ h.driver.layout.buffers → HoldsNothing h (world_at b number)
+nothing-left number a b h stands moves free quiet empty rings buffers =
+    let world = world_at a number in
     let o = h.driver.oldest_receive in
     let none = none-ended h world stands quiet in
     let slot = some-offered h world stands none free empty rings buffers in
@@ -173,7 +173,7 @@ nothing-left place a b h stands moves free quiet empty rings buffers =
       offered = slot;
     })) in
     let ends = ap (λ (work : Option Work). count_ending work) free in
-    holds-none h (world_at b place)
+    holds-none h (world_at b number)
     (omega (arith, moves.on.counts.held, held-counted o world, ap length none, ends, ap length buffer, ap length empty))
 
 -- What a drain did.
@@ -239,18 +239,18 @@ nothing-waits h socket world none =
     ++ socket_frames h.kinds socket (frames_held h.driver.oldest_receive world)) queue
     ∙ ap (socket_frames h.kinds socket) none.held
 
-pub drains : (steps place : ℕ) (a b : List StationState) (h h' : HostState) (given : List Given)
-    → StepsOn steps place given (connected h a) (connected h' b)
-    → HoldsNothing h' (world_at b place) → CanBeDrained h (world_at a place) → IsAdapter (world_at a place).adapter
-    → Drains steps place given (connected h a) (connected h' b)
-drains steps place a b h h' given on none stands adapter =
-    let one = world_at a place in
-    let two = world_at b place in
-    let past = past_at place on.played in
-    let moves = frames-move place place on.played a b on.leads in
-    let stored : past.stored ≡ [] = nothing-stored place place on.played a b on.moves.count on.leads on.moves.moved in
-    let gone : past.put ≡ [] = sym moves.put ∙ ap (put place) on.moves.moved ∙ moves-put place on.moves.count place in
-    let lost : past.missed ≡ 0 = sym moves.missed ∙ ap (missed place) on.moves.moved ∙ moves-missed place on.moves.count place in
+pub drains : (steps number : ℕ) (a b : List StationState) (h h' : HostState) (given : List Given)
+    → StepsOn steps number given (connected h a) (connected h' b)
+    → HoldsNothing h' (world_at b number) → CanBeDrained h (world_at a number) → IsAdapter (world_at a number).adapter
+    → Drains steps number given (connected h a) (connected h' b)
+drains steps number a b h h' given on none stands adapter =
+    let one = world_at a number in
+    let two = world_at b number in
+    let past = past_at number on.played in
+    let moves = frames-move number number on.played a b on.leads in
+    let stored : past.stored ≡ [] = nothing-stored number number on.played a b on.moves.count on.leads on.moves.moved in
+    let gone : past.put ≡ [] = sym moves.put ∙ ap (put number) on.moves.moved ∙ moves-put number on.moves.count number in
+    let lost : past.missed ≡ 0 = sym moves.missed ∙ ap (missed number) on.moves.moved ∙ moves-missed number on.moves.count number in
     let flows = on.runs.flows.driver in
     let small = adapter.registers.counters.missed in
     let accounts = on.runs.flows.accounts in
@@ -279,16 +279,16 @@ drains steps place a b h h' given on none stands adapter =
         to_send =
             ap (λ (list : List (List ℕ)). list ++ frames_to_send two) (sym gone) ∙ flows.sends ∙ append-nil (frames_to_send one);
         lines = λ k.
-            let there = frames-move place k on.played a b on.leads in
+            let there = frames-move number k on.played a b on.leads in
             ap (λ (list : List (List ℕ)). list ++ backlog_at b k)
-            (sym (moves-reached k on.moves.count place) ∙ ap (reached k) (sym on.moves.moved))
+            (sym (moves-reached k on.moves.count number) ∙ ap (reached k) (sym on.moves.moved))
             ∙ there.waits
             ∙ ap (λ (list : List (List ℕ)). backlog_at a k ++ list)
-            (ap (toward (wire_at a) k) on.moves.moved ∙ moves-toward (wire_at a) k on.moves.count place)
+            (ap (toward (wire_at a) k) on.moves.moved ∙ moves-toward (wire_at a) k on.moves.count number)
             ∙ append-nil (backlog_at a k);
         others = λ k other.
             subst (λ (list : List Event). Trail list (world_at a k) (world_at b k)) (on.moves.alone k other)
-            (trail-of place k on.played a b on.leads);
+            (trail-of number k on.played a b on.leads);
       };
       misses = record {
         sum = λ fits. let all = flows.misses.counted (omega (arith, small, lost)) (omega (arith, fits, lost)) in omega (arith, all, lost);
@@ -304,19 +304,19 @@ drains steps place a b h h' given on none stands adapter =
         only = on.only;
         taken = on.taken;
         runs = on.runs;
-        moved = on.moves.moved ∙ ap (λ (n : ℕ). replicate n (Moved place)) (omega (arith, on.moves.buffered, behind, empty));
+        moved = on.moves.moved ∙ ap (λ (n : ℕ). replicate n (Moved number)) (omega (arith, on.moves.buffered, behind, empty));
       };
     }
 
-pub drains-into : (steps place : ℕ) (a b : List StationState) (h h' : HostState) (before behind : List Given) (places left : ℕ)
-    → StepsInto steps place (outlet before places) (outlet behind left) (connected h a) (connected h' b)
-    → HoldsNothing h' (world_at b place)
-    → CanBeDrained h (world_at a place) → IsAdapter (world_at a place).adapter
-    → DrainsInto steps place before behind (connected h a) (connected h' b)
-drains-into steps place a b h h' before behind places left into none stands adapter = record {
+pub drains-into : (steps number : ℕ) (a b : List StationState) (h h' : HostState) (before behind : List Given) (room left : ℕ)
+    → StepsInto steps number (outlet before room) (outlet behind left) (connected h a) (connected h' b)
+    → HoldsNothing h' (world_at b number)
+    → CanBeDrained h (world_at a number) → IsAdapter (world_at a number).adapter
+    → DrainsInto steps number before behind (connected h a) (connected h' b)
+drains-into steps number a b h h' before behind room left into none stands adapter = record {
   given = into.given;
   appended = into.appended;
-  drains = drains steps place a b h h' into.given into.on none stands adapter;
+  drains = drains steps number a b h h' into.given into.on none stands adapter;
 }
 
 -- If nothing waits for any socket, all queues are empty.

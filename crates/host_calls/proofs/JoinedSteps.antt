@@ -25,11 +25,11 @@ use Rattle.host_calls.specs.ConnectedHosts.{connected}
 use Rattle.host_calls.specs.DrainSteps.{StepsInto, StepsOn, outlet, steps_of}
 
 -- The host can still be drained.
-pub stands-on : (steps place : ℕ) (a b : List StationState) (h h' : HostState) (given : List Given)
-    → StepsOn steps place given (connected h a) (connected h' b)
-    → CanBeDrained h (world_at a place) → CanBeDrained h' (world_at b place)
-stands-on steps place a b h h' given on stands = record {
-  ready = ready-behind h (world_at a place) h' (world_at b place) on.taken given [] (past_at place on.played) on.runs.flows;
+pub stands-on : (steps number : ℕ) (a b : List StationState) (h h' : HostState) (given : List Given)
+    → StepsOn steps number given (connected h a) (connected h' b)
+    → CanBeDrained h (world_at a number) → CanBeDrained h' (world_at b number)
+stands-on steps number a b h h' given on stands = record {
+  ready = ready-behind h (world_at a number) h' (world_at b number) on.taken given [] (past_at number on.played) on.runs.flows;
   work = on.runs.work stands.work;
   refilled = on.runs.refilled stands.refilled;
   offered = on.runs.offered stands.offered;
@@ -37,39 +37,39 @@ stands-on steps place a b h h' given on stands = record {
 }
 
 -- None.
-pub steps-none : (place : ℕ) (a : List StationState) (h : HostState) → CanBeDrained h (world_at a place)
-    → StepsOn 0 place [] (connected h a) (connected h a)
-steps-none place a h stands = record {
+pub steps-none : (number : ℕ) (a : List StationState) (h : HostState) → CanBeDrained h (world_at a number)
+    → StepsOn 0 number [] (connected h a) (connected h a)
+steps-none number a h stands = record {
   played = [];
   leads = refl;
-  only = all-none (IsDrainStep place);
+  only = all-none (IsDrainStep number);
   taken = [];
-  runs = runs-alone place [] a a h stands.ready (happens-alone place place [] a a (all-none IsTick) refl)
-      (none-alone place [] (all-none IsTick));
+  runs = runs-alone number [] a a h stands.ready (happens-alone number number [] a a (all-none IsTick) refl)
+      (none-alone number [] (all-none IsTick));
   moves = record { count = 0; moved = refl; buffered = omega arith; alone = λ k other. refl; filter = refl };
   counts = record { most = omega arith; least = omega arith; held = omega arith };
 }
 
 -- Some, and then others.
-pub steps-join : (m n place : ℕ) (a b c : List StationState) (h1 h2 h3 : HostState) (given more : List Given)
-    → StepsOn m place given (connected h1 a) (connected h2 b) → StepsOn n place more (connected h2 b) (connected h3 c)
-    → StepsOn (m + n) place (given ++ more) (connected h1 a) (connected h3 c)
-steps-join m n place a b c h1 h2 h3 given more one two =
+pub steps-join : (m n number : ℕ) (a b c : List StationState) (h1 h2 h3 : HostState) (given more : List Given)
+    → StepsOn m number given (connected h1 a) (connected h2 b) → StepsOn n number more (connected h2 b) (connected h3 c)
+    → StepsOn (m + n) number (given ++ more) (connected h1 a) (connected h3 c)
+steps-join m n number a b c h1 h2 h3 given more one two =
     let both = length-append given more in
     record {
       played = one.played ++ two.played;
-      leads = leads_join place one.played two.played a b c one.leads two.leads;
-      only = All-append (IsDrainStep place) one.played two.played one.only two.only;
+      leads = leads_join number one.played two.played a b c one.leads two.leads;
+      only = All-append (IsDrainStep number) one.played two.played one.only two.only;
       taken = one.taken ++ two.taken;
-      runs = runs-join place one.played two.played a b c h1 h2 h3 one.taken two.taken given more [] [] one.runs.flows.driver.layout
+      runs = runs-join number one.played two.played a b c h1 h2 h3 one.taken two.taken given more [] [] one.runs.flows.driver.layout
           one.runs two.runs;
       moves = record {
         count = one.moves.count + two.moves.count;
         moved =
             flat_map-append happened_by one.played two.played
             ∙ ap (λ (list : List Happening). list ++ happened_in two.played) one.moves.moved
-            ∙ ap (λ (list : List Happening). replicate one.moves.count (Moved place) ++ list) two.moves.moved
-            ∙ replicate-append-replicate one.moves.count two.moves.count (Moved place);
+            ∙ ap (λ (list : List Happening). replicate one.moves.count (Moved number) ++ list) two.moves.moved
+            ∙ replicate-append-replicate one.moves.count two.moves.count (Moved number);
         buffered = omega (arith, one.moves.buffered, two.moves.buffered);
         alone = λ k other.
             flat_map-append (events_by k) one.played two.played
@@ -85,73 +85,73 @@ steps-join m n place a b c h1 h2 h3 given more one two =
     }
 
 -- A look that did nothing comes first.
-pub steps-after : (first : Bool) (n place : ℕ) (a b c : List StationState) (h h' : HostState) (given : List Given) → first ≡ false
-    → StepsOn (steps_of first) place [] (connected h a) (connected h b) → StepsOn n place given (connected h b) (connected h' c)
-    → StepsOn n place given (connected h a) (connected h' c)
-steps-after first n place a b c h h' given none one two =
+pub steps-after : (first : Bool) (n number : ℕ) (a b c : List StationState) (h h' : HostState) (given : List Given) → first ≡ false
+    → StepsOn (steps_of first) number [] (connected h a) (connected h b) → StepsOn n number given (connected h b) (connected h' c)
+    → StepsOn n number given (connected h a) (connected h' c)
+steps-after first n number a b c h h' given none one two =
     let nothing : 0 + n ≡ n = omega arith in
-    subst (λ (k : ℕ). StepsOn k place given (connected h a) (connected h' c)) nothing
-    (steps-join 0 n place a b c h h h' [] given
-    (subst (λ (stepped : Bool). StepsOn (steps_of stepped) place [] (connected h a) (connected h b)) none one) two)
+    subst (λ (k : ℕ). StepsOn k number given (connected h a) (connected h' c)) nothing
+    (steps-join 0 n number a b c h h h' [] given
+    (subst (λ (stepped : Bool). StepsOn (steps_of stepped) number [] (connected h a) (connected h b)) none one) two)
 
-pub still-stands : (first : Bool) (place : ℕ) (a b : List StationState) (h : HostState) → first ≡ false
-    → StepsOn (steps_of first) place [] (connected h a) (connected h b) → CanBeDrained h (world_at a place)
-    → CanBeDrained h (world_at b place)
-still-stands first place a b h none one stands = stands-on (steps_of first) place a b h h [] one stands
+pub still-stands : (first : Bool) (number : ℕ) (a b : List StationState) (h : HostState) → first ≡ false
+    → StepsOn (steps_of first) number [] (connected h a) (connected h b) → CanBeDrained h (world_at a number)
+    → CanBeDrained h (world_at b number)
+still-stands first number a b h none one stands = stands-on (steps_of first) number a b h h [] one stands
 
 -- What moves of frames into memory say: nothing is put, reaches a host, is stored or missed.
 
-pub moves-put : (k n place : ℕ) → put k (replicate n (Moved place)) ≡ []
-moves-put k zero place = refl
-moves-put k (suc n) place = moves-put k n place
+pub moves-put : (k n number : ℕ) → put k (replicate n (Moved number)) ≡ []
+moves-put k zero number = refl
+moves-put k (suc n) number = moves-put k n number
 
-pub moves-reached : (k n place : ℕ) → reached k (replicate n (Moved place)) ≡ []
-moves-reached k zero place = refl
-moves-reached k (suc n) place = moves-reached k n place
+pub moves-reached : (k n number : ℕ) → reached k (replicate n (Moved number)) ≡ []
+moves-reached k zero number = refl
+moves-reached k (suc n) number = moves-reached k n number
 
-pub moves-stored : (k n place : ℕ) → stored k (replicate n (Moved place)) ≡ []
-moves-stored k zero place = refl
-moves-stored k (suc n) place = moves-stored k n place
+pub moves-stored : (k n number : ℕ) → stored k (replicate n (Moved number)) ≡ []
+moves-stored k zero number = refl
+moves-stored k (suc n) number = moves-stored k n number
 
-pub moves-missed : (k n place : ℕ) → missed k (replicate n (Moved place)) ≡ 0
-moves-missed k zero place = refl
-moves-missed k (suc n) place = moves-missed k n place
+pub moves-missed : (k n number : ℕ) → missed k (replicate n (Moved number)) ≡ 0
+moves-missed k zero number = refl
+moves-missed k (suc n) number = moves-missed k n number
 
-pub moves-toward : (wires : ℕ → Rattle.std.proofs.Common.Option ℕ) (k n place : ℕ) → toward wires k (replicate n (Moved place)) ≡ []
-moves-toward wires k zero place = refl
-moves-toward wires k (suc n) place = moves-toward wires k n place
+pub moves-toward : (wires : ℕ → Rattle.std.proofs.Common.Option ℕ) (k n number : ℕ) → toward wires k (replicate n (Moved number)) ≡ []
+moves-toward wires k zero number = refl
+moves-toward wires k (suc n) number = moves-toward wires k n number
 
-pub nothing-stored : (place k : ℕ) (played : List AtomicStep) (a b : List StationState) (n : ℕ) → LeadsTo place played a b
-    → happened_in played ≡ replicate n (Moved place) → (past_at k played).stored ≡ []
-nothing-stored place k played a b n leads moved =
-    sym (frames-move place k played a b leads).stored ∙ ap (stored k) moved ∙ moves-stored k n place
+pub nothing-stored : (number k : ℕ) (played : List AtomicStep) (a b : List StationState) (n : ℕ) → LeadsTo number played a b
+    → happened_in played ≡ replicate n (Moved number) → (past_at k played).stored ≡ []
+nothing-stored number k played a b n leads moved =
+    sym (frames-move number k played a b leads).stored ∙ ap (stored k) moved ∙ moves-stored k n number
 
 -- Into an outlet.
 
-pub into-none : (place : ℕ) (a b : List StationState) (h h' : HostState) (had : List Given) (places steps : ℕ)
-    → StepsOn steps place [] (connected h a) (connected h' b)
-    → StepsInto steps place (outlet had places) (outlet had places) (connected h a) (connected h' b)
-into-none place a b h h' had places steps on = record {
+pub into-none : (number : ℕ) (a b : List StationState) (h h' : HostState) (had : List Given) (room steps : ℕ)
+    → StepsOn steps number [] (connected h a) (connected h' b)
+    → StepsInto steps number (outlet had room) (outlet had room) (connected h a) (connected h' b)
+into-none number a b h h' had room steps on = record {
   given = [];
   appended = sym (Rattle.std.proofs.lemmas.List.append-nil had);
   room = omega arith;
   on = on;
 }
 
-pub into-join : (m n place : ℕ) (a b c : List StationState) (h1 h2 h3 : HostState) (x y z : List Given) (p q r : ℕ)
-    → StepsInto m place (outlet x p) (outlet y q) (connected h1 a) (connected h2 b)
-    → StepsInto n place (outlet y q) (outlet z r) (connected h2 b) (connected h3 c)
-    → StepsInto (m + n) place (outlet x p) (outlet z r) (connected h1 a) (connected h3 c)
-into-join m n place a b c h1 h2 h3 x y z p q r one two = record {
+pub into-join : (m n number : ℕ) (a b c : List StationState) (h1 h2 h3 : HostState) (x y z : List Given) (p q r : ℕ)
+    → StepsInto m number (outlet x p) (outlet y q) (connected h1 a) (connected h2 b)
+    → StepsInto n number (outlet y q) (outlet z r) (connected h2 b) (connected h3 c)
+    → StepsInto (m + n) number (outlet x p) (outlet z r) (connected h1 a) (connected h3 c)
+into-join m n number a b c h1 h2 h3 x y z p q r one two = record {
   given = one.given ++ two.given;
   appended =
       two.appended ∙ ap (λ (list : List Given). list ++ two.given) one.appended
       ∙ Rattle.std.proofs.Common.append_assoc x one.given two.given;
   room = omega (arith, one.room, two.room, length-append one.given two.given);
-  on = steps-join m n place a b c h1 h2 h3 one.given two.given one.on two.on;
+  on = steps-join m n number a b c h1 h2 h3 one.given two.given one.on two.on;
 }
 
 -- a host that is there is there after steps of a drain
-pub steps-there : (steps place : ℕ) (given : List Given) (a b : List StationState) (h h' : HostState)
-    → StepsOn steps place given (connected h a) (connected h' b) → place < length a → place < length b
-steps-there steps place given a b h h' on there = omega (arith, there, length-stays place on.played a b on.leads)
+pub steps-there : (steps number : ℕ) (given : List Given) (a b : List StationState) (h h' : HostState)
+    → StepsOn steps number given (connected h a) (connected h' b) → number < length a → number < length b
+steps-there steps number given a b h h' on there = omega (arith, there, length-stays number on.played a b on.leads)

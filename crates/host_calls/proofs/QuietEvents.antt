@@ -39,12 +39,12 @@ use Rattle.host_calls.specs.InterruptCauses.{AreQuietEvents, IsQuietOutcome, end
 handled-fits : handled_causes < 2 ^ 32
 handled-fits = omega arith
 
-pub meets : (causes place : ℕ) → HasBit causes place → HasBit handled_causes place → Meet causes handled_causes
-meets causes place bit handled =
+pub meets : (causes number : ℕ) → HasBit causes number → HasBit handled_causes number → Meet causes handled_causes
+meets causes number bit handled =
     subst (λ (n : ℕ). 0 < n) (and_comm handled_causes causes)
-    ((Meet-places handled_causes causes handled-fits).1 (place, handled, bit))
+    ((Meet-places handled_causes causes handled-fits).1 (number, handled, bit))
 
-pub common : (causes : ℕ) → Meet causes handled_causes → (place : ℕ) × HasBit causes place × HasBit handled_causes place
+pub common : (causes : ℕ) → Meet causes handled_causes → (number : ℕ) × HasBit causes number × HasBit handled_causes number
 common causes meet =
     let both = (Meet-places handled_causes causes handled-fits).0
     (subst (λ (n : ℕ). 0 < n) (and_comm causes handled_causes) meet) in (both.0, both.2, both.1)

@@ -133,7 +133,7 @@ full-call composes a m b h h' frame zero ready others sent finished =
       },
     )
 
--- The accesses of sending depend on the place at the tail alone.
+-- The accesses of sending depend on the number at the tail alone.
 sends-same : (d d' : DriverState) (frame : List ℕ) → d'.layout ≡ d.layout → transmit_tail d' ≡ transmit_tail d
     → send_accesses d' frame ≡ send_accesses d frame
 sends-same d d' frame counts tail =

@@ -62,15 +62,15 @@ silent-event (Steps kind wire_free answer) world occurs silent =
 silent-event (Arrives frame fate) world occurs silent = absurd (cc silent)
 silent-event (Accesses access) world occurs silent = refl
 
-pub silent-events : (events : List Event) (a b : World) (place : ℕ) → Trail events a b → All IsSilent events
-    → ¬ (HasBit (causes_in events a) place)
-silent-events [] a b place trail silent set = HasBit-zero place set
-silent-events (event ∷ later) a b place trail silent set =
+pub silent-events : (events : List Event) (a b : World) (number : ℕ) → Trail events a b → All IsSilent events
+    → ¬ (HasBit (causes_in events a) number)
+silent-events [] a b number trail silent set = HasBit-zero number set
+silent-events (event ∷ later) a b number trail silent set =
     let first : causes_by event a ≡ 0 = silent-event event a trail.0 (all-head IsSilent event later silent) in
-    elim ((HasBit-union (causes_by event a) (causes_in later (world_after event a)) place).0 set) [
-      | inl here ↦ HasBit-zero place (subst (λ (n : ℕ). HasBit n place) first here)
+    elim ((HasBit-union (causes_by event a) (causes_in later (world_after event a)) number).0 set) [
+      | inl here ↦ HasBit-zero number (subst (λ (n : ℕ). HasBit n number) first here)
       | inr behind ↦
-          silent-events later (world_after event a) b place trail.1 (all-tail IsSilent event later silent) behind
+          silent-events later (world_after event a) b number trail.1 (all-tail IsSilent event later silent) behind
     ]
 
 -- Either something came of one of these steps at a host, or nothing of each.

@@ -66,20 +66,20 @@ one-most : (b : Bool) → cond b 1 0 ≤ 1
 one-most true = omega arith
 one-most false = omega arith
 
-place-sum : (n : ℕ) (place : Option ℕ) → sum_to n (λ socket. cond (is_at socket place) 1 0) ≤ 1
-place-sum n None = omega (arith, sum-none n (λ socket. cond (is_at socket None) 1 0) (λ socket. refl))
-place-sum zero (Some place) = omega arith
-place-sum (suc n) (Some zero) =
+held-sum : (n : ℕ) (number : Option ℕ) → sum_to n (λ socket. cond (is_at socket number) 1 0) ≤ 1
+held-sum n None = omega (arith, sum-none n (λ socket. cond (is_at socket None) 1 0) (λ socket. refl))
+held-sum zero (Some number) = omega arith
+held-sum (suc n) (Some zero) =
     let none = sum-none n (λ socket. cond (zero == suc socket) 1 0)
     (λ socket. ap (λ (b : Bool). cond b 1 0) (differ zero (suc socket) (λ e. absurd (omega (arith, e))))) in
     let first = one-most (zero == zero) in
     omega (arith, none, first)
-place-sum (suc n) (Some (suc place)) =
-    let rest = place-sum n (Some place) in
-    let first : cond (suc place == zero) 1 0 ≡ 0 =
-    ap {B = ℕ} (λ (b : Bool). cond b 1 0) (differ (suc place) zero (λ e. absurd (omega (arith, e)))) in
-    let same = sum-same n (λ socket. cond (suc place == suc socket) 1 0) (λ socket. cond (place == socket) 1 0)
-    (λ socket. ap (λ (b : Bool). cond b 1 0) (below-one place socket)) in
+held-sum (suc n) (Some (suc number)) =
+    let rest = held-sum n (Some number) in
+    let first : cond (suc number == zero) 1 0 ≡ 0 =
+    ap {B = ℕ} (λ (b : Bool). cond b 1 0) (differ (suc number) zero (λ e. absurd (omega (arith, e)))) in
+    let same = sum-same n (λ socket. cond (suc number == suc socket) 1 0) (λ socket. cond (number == socket) 1 0)
+    (λ socket. ap (λ (b : Bool). cond b 1 0) (below-one number socket)) in
     omega (arith, rest, first, same)
 
 pub frames-sum : (n : ℕ) (kinds : List SocketKind) (frames : List (List ℕ))
@@ -91,7 +91,7 @@ frames-sum n kinds (frame ∷ later) =
     let each = sum-same n (λ socket. length (socket_frames kinds socket (frame ∷ later))) (λ socket. one socket + rest socket)
     (λ socket. counted socket) in
     let both = sum-plus n one rest in
-    let first = place-sum n (socket_of kinds (ether_type frame)) in
+    let first = held-sum n (socket_of kinds (ether_type frame)) in
     let behind = frames-sum n kinds later in
     omega (arith, each, both, first, behind)
   where

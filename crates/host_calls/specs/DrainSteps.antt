@@ -39,42 +39,42 @@ abbrev pub steps_of : Bool → ℕ
 steps_of stepped = if stepped then 1 else 0
 
 -- Some frames were moved out of the packet buffer, and nothing else happened, at this host only.
-pub record MovesFrames (place : ℕ) (played : List AtomicStep) (old new : List StationState) : Type 0 where
+pub record MovesFrames (number : ℕ) (played : List AtomicStep) (old new : List StationState) : Type 0 where
   pub count : ℕ
-  pub moved : happened_in played ≡ replicate count (Moved place)
-  pub buffered : length (world_at old place).adapter.receiver.buffer ≡ count + length (world_at new place).adapter.receiver.buffer
-  pub alone : (k : ℕ) → k ≢ place → events_at k played ≡ []
+  pub moved : happened_in played ≡ replicate count (Moved number)
+  pub buffered : length (world_at old number).adapter.receiver.buffer ≡ count + length (world_at new number).adapter.receiver.buffer
+  pub alone : (k : ℕ) → k ≢ number → events_at k played ≡ []
   -- the registers of the filter, RCTL among them, are unchanged
-  pub filter : (world_at new place).adapter.filter ≡ (world_at old place).adapter.filter
+  pub filter : (world_at new number).adapter.filter ≡ (world_at old number).adapter.filter
 
 -- How the counts change over these steps, in which this number of frames was given.
-pub record CountsSteps (steps place given : ℕ) (old new : ConnectedHost) : Type 0 where
+pub record CountsSteps (steps number given : ℕ) (old new : ConnectedHost) : Type 0 where
   -- each step makes the measure less by one
-  pub most : steps + count_steps new.host (world_at new.stations place) ≤ count_steps old.host (world_at old.stations place)
-  pub least : given + count_adapter_steps (world_at old.stations place) ≤ steps + count_adapter_steps (world_at new.stations place)
-  pub held : given + count_frames new.host (world_at new.stations place) ≤ count_frames old.host (world_at old.stations place)
+  pub most : steps + count_steps new.host (world_at new.stations number) ≤ count_steps old.host (world_at old.stations number)
+  pub least : given + count_adapter_steps (world_at old.stations number) ≤ steps + count_adapter_steps (world_at new.stations number)
+  pub held : given + count_frames new.host (world_at new.stations number) ≤ count_frames old.host (world_at old.stations number)
 
 -- These steps of the drain were made, and the host gave these frames.
-pub record StepsOn (steps place : ℕ) (given : List Given) (old new : ConnectedHost) : Type 0 where
+pub record StepsOn (steps number : ℕ) (given : List Given) (old new : ConnectedHost) : Type 0 where
   pub played : List AtomicStep
-  pub leads : LeadsTo place played old.stations new.stations
-  pub only : All (IsDrainStep place) played
+  pub leads : LeadsTo number played old.stations new.stations
+  pub only : All (IsDrainStep number) played
   pub taken : List (List ℕ)
-  pub runs : HostRuns place played (did taken given []) old new
-  pub moves : MovesFrames place played old.stations new.stations
-  pub counts : CountsSteps steps place (length given) old new
+  pub runs : HostRuns number played (did taken given []) old new
+  pub moves : MovesFrames number played old.stations new.stations
+  pub counts : CountsSteps steps number (length given) old new
 
 -- An outlet: the frames that it has, and for how many more it has room.
 pub record OutletState : Type 0 where
   pub frames : List Given
-  pub places : ℕ
+  pub room : ℕ
 
 abbrev pub outlet : List Given → ℕ → OutletState
-outlet frames places = record { frames = frames; places = places }
+outlet frames room = record { frames = frames; room = room }
 
 -- They were appended to an outlet, and it still has at least the room that they didn't need.
-pub record StepsInto (steps place : ℕ) (before after : OutletState) (old new : ConnectedHost) : Type 0 where
+pub record StepsInto (steps number : ℕ) (before after : OutletState) (old new : ConnectedHost) : Type 0 where
   pub given : List Given
   pub appended : after.frames ≡ before.frames ++ given
-  pub room : before.places ≤ after.places + length given
-  pub on : StepsOn steps place given old new
+  pub room : before.room ≤ after.room + length given
+  pub on : StepsOn steps number given old new

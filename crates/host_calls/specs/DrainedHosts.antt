@@ -74,11 +74,11 @@ pub record HoldsNothing (host : HostState) (world : World) : Type 0 where
   pub queued : all_of host.queues ≡ []
 
 -- The steps that a drain plays: accesses of the host, and RxData and RxDone of its adapter.
-abbrev pub IsDrainStep : (place : ℕ) → AtomicStep → Type 0
-IsDrainStep place (At host (Accesses access)) = host ≡ place
-IsDrainStep place (At host (Steps kind wire_free answer)) = (host ≡ place) × ((kind ≡ RxData) ⊎ (kind ≡ RxDone))
-IsDrainStep place (At host (Arrives frame fate)) = ⊥
-IsDrainStep place (Idles tick) = ⊥
+abbrev pub IsDrainStep : (number : ℕ) → AtomicStep → Type 0
+IsDrainStep number (At host (Accesses access)) = host ≡ number
+IsDrainStep number (At host (Steps kind wire_free answer)) = (host ≡ number) × ((kind ≡ RxData) ⊎ (kind ≡ RxDone))
+IsDrainStep number (At host (Arrives frame fate)) = ⊥
+IsDrainStep number (Idles tick) = ⊥
 
 -- The count of misses is unchanged: the sum of those that the driver read and those in MPC, up to the greatest u64, and whether the sum is
 -- exact.
@@ -92,40 +92,40 @@ pub record KeepsMisses (h : HostState) (a : World) (h' : HostState) (b : World) 
 
 -- How many steps the drain took: at most four for each piece of the frames that the host held, and one; at least those that its adapter
 -- needs, and one for each frame given.
-pub record AreStepsOf (steps place given : ℕ) (old : ConnectedHost) : Type 0 where
-  pub at_most : steps ≤ 4 * count_held old.host (world_at old.stations place) + 1
-  pub at_least : count_adapter_steps (world_at old.stations place) + given ≤ steps
+pub record AreStepsOf (steps number given : ℕ) (old : ConnectedHost) : Type 0 where
+  pub at_most : steps ≤ 4 * count_held old.host (world_at old.stations number) + 1
+  pub at_least : count_adapter_steps (world_at old.stations number) + given ≤ steps
 
 -- These are unchanged: what is to be sent, what waits at each end of a wire, and every other host's adapter and memory.
-pub record KeepsOthers (place : ℕ) (old new : List StationState) : Type 0 where
-  pub to_send : frames_to_send (world_at new place) ≡ frames_to_send (world_at old place)
+pub record KeepsOthers (number : ℕ) (old new : List StationState) : Type 0 where
+  pub to_send : frames_to_send (world_at new number) ≡ frames_to_send (world_at old number)
   pub lines : (k : ℕ) → backlog_at new k ≡ backlog_at old k
-  pub others : (k : ℕ) → k ≢ place → world_at new k ≡ world_at old k
+  pub others : (k : ℕ) → k ≢ number → world_at new k ≡ world_at old k
 
 -- By which atomic steps it went: each frame of the packet buffer was moved, and nothing else happened but what the host did.
-pub record GoesBy (place : ℕ) (given : List Given) (old new : ConnectedHost) : Type 0 where
+pub record GoesBy (number : ℕ) (given : List Given) (old new : ConnectedHost) : Type 0 where
   pub played : List AtomicStep
-  pub leads : LeadsTo place played old.stations new.stations
-  pub only : All (IsDrainStep place) played
+  pub leads : LeadsTo number played old.stations new.stations
+  pub only : All (IsDrainStep number) played
   pub taken : List (List ℕ)
-  pub runs : HostRuns place played (did taken given []) old new
-  pub moved : happened_in played ≡ replicate (length (world_at old.stations place).adapter.receiver.buffer) (Moved place)
+  pub runs : HostRuns number played (did taken given []) old new
+  pub moved : happened_in played ≡ replicate (length (world_at old.stations number).adapter.receiver.buffer) (Moved number)
 
 -- A drain of a host gave these frames, in this number of steps.
-pub record Drains (steps place : ℕ) (given : List Given) (old new : ConnectedHost) : Type 0 where
-  pub steps_are : AreStepsOf steps place (length given) old
+pub record Drains (steps number : ℕ) (given : List Given) (old new : ConnectedHost) : Type 0 where
+  pub steps_are : AreStepsOf steps number (length given) old
   -- Each socket gave exactly the frames that were held for it, in order, and no frame is held any more.
-  pub all_given : (socket : ℕ) → given_for socket given ≡ held_for_socket old.host socket (world_at old.stations place)
-  pub nothing_left : HoldsNothing new.host (world_at new.stations place)
+  pub all_given : (socket : ℕ) → given_for socket given ≡ held_for_socket old.host socket (world_at old.stations number)
+  pub nothing_left : HoldsNothing new.host (world_at new.stations number)
   -- The frames without a socket were counted, up to the greatest u64.
   pub unclaimed : GrowsBy old.host.unclaimed new.host.unclaimed
-      (without_socket old.host.kinds (frames_held old.host.driver.oldest_receive (world_at old.stations place)))
-  pub keeps : KeepsOthers place old.stations new.stations
-  pub misses : KeepsMisses old.host (world_at old.stations place) new.host (world_at new.stations place)
-  pub by : GoesBy place given old new
+      (without_socket old.host.kinds (frames_held old.host.driver.oldest_receive (world_at old.stations number)))
+  pub keeps : KeepsOthers number old.stations new.stations
+  pub misses : KeepsMisses old.host (world_at old.stations number) new.host (world_at new.stations number)
+  pub by : GoesBy number given old new
 
 -- They were appended to those that the outlet had.
-pub record DrainsInto (steps place : ℕ) (before after : List Given) (old new : ConnectedHost) : Type 0 where
+pub record DrainsInto (steps number : ℕ) (before after : List Given) (old new : ConnectedHost) : Type 0 where
   pub given : List Given
   pub appended : after ≡ before ++ given
-  pub drains : Drains steps place given old new
+  pub drains : Drains steps number given old new

@@ -21,7 +21,7 @@ pub struct Called<T> {
     pub accesses: u64,
 }
 
-/// A host sends a frame, while ticks are played on all hosts. `place` is the host's number.
+/// A host sends a frame, while ticks are played on all hosts. `number` is the host's number.
 ///
 /// # Errors
 ///
@@ -29,22 +29,22 @@ pub struct Called<T> {
 pub fn send<O: Observer>(
     host: &mut Host,
     network: &mut Network,
-    place: usize,
+    number: usize,
     frame: &[u8],
     ticks: &[Tick],
     observer: &mut O,
 ) -> Called<Result<(), SendError>>
-    requires there { place < length network.old }
-    requires ready { HostReady host.old (world_at network.old place) }
-    requires room { length ticks.now ≤ O.places observer.old }
-    ensures { SendRuns (played_call place ticks.now (O.heard observer.old observer.new) result.accesses) frame.now
+    requires there { number < length network.old }
+    requires ready { HostReady host.old (world_at network.old number) }
+    requires room { length ticks.now ≤ O.room_left observer.old }
+    ensures { SendRuns (played_call number ticks.now (O.heard observer.old observer.new) result.accesses) frame.now
         result.answer
         (connected host.old network.old) (connected host.new network.new) }
 {
     let mut bus = LentBus {
         network,
         ticks,
-        host: place,
+        host: number,
         accesses: 0,
         observer,
     };
@@ -65,23 +65,23 @@ pub fn send<O: Observer>(
 pub fn recv_into<O: Observer>(
     host: &mut Host,
     network: &mut Network,
-    place: usize,
+    number: usize,
     socket: usize,
     ticks: &[Tick],
     observer: &mut O,
     into: &mut [u8; 1518],
 ) -> Called<Result<usize, RecvError>>
-    requires there { place < length network.old }
-    requires ready { HostReady host.old (world_at network.old place) }
-    requires room { length ticks.now ≤ O.places observer.old }
-    ensures gives { RecvRuns (played_call place ticks.now (O.heard observer.old observer.new) result.accesses) socket
+    requires there { number < length network.old }
+    requires ready { HostReady host.old (world_at network.old number) }
+    requires room { length ticks.now ≤ O.room_left observer.old }
+    ensures gives { RecvRuns (played_call number ticks.now (O.heard observer.old observer.new) result.accesses) socket
         (frame_in into.new result.answer) (connected host.old network.old) (connected host.new network.new) }
     ensures size { IfOk result.answer IsFrameSize }
 {
     let mut bus = LentBus {
         network,
         ticks,
-        host: place,
+        host: number,
         accesses: 0,
         observer,
     };
@@ -101,20 +101,20 @@ pub fn recv_into<O: Observer>(
 pub fn recv<O: Observer>(
     host: &mut Host,
     network: &mut Network,
-    place: usize,
+    number: usize,
     socket: usize,
     ticks: &[Tick],
     observer: &mut O,
 ) -> Called<Result<Frame, RecvError>>
-    requires there { place < length network.old }
-    requires ready { HostReady host.old (world_at network.old place) }
-    requires room { length ticks.now ≤ O.places observer.old }
-    ensures { RecvRuns (played_call place ticks.now (O.heard observer.old observer.new) result.accesses) socket
+    requires there { number < length network.old }
+    requires ready { HostReady host.old (world_at network.old number) }
+    requires room { length ticks.now ≤ O.room_left observer.old }
+    ensures { RecvRuns (played_call number ticks.now (O.heard observer.old observer.new) result.accesses) socket
         result.answer
         (connected host.old network.old) (connected host.new network.new) }
 {
     let mut bytes = [0; 1518];
-    let called = recv_into(host, network, place, socket, ticks, observer, &mut bytes);
+    let called = recv_into(host, network, number, socket, ticks, observer, &mut bytes);
     Called {
         answer: frame_of(&bytes, called.answer),
         accesses: called.accesses,
@@ -136,21 +136,21 @@ fn frame_of(bytes: &[u8; 1518], answer: Result<usize, RecvError>) -> Result<Fram
 pub fn interrupt<O: Observer>(
     host: &mut Host,
     network: &mut Network,
-    place: usize,
+    number: usize,
     ticks: &[Tick],
     observer: &mut O,
 ) -> Called<Handled>
-    requires there { place < length network.old }
-    requires ready { HostReady host.old (world_at network.old place) }
-    requires room { length ticks.now ≤ O.places observer.old }
-    ensures { InterruptRuns (played_call place ticks.now (O.heard observer.old observer.new) result.accesses)
+    requires there { number < length network.old }
+    requires ready { HostReady host.old (world_at network.old number) }
+    requires room { length ticks.now ≤ O.room_left observer.old }
+    ensures { InterruptRuns (played_call number ticks.now (O.heard observer.old observer.new) result.accesses)
         result.answer
         (connected host.old network.old) (connected host.new network.new) }
 {
     let mut bus = LentBus {
         network,
         ticks,
-        host: place,
+        host: number,
         accesses: 0,
         observer,
     };

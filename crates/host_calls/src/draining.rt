@@ -14,75 +14,76 @@ use adapter::{Outcome, StepKind};
 use packet_socket::Host;
 use stations::{Network, Nobody};
 
-/// Drains a host: gives each frame that it holds for its sockets to `sink`, and returns the number of steps. `place` is
-/// the host's number. No tick is played in its calls. `sink` keeps the room that it doesn't need.
+/// Drains a host: gives each frame that it holds for its sockets to `sink`, and returns the number of steps.
+/// `number` is the host's number. No tick is played in its calls. `sink` keeps the room that it doesn't need.
 ///
 /// Each step is the first of these that applies. If a piece of a frame is in progress, the host's adapter writes back
 /// its descriptor. If the interrupt line is asserted, the host handles an interrupt. If a frame waits for a socket,
 /// the first such socket gives its oldest. If the receive packet buffer has a frame, the adapter moves the next piece
 /// of its oldest to the ring.
-pub fn drain<S: Outlet>(host: &mut Host, network: &mut Network, place: usize, sink: &mut S) -> u64
-    requires there { place < length network.old }
-    requires stands { CanBeDrained host.old (world_at network.old place) }
-    requires room { host.old.driver.layout.buffers + 24 ≤ S.places sink.old }
-    ensures drains { DrainsInto result place (S.frames sink.old) (S.frames sink.new)
+pub fn drain<S: Outlet>(host: &mut Host, network: &mut Network, number: usize, sink: &mut S) -> u64
+    requires there { number < length network.old }
+    requires stands { CanBeDrained host.old (world_at network.old number) }
+    requires room { host.old.driver.layout.buffers + 24 ≤ S.room_left sink.old }
+    ensures drains { DrainsInto result number (S.frames sink.old) (S.frames sink.new)
         (connected host.old network.old) (connected host.new network.new) }
-    ensures left { length (S.frames sink.old) + S.places sink.old ≤ length (S.frames sink.new) + S.places sink.new }
+    ensures left { length (S.frames sink.old) + S.room_left sink.old
+        ≤ length (S.frames sink.new) + S.room_left sink.new }
 {
     let mut steps = 0;
-    while step(host, network, place, sink) {
+    while step(host, network, number, sink) {
         steps += 1;
     }
     steps
 }
 
 /// The next step, if one applies: else nothing is held. The room may rest on what holds of every adapter.
-fn step<S: Outlet>(host: &mut Host, network: &mut Network, place: usize, sink: &mut S) -> bool
-    requires there { place < length network.old }
-    requires stands { CanBeDrained host.old (world_at network.old place) }
-    requires room { IsAdapter (world_at network.old place).adapter
-        → count_frames host.old (world_at network.old place) ≤ S.places sink.old }
-    ensures adapter { IsAdapter (world_at network.old place).adapter }
-    ensures steps { StepsInto (steps_of result) place (outlet (S.frames sink.old) (S.places sink.old))
-        (outlet (S.frames sink.new) (S.places sink.new))
+fn step<S: Outlet>(host: &mut Host, network: &mut Network, number: usize, sink: &mut S) -> bool
+    requires there { number < length network.old }
+    requires stands { CanBeDrained host.old (world_at network.old number) }
+    requires room { IsAdapter (world_at network.old number).adapter
+        → count_frames host.old (world_at network.old number) ≤ S.room_left sink.old }
+    ensures adapter { IsAdapter (world_at network.old number).adapter }
+    ensures steps { StepsInto (steps_of result) number (outlet (S.frames sink.old) (S.room_left sink.old))
+        (outlet (S.frames sink.new) (S.room_left sink.new))
         (connected host.old network.old) (connected host.new network.new) }
-    ensures ends { result ≡ false → HoldsNothing host.new (world_at network.new place) }
+    ensures ends { result ≡ false → HoldsNothing host.new (world_at network.new number) }
 {
-    if finish(network, place) {
+    if finish(network, number) {
         return true;
     }
-    if network.line(place) {
-        handle(host, network, place);
+    if network.line(number) {
+        handle(host, network, number);
         return true;
     }
     if let Some(socket) = first_waiting(host) {
-        give(host, network, place, socket, sink);
+        give(host, network, number, socket, sink);
         return true;
     }
-    move_piece(host, network, place)
+    move_piece(host, network, number)
 }
 
 /// The adapter writes back the descriptor of the piece in progress, if there is one.
-fn finish(network: &mut Network, place: usize) -> bool
-    requires there { place < length network.old }
-    ensures adapter { IsAdapter (world_at network.old place).adapter }
-    ensures steps { (host : HostState) → CanBeDrained host (world_at network.old place)
-        → StepsOn (steps_of result) place [] (connected host network.old) (connected host network.new) }
-    ensures free { (world_at network.new place).adapter.receiver.work ≡ None }
+fn finish(network: &mut Network, number: usize) -> bool
+    requires there { number < length network.old }
+    ensures adapter { IsAdapter (world_at network.old number).adapter }
+    ensures steps { (host : HostState) → CanBeDrained host (world_at network.old number)
+        → StepsOn (steps_of result) number [] (connected host network.old) (connected host network.new) }
+    ensures free { (world_at network.new number).adapter.receiver.work ≡ None }
 {
-    matches!(network.step(place, StepKind::RxDone), Outcome::Done)
+    matches!(network.step(number, StepKind::RxDone), Outcome::Done)
 }
 
 /// The host handles an interrupt.
-fn handle(host: &mut Host, network: &mut Network, place: usize)
-    requires there { place < length network.old }
-    requires stands { CanBeDrained host.old (world_at network.old place) }
-    requires free { (world_at network.old place).adapter.receiver.work ≡ None }
-    requires asserted { Meet (world_at network.old place).adapter.causes.recorded
-        (world_at network.old place).adapter.causes.mask }
-    ensures { StepsOn 1 place [] (connected host.old network.old) (connected host.new network.new) }
+fn handle(host: &mut Host, network: &mut Network, number: usize)
+    requires there { number < length network.old }
+    requires stands { CanBeDrained host.old (world_at network.old number) }
+    requires free { (world_at network.old number).adapter.receiver.work ≡ None }
+    requires asserted { Meet (world_at network.old number).adapter.causes.recorded
+        (world_at network.old number).adapter.causes.mask }
+    ensures { StepsOn 1 number [] (connected host.old network.old) (connected host.new network.new) }
 {
-    crate::calls::interrupt(host, network, place, &[], &mut Nobody);
+    crate::calls::interrupt(host, network, number, &[], &mut Nobody);
 }
 
 /// The first socket for which a frame waits.
@@ -103,42 +104,42 @@ fn first_waiting(host: &Host) -> Option<usize>
 fn give<S: Outlet>(
     host: &mut Host,
     network: &mut Network,
-    place: usize,
+    number: usize,
     socket: usize,
     sink: &mut S,
 )
-    requires there { place < length network.old }
-    requires stands { CanBeDrained host.old (world_at network.old place) }
-    requires free { (world_at network.old place).adapter.receiver.work ≡ None }
+    requires there { number < length network.old }
+    requires stands { CanBeDrained host.old (world_at network.old number) }
+    requires free { (world_at network.old number).adapter.receiver.work ≡ None }
     requires known { socket < length host.old.kinds }
     requires waits { queue_at host.old.queues socket ≢ [] }
-    requires room { 0 < S.places sink.old }
-    ensures { StepsInto 1 place (outlet (S.frames sink.old) (S.places sink.old))
-        (outlet (S.frames sink.new) (S.places sink.new))
+    requires room { 0 < S.room_left sink.old }
+    ensures { StepsInto 1 number (outlet (S.frames sink.old) (S.room_left sink.old))
+        (outlet (S.frames sink.new) (S.room_left sink.new))
         (connected host.old network.old) (connected host.new network.new) }
 {
-    if let Ok(frame) = crate::calls::recv(host, network, place, socket, &[], &mut Nobody).answer {
+    if let Ok(frame) = crate::calls::recv(host, network, number, socket, &[], &mut Nobody).answer {
         sink.take(socket, &frame);
     }
 }
 
 /// The adapter moves the next piece of the oldest frame out of the packet buffer, if there is one.
-fn move_piece(host: &Host, network: &mut Network, place: usize) -> bool
-    requires there { place < length network.old }
-    requires stands { CanBeDrained host.now (world_at network.old place) }
-    requires free { (world_at network.old place).adapter.receiver.work ≡ None }
-    requires quiet { ¬ (Meet (world_at network.old place).adapter.causes.recorded
-        (world_at network.old place).adapter.causes.mask) }
+fn move_piece(host: &Host, network: &mut Network, number: usize) -> bool
+    requires there { number < length network.old }
+    requires stands { CanBeDrained host.now (world_at network.old number) }
+    requires free { (world_at network.old number).adapter.receiver.work ≡ None }
+    requires quiet { ¬ (Meet (world_at network.old number).adapter.causes.recorded
+        (world_at network.old number).adapter.causes.mask) }
     requires given { all_of host.now.queues ≡ [] }
-    ensures steps { StepsOn (steps_of result) place [] (connected host.now network.old)
+    ensures steps { StepsOn (steps_of result) number [] (connected host.now network.old)
         (connected host.now network.new) }
-    ensures ends { result ≡ false → HoldsNothing host.now (world_at network.new place) }
+    ensures ends { result ≡ false → HoldsNothing host.now (world_at network.new number) }
 {
     // Calls of the layout, so that the clauses may rest on its sizes: at least one slot is offered.
     let layout = host.layout();
     let _sizes = (layout.rx(), layout.buffers());
     matches!(
-        network.step(place, StepKind::RxData),
+        network.step(number, StepKind::RxData),
         Outcome::Part | Outcome::Moved
     )
 }

@@ -11,16 +11,16 @@ pub trait Outlet {
     ghost frames: { Self → List Given };
 
     /// How many frames more it has room for.
-    ghost places: { Self → ℕ };
+    ghost room_left: { Self → ℕ };
 
     /// How many frames more it has room for.
     fn room(&self) -> usize
-        ensures { result ≡ places self.now };
+        ensures { result ≡ room_left self.now };
 
     /// Appends a frame of a socket. At most one frame's room is used.
     fn take(&mut self, socket: usize, frame: &Frame)
-        requires room { 0 < places self.old }
-        ensures room { places self.old ≤ places self.new + 1 }
+        requires room { 0 < room_left self.old }
+        ensures room { room_left self.old ≤ room_left self.new + 1 }
         ensures last { frames self.new
             ≡ frames self.old ++ record { socket = socket; frame = frame.now } ∷ [] };
 }

@@ -6,7 +6,7 @@ use Rattle.std.specs.List.{range_with_len}
 use Rattle.network_plan.specs.declared.plan.HostPlan.{HostPlan}
 use Rattle.scenario.specs.SoFar.{hosts_of}
 use Rattle.scenario_bench.specs.Given.{sockets_from, sockets_of}
-use Rattle.scenario_bench.proofs.EmptySockets.{host_places}
+use Rattle.scenario_bench.proofs.EmptySockets.{sockets_more}
 use Rattle.nicbench.specs.Sinks.{sockets_in}
 
 pub host_more : (plans : List HostPlan) (number : ℕ) (plan d : HostPlan) (sinks more : ℕ) → number < length plans
@@ -20,4 +20,4 @@ host_more plans number plan d sinks more below there is grown =
     ∙ length-range_with_len 0 (length plan.sockets.items) in
     grown ∙ ap (λ (n : ℕ). n + length plan.sockets.items) is ∙ ap (λ (n : ℕ). length before + n) (sym count)
     ∙ sym (length-append before own)
-    ∙ ap length (host_places plans number (length plan.sockets.items) plan d before (before ++ own) below there refl refl refl)
+    ∙ ap length (sockets_more plans number (length plan.sockets.items) plan d before (before ++ own) below there refl refl refl)

@@ -76,12 +76,12 @@ replicate_more n one tallies new is more =
 
 -- Places of sockets.
 
-pub no_place : (host : ℕ) (old : List (ℕ × ℕ)) → old ≡ old ++ sockets_of host 0
-no_place host old = sym (append-nil old)
+pub no_pair : (host : ℕ) (old : List (ℕ × ℕ)) → old ≡ old ++ sockets_of host 0
+no_pair host old = sym (append-nil old)
 
-pub place_more : (host count : ℕ) (old places new : List (ℕ × ℕ)) → places ≡ old ++ sockets_of host count
+pub pair_more : (host count : ℕ) (old places new : List (ℕ × ℕ)) → places ≡ old ++ sockets_of host count
     → new ≡ places ++ (host, count) ∷ [] → new ≡ old ++ sockets_of host (count + 1)
-place_more host count old places new is more =
+pair_more host count old places new is more =
     let all : sockets_of host (count + 1) ≡ sockets_of host count ++ (host, count) ∷ [] =
     ap (map (λ (socket : ℕ). (host, socket))) (range-more 0 count)
     ∙ map-append (λ (socket : ℕ). (host, socket)) (range_with_len 0 count) ((0 + count) ∷ [])
@@ -89,10 +89,10 @@ place_more host count old places new is more =
     more ∙ ap (λ (l : List (ℕ × ℕ)). l ++ (host, count) ∷ []) is
     ∙ append_assoc old (sockets_of host count) ((host, count) ∷ []) ∙ ap (λ (l : List (ℕ × ℕ)). old ++ l) (sym all)
 
-pub host_places : (plans : List HostPlan) (number count : ℕ) (plan d : HostPlan) (places new : List (ℕ × ℕ)) → number < length plans
+pub sockets_more : (plans : List HostPlan) (number count : ℕ) (plan d : HostPlan) (places new : List (ℕ × ℕ)) → number < length plans
     → plan ≡ slice_index_or plans number d → count ≡ length plan.sockets.items → places ≡ sockets_from 0 (hosts_of (take number plans))
     → new ≡ places ++ sockets_of number count → new ≡ sockets_from 0 (hosts_of (take (number + 1) plans))
-host_places plans number count plan d places new below there counts is more =
+sockets_more plans number count plan d places new below there counts is more =
     let first = take number plans in
     let taken : take (number + 1) plans ≡ first ++ plan ∷ [] = grind (arith, common_steps, below, there) in
     let before : length (hosts_of first) ≡ number = grind (arith, common_steps, below) in

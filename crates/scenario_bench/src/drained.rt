@@ -34,7 +34,7 @@ impl DrainedFrames {
 impl Outlet for DrainedFrames {
     ghost frames = { λ drained. map drained_frame drained.list.items };
 
-    ghost places = { λ drained. vec_capacity drained.list - length drained.list.items };
+    ghost room_left = { λ drained. vec_capacity drained.list - length drained.list.items };
 
     fn room(&self) -> usize {
         self.list.capacity() - self.list.len()

@@ -16,8 +16,8 @@ use std::alloc::{AllocError, Global};
 /// Bytes of a broadcast without data: two addresses and the type (IEEE 802.3, 3.1.1).
 const HEADER: usize = 14;
 
-/// A host asks a socket for a frame, without ticks.
-fn recv(alloc: Global, host: usize, socket: usize) -> Event
+/// The event in which a host asks a socket for a frame, without ticks.
+fn recv_event(alloc: Global, host: usize, socket: usize) -> Event
     ensures { event_of result ≡ Receives host socket [] }
 {
     Event::Recv {
@@ -27,8 +27,8 @@ fn recv(alloc: Global, host: usize, socket: usize) -> Event
     }
 }
 
-/// A step between calls.
-fn step(host: usize, kind: StepKind) -> Event
+/// The event of a step between calls.
+fn step_event(host: usize, kind: StepKind) -> Event
     ensures { event_of result ≡ Ticks (ticks.Step host kind) }
 {
     Event::Tick(Tick::Step(host, kind))
@@ -52,8 +52,8 @@ fn push_moves(host: usize, pieces: usize, events: &mut Vec<Event>) -> Result<(),
         (map event_of events.new.items ≡ map event_of events.old.items ++ lists.moves_at host pieces) }
 {
     for _piece in 0..pieces {
-        events.push(step(host, StepKind::RxData))?;
-        events.push(step(host, StepKind::RxDone))?;
+        events.push(step_event(host, StepKind::RxData))?;
+        events.push(step_event(host, StepKind::RxDone))?;
     }
     Ok(())
 }
@@ -76,7 +76,7 @@ fn push_arrival(
         ticks: Vec::new(alloc),
     })?;
     for socket in 0..sockets {
-        events.push(recv(alloc, host, socket))?;
+        events.push(recv_event(alloc, host, socket))?;
     }
     Ok(())
 }
@@ -124,8 +124,8 @@ pub(crate) fn set_behind_send(
         (map event_of events.new.items ≡ lists.behind_send (hosts_of plans.now) sender pieces) }
 {
     events.clear();
-    events.push(step(sender, StepKind::TxTake))?;
-    events.push(step(sender, StepKind::TxPut))?;
+    events.push(step_event(sender, StepKind::TxTake))?;
+    events.push(step_event(sender, StepKind::TxPut))?;
     push_arrivals(alloc, plans, pieces, sender, events)
 }
 
@@ -166,8 +166,8 @@ impl EventMemory {
         }
     }
 
-    /// A host sends these bytes, without ticks.
-    pub(crate) fn send(&mut self, host: usize, bytes: &[u8]) -> Result<Event, AllocError>
+    /// The event in which a host sends these bytes, without ticks.
+    pub(crate) fn send_event(&mut self, host: usize, bytes: &[u8]) -> Result<Event, AllocError>
         ensures { IfOk result (λ event. event_of event ≡ Sends host bytes.now []) }
     {
         let mut frame = std::mem::replace(&mut self.frame, Vec::new(self.alloc));
@@ -180,7 +180,7 @@ impl EventMemory {
         })
     }
 
-    /// A host handles an interrupt, and a frame finishes after its first access.
+    /// The event in which a host handles an interrupt, and a frame finishes after its first access.
     fn late_interrupt(&mut self, host: usize) -> Result<Event, AllocError>
         ensures { IfOk result (λ event. event_of event ≡ Interrupts host (lists.late_frame host)) }
     {
@@ -206,14 +206,14 @@ impl EventMemory {
         ensures { IfOk result (λ event. event_of event ≡ lists.event_of_kind kind host (address_bytes image.now)) }
     {
         match kind {
-            0 => Ok(step(host, StepKind::TxTake)),
-            1 => Ok(step(host, StepKind::TxPut)),
-            2 => Ok(step(host, StepKind::RxData)),
-            3 => Ok(step(host, StepKind::RxDone)),
+            0 => Ok(step_event(host, StepKind::TxTake)),
+            1 => Ok(step_event(host, StepKind::TxPut)),
+            2 => Ok(step_event(host, StepKind::RxData)),
+            3 => Ok(step_event(host, StepKind::RxDone)),
             4 => Ok(Event::Tick(Tick::Deliver(host))),
             5 => self.late_interrupt(host),
-            6 => Ok(recv(self.alloc, host, 0)),
-            _ => self.send(host, &broadcast_of(image)),
+            6 => Ok(recv_event(self.alloc, host, 0)),
+            _ => self.send_event(host, &broadcast_of(image)),
         }
     }
 }

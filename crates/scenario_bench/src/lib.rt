@@ -7,15 +7,15 @@ mod bench_error;
 mod drained;
 mod events;
 mod given;
-mod places;
 mod play;
 mod printing;
 mod record;
+mod socket_list;
 mod summary;
 mod tally;
 
 pub use bench_error::BenchError;
-pub use places::sockets;
 pub use play::bench;
 pub use printing::print_summary;
+pub use socket_list::sockets;
 pub use summary::{HostSummary, Summary};

@@ -87,7 +87,7 @@ impl Play {
         let mut memory = EventMemory::new(alloc);
         let mut behind = Vec::new(alloc);
         for frame in trace.frames.iter() {
-            let events = [memory.send(host, frame)?];
+            let events = [memory.send_event(host, frame)?];
             self.run(&events)?;
             let [event] = events;
             memory.take_back(event);
@@ -226,8 +226,8 @@ impl Play {
             (map (λ (s : W). record { taken = W.taken s; failures = W.failures s }) sinks.old)
             (map (λ (s : W). record { taken = W.taken s; failures = W.failures s }) sinks.new)) }
     {
-        for place in 0..sinks.len() {
-            self.record.sockets[place].write(writer, &mut sinks[place])?;
+        for index in 0..sinks.len() {
+            self.record.sockets[index].write(writer, &mut sinks[index])?;
         }
         Ok(())
     }

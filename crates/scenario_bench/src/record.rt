@@ -130,8 +130,8 @@ fn note_frame(
     requires { length frame.now ≤ 1518 }
     ensures { OnOk result (GetsGiven host socket (numbered number frame.now) sockets.old sockets.new) }
 {
-    for place in 0..sockets.len() {
-        sockets[place].note(host, socket, number, frame)?;
+    for index in 0..sockets.len() {
+        sockets[index].note(host, socket, number, frame)?;
     }
     Ok(())
 }
@@ -140,8 +140,8 @@ fn note_frame(
 fn reserve_frame(sockets: &mut [GivenFrames], host: usize, socket: usize) -> Result<(), AllocError>
     ensures { sockets.new ≡ sockets.old }
 {
-    for place in 0..sockets.len() {
-        sockets[place].reserve(host, socket)?;
+    for index in 0..sockets.len() {
+        sockets[index].reserve(host, socket)?;
     }
     Ok(())
 }
@@ -248,7 +248,7 @@ impl Observer for Record {
 
     ghost heard = { HearsTicks };
 
-    ghost places = { λ now. 18446744073709551616 };
+    ghost room_left = { λ now. 18446744073709551616 };
 
     ghost composes = { ticks_compose };
 

@@ -118,14 +118,14 @@ pub record GroupPlayed {O : Type 0} (g : OfObserver O) (ticks : List Tick) (n : 
   pub front : List Tick
   pub split : InGroup ticks front rest
   pub plays : PlaysTicks g front n old mid
-  pub room : length rest ≤ g.places mid.observer
+  pub room : length rest ≤ g.room_left mid.observer
 
 -- And a loop over all ticks.
 pub record AllPlayed {O : Type 0} (g : OfObserver O) (ticks : List Tick) (n : ℕ) (rest : List Tick) (old mid : Watched O) : Type 0 where
   pub front : List Tick
   pub split : without_go is_go ticks ≡ front ++ without_go is_go rest
   pub plays : PlaysTicks g front n old mid
-  pub room : length rest ≤ g.places mid.observer
+  pub room : length rest ≤ g.room_left mid.observer
 
 not-go : (tick : Tick) → tick ≢ Go → is_go tick ≡ false
 not-go Go other = absurd (other refl)
@@ -133,12 +133,12 @@ not-go (Step host kind) other = refl
 not-go (Deliver host) other = refl
 
 pub group-begins-played : {O : Type 0} {g : OfObserver O} → ComposesTold g.heard → (ticks : List Tick) (n : ℕ) (now : Watched O)
-    → length ticks ≤ g.places now.observer → GroupPlayed g ticks n ticks now now
+    → length ticks ≤ g.room_left now.observer → GroupPlayed g ticks n ticks now now
 group-begins-played composes ticks n now room =
     record { front = []; split = group-begins ticks; plays = plays-none composes now n; room = room }
 
 pub all-begins-played : {O : Type 0} {g : OfObserver O} → ComposesTold g.heard → (ticks : List Tick) (n : ℕ) (now : Watched O)
-    → length ticks ≤ g.places now.observer → AllPlayed g ticks n ticks now now
+    → length ticks ≤ g.room_left now.observer → AllPlayed g ticks n ticks now now
 all-begins-played composes ticks n now room = record { front = []; split = refl; plays = plays-none composes now n; room = room }
 
 pub group-more : {O : Type 0} {g : OfObserver O} → ComposesTold g.heard

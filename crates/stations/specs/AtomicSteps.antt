@@ -103,4 +103,4 @@ pub record PlaysNoted {O : Type 0} (observers : OfObserver O) (tick : Tick) (acc
   pub outcome : FrameOutcome
   pub plays : Plays old.stations tick outcome new.stations
   pub heard : observers.heard old.observer new.observer (tick_told tick accesses outcome ∷ [])
-  pub room : observers.places old.observer ≤ observers.places new.observer + 1
+  pub room : observers.room_left old.observer ≤ observers.room_left new.observer + 1

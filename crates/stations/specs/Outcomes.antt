@@ -24,5 +24,5 @@ note_of told = record { accesses = told.accesses; outcome = told.outcome }
 abbrev pub Collects : (before after : OutcomeList) → List TickTold → Type 0
 Collects before after told = after.list ≡ before.list ++ map note_of told
 
-abbrev pub places_of : OutcomeList → ℕ
-places_of outcomes = outcomes.room
+abbrev pub room_of : OutcomeList → ℕ
+room_of outcomes = outcomes.room

@@ -1,7 +1,7 @@
 -- What is collected in two intervals is collected in both together.
 use Rattle.std.proofs.Common.{◌++◌, [], List, map, sym, ap, ◌∙◌, append_assoc}
 use Rattle.std.proofs.lemmas.List.{append-nil, map-append}
-use Rattle.stations.specs.Outcomes.{Collects, OutcomeList, note_of, places_of}
+use Rattle.stations.specs.Outcomes.{Collects, OutcomeList, note_of, room_of}
 use Rattle.stations.specs.declared.observer.Observer.{Ghosts as OfObserver}
 use Rattle.stations.specs.ToldTicks.{TickTold}
 use Rattle.stations.specs.declared.outcomes.Numbered.{Numbered}
@@ -19,4 +19,4 @@ collects_join a b c first later one two =
 
 -- the collector of outcomes, as an observer
 abbrev pub collector : OfObserver OutcomeList
-collector = record { heard = Collects; places = places_of }
+collector = record { heard = Collects; room_left = room_of }

@@ -12,4 +12,4 @@ pub record PlaysTicks {O : Type 0} (observers : OfObserver O) (ticks : List Tick
   pub leads : (caller : ℕ) → LeadsTo caller steps old.stations new.stations
   pub played : map tick_of steps ≡ ticks
   pub heard : observers.heard old.observer new.observer (steps_told accesses steps)
-  pub room : observers.places old.observer ≤ observers.places new.observer + length ticks
+  pub room : observers.room_left old.observer ≤ observers.room_left new.observer + length ticks

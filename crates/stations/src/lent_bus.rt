@@ -22,7 +22,7 @@ pub struct LentBus<'a, 't, O: Observer> {
     /// It is told what comes of each tick, with the number of accesses before it.
     pub observer: &'a mut O,
     ghost there: { host < length network.now },
-    ghost room: { length ticks.now ≤ O.places observer.now },
+    ghost room: { length ticks.now ≤ O.room_left observer.now },
 }
 
 impl<'a, 't, O: Observer> LentBus<'a, 't, O> {

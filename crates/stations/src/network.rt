@@ -102,7 +102,8 @@ impl Network {
         self.machine(host).counts()
     }
 
-    /// A host's adapter takes a step that puts nothing onto a wire, by itself.
+    /// A host's adapter takes a step by itself. No other station and no wire changes. The step isn't TxPut, so it
+    /// doesn't matter whether the wire is free.
     pub fn step(&mut self, host: usize, kind: StepKind) -> Outcome<()>
         requires there { host < length self.old }
         requires stays { kind ≢ TxPut }
@@ -124,7 +125,7 @@ impl Network {
         self.machine(host).line()
     }
 
-    /// Reads a register of a host.
+    /// Reads a register of a host. No other station and no wire changes.
     pub fn read(&mut self, host: usize, offset: u32) -> u32
         requires there { host < length self.old }
         ensures answer { result ≡ answer_at offset (world_at self.old host).adapter }
@@ -134,7 +135,7 @@ impl Network {
         self.machines[host].read(offset)
     }
 
-    /// Writes a register of a host.
+    /// Writes a register of a host. No other station and no wire changes.
     pub fn write(&mut self, host: usize, offset: u32, value: u32)
         requires there { host < length self.old }
         ensures state { self.new ≡ stations_after host (Accesses (Writes offset value)) self.old }
@@ -153,7 +154,7 @@ impl Network {
         self.machine(host).load(address, into);
     }
 
-    /// Stores bytes in a host's memory.
+    /// Stores bytes in a host's memory. No other station and no wire changes.
     pub fn store(&mut self, host: usize, address: u64, bytes: &[u8])
         requires there { host < length self.old }
         requires lies { LiesIn (world_at self.old host).memory address (length bytes.now) }

@@ -14,15 +14,15 @@ pub trait Observer {
     ghost heard: { Self → Self → List TickTold → Type 0 };
 
     /// The number of further outcomes for which it has room.
-    ghost places: { Self → ℕ };
+    ghost room_left: { Self → ℕ };
 
     /// A tick is played, and this is its outcome. `accesses` is the number of accesses that its call made before it.
     /// The frame is the one that was put or delivered, if there is one; it has at most 1,518 bytes.
     fn note(&mut self, tick: Tick, accesses: u64, outcome: Outcome<()>, frame: &[u8])
-        requires room { 0 < places self.old }
+        requires room { 0 < room_left self.old }
         requires fits { length frame.now ≤ longest_frame }
         ensures heard { heard self.old self.new (tick_told tick accesses (with_frame frame.now outcome) ∷ []) }
-        ensures room { places self.old ≤ places self.new + 1 };
+        ensures room { room_left self.old ≤ room_left self.new + 1 };
 
     /// From a state to itself it was told nothing, and what it was told in two consecutive intervals it was told in
     /// both together.
@@ -38,7 +38,7 @@ impl Observer for Nobody {
 
     ghost heard = { λ before after told. ⊤ };
 
-    ghost places = { λ nobody. 18446744073709551616 };
+    ghost room_left = { λ nobody. 18446744073709551616 };
 
     ghost composes = { record {
       stays = λ a. tt;

@@ -90,12 +90,12 @@ impl Outcomes {
 }
 
 impl Observer for Outcomes {
-    ghost use Rattle.stations.specs.Outcomes.{Collects, places_of};
+    ghost use Rattle.stations.specs.Outcomes.{Collects, room_of};
     ghost use Rattle.stations.specs.OutcomesLaws.{collects_join, collects_none};
 
     ghost heard = { Collects };
 
-    ghost places = { places_of };
+    ghost room_left = { room_of };
 
     ghost composes = { record {
       stays = collects_none;

@@ -16,7 +16,7 @@ use adapter::{Outcome, StepKind};
 impl Network {
     /// Plays a tick. The observer is told its outcome, with the number of accesses that the call made before it.
     pub fn play<O: Observer>(&mut self, tick: Tick, accesses: u64, observer: &mut O)
-        requires room { 0 < O.places observer.old }
+        requires room { 0 < O.room_left observer.old }
         ensures { PlaysNoted O.Observer tick accesses (watched self.old observer.old)
             (watched self.new observer.new) }
     {
@@ -27,7 +27,8 @@ impl Network {
         }
     }
 
-    /// A host's adapter takes a step.
+    /// A host's adapter takes a step. If there is no such host, the outcome is `Nothing`. Other stations change only if
+    /// the step is TxPut: the frame then waits at the other ends of the wire.
     fn play_step<O: Observer>(
         &mut self,
         host: usize,
@@ -35,7 +36,7 @@ impl Network {
         accesses: u64,
         observer: &mut O,
     )
-        requires room { 0 < O.places observer.old }
+        requires room { 0 < O.room_left observer.old }
         ensures { PlaysNoted O.Observer (tick.Step host kind) accesses (watched self.old observer.old)
             (watched self.new observer.new) }
     {
@@ -56,7 +57,7 @@ impl Network {
     /// A host's adapter puts its oldest frame onto the wire, if each other end has room. The frame then waits there.
     fn put<O: Observer>(&mut self, host: usize, accesses: u64, observer: &mut O)
         requires there { host < length self.old }
-        requires room { 0 < O.places observer.old }
+        requires room { 0 < O.room_left observer.old }
         ensures { PlaysNoted O.Observer (tick.Step host TxPut) accesses (watched self.old observer.old)
             (watched self.new observer.new) }
     {
@@ -78,7 +79,7 @@ impl Network {
 
     /// The oldest frame that waits at a host's end is delivered.
     fn deliver<O: Observer>(&mut self, host: usize, accesses: u64, observer: &mut O)
-        requires room { 0 < O.places observer.old }
+        requires room { 0 < O.room_left observer.old }
         ensures { PlaysNoted O.Observer (tick.Deliver host) accesses (watched self.old observer.old)
             (watched self.new observer.new) }
     {
@@ -103,11 +104,11 @@ impl Network {
         accesses: u64,
         observer: &mut O,
     ) -> &'t [Tick]
-        requires room { length ticks.now ≤ O.places observer.old }
+        requires room { length ticks.now ≤ O.room_left observer.old }
         ensures plays { PlaysTicks O.Observer (group_of is_go ticks.now) accesses (watched self.old observer.old)
             (watched self.new observer.new) }
         ensures rest { result.now ≡ behind_group is_go ticks.now }
-        ensures room { length result.now ≤ O.places observer.new }
+        ensures room { length result.now ≤ O.room_left observer.new }
     {
         let mut rest = ticks;
         while let Some((tick, more)) = rest.split_first() {
@@ -122,7 +123,7 @@ impl Network {
 
     /// Plays all ticks but each `Go`. The observer is told each outcome, with this number of accesses.
     pub fn play_rest<O: Observer>(&mut self, ticks: &[Tick], accesses: u64, observer: &mut O)
-        requires room { length ticks.now ≤ O.places observer.old }
+        requires room { length ticks.now ≤ O.room_left observer.old }
         ensures { PlaysTicks O.Observer (without_go is_go ticks.now) accesses (watched self.old observer.old)
             (watched self.new observer.new) }
     {

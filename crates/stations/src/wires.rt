@@ -55,12 +55,12 @@ impl End {
     }
 
     /// A frame that a sender puts onto a wire waits at this end, if it is another end of that wire.
-    fn wait(&mut self, place: usize, sender: usize, wire: usize, frame: &[u8])
-        requires room { HasRoomFor sender wire place self.old }
+    fn wait(&mut self, number: usize, sender: usize, wire: usize, frame: &[u8])
+        requires room { HasRoomFor sender wire number self.old }
         requires fits { length frame.now ≤ longest_frame }
-        ensures { self.new ≡ with_line sender wire (frame.now ∷ []) place self.old }
+        ensures { self.new ≡ with_line sender wire (frame.now ∷ []) number self.old }
     {
-        if place != sender && self.wire == wire {
+        if number != sender && self.wire == wire {
             self.waiting.push(frame);
         }
     }
@@ -120,8 +120,8 @@ impl Wires {
     pub(crate) fn have_room(&self, sender: usize, wire: usize) -> bool
         ensures { IsTrue result ↔ HaveRoom self.now sender wire }
     {
-        for (place, end) in self.ends.iter().enumerate() {
-            if place != sender && end.wire == wire && !end.has_room() {
+        for (number, end) in self.ends.iter().enumerate() {
+            if number != sender && end.wire == wire && !end.has_room() {
                 return false;
             }
         }
@@ -135,8 +135,8 @@ impl Wires {
         ensures { (k : ℕ) → slice_get self.new k
             ≡ option_map (with_line sender wire (frame.now ∷ []) k) (slice_get self.old k) }
     {
-        for place in 0..self.ends.len() {
-            self.ends[place].wait(place, sender, wire, frame);
+        for number in 0..self.ends.len() {
+            self.ends[number].wait(number, sender, wire, frame);
         }
     }
 

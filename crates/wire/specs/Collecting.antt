@@ -1,7 +1,7 @@
 -- What a collector of replies makes of what it is told (our choice).
 use Rattle.std.proofs.Common.{◌≡◌, ◌<◌, ◌++◌, [], ℕ, List, is_some, length, true, vec_capacity, refl, sym, ap, ◌∙◌, append_assoc}
 use Rattle.std.proofs.lemmas.List.{append-nil}
-use Rattle.stations.specs.Outcomes.{Collects, places_of}
+use Rattle.stations.specs.Outcomes.{Collects, room_of}
 use Rattle.stations.specs.OutcomesLaws.{collects_join, collects_none}
 use Rattle.stations.specs.ToldTicks.{ComposesTold, TickTold}
 use Rattle.network_plan.specs.declared.event.Event.{Event}
@@ -29,8 +29,8 @@ pub record AppendsReplies (replies : List Reply) (old new : Collector) : Type 0 
 abbrev pub CollectsReplies : Collector → Collector → List Event → List Reply → Type 0
 CollectsReplies old new events replies = old.outcomes.list ≡ [] → AppendsReplies replies old new
 
-abbrev pub places_in : Collector → ℕ
-places_in now = places_of now.outcomes
+abbrev pub room_in : Collector → ℕ
+room_in now = room_of now.outcomes
 
 abbrev pub IsReady : Collector → Event → Type 0
 IsReady now event = HasPlaceForReply now

@@ -12,9 +12,9 @@ use Rattle.network_plan.specs.declared.event.Event.TheVariants.{Interrupt, Recv,
 use Rattle.network_plan.specs.declared.reply.Reply.{Reply}
 
 -- It has room for the answer of this event, and for as many outcomes as the event has ticks, each Go counted.
-pub record HasRoom {O : Type 0} (ready : O → Event → Type 0) (places : O → ℕ) (event : Event) (now : O) : Type 0 where
+pub record HasRoom {O : Type 0} (ready : O → Event → Type 0) (room_left : O → ℕ) (event : Event) (now : O) : Type 0 where
   pub answer : ready now event
-  pub ticks : length (ticks_of event) ≤ places now
+  pub ticks : length (ticks_of event) ≤ room_left now
 
 -- The ticks of an event whose outcomes are told, in order: of a call each but a Go, for a Go only lets the host go on to its next
 -- access; and a tick by itself, also a Go.

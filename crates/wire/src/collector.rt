@@ -56,11 +56,11 @@ impl Collector {
 }
 
 impl Observer for Collector {
-    ghost use Rattle.wire.specs.Collecting.{CollectsTicks, places_in, ticks_composes};
+    ghost use Rattle.wire.specs.Collecting.{CollectsTicks, room_in, ticks_composes};
 
     ghost heard = { CollectsTicks };
 
-    ghost places = { places_in };
+    ghost room_left = { room_in };
 
     ghost composes = { ticks_composes };
 

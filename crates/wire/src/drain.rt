@@ -42,9 +42,10 @@ impl Lan {
     /// its next piece to the ring.
     pub fn drain<S: Outlet>(&mut self, host: usize, sink: &mut S) -> u64
         requires room { (state : HostState) → IsHost self.old host state
-            → state.driver.layout.buffers + 24 ≤ S.places sink.old }
+            → state.driver.layout.buffers + 24 ≤ S.room_left sink.old }
         ensures drains { NetworkDrains self.old host result (S.frames sink.old) (S.frames sink.new) self.new }
-        ensures left { length (S.frames sink.old) + S.places sink.old ≤ length (S.frames sink.new) + S.places sink.new }
+        ensures left { length (S.frames sink.old) + S.room_left sink.old
+            ≤ length (S.frames sink.new) + S.room_left sink.new }
     {
         let hosts = self.hosts.as_mut_slice();
         drain(hosts, &mut self.network, host, sink)
@@ -55,10 +56,11 @@ impl Lan {
 fn drain<S: Outlet>(hosts: &mut [Host], network: &mut Network, host: usize, sink: &mut S) -> u64
     requires stands { NetworkStands (record { hosts = hosts.old; stations = network.old }) }
     requires room { (state : HostState) → IsHost (record { hosts = hosts.old; stations = network.old }) host state
-        → state.driver.layout.buffers + 24 ≤ S.places sink.old }
+        → state.driver.layout.buffers + 24 ≤ S.room_left sink.old }
     ensures drains { NetworkDrains (record { hosts = hosts.old; stations = network.old }) host result
         (S.frames sink.old) (S.frames sink.new) (record { hosts = hosts.new; stations = network.new }) }
-    ensures left { length (S.frames sink.old) + S.places sink.old ≤ length (S.frames sink.new) + S.places sink.new }
+    ensures left { length (S.frames sink.old) + S.room_left sink.old
+        ≤ length (S.frames sink.new) + S.room_left sink.new }
 {
     if host >= hosts.len() {
         return 0;

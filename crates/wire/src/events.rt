@@ -18,7 +18,8 @@ use network_plan::{Answer, Event};
 use packet_socket::Host;
 use stations::{Network, Tick};
 
-/// The call of an event: the host that is called, and the ticks that are played in the call.
+/// The call of an event, with the host and the ticks that the event names. The ticks are played in the call, on all
+/// hosts.
 #[derive(Clone, Copy, Drop)]
 pub(crate) struct Call<'a> {
     pub(crate) event: &'a Event,
@@ -29,7 +30,7 @@ pub(crate) struct Call<'a> {
 /// A call for a host that isn't there: its ticks are played.
 fn no_host<O: RunObserver>(network: &mut Network, call: &Call, observer: &mut O)
     requires answer { O.ready observer.old call.now.event.now }
-    requires room { length call.now.ticks.now ≤ O.places observer.old }
+    requires room { length call.now.ticks.now ≤ O.room_left observer.old }
     requires ticks { without_go is_go call.now.ticks.now ≡ played_ticks call.now.event.now }
     ensures { AbsentTold O.Observer O.ran call.now.event.now call.now.ticks.now (watched network.old observer.old)
         (watched network.new observer.new) }
@@ -49,7 +50,7 @@ pub(crate) fn send<O: RunObserver>(
 )
     requires stands { NetworkStands (record { hosts = hosts.old; stations = network.old }) }
     requires answer { O.ready observer.old call.now.event.now }
-    requires room { length call.now.ticks.now ≤ O.places observer.old }
+    requires room { length call.now.ticks.now ≤ O.room_left observer.old }
     requires ticks { without_go is_go call.now.ticks.now ≡ played_ticks call.now.event.now }
     ensures { EventTold O.ran call.now.event.now observer.old observer.new (λ reply. CallPlayed
         (ticked call.now.host call.now.ticks.now)
@@ -89,7 +90,7 @@ pub(crate) fn recv<O: RunObserver>(
 )
     requires stands { NetworkStands (record { hosts = hosts.old; stations = network.old }) }
     requires answer { O.ready observer.old call.now.event.now }
-    requires room { length call.now.ticks.now ≤ O.places observer.old }
+    requires room { length call.now.ticks.now ≤ O.room_left observer.old }
     requires ticks { without_go is_go call.now.ticks.now ≡ played_ticks call.now.event.now }
     ensures { EventTold O.ran call.now.event.now observer.old observer.new (λ reply. CallPlayed
         (ticked call.now.host call.now.ticks.now)
@@ -132,7 +133,7 @@ pub(crate) fn interrupt<O: RunObserver>(
 )
     requires stands { NetworkStands (record { hosts = hosts.old; stations = network.old }) }
     requires answer { O.ready observer.old call.now.event.now }
-    requires room { length call.now.ticks.now ≤ O.places observer.old }
+    requires room { length call.now.ticks.now ≤ O.room_left observer.old }
     requires ticks { without_go is_go call.now.ticks.now ≡ played_ticks call.now.event.now }
     ensures { EventTold O.ran call.now.event.now observer.old observer.new (λ reply. CallPlayed
         (ticked call.now.host call.now.ticks.now) (told call.now.ticks.now reply.outcomes.list) reply
@@ -165,7 +166,7 @@ pub(crate) fn tick<O: RunObserver>(
     observer: &mut O,
 )
     requires answer { O.ready observer.old event.now }
-    requires room { 1 ≤ O.places observer.old }
+    requires room { 1 ≤ O.room_left observer.old }
     requires ticks { tick ∷ [] ≡ played_ticks event.now }
     ensures { EventTold O.ran event.now observer.old observer.new
         (λ reply. TickPlayed tick reply network.old network.new) }

@@ -39,7 +39,7 @@ impl Lan {
 
     /// Runs one event. The observer has room for all that comes of it.
     fn event<O: RunObserver>(&mut self, event: &Event, observer: &mut O)
-        requires room { HasRoom O.ready O.places event.now observer.old }
+        requires room { HasRoom O.ready O.room_left event.now observer.old }
         ensures { EventTold O.ran event.now observer.old observer.new
             (λ reply. EventRuns self.old event.now reply self.new) }
     {

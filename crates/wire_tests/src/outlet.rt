@@ -33,7 +33,7 @@ impl Taken {
 impl Outlet for Taken {
     ghost frames = { λ taken. map (λ one. record { socket = one.socket; frame = one.frame }) taken.list.items };
 
-    ghost places = { λ taken. vec_capacity taken.list - length taken.list.items };
+    ghost room_left = { λ taken. vec_capacity taken.list - length taken.list.items };
 
     fn room(&self) -> usize {
         self.list.capacity() - self.list.len()

@@ -13,7 +13,7 @@ returns g c =
     let result = c.interrupt-answer.result in
     let ends = c.finish.new.self in
     lent-back (λ (stations : List StationState) told. InterruptRuns
-    (played_call c.args.place c.args.ticks.now (g.O.Observer.heard c.args.observer.now told) ends.accesses) result
+    (played_call c.args.number c.args.ticks.now (g.O.Observer.heard c.args.observer.now told) ends.accesses) result
     (connected h c.args.network.now) (connected h' stations))
     ends.network.now _ ends.observer.now _ (search rules) (search rules)
     (interrupt-runs g.met.O.Observer.composes _ c.interrupt-answer.new.bus ends h h' result refl c.requires.ready

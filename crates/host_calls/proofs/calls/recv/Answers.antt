@@ -9,7 +9,7 @@ pub returns : goal.returns
 returns g c =
     let called = c.recv_into-called in
     subst (λ (answer : Result (List ℕ) RecvError). RecvRuns
-    (played_call c.args.place c.args.ticks.now (g.O.Observer.heard c.args.observer.now called.new.observer) called.result.accesses)
+    (played_call c.args.number c.args.ticks.now (g.O.Observer.heard c.args.observer.now called.new.observer) called.result.accesses)
     c.args.socket answer
     (connected c.args.host.now c.args.network.now) (connected called.new.host called.new.network)) (sym c.frame_of.ensures)
     called.ensures.gives

@@ -17,7 +17,7 @@ returns-clause-gives g c =
     let ensures = c.recv-answer.ensures in
     let receives = ensures.receives true (record { honest = tt; ready = c.requires.ready }) in
     lent-back (λ (stations : List StationState) told. RecvRuns
-    (played_call c.args.place c.args.ticks.now (g.O.Observer.heard c.args.observer.now told) ends.accesses) c.args.socket
+    (played_call c.args.number c.args.ticks.now (g.O.Observer.heard c.args.observer.now told) ends.accesses) c.args.socket
     (frame_in into result)
     (connected h c.args.network.now) (connected h' stations))
     ends.network.now _ ends.observer.now _ (search rules) (search rules)

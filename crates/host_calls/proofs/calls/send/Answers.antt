@@ -19,7 +19,7 @@ returns g c =
     let call = sent-call g.met.O.Observer.composes _ c.send-answer.new.bus ends h h' frame result refl c.requires.ready others sent
     c.finish.ensures in
     lent-back (λ (stations : List StationState) told. SendRuns
-    (played_call c.args.place c.args.ticks.now (g.O.Observer.heard c.args.observer.now told) ends.accesses) frame result
+    (played_call c.args.number c.args.ticks.now (g.O.Observer.heard c.args.observer.now told) ends.accesses) frame result
     (connected h c.args.network.now) (connected h' stations))
     ends.network.now _ ends.observer.now _ (search rules) (search rules)
     (record {

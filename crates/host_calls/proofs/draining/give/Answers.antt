@@ -16,11 +16,11 @@ returns-in-Ok g c =
       given = given_by c.args.socket (Ok c.in-Ok.frame);
       appended = search rules;
       room = omega arith;
-      on = given-steps c.args.place c.args.socket c.in-Ok.frame c.args.network.now c.recv.new.network _ c.recv.result.accesses
+      on = given-steps c.args.number c.args.socket c.in-Ok.frame c.args.network.now c.recv.new.network _ c.recv.result.accesses
           c.args.host.now c.recv.new.host
           (MakesRecv (Ok c.in-Ok.frame) c.args.socket c.args.host.now c.recv.new.host) c.requires.stands.ready
           (subst (λ (answer : Result (List ℕ) RecvError). CallRuns
-          (played_call c.args.place [] _ c.recv.result.accesses)
+          (played_call c.args.number [] _ c.recv.result.accesses)
           (did [] (given_by c.args.socket answer) []) (MakesRecv answer c.args.socket c.args.host.now c.recv.new.host)
           (connected c.args.host.now c.args.network.now) (connected c.recv.new.host c.recv.new.network)) c.in-Ok.is
           c.recv.ensures.runs) c.requires.free;
@@ -29,4 +29,4 @@ returns-in-Ok g c =
 pub returns-in_default : goal.returns-in_default
 returns-in_default g c =
     absurd (not-refused c.recv.result.answer c.in_default.field-0 c.args.socket c.args.host.now
-    (world_at c.args.network.now c.args.place) c.recv.ensures.answers c.requires.known c.requires.waits c.in_default.is)
+    (world_at c.args.network.now c.args.number) c.recv.ensures.answers c.requires.known c.requires.waits c.in_default.is)

@@ -6,12 +6,12 @@ use Rattle.host_calls.proofs.draining.move_piece.Goals as goal
 
 pub returns-in-Part-clause-steps : goal.returns-in-Part-clause-steps
 returns-in-Part-clause-steps c =
-    moves-piece c.args.place c.args.network.now c.step.new.self c.args.host.now c.step.result c.requires.there
+    moves-piece c.args.number c.args.network.now c.step.new.self c.args.host.now c.step.result c.requires.there
     c.step.ensures.occurs c.step.ensures.state c.in-Part.is c.requires.stands c.requires.free
 
 pub returns-in_default : goal.returns-in_default
 returns-in_default c =
-    let moves = moves-none c.args.place c.args.network.now c.step.new.self c.args.host.now c.step.result c.requires.there
+    let moves = moves-none c.args.number c.args.network.now c.step.new.self c.args.host.now c.step.result c.requires.there
     c.step.ensures.occurs c.step.ensures.state c.in_default.not-Part c.in_default.not-Moved c.requires.stands in
     let rx = ap (λ (counts : Counts). counts.rx) c.layout-layout.ensures in
     let buffers = ap (λ (counts : Counts). counts.buffers) c.layout-layout.ensures in
@@ -20,7 +20,7 @@ returns-in_default c =
     record {
       steps = moves.on;
       ends = λ none.
-          nothing-left c.args.place c.args.network.now c.step.new.self c.args.host.now c.requires.stands moves c.requires.free
+          nothing-left c.args.number c.args.network.now c.step.new.self c.args.host.now c.requires.stands moves c.requires.free
           c.requires.quiet c.requires.given (omega (arith, rx, ring, c.rx.ensures.count))
           (omega (arith, rx, buffers, ring, enough, c.rx.ensures.count, c.buffers.ensures.count));
     }

@@ -3,6 +3,6 @@ use Rattle.stations.specs.Ends.{EndState, HasRoomFor}
 use Rattle.stations.proofs.wires.Wires.have_room.Given as goal
 
 -- the ends before this place have room
-abbrev pub invariant-loop-place : goal.invariant-loop-place
-invariant-loop-place l =
-    (k : ℕ) (end : EndState) → k < l.place → slice_get l.self k ≡ Some end → HasRoomFor l.sender l.wire k end
+abbrev pub invariant-loop-number : goal.invariant-loop-number
+invariant-loop-number l =
+    (k : ℕ) (end : EndState) → k < l.number → slice_get l.self k ≡ Some end → HasRoomFor l.sender l.wire k end

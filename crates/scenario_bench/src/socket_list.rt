@@ -7,12 +7,16 @@ use network_plan::HostPlan;
 use std::alloc::{AllocError, Global};
 
 /// Appends the sockets of a host.
-#[tactic(auto, using(crate::proofs::EmptySockets::place_more, crate::proofs::EmptySockets::no_place))]
-fn add_places(host: usize, count: usize, places: &mut Vec<(usize, usize)>) -> Result<(), AllocError>
-    ensures { OnOk result (places.new.items ≡ places.old.items ++ sockets_of host count) }
+#[tactic(auto, using(crate::proofs::EmptySockets::pair_more, crate::proofs::EmptySockets::no_pair))]
+fn push_sockets(
+    host: usize,
+    count: usize,
+    sockets: &mut Vec<(usize, usize)>,
+) -> Result<(), AllocError>
+    ensures { OnOk result (sockets.new.items ≡ sockets.old.items ++ sockets_of host count) }
 {
     for socket in 0..count {
-        places.push((host, socket))?;
+        sockets.push((host, socket))?;
     }
     Ok(())
 }
@@ -24,11 +28,11 @@ fn add_places(host: usize, count: usize, places: &mut Vec<(usize, usize)>) -> Re
 ///
 /// Only if memory was refused.
 pub fn sockets(alloc: Global, plans: &[HostPlan]) -> Result<Vec<(usize, usize)>, AllocError>
-    ensures { IfOk result (λ places. places.items ≡ sockets_from 0 (hosts_of plans.now)) }
+    ensures { IfOk result (λ sockets. sockets.items ≡ sockets_from 0 (hosts_of plans.now)) }
 {
-    let mut places = Vec::new(alloc);
+    let mut sockets = Vec::new(alloc);
     for (number, plan) in plans.iter().enumerate() {
-        add_places(number, plan.sockets.len(), &mut places)?;
+        push_sockets(number, plan.sockets.len(), &mut sockets)?;
     }
-    Ok(places)
+    Ok(sockets)
 }
