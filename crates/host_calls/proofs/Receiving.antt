@@ -18,7 +18,7 @@ use Rattle.driver_law.proofs.Places.{place-below}
 use Rattle.driver_law.specs.DriverState.{next_receive, with_owners}
 use Rattle.driver_law.specs.Calls.{IsRefilled}
 use Rattle.packet_socket.proofs.Stretches.{host-happens}
-use Rattle.packet_socket.specs.HostCalls.{HostGoesTo, HostReady, LeavesQueue, Receives, Returns, ReturnsBy, did, host_at, in_world}
+use Rattle.packet_socket.specs.HostCalls.{HostGoesTo, HostReady, LeavesQueue, Receives, Returns, ReturnsBy, did, given_first, host_at, in_world}
 use Rattle.packet_socket.specs.HostCalls.{waiting_frames}
 use Rattle.packet_socket.specs.HostState.{HostState, queue_at}
 use Rattle.packet_socket.specs.declared.receive.RecvError.{RecvError}
@@ -158,7 +158,7 @@ err-leaves {O} {g} a m b h h' socket error zero same stays finished =
 
 pub any-runs : {O : Type 0} {g : OfObserver O} → ComposesTold g.heard
     → (a m b : LentBus O g) (h h' : HostState) (socket : ℕ) (result : Result ℕ RecvError) (before into : List ℕ) → a.accesses ≡ 0
-    → length into ≡ 1518 → HostReady h (world_here a) → ReturnsBy lent socket into result true (host_at a h) (host_at m h')
+    → length into ≡ 1518 → HostReady h (world_here a) → ReturnsBy lent (given_first socket into) result true (host_at a h) (host_at m h')
     → IfOk result (Returns h h' socket before into) → IfErr result (λ error. (m ≡ a) × (h' ≡ h) × (into ≡ before)) → Finished m b
     → CallRuns (lent_call a b) (did [] (given_by socket (frame_in into result)) []) (MakesRecv (frame_in into result) socket h h')
     (connected h a.network.now) (connected h' b.network.now)
@@ -171,7 +171,7 @@ any-runs composes a m b h h' socket (Err error) before into zero long ready rece
 
 pub any-answers : {O : Type 0} {g : OfObserver O} (a m : LentBus O g) (h h' : HostState) (socket : ℕ) (result : Result ℕ RecvError)
     (into : List ℕ)
-    → ReturnsBy lent socket into result true (host_at a h) (host_at m h')
+    → ReturnsBy lent (given_first socket into) result true (host_at a h) (host_at m h')
     → ((result ≡ Err NoSocket) ↔ (length h.kinds ≤ socket))
     → ((result ≡ Err Empty) ↔ ((socket < length h.kinds) × (queue_at h.queues socket ≡ [])))
     → AnswersRecv (frame_in into result) socket h (world_here a)

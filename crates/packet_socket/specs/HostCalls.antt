@@ -227,12 +227,14 @@ pub record Receives {B : Type 0} (bus : Ghosts B) (given : Given) (size : ℕ) (
   pub ran :
       HostRan bus up (only (receive_accesses old.host.driver new.host.driver received.parts offered)) (given ∷ []) old new
 
--- By the answer. `into` is the caller's bytes after the call; for Ok, its first `size` bytes are the frame returned. For an error, the
--- clause `err` states that nothing changes.
-abbrev pub ReturnsBy : {B : Type 0} → Ghosts B → (socket : ℕ) → (into : List ℕ) → Result ℕ RecvError → Bool
-    → (old new : HostMoment B) → Type 0
-ReturnsBy bus socket into (Ok size) = Receives bus (record { socket = socket; frame = take size into }) size
-ReturnsBy bus socket into (Err error) = λ up old new. ⊤
+-- The frame that a socket returns is the first `size` of these bytes.
+abbrev pub given_first : (socket : ℕ) → (into : List ℕ) → (size : ℕ) → Given
+given_first socket into size = record { socket = socket; frame = take size into }
+
+-- By the answer: for Ok, the frame returned is the one given of this size. For an error, the clause `err` states that nothing changes.
+abbrev pub ReturnsBy : {B : Type 0} → Ghosts B → (given : ℕ → Given) → Result ℕ RecvError → Bool → (old new : HostMoment B) → Type 0
+ReturnsBy bus given (Ok size) = Receives bus (given size) size
+ReturnsBy bus given (Err error) = λ up old new. ⊤
 
 -- Over any bus: the oldest entry of a queue is removed, its buffers go back to the driver, and slots are offered. The caller's bytes are
 -- `into` before the call and `into'` after it; those after the entry's length don't change.

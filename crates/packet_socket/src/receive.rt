@@ -3,7 +3,7 @@
 ghost use Rattle.std.specs.Prelude.{◌≡◌, ◌↔◌, ◌≤◌, ◌<◌, [], Err, IfErr, IfOk, length};
 ghost use Rattle.dma_memory.specs.Layout.{size_of};
 ghost use Rattle.bus.specs.Keeping.{Keeps};
-ghost use Rattle.packet_socket.specs.HostCalls.{Returns, ReturnsBy, WhereReadyHost, host_at};
+ghost use Rattle.packet_socket.specs.HostCalls.{Returns, ReturnsBy, WhereReadyHost, given_first, host_at};
 ghost use Rattle.packet_socket.specs.HostState.{queue_at};
 ghost use Rattle.packet_socket.specs.declared.receive.RecvError.TheVariants as RecvError;
 
@@ -50,7 +50,7 @@ impl Host {
 
         // And over one that obeys the law.
         ensures receives { WhereReadyHost B.Bus (host_at bus.old self.old) (host_at bus.new self.new)
-            (ReturnsBy B.Bus socket into.new result) }
+            (ReturnsBy B.Bus (given_first socket into.new) result) }
     {
         if socket >= self.sockets.len() {
             return Err(RecvError::NoSocket);
