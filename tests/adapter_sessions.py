@@ -184,6 +184,10 @@ def receiving(server):
     server.talks("adapter: frames go into memory", [
         *SLOTS, *OFFERED, *steps(("rxdata", "nothing")), *RECEIVED, reads(ICR, 0x80), *RECEIVED, reads(ICR, 0x80), *RECEIVED, reads(ICR, 0x90),
         loads(0x4800, BROADCAST + "00" * 4), loads(0, "00480000000000003c00000003000000"), reads(RDH, 3), reads(GPRC, 3), reads(GPRC, 0), reads(RNBC, 0)])
+    near = [stores(16 * slot, f"00{0x48 + slot:02x}") for slot in range(8)]
+    server.talks("adapter: frames go into buffers of 256 bytes that follow each other", [
+        *near, *OFFERED, *RECEIVED * 3, reads(ICR, 0x90), loads(0x4800, BROADCAST + "00" * 4), loads(0x4900, BROADCAST + "00" * 4),
+        loads(0, "00480000000000003c00000003000000"), loads(16, "00490000000000003c00000003000000"), reads(RDH, 3), reads(GPRC, 3)])
     server.talks("adapter: one frame is in work, and a reset ends it", [
         *SLOTS, *OFFERED, *steps(("rxdone", "nothing")), arrives("stored"), arrives("stored"), *steps(("rxdata", "moved"), ("rxdata", "nothing")),
         writes(CTRL, RESET), *steps(("rxdone", "nothing")), *OFFERED, *steps(("rxdata", "nothing")), reads(GPRC, 0)])
@@ -211,6 +215,7 @@ def receiving(server):
 
 # RCTL with EN and BAM for each size of a receive buffer (13.4.22: BSIZE, bits 17:16), and the longest frame, whose pieces all differ.
 SIZES = {2048: 0x00008002, 1024: 0x00018002, 512: 0x00028002, 256: 0x00038002}
+BSEX = 0x02000000
 LONG = "ff" * 6 + "".join(f"{number:04x}" for number in range(756))
 NOTHING_LEFT = steps(("rxdata", "nothing"), ("rxdone", "nothing"))
 
@@ -290,6 +295,20 @@ def pieces_later(server):
         *awaited(256, writes(RDT, 2)), *comes(256, 256, left=True), *NOTHING_LEFT, reads(RDH, 2), reads(RNBC, 0), arrives("stored"), reads(RNBC, 1),
         reads(MPC, 0), reads(ICR, 0), writes(RDT, 7), arrives("stored"), *comes(256, 256, 256, 238, slot=2, first=512), reads(ICR, 0x90),
         *comes(60, slot=6, frame=BROADCAST), *NOTHING_LEFT, reads(RDH, 7), reads(RNBC, 0), reads(GPRC, 2)])
+    further = "0090" + "00" * 6 + "0001" + "0000" + "01" + "000000"
+    server.talks("adapter: the ring is elsewhere in mid-frame", [
+        *awaited(256), *comes(256, left=True), stores(0x1010, "0090"), writes(RDBAL, 0x1000), *steps(("rxdata", "part"), ("rxdone", "done")),
+        loads(0x1010, further), loads(0x9000, LONG[512:1024] + "00" * 4), writes(RDBAL, 0), *comes(256, 256, 256, 238, slot=2, first=512), *NOTHING_LEFT,
+        reads(GPRC, 1)])
+    server.talks("adapter: the ring becomes longer in mid-frame", [
+        *awaited(256, writes(RDT, 2)), *comes(256, 256, left=True), *NOTHING_LEFT, stores(0x80, "0090"), writes(RDLEN, 256), writes(RDH, 8), writes(RDT, 9),
+        *steps(("rxdata", "part"), ("rxdone", "done")), loads(0x80, further), loads(0x9000, LONG[1024:1536] + "00" * 4), *NOTHING_LEFT, reads(RDH, 9)])
+    for size, word in SIZES.items():
+        server.talks(f"adapter: buffers of 16 times {size} bytes", [
+            *awaited(size, writes(RCTL, word | BSEX), frame=BROADCAST), *steps(("rxdata", "fault"), ("rxdata", "nothing")), reads(RDH, 0)])
+        server.talks(f"adapter: buffers of 16 times {size} bytes in mid-frame", [
+            *awaited(256), *comes(256, left=True), writes(RCTL, word | BSEX), *steps(("rxdata", "fault"), ("rxdata", "nothing")), *NOTHING_LEFT,
+            reads(RDH, 1), reads(GPRC, 0)])
     for tail, recorded in [(7, [0, 0, 0x10, 0, 0, 0]), (6, [0, 0x10, 0, 0, 0, 0]), (5, [0x10, 0, 0, 0, 0]), (4, [0, 0, 0, 0])]:
         server.talks(f"adapter: half of the descriptors are free in mid-frame, tail {tail}", [*awaited(256, writes(RDT, tail)), *(
             row for number, causes_told in enumerate(recorded) for row in [

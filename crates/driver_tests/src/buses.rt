@@ -41,11 +41,15 @@ pub(crate) fn good_bus(alloc: Global) -> Result<SoloBus, AllocError> {
     lively_bus(alloc, &Image::with_address(ADDRESS), Link::After(1))
 }
 
-/// A bus without an adapter, and it may lie: its registers all read one value, and its descriptors are all alike. All
-/// its other bytes are ones. It keeps nothing, and counts its accesses.
+/// A bus without an adapter, and it may lie: its registers all read one value, and its descriptors are all alike, except
+/// the first that are loaded. All its other bytes are ones. It keeps nothing, and counts its accesses.
 #[derive(Drop)]
 pub(crate) struct FakeBus {
     register: u32,
+    /// The descriptors that are loaded first, in order.
+    first: ArrayVec<[u8; 16], 8>,
+    /// How many descriptors were loaded.
+    loaded: usize,
     descriptor: [u8; 16],
     /// How many registers were read.
     pub(crate) reads: u32,
@@ -58,8 +62,19 @@ pub(crate) struct FakeBus {
 impl FakeBus {
     /// A bus that had no access.
     pub(crate) fn new(register: u32, descriptor: [u8; 16]) -> FakeBus {
+        FakeBus::with_first(register, ArrayVec::new(), descriptor)
+    }
+
+    /// A bus that had no access, where these descriptors are loaded first.
+    pub(crate) fn with_first(
+        register: u32,
+        first: ArrayVec<[u8; 16], 8>,
+        descriptor: [u8; 16],
+    ) -> FakeBus {
         FakeBus {
             register,
+            first,
+            loaded: 0,
             descriptor,
             reads: 0,
             writes: 0,
@@ -111,7 +126,9 @@ impl Bus for FakeBus {
         self.moves = self.moves.saturating_add(1);
         into.fill(0xFF);
         if into.len() == self.descriptor.len() {
-            into.copy_from_slice(&self.descriptor);
+            let first = self.first.as_slice().get(self.loaded);
+            into.copy_from_slice(first.unwrap_or(&self.descriptor));
+            self.loaded = self.loaded.saturating_add(1);
         }
     }
 

@@ -4,6 +4,7 @@
 use crate::buses::{FakeBus, config, good_bus};
 use adapter::StepKind;
 use adapter::offsets::ICS;
+use arrayvec::ArrayVec;
 use bring_up::InitError;
 use bus::{Bus, HonestBus};
 use driver::{Driver, Handled, Parts, Received, Receiver, SendError};
@@ -95,15 +96,21 @@ fn interrupts_are_the_drivers_or_not(rt: HostRuntime) -> Result<(), Fail> {
 }
 
 /// A receive descriptor with this length, status and errors.
-fn receive_descriptor(length: u8, status: u8, errors: u8) -> [u8; 16] {
+fn receive_descriptor(length: u16, status: u8, errors: u8) -> [u8; 16] {
+    let [low, high] = length.to_le_bytes();
     [
-        0, 0, 0, 0, 0, 0, 0, 0, length, 0, 0, 0, status, errors, 0, 0,
+        0, 0, 0, 0, 0, 0, 0, 0, low, high, 0, 0, status, errors, 0, 0,
     ]
 }
 
 /// A receive descriptor with DD and EOP, and this length.
-fn finished(length: u8) -> [u8; 16] {
+fn finished(length: u16) -> [u8; 16] {
     receive_descriptor(length, 0x03, 0)
+}
+
+/// A receive descriptor with DD, without EOP, and with this length.
+fn part(length: u16) -> [u8; 16] {
+    receive_descriptor(length, 0x01, 0)
 }
 
 /// A receive descriptor of 60 bytes with DD and EOP, and these errors.
@@ -134,7 +141,7 @@ fn lengths_that_no_frame_has_are_bad(rt: HostRuntime) -> Result<(), Fail> {
         ([0xFF; 16], 0, 0, 7),
         (finished(0), 0, 0, 14),
         (finished(59), 0, 0, 21),
-        (receive_descriptor(60, 0x01, 0), 0, 0, 22),
+        (part(60), 0, 0, 22),
         (with_errors(0x01), 0, 0, 29),
         (with_errors(0x02), 0, 0, 36),
         (with_errors(0x04), 0, 0, 43),
@@ -152,6 +159,62 @@ fn lengths_that_no_frame_has_are_bad(rt: HostRuntime) -> Result<(), Fail> {
         handed_out(&rt, &driver, &keeper, frames, bad);
     }
     assert_eq!(rt; driver.missed(), (14 * 0xFFFF_FFFF, false));
+    Ok(())
+}
+
+/// What an interrupt over a device that lies brings: frames, their bytes, and bad runs.
+type Brought = (u64, u32, u64);
+
+/// Handles an interrupt over a device that lies: it finished these slots, and no others. Asserts what this brings.
+fn run_of(rt: &impl Abort, driver: &mut Driver, slots: &[[u8; 16]], wanted: Brought) {
+    let mut first = ArrayVec::new();
+    for slot in slots {
+        let _ = first.try_push(*slot);
+    }
+    let mut lying = FakeBus::with_first(u32::MAX, first, [0; 16]);
+    let mut keeper = new_keeper(false);
+    let before = driver.bad();
+    let handled = Handled::Handled { taken: wanted.0 };
+    interrupt(rt, driver, &mut lying, &mut keeper, handled);
+    let bad = driver.bad().wrapping_sub(before);
+    assert_eq!(rt; (u64::from(keeper.frames), keeper.bytes, bad), wanted);
+    assert!(rt; driver.receiving() == 7);
+}
+
+/// A frame's pieces fill their buffers, except the last, which has 1 to 256 bytes; a frame has 60 to 1,518 bytes, and no
+/// slot of it has errors. A run that is no frame is one bad run, however many slots it has. Slots that aren't followed
+/// by one with EOP stay in the ring.
+#[test]
+fn runs_that_are_no_frame_are_bad(rt: HostRuntime) -> Result<(), Fail> {
+    let mut bus = good_bus(rt.alloc())?;
+    let mut driver = Driver::init(rt.alloc(), &mut bus, &config())?;
+    let full = part(256);
+    let faulty = receive_descriptor(256, 0x01, 0x01);
+    for (slots, wanted) in [
+        ([full, finished(1)].as_slice(), (1, 257, 0)),
+        (
+            &[full, full, full, full, full, finished(238)],
+            (1, 1_518, 0),
+        ),
+        (&[full, full, full, full, full, finished(239)], (0, 0, 1)),
+        (&[full, full, full, full, full, finished(256)], (0, 0, 1)),
+        (&[full, full, full, full, full, full], (0, 0, 1)),
+        (&[full, full, full, full, full], (0, 0, 0)),
+        (&[part(255), finished(60)], (0, 0, 1)),
+        (&[part(257), finished(60)], (0, 0, 1)),
+        (&[full, finished(0)], (0, 0, 1)),
+        (&[full, finished(257)], (0, 0, 1)),
+        (&[finished(257)], (0, 0, 1)),
+        (&[full, with_errors(0x01)], (0, 0, 1)),
+        (&[faulty, finished(60)], (0, 0, 1)),
+        (&[with_errors(0x80), finished(60)], (1, 60, 1)),
+        (
+            &[finished(60), full, finished(59), finished(59)],
+            (2, 375, 1),
+        ),
+    ] {
+        run_of(&rt, &mut driver, slots, wanted);
+    }
     Ok(())
 }
 

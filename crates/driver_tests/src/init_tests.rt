@@ -56,6 +56,19 @@ fn check(rt: &impl Abort, bus: &mut SoloBus, registers: &[(u32, u32)]) {
     }
 }
 
+/// The memory has one byte less than the rings and buffers need: there is no access.
+#[test]
+fn smaller_memory_is_refused(rt: HostRuntime) -> Result<(), Fail> {
+    let alloc = rt.alloc();
+    let adapter = Adapter::new(alloc, &Image::with_address(ADDRESS), Link::After(1))?;
+    let memory = HostMemory::new(alloc, 22_527)?;
+    let mut bus = SoloBus::new(alloc, adapter, memory, true)?;
+    let error = error_of(alloc, &mut bus);
+    assert_eq!(rt; error, Some(InitError::Config));
+    assert_eq!(rt; bus.accesses(), 0);
+    Ok(())
+}
+
 #[test]
 fn registers_stand_as_brought_up(rt: HostRuntime) -> Result<(), Fail> {
     for (last, high) in [(0x01, 0x8000_0100), (0x02, 0x8000_0200)] {

@@ -3,12 +3,12 @@
 
 use crate::outlet::Taken;
 use crate::texts::two_hosts;
-use adapter::StepKind;
+use adapter::{Outcome, StepKind};
 use driver::Handled;
-use stations::Tick;
+use stations::{Numbered, Tick};
 use std::alloc::{AllocError, Global};
 use std::test::Fail;
-use wire::{Answer, Event, Lan};
+use wire::{Answer, Event, Lan, Reply};
 
 /// A broadcast of the greatest length.
 const LONGEST: [u8; 1518] = [0xFF; 1518];
@@ -45,10 +45,8 @@ fn push_three(alloc: Global, events: &mut Vec<Event>) -> Result<(), AllocError> 
     Ok(())
 }
 
-/// After three of six pieces RXDMT0 is recorded, and no frame is taken: the fourth slot isn't finished.
-#[test]
-fn a_frame_is_taken_with_its_last_piece(rt: HostRuntime) -> Result<(), Fail> {
-    let alloc = rt.alloc();
+/// The replies to all that brings the frame from a call of host 0 to a socket of host 1.
+fn replies_to_six_pieces(alloc: Global) -> Result<Vec<Reply>, Fail> {
     let mut lan = Lan::new(alloc, &two_hosts(alloc)?)?;
     let mut events = brought(alloc)?;
     push_three(alloc, &mut events)?;
@@ -60,15 +58,47 @@ fn a_frame_is_taken_with_its_last_piece(rt: HostRuntime) -> Result<(), Fail> {
     })?;
     let mut replies = Vec::new(alloc);
     lan.run(alloc, &events, &mut replies)?;
-    for (place, taken, accesses) in [(10, 0, 6), (17, 1, 17)] {
+    Ok(replies)
+}
+
+/// Each RxData moves a piece, and answers whether more of the frame is left.
+#[test]
+fn six_pieces_of_a_frame_are_moved(rt: HostRuntime) -> Result<(), Fail> {
+    let replies = replies_to_six_pieces(rt.alloc())?;
+    for (index, outcome) in [
+        (4, Outcome::Part),
+        (6, Outcome::Part),
+        (8, Outcome::Part),
+        (11, Outcome::Part),
+        (13, Outcome::Part),
+        (15, Outcome::Moved),
+    ] {
+        let told = [Numbered {
+            accesses: 0,
+            outcome,
+        }];
+        assert!(rt;
+            replies
+                .get(index)
+                .is_some_and(|reply| reply.outcomes.as_slice() == told.as_slice())
+        );
+    }
+    Ok(())
+}
+
+/// After three of six pieces RXDMT0 is recorded, and no frame is taken: the fourth slot isn't finished.
+#[test]
+fn a_frame_is_taken_with_its_last_piece(rt: HostRuntime) -> Result<(), Fail> {
+    let replies = replies_to_six_pieces(rt.alloc())?;
+    for (index, taken, accesses) in [(10, 0, 6), (17, 1, 17)] {
         let answer = Answer::Interrupted(Handled::Handled { taken });
         assert!(rt;
             replies
-                .get(place)
+                .get(index)
                 .is_some_and(|reply| reply.answer == answer)
         );
         assert_eq!(rt;
-            replies.get(place).map(|reply| reply.accesses),
+            replies.get(index).map(|reply| reply.accesses),
             Some(accesses)
         );
     }
