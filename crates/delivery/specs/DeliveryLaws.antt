@@ -59,7 +59,7 @@ OutcomesTellSteps =
 pub record IsToldCall {O : Type 0} {g : OfObserver O} (a m b : LentBus O g) (past : Past) (first last : List AtomicStep) : Type 0 where
   pub plays : PlaysCall
       (record { caller = a.host; ticks = a.ticks.now; accesses = past.accesses; first = first; last = last })
-      a.network.now m.network.now b.network.now
+      a.stations.now m.stations.now b.stations.now
   pub heard : g.heard a.observer.now b.observer.now (steps_told 0 (first ++ last))
   pub count : b.accesses ≡ counted_of 0 first
 

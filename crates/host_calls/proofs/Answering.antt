@@ -97,13 +97,13 @@ by-answer : {O : Type 0} {g : OfObserver O} (a m : LentBus O g) (h h' : HostStat
     (driver_at lent (host_at a h))) (result : Handled)
     (early : List AtomicStep) (b : List StationState)
     → HostReady h (world_here a) → HostHandlesBy lent result (host_at a h) (host_at m h') asked
-    → EarlyRun a.host early a.network.now b asked.causes
+    → EarlyRun a.host early a.stations.now b asked.causes
     → AnswersCauses result a.host (world_here a).adapter early
 by-answer a m h h' asked NotMine early b ready behind run =
-    quiet-answer a.host early a.network.now b asked.causes _ _ run ready.ready.law.sound
+    quiet-answer a.host early a.stations.now b asked.causes _ _ run ready.ready.law.sound
     behind.leaves.none
 by-answer a m h h' asked (answers.Handled taken) early b ready behind run =
-    mine-answer a.host early a.network.now b asked.causes run behind.some
+    mine-answer a.host early a.stations.now b asked.causes run behind.some
 
 -- The answer is that of the causes read.
 by-causes : {O : Type 0} {g : OfObserver O} (a m : LentBus O g) (h h' : HostState) (asked : Asked lent true
@@ -121,7 +121,7 @@ pub calls-tell_causes : {O : Type 0} {g : OfObserver O} (a m b : LentBus O g) (h
 calls-tell_causes a m b h h' result past more ready handles retells reads =
     let only = sym (ap (λ (p : Past). p.accesses) retells.past_is) ∙ reads in
     let causes = handles.asked.causes in
-    let first = first-access a.host retells.steps a.network.now b.network.now (Reads ICR causes) more retells.leads only in
+    let first = first-access a.host retells.steps a.stations.now b.stations.now (Reads ICR causes) more retells.leads only in
     record {
       early = first.early;
       first = record { later = first.later; split = first.split; ticks = first.ticks };

@@ -114,22 +114,22 @@ pub call-runs_by : {O : Type 0} {g : OfObserver O} → ComposesTold g.heard
     → (IsRefilled h.driver → IsRefilled h'.driver)
     → (h.driver.staged ≡ [] → h'.driver.staged ≡ [])
     → (finished : Finished m b)
-    → ((runs : CallRuns (lent_call a b) (did taken given accepted) made (connected h a.network.now) (connected h' b.network.now))
+    → ((runs : CallRuns (lent_call a b) (did taken given accepted) made (connected h a.stations.now) (connected h' b.stations.now))
     × (runs.steps ≡ retells.steps ++ finished.plays.steps))
 call-runs_by composes a m b past h h' taken given accepted made zero retells flows accesses writes makes work refilled offered finished =
     let first = retells.steps in
     let last = finished.plays.steps in
-    let leads = leads_join a.host first last a.network.now m.network.now b.network.now retells.leads (finished.plays.leads a.host) in
+    let leads = leads_join a.host first last a.stations.now m.stations.now b.stations.now retells.leads (finished.plays.leads a.host) in
     let host = retells.lent.host in
     let call = lent-calls composes a m b past retells finished zero in
-    let tells = outcomes-tell a.host a.ticks.now past.accesses first last a.network.now m.network.now b.network.now call.plays in
-    let here : HostRuns a.host first (did taken given accepted) (connected h a.network.now) (connected h' m.network.now) =
+    let tells = outcomes-tell a.host a.ticks.now past.accesses first last a.stations.now m.stations.now b.stations.now call.plays in
+    let here : HostRuns a.host first (did taken given accepted) (connected h a.stations.now) (connected h' m.stations.now) =
     subst (λ (w : World). (HostFlowsTo true (in_world h (world_here a)) (in_world h' w) (did taken given accepted) past)
     → (HasNoForgottenWork h.driver (world_here a) → HasNoForgottenWork h'.driver w)
-    → HostRuns a.host first (did taken given accepted) (connected h a.network.now) (connected h' m.network.now))
-    (ap (λ (k : ℕ). world_at m.network.now k) (sym host))
+    → HostRuns a.host first (did taken given accepted) (connected h a.stations.now) (connected h' m.stations.now))
+    (ap (λ (k : ℕ). world_at m.stations.now k) (sym host))
     (λ f w. record {
-      flows = subst (HostFlowsTo true (in_world h (world_here a)) (in_world h' (world_at m.network.now a.host))
+      flows = subst (HostFlowsTo true (in_world h (world_here a)) (in_world h' (world_at m.stations.now a.host))
           (did taken given accepted)) retells.past_is f;
       accesses = subst (λ (p : Past). All (IsOfDriver h.driver.layout) p.accesses) retells.past_is accesses;
       work = w;
@@ -138,14 +138,14 @@ call-runs_by composes a m b past h h' taken given accepted made zero retells flo
     }) flows work in
     let counts : h'.driver.layout ≡ h.driver.layout = flows.driver.layout in
     let same_accesses = sym (whole-accesses a.host first last (none-alone a.host last finished.plays.are)) in
-    let ready = ready-behind h (world_at a.network.now a.host) h' (world_at m.network.now a.host) taken given accepted
+    let ready = ready-behind h (world_at a.stations.now a.host) h' (world_at m.stations.now a.host) taken given accepted
     (past_at a.host first) here.flows in
-    let behind = runs-alone a.host last m.network.now b.network.now h' ready
-    (happens-alone a.host a.host last m.network.now b.network.now finished.plays.are (finished.plays.leads a.host))
+    let behind = runs-alone a.host last m.stations.now b.stations.now h' ready
+    (happens-alone a.host a.host last m.stations.now b.stations.now finished.plays.are (finished.plays.leads a.host))
     (none-alone a.host last finished.plays.are) in
-    let whole = runs-join a.host first last a.network.now m.network.now b.network.now h h' h' taken [] given [] accepted
+    let whole = runs-join a.host first last a.stations.now m.stations.now b.stations.now h h' h' taken [] given [] accepted
     [] counts here behind in
-    let Whole = λ (done : HostDid). HostRuns a.host (first ++ last) done (connected h a.network.now) (connected h' b.network.now) in (
+    let Whole = λ (done : HostDid). HostRuns a.host (first ++ last) done (connected h a.stations.now) (connected h' b.stations.now) in (
       record {
         steps = first ++ last;
         of_call = record {
@@ -180,7 +180,7 @@ pub call-runs : {O : Type 0} {g : OfObserver O} → ComposesTold g.heard
     → (IsRefilled h.driver → IsRefilled h'.driver)
     → (h.driver.staged ≡ [] → h'.driver.staged ≡ [])
     → Finished m b
-    → CallRuns (lent_call a b) (did taken given accepted) made (connected h a.network.now) (connected h' b.network.now)
+    → CallRuns (lent_call a b) (did taken given accepted) made (connected h a.stations.now) (connected h' b.stations.now)
 call-runs composes a m b past h h' taken given accepted made zero retells flows accesses writes makes work refilled offered finished =
     (call-runs_by composes a m b past h h' taken given accepted made zero retells flows accesses writes makes work refilled offered
     finished).0

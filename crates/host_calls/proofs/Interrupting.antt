@@ -74,7 +74,7 @@ tells-on caller first last steps causes adapter result tells is =
 leaves-runs : {O : Type 0} {g : OfObserver O} → ComposesTold g.heard → (a m b : LentBus O g) (h h' : HostState) → a.accesses ≡ 0
     → HostReady h (world_here a)
     → HostHandles lent NotMine true (host_at a h) (host_at m h') → Finished m b
-    → InterruptRuns (lent_call a b) NotMine (connected h a.network.now) (connected h' b.network.now)
+    → InterruptRuns (lent_call a b) NotMine (connected h a.stations.now) (connected h' b.stations.now)
 leaves-runs {O} {g} composes a m b h h' zero ready handles finished =
     let leaves = handles.then_does in
     let past = handles.asked.reads.past in
@@ -111,7 +111,7 @@ works-runs : {O : Type 0} {g : OfObserver O} → ComposesTold g.heard → (a m b
     → HostReady h (world_here a) → IsRefilled h'.driver
     → h'.driver.staged ≡ [] → OnlyReceives h.driver h'.driver → HostHandles lent (answers.Handled n) true (host_at a h) (host_at m h')
     → Finished m b
-    → InterruptRuns (lent_call a b) (answers.Handled n) (connected h a.network.now) (connected h' b.network.now)
+    → InterruptRuns (lent_call a b) (answers.Handled n) (connected h a.stations.now) (connected h' b.stations.now)
 works-runs composes a m b h h' n zero ready refilled offered only_receives handles finished =
     let it = handles.then_does in
     let works = it.works in
@@ -200,14 +200,14 @@ works-runs composes a m b h h' n zero ready refilled offered only_receives handl
               ∙ ap (λ (list : List Access). list ++ split.before.accesses) only
               ∙ ap (λ (list : List Access). Reads ICR handles.asked.causes ∷ list) split.first_made;
           ends = retelling-ends a split.middle (joined past split.before) first.0;
-          middle = split.middle.network.now;
+          middle = split.middle.stations.now;
           leads = first.0.leads;
         };
         others =
             whole-accesses a.host split.leaves.steps last (none-alone a.host last finished.plays.are)
             ∙ ap (λ (k : ℕ). (past_at k split.leaves.steps).accesses) (sym first.0.lent.host)
             ∙ ap (λ (p : Past). p.accesses) (sym split.leaves.past_is) ∙ split.later_made;
-        look = subst (λ (k : ℕ). IsLook h'.driver.oldest_receive served.rest (world_at split.middle.network.now k) works.loads)
+        look = subst (λ (k : ℕ). IsLook h'.driver.oldest_receive served.rest (world_at split.middle.stations.now k) works.loads)
             first.0.lent.host works.look;
       };
       answer = record {
@@ -222,7 +222,7 @@ pub interrupt-runs : {O : Type 0} {g : OfObserver O} → ComposesTold g.heard
     → (a m b : LentBus O g) (h h' : HostState) (result : Handled) → a.accesses ≡ 0 → HostReady h (world_here a)
     → OnlyReceives h.driver h'.driver → IfHandled result (HostServes h h')
     → HostHandles lent result true (host_at a h) (host_at m h') → Finished m b
-    → InterruptRuns (lent_call a b) result (connected h a.network.now) (connected h' b.network.now)
+    → InterruptRuns (lent_call a b) result (connected h a.stations.now) (connected h' b.stations.now)
 interrupt-runs composes a m b h h' NotMine zero ready only_receives serves handles finished = leaves-runs composes a m b h h' zero ready
     handles finished
 interrupt-runs composes a m b h h' (answers.Handled n) zero ready only_receives serves handles finished =

@@ -11,7 +11,6 @@ use Rattle.bus.proofs.Lists.{all-none}
 use Rattle.bus.specs.declared.event.Event.{Event}
 use Rattle.stations.specs.AtomicSteps.{AtomicStep}
 use Rattle.stations.specs.Stations.{StationState, world_at}
-use Rattle.stations.proofs.Lengths.{length-stays}
 use Rattle.stations.specs.AtomicRunLaws.{leads_join}
 use Rattle.stations.specs.AtomicRuns.{IsTick, LeadsTo, events_at, events_by, past_at}
 use Rattle.delivery.proofs.Laws.{frames-move}
@@ -85,19 +84,14 @@ steps-join m n number a b c h1 h2 h3 given more one two =
     }
 
 -- A look that did nothing comes first.
-pub steps-after : (first : Bool) (n number : ℕ) (a b c : List StationState) (h h' : HostState) (given : List Given) → first ≡ false
-    → StepsOn (steps_of first) number [] (connected h a) (connected h b) → StepsOn n number given (connected h b) (connected h' c)
+pub steps-after : (first : Bool) (n number : ℕ) (a b c : List StationState) (h m h' : HostState) (given : List Given) → first ≡ false
+    → StepsOn (steps_of first) number [] (connected h a) (connected m b) → StepsOn n number given (connected m b) (connected h' c)
     → StepsOn n number given (connected h a) (connected h' c)
-steps-after first n number a b c h h' given none one two =
+steps-after first n number a b c h m h' given none one two =
     let nothing : 0 + n ≡ n = omega arith in
     subst (λ (k : ℕ). StepsOn k number given (connected h a) (connected h' c)) nothing
-    (steps-join 0 n number a b c h h h' [] given
-    (subst (λ (stepped : Bool). StepsOn (steps_of stepped) number [] (connected h a) (connected h b)) none one) two)
-
-pub still-stands : (first : Bool) (number : ℕ) (a b : List StationState) (h : HostState) → first ≡ false
-    → StepsOn (steps_of first) number [] (connected h a) (connected h b) → CanBeDrained h (world_at a number)
-    → CanBeDrained h (world_at b number)
-still-stands first number a b h none one stands = stands-on (steps_of first) number a b h h [] one stands
+    (steps-join 0 n number a b c h m h' [] given
+    (subst (λ (stepped : Bool). StepsOn (steps_of stepped) number [] (connected h a) (connected m b)) none one) two)
 
 -- What moves of frames into memory say: nothing is put, reaches a host, is stored or missed.
 
@@ -152,6 +146,3 @@ into-join m n number a b c h1 h2 h3 x y z p q r one two = record {
 }
 
 -- a host that is there is there after steps of a drain
-pub steps-there : (steps number : ℕ) (given : List Given) (a b : List StationState) (h h' : HostState)
-    → StepsOn steps number given (connected h a) (connected h' b) → number < length a → number < length b
-steps-there steps number given a b h h' on there = omega (arith, there, length-stays number on.played a b on.leads)

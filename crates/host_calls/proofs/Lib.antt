@@ -17,3 +17,4 @@ pub mod JoinedSteps
 pub mod AdapterSteps
 pub mod CallSteps
 pub mod Endings
+pub mod HostsOfNetworks

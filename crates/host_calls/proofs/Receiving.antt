@@ -36,8 +36,8 @@ pub recv-runs : {O : Type 0} {g : OfObserver O} → ComposesTold g.heard
     → (a m b : LentBus O g) (h h' : HostState) (socket size : ℕ) (bytes : List ℕ) → a.accesses ≡ 0 → HostReady h (world_here a)
     → length bytes ≡ size → Receives lent (record { socket = socket; frame = bytes }) size true (host_at a h) (host_at m h')
     → IsRefilled h'.driver → h'.driver.staged ≡ [] → Finished m b
-    → CallRuns (lent_call a b) (did [] (given_by socket (Ok bytes)) []) (MakesRecv (Ok bytes) socket h h') (connected h a.network.now)
-    (connected h' b.network.now)
+    → CallRuns (lent_call a b) (did [] (given_by socket (Ok bytes)) []) (MakesRecv (Ok bytes) socket h h') (connected h a.stations.now)
+    (connected h' b.stations.now)
 recv-runs composes a m b h h' socket size bytes zero ready long receives refilled offered finished =
     let ran = receives.ran.ran in
     let given = given_by socket (Ok bytes) in
@@ -69,12 +69,12 @@ recv-runs composes a m b h h' socket size bytes zero ready long receives refille
 pub none-runs : {O : Type 0} {g : OfObserver O} → ComposesTold g.heard
     → (a m b : LentBus O g) (h h' : HostState) (socket : ℕ) (error : RecvError) → a.accesses ≡ 0 → HostReady h (world_here a)
     → m ≡ a → h' ≡ h → Finished m b
-    → CallRuns (lent_call a b) (did [] (given_by socket (Err error)) []) (MakesRecv (Err error) socket h h') (connected h a.network.now)
-    (connected h' b.network.now)
+    → CallRuns (lent_call a b) (did [] (given_by socket (Err error)) []) (MakesRecv (Err error) socket h h') (connected h a.stations.now)
+    (connected h' b.stations.now)
 none-runs {O} {g} composes a m b h h' socket error zero ready same stays finished =
     let goes = host-happens h (world_here a) (world_here a) nothing ready (happens_none (world_here a)) in
     subst (λ (host : HostState). CallRuns (lent_call a b) (did [] [] []) (λ (accesses : List Access). accesses ≡ [])
-    (connected h a.network.now) (connected host b.network.now))
+    (connected h a.stations.now) (connected host b.stations.now))
     (sym stays)
     (call-runs composes a a b nothing h h [] [] [] (λ (accesses : List Access). accesses ≡ []) zero (retells_none composes a)
     (flows-of h (world_here a) h (world_here a) [] [] [] nothing goes)
@@ -161,7 +161,7 @@ pub any-runs : {O : Type 0} {g : OfObserver O} → ComposesTold g.heard
     → length into ≡ 1518 → HostReady h (world_here a) → ReturnsBy lent (given_first socket into) result true (host_at a h) (host_at m h')
     → IfOk result (Returns h h' socket before into) → IfErr result (λ error. (m ≡ a) × (h' ≡ h) × (into ≡ before)) → Finished m b
     → CallRuns (lent_call a b) (did [] (given_by socket (frame_in into result)) []) (MakesRecv (frame_in into result) socket h h')
-    (connected h a.network.now) (connected h' b.network.now)
+    (connected h a.stations.now) (connected h' b.stations.now)
 any-runs composes a m b h h' socket (Ok size) before into zero long ready receives ok err finished =
     recv-runs composes a m b h h' socket size (take size into) zero ready
     (front-long size into (let most = ok.legal.most in omega (arith, long, most))) receives ok.refilled

@@ -63,5 +63,5 @@ steps-end caller (step ∷ next ∷ later) a b leads ends = steps-end caller (ne
 pub retelling-ends : {O : Type 0} {g : OfObserver O} (a b : LentBus O g) (past : Past) (retells : Retells a b past)
     → EndsWithAccess retells.steps
 retelling-ends a b past retells =
-    steps-end a.host retells.steps a.network.now b.network.now retells.leads
+    steps-end a.host retells.steps a.stations.now b.stations.now retells.leads
     (subst EndsWithGo (sym retells.played) (played-ends past.accesses a.ticks.now))

@@ -58,8 +58,8 @@ send-runs : {O : Type 0} {g : OfObserver O} → ComposesTold g.heard
     → GoesTo true (driver_in (driver_of h (world_here a)) (world_here a)) (driver_in (driver_of h' (world_here m)) (world_here m))
     (driver_did [] (accepted_by result frame)) past
     → (finished : Finished m b)
-    → ((runs : CallRuns (lent_call a b) (did [] [] (accepted_by result frame)) (MakesSend result frame h h') (connected h a.network.now)
-    (connected h' b.network.now)) × (runs.steps ≡ retells.steps ++ finished.plays.steps))
+    → ((runs : CallRuns (lent_call a b) (did [] [] (accepted_by result frame)) (MakesSend result frame h h') (connected h a.stations.now)
+    (connected h' b.stations.now)) × (runs.steps ≡ retells.steps ++ finished.plays.steps))
 send-runs composes a m b h h' frame result past zero ready others sent retells only driver_goes finished =
     let ran = sent.ran.ran in
     let held = frames_held h.driver.oldest_receive (world_here a) in
@@ -83,17 +83,17 @@ send-runs composes a m b h h' frame result past zero ready others sent retells o
 -- What a call of sending is: its run, and the order in which it frees slots and sends.
 abbrev pub SentCall : {O : Type 0} {g : OfObserver O} (a b : LentBus O g) (h h' : HostState) → (frame : List ℕ) → SendAnswer → Type 0
 SentCall a b h h' frame result =
-    (runs : CallRuns (lent_call a b) (did [] [] (accepted_by result frame)) (MakesSend result frame h h') (connected h a.network.now)
-    (connected h' b.network.now))
-    × FreesFirstBy result a.host frame runs.steps (connected h a.network.now) (connected h' b.network.now)
+    (runs : CallRuns (lent_call a b) (did [] [] (accepted_by result frame)) (MakesSend result frame h h') (connected h a.stations.now)
+    (connected h' b.stations.now))
+    × FreesFirstBy result a.host frame runs.steps (connected h a.stations.now) (connected h' b.stations.now)
 
 -- A frame that can't be sent: nothing is looked at.
 refused-call : {O : Type 0} {g : OfObserver O} → ComposesTold g.heard
     → (a m b : LentBus O g) (h h' : HostState) (frame : List ℕ) (error : SendError) → a.accesses ≡ 0 → HostReady h (world_here a)
     → h' ≡ record h { driver = with_transmit_slots h.driver h'.driver.oldest_transmit h'.driver.sending }
     → HostSends lent frame (Err error) (host_at a h) (host_at m h') → Finished m b
-    → CallRuns (lent_call a b) (did [] [] []) (MakesSend (Err error) frame h h') (connected h a.network.now)
-    (connected h' b.network.now)
+    → CallRuns (lent_call a b) (did [] [] []) (MakesSend (Err error) frame h h') (connected h a.stations.now)
+    (connected h' b.stations.now)
 refused-call composes a m b h h' frame error zero ready others sent finished =
     let ran = sent.ran.ran in
     (send-runs composes a m b h h' frame (Err error) ran.past zero ready others sent ran.reports
@@ -124,11 +124,11 @@ full-call composes a m b h h' frame zero ready others sent finished =
           split = made.1;
           made = ap (λ (p : Past). p.accesses) (sym reports.past_is) ∙ ran.only;
           ends = retelling-ends a m ran.past reports;
-          middle = m.network.now;
+          middle = m.stations.now;
           leads = reports.leads;
         };
         others = none-alone a.host finished.plays.steps finished.plays.are;
-        are_left = subst (λ (k : ℕ). AreLeft h'.driver.oldest_transmit h'.driver.sending (world_at m.network.now k)) reports.lent.host
+        are_left = subst (λ (k : ℕ). AreLeft h'.driver.oldest_transmit h'.driver.sending (world_at m.stations.now k)) reports.lent.host
             (left-over (driver_of h' (world_here m)) (world_here m) ran.goes.flows.ready sent.frees_first.none);
       },
     )
@@ -180,7 +180,7 @@ accepted-call composes a m b h h' frame u zero ready others sent finished =
           split = made.1 ∙ ap (λ (steps : List AtomicStep). steps ++ last) retells.1 ∙ append_assoc first second last;
           made = ap (λ (p : Past). p.accesses) (sym frees.reports.past_is) ∙ loads;
           ends = retelling-ends a between frees.past frees.reports;
-          middle = between.network.now;
+          middle = between.stations.now;
           leads = frees.reports.leads;
         };
         others =
@@ -188,9 +188,9 @@ accepted-call composes a m b h h' frame u zero ready others sent finished =
             ∙ ap (λ (k : ℕ). (past_at k second).accesses) (sym frees.reports.lent.host)
             ∙ ap (λ (p : Past). p.accesses) (sym sends.reports.past_is) ∙ stores;
         are_left =
-            subst (λ (n : ℕ). AreLeft h'.driver.oldest_transmit n (world_at between.network.now a.host)) left
-            (subst (λ (slot : ℕ). AreLeft slot freed.sending (world_at between.network.now a.host)) (sym oldest)
-            (subst (λ (k : ℕ). AreLeft freed.oldest_transmit freed.sending (world_at between.network.now k)) frees.reports.lent.host
+            subst (λ (n : ℕ). AreLeft h'.driver.oldest_transmit n (world_at between.stations.now a.host)) left
+            (subst (λ (slot : ℕ). AreLeft slot freed.sending (world_at between.stations.now a.host)) (sym oldest)
+            (subst (λ (k : ℕ). AreLeft freed.oldest_transmit freed.sending (world_at between.stations.now k)) frees.reports.lent.host
             (left-over freed (world_here between) frees.goes.flows.ready parts.reclaims.none)));
       },
     )

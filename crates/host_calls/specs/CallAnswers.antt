@@ -23,7 +23,7 @@ use Rattle.packet_socket.specs.HostState.{HostState, queue_at}
 use Rattle.driver.specs.declared.receiver.Received.{Received}
 use Rattle.packet_socket.specs.declared.receive.RecvError.{RecvError}
 use Rattle.packet_socket.specs.declared.receive.RecvError.TheVariants.{Empty, NoSocket}
-use Rattle.stations.specs.AtomicRuns.{past_at}
+use Rattle.stations.specs.AtomicRuns.{counted_of, past_at}
 use Rattle.stations.specs.AtomicSteps.{AtomicStep}
 use Rattle.stations.specs.Stations.{world_at}
 use Rattle.host_calls.specs.InterruptCauses.{TellsCauses}
@@ -189,17 +189,28 @@ LooksBy (answers.Handled n) taken k steps old new = HandlingLooks taken k steps 
 -- The three calls, each with its ticks.
 
 -- A frame is sent.
+
+-- What the result of a send by host k states, over the call's atomic steps.
+pub record SendResult (k : ℕ) (frame : List ℕ) (result : SendAnswer) (steps : List AtomicStep) (old new : ConnectedHost) : Type 0 where
+  pub answers : AnswersSend result frame old.host new.host (world_at old.stations k)
+  pub leaves : LeavesSend result old.host new.host (counted_of 0 steps)
+  -- Exactly the slots that are written back before the last load of a descriptor are freed.
+  pub frees_first : FreesFirstBy result k frame steps old new
+
 pub record SendRuns (call : PlayedCall) (frame : List ℕ) (result : SendAnswer) (old new : ConnectedHost) : Type 0 where
   pub runs : CallRuns call (did [] [] (accepted_by result frame)) (MakesSend result frame old.host new.host) old new
-  pub frees_first : FreesFirstBy result call.caller frame runs.steps old new
-  pub answers : AnswersSend result frame old.host new.host (world_at old.stations call.caller)
-  pub leaves : LeavesSend result old.host new.host call.accesses
+  pub states : SendResult call.caller frame result runs.steps old new
 
 -- A socket is asked for its oldest frame.
+
+-- What the result of a recv by host k states, over the call's atomic steps.
+pub record RecvResult (k socket : ℕ) (result : Result (List ℕ) RecvError) (steps : List AtomicStep) (old new : ConnectedHost) : Type 0 where
+  pub answers : AnswersRecv result socket old.host (world_at old.stations k)
+  pub leaves : LeavesRecv result socket old.host new.host (counted_of 0 steps)
+
 pub record RecvRuns (call : PlayedCall) (socket : ℕ) (result : Result (List ℕ) RecvError) (old new : ConnectedHost) : Type 0 where
   pub runs : CallRuns call (did [] (given_by socket result) []) (MakesRecv result socket old.host new.host) old new
-  pub answers : AnswersRecv result socket old.host (world_at old.stations call.caller)
-  pub leaves : LeavesRecv result socket old.host new.host call.accesses
+  pub states : RecvResult call.caller socket result runs.steps old new
 
 -- An interrupt is handled.
 pub record InterruptRuns (call : PlayedCall) (result : Handled) (old new : ConnectedHost) : Type 0 where

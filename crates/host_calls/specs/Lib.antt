@@ -1,4 +1,6 @@
 pub mod ConnectedHosts
+pub mod Networks
+pub mod NetworkView
 pub mod CallsOfHosts
 pub mod CallAnswers
 pub mod InterruptCauses

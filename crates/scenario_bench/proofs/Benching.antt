@@ -8,7 +8,7 @@ use Rattle.packet_socket.specs.HostState.{HostState}
 use Rattle.pcap_trace.specs.Format.{Timed}
 use Rattle.stations.specs.Stations.{world_at}
 use Rattle.network_plan.specs.declared.plan.HostPlan.{HostPlan}
-use Rattle.wire.specs.Networks.{IsHost}
+use Rattle.host_calls.specs.Networks.{IsHost}
 use Rattle.scenario.specs.SoFar.{Host, Said, host_of, hosts_of, said_of}
 use Rattle.scenario_bench.specs.Acts.{Act, history}
 use Rattle.scenario.specs.declared.command.Scenario.{Scenario}

@@ -13,7 +13,7 @@ use Rattle.network_plan.specs.declared.reply.Reply.{Reply}
 use Rattle.scenario.specs.SoFar.{Said, event_of}
 use Rattle.wire.specs.DrainedNetworks.{NetworkDrains, said_of_drain}
 use Rattle.wire.specs.Equations.{Delivers}
-use Rattle.wire.specs.Networks.{NetworkState}
+use Rattle.host_calls.specs.Networks.{NetworkState}
 use Rattle.wire.specs.Runs.{RunsTo, StatesRun, caller_of, happenings, said}
 use Rattle.wire.proofs.Delivering.{delivers-join}
 use Rattle.wire.proofs.Running.{runs-none}

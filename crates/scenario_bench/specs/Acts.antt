@@ -9,7 +9,7 @@ use Rattle.network_plan.specs.declared.event.Event.{Event}
 use Rattle.network_plan.specs.declared.reply.Reply.{Reply}
 use Rattle.wire.specs.DrainedNetworks.{NetworkDrains, said_of_drain}
 use Rattle.wire.specs.Equations.{Delivers}
-use Rattle.wire.specs.Networks.{IsHost, NetworkState}
+use Rattle.host_calls.specs.Networks.{IsHost, NetworkState}
 use Rattle.wire.specs.Runs.{EventRuns, said}
 use Rattle.scenario.specs.SoFar.{Drains, Said, event_of}
 

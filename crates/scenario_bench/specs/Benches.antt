@@ -3,7 +3,7 @@ use Rattle.std.specs.Prelude.{◌≡◌, ◌<◌, ◌≤◌, ◌+◌, ℕ, List,
 use Rattle.std.specs.Io.KnownBytes.{Appends}
 use Rattle.pcap_trace.specs.Devices.{AppendsFront}
 use Rattle.pcap_trace.specs.Format.{Timed, written}
-use Rattle.wire.specs.Networks.{NetworkState}
+use Rattle.host_calls.specs.Networks.{NetworkState}
 use Rattle.wire.specs.NewNetworks.{IsLanAnswer}
 use Rattle.scenario.specs.SoFar.{hosts_of, said_of}
 use Rattle.scenario.specs.declared.command.Scenario.{Scenario}

@@ -4,7 +4,7 @@ use Rattle.adapter.specs.World.{World}
 use Rattle.packet_socket.specs.HostState.{HostState}
 use Rattle.stations.specs.Stations.{world_at}
 use Rattle.wire.specs.Equations.{IsExact, counted}
-use Rattle.wire.specs.Networks.{IsHost}
+use Rattle.host_calls.specs.Networks.{IsHost}
 use Rattle.scenario_bench.specs.declared.summary.HostSummary.{HostSummary}
 use Rattle.scenario_bench.specs.declared.tally.Tally.{Tally}
 use Rattle.network_plan.specs.declared.plan.HostPlan.{HostPlan}

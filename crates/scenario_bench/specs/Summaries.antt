@@ -6,7 +6,7 @@ use Rattle.packet_socket.specs.HostState.{HostState}
 use Rattle.adapter.specs.World.{World}
 use Rattle.stations.specs.Stations.{world_at}
 use Rattle.wire.specs.Equations.{IsExact, counted}
-use Rattle.wire.specs.Networks.{IsHost, NetworkState}
+use Rattle.host_calls.specs.Networks.{IsHost, NetworkState}
 use Rattle.scenario.specs.SoFar.{Host}
 use Rattle.scenario_bench.specs.Given.{greatest_number}
 use Rattle.scenario_bench.specs.declared.summary.HostSummary.{HostSummary}

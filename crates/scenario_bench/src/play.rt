@@ -12,7 +12,7 @@ ghost use Rattle.scenario_bench.specs.PlayedEvents.{TellsTally, frames_of};
 ghost use Rattle.scenario_bench.specs.SocketLists.{frames_given};
 ghost use Rattle.scenario_bench.specs.declared.tally.Tally.{Tally};
 ghost use Rattle.stations.specs.Stations.{world_at};
-ghost use Rattle.wire.specs.Networks.{IsHost};
+ghost use Rattle.host_calls.specs.Networks.{IsHost};
 
 use crate::bench_error::BenchError;
 use crate::drained::DrainedFrames;

@@ -7,7 +7,7 @@ use Rattle.bus.specs.Machines.{MachineState, after_event}
 use Rattle.bus.specs.Trails.{past_of_event}
 use Rattle.bus.specs.declared.event.Event.{Event}
 use Rattle.stations.specs.Ends.{EndState}
-use Rattle.stations.specs.NetworkView.{station_of, stations_of}
+use Rattle.stations.specs.StationsView.{station_of, stations_of}
 use Rattle.stations.specs.Stations.{StationState, backlog_after, stations_after, world_at, world_of}
 use Rattle.stations.proofs.Places.{set-after}
 

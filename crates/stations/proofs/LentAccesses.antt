@@ -74,8 +74,8 @@ never_lively bus = ⊥
 trail-here : {O : Type 0} {g : OfObserver O} (a p : LentBus O g) (prepared : Prepared a p)
     → Trail (events_at a.host prepared.plays.steps) (world_here a) (world_here p)
 trail-here a p prepared =
-    subst (λ (h : ℕ). Trail (events_at a.host prepared.plays.steps) (world_here a) (world_at p.network.now h)) (sym prepared.lent.host)
-    (trail-of a.host a.host prepared.plays.steps a.network.now p.network.now (prepared.plays.leads a.host))
+    subst (λ (h : ℕ). Trail (events_at a.host prepared.plays.steps) (world_here a) (world_at p.stations.now h)) (sym prepared.lent.host)
+    (trail-of a.host a.host prepared.plays.steps a.stations.now p.stations.now (prepared.plays.leads a.host))
 
 -- The size of memory stays while ticks are played.
 pub size-prepared : {O : Type 0} {g : OfObserver O} (a p : LentBus O g) → Prepared a p → bytes_here p ≡ bytes_here a
@@ -98,7 +98,7 @@ access-keeps {O} {g} a p b prepared same size = record {
 -- The access behind what comes before it is as the law says.
 pub acted : {O : Type 0} {g : OfObserver O} (a p b : LentBus O g) (access : Access) (effect : World → World → Type 0) → Prepared a p
     → LeavesRest p b
-    → p.host < length p.network.now → b.network.now ≡ stations_after p.host (Accesses access) p.network.now
+    → p.host < length p.stations.now → b.stations.now ≡ stations_after p.host (Accesses access) p.stations.now
     → IsAnswered access (world_here p) → IsAdapter (world_here p).adapter → effect (world_here p) (world_here b)
     → Acts (view world_here Retells never_lively) a b access effect
 acted {O} {g} a p b access effect prepared leaves below state answered adapter does =
@@ -109,10 +109,10 @@ acted {O} {g} a p b access effect prepared leaves below state answered adapter d
     let last = At a.host (Accesses access) in
     let host = prepared.lent.host in
     let still = counted-ticks a.accesses steps plays.are in
-    let occurs : OccursAt a.host (Accesses access) p.network.now =
-    subst (λ (h : ℕ). OccursAt h (Accesses access) p.network.now) host (occurs-access p.network.now p.host access below answered) in
-    let behind : b.network.now ≡ stations_after a.host (Accesses access) p.network.now =
-    state ∙ ap (λ (h : ℕ). stations_after h (Accesses access) p.network.now) host in
+    let occurs : OccursAt a.host (Accesses access) p.stations.now =
+    subst (λ (h : ℕ). OccursAt h (Accesses access) p.stations.now) host (occurs-access p.stations.now p.host access below answered) in
+    let behind : b.stations.now ≡ stations_after a.host (Accesses access) p.stations.now =
+    state ∙ ap (λ (h : ℕ). stations_after h (Accesses access) p.stations.now) host in
     let heard : steps_told a.accesses steps ≡ steps_told a.accesses (steps ++ last ∷ []) =
     sym (steps_told_join a.accesses steps (last ∷ []) ∙ append-nil (steps_told a.accesses steps)) in
     let count : counted_of a.accesses (steps ++ last ∷ []) ≡ min (a.accesses + 1) most_accesses =
@@ -124,7 +124,7 @@ acted {O} {g} a p b access effect prepared leaves below state answered adapter d
       told = record {
         lent = same_lent_on a p b prepared.lent leaves.lent;
         steps = steps ++ last ∷ [];
-        leads = leads_join a.host steps (last ∷ []) a.network.now p.network.now b.network.now (plays.leads a.host)
+        leads = leads_join a.host steps (last ∷ []) a.stations.now p.stations.now b.stations.now (plays.leads a.host)
             (occurs, refl, behind);
         past_is =
             past-with_access events access are

@@ -5,7 +5,7 @@ use Rattle.std.proofs.lemmas.Option.{slice_get_within}
 use Rattle.circular_buffer.proofs.Places.{slice_get-some}
 use Rattle.bus.specs.Machines.{MachineState}
 use Rattle.stations.specs.Ends.{EndState, HaveRoom, with_line}
-use Rattle.stations.specs.NetworkView.{station_of, stations_of}
+use Rattle.stations.specs.StationsView.{station_of, stations_of}
 use Rattle.stations.specs.Stations.{StationState, WireHasRoom, with_frames}
 use Rattle.rx_engine.specs.declared.arrival.Fate.{Fate}
 use Rattle.adapter.specs.Outcomes.{FrameOutcome, framed, oldest, put_by}

@@ -1,7 +1,7 @@
 pub mod Stations
 pub mod Ends
 pub mod EndView
-pub mod NetworkView
+pub mod StationsView
 pub mod FrameRoom
 pub mod ToldTicks
 pub mod Outcomes

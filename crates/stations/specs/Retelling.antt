@@ -13,18 +13,18 @@ use Rattle.stations.specs.declared.lent_bus.LentBus.{LentBus}
 
 -- the world of the host whose call it is
 abbrev pub world_here : {O : Type 0} {g : OfObserver O} → LentBus O g → World
-world_here bus = world_at bus.network.now bus.host
+world_here bus = world_at bus.stations.now bus.host
 
 abbrev pub bytes_here : {O : Type 0} {g : OfObserver O} → LentBus O g → ℕ
 bytes_here bus = length (world_here bus).memory
 
 -- the network and the observer that are lent
 abbrev pub watched_by : {O : Type 0} {g : OfObserver O} → LentBus O g → Watched O
-watched_by bus = watched bus.network.now bus.observer.now
+watched_by bus = watched bus.stations.now bus.observer.now
 
 -- The same network and the same observer are lent, to the call of the same host.
 pub record SameLent {O : Type 0} {g : OfObserver O} (a b : LentBus O g) : Type 0 where
-  pub network : b.network.ghost_name ≡ a.network.ghost_name
+  pub stations : b.stations.ghost_name ≡ a.stations.ghost_name
   pub observer : b.observer.ghost_name ≡ a.observer.ghost_name
   pub host : b.host ≡ a.host
 
@@ -40,7 +40,7 @@ pub record CountsAccesses {O : Type 0} {g : OfObserver O} (a b : LentBus O g) (s
 pub record Retells {O : Type 0} {g : OfObserver O} (a b : LentBus O g) (past : Past) : Type 0 where
   pub lent : SameLent a b
   pub steps : List AtomicStep
-  pub leads : LeadsTo a.host steps a.network.now b.network.now
+  pub leads : LeadsTo a.host steps a.stations.now b.stations.now
   pub past_is : past ≡ past_at a.host steps
   pub played : map tick_of steps ≡ played_in is_go Go [] past.accesses a.ticks.now
   pub waiting : b.ticks.now ≡ waiting_after is_go past.accesses a.ticks.now

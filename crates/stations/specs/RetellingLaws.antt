@@ -15,11 +15,11 @@ use Rattle.stations.specs.Retelling.{Retells, SameLent}
 use Rattle.stations.specs.declared.lent_bus.LentBus.{LentBus}
 
 pub same_lent_here : {O : Type 0} {g : OfObserver O} (a : LentBus O g) → SameLent a a
-same_lent_here a = record { network = refl; observer = refl; host = refl }
+same_lent_here a = record { stations = refl; observer = refl; host = refl }
 
 pub same_lent_on : {O : Type 0} {g : OfObserver O} (a b c : LentBus O g) → SameLent a b → SameLent b c → SameLent a c
 same_lent_on a b c one two = record {
-  network = two.network ∙ one.network;
+  stations = two.stations ∙ one.stations;
   observer = two.observer ∙ one.observer;
   host = two.host ∙ one.host;
 }
@@ -45,8 +45,8 @@ retells_join {O} {g} composes a b c first later one two =
       lent = same_lent_on a b c one.lent two.lent;
       steps = one.steps ++ two.steps;
       leads =
-          leads_join a.host one.steps two.steps a.network.now b.network.now c.network.now one.leads
-          (subst (λ (h : ℕ). LeadsTo h two.steps b.network.now c.network.now) host two.leads);
+          leads_join a.host one.steps two.steps a.stations.now b.stations.now c.stations.now one.leads
+          (subst (λ (h : ℕ). LeadsTo h two.steps b.stations.now c.stations.now) host two.leads);
       past_is =
           ap (λ (p : Past). joined p later) one.past_is
           ∙ ap (joined (past_at a.host one.steps)) (two.past_is ∙ ap (λ (h : ℕ). past_at h two.steps) host)

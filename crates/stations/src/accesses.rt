@@ -34,27 +34,27 @@ impl<'a, 't, O: Observer> Bus for LentBus<'a, 't, O> {
     ghost sized = { λ bus honest. refl };
 
     fn size(&self) -> u64 {
-        self.network.size(self.host)
+        self.stations.size(self.host)
     }
 
     fn read(&mut self, offset: u32) -> u32 {
         self.prepare();
-        self.network.read(self.host, offset)
+        self.stations.read(self.host, offset)
     }
 
     fn write(&mut self, offset: u32, value: u32) {
         self.prepare();
-        self.network.write(self.host, offset, value);
+        self.stations.write(self.host, offset, value);
     }
 
     fn load(&mut self, address: u64, into: &mut [u8]) {
         self.prepare();
-        self.network.load(self.host, address, into);
+        self.stations.load(self.host, address, into);
     }
 
     fn store(&mut self, address: u64, bytes: &[u8]) {
         self.prepare();
-        self.network.store(self.host, address, bytes);
+        self.stations.store(self.host, address, bytes);
     }
 }
 

@@ -2,17 +2,17 @@
 
 ghost use Rattle.std.specs.Prelude.{◌<◌, ◌≤◌, length};
 
-use crate::network::Network;
 use crate::observer::Observer;
+use crate::stations::Stations;
 use crate::tick::Tick;
 
-/// A network, lent to the call of one host, and the ticks that are to be played before its accesses.
+/// The stations of a network, lent to the call of one host, and the ticks that are to be played before its accesses.
 ///
 /// Before an access the ticks up to the next `Go` are played, and none if none are left.
 #[derive(Drop)]
 pub struct LentBus<'a, 't, O: Observer> {
-    /// The network.
-    pub network: &'a mut Network,
+    /// The stations of all hosts.
+    pub stations: &'a mut Stations,
     /// The ticks that are still to be played, with a `Go` for the next access.
     pub ticks: &'t [Tick],
     /// The host whose call it is.
@@ -21,7 +21,7 @@ pub struct LentBus<'a, 't, O: Observer> {
     pub accesses: u64,
     /// It is told what comes of each tick, with the number of accesses before it.
     pub observer: &'a mut O,
-    ghost there: { host < length network.now },
+    ghost there: { host < length stations.now },
     ghost room: { length ticks.now ≤ O.room_left observer.now },
 }
 
@@ -33,7 +33,9 @@ impl<'a, 't, O: Observer> LentBus<'a, 't, O> {
         ensures { Prepared self.old self.new }
     {
         let accesses = self.accesses;
-        self.ticks = self.network.play_group(self.ticks, accesses, self.observer);
+        self.ticks = self
+            .stations
+            .play_group(self.ticks, accesses, self.observer);
         self.accesses = accesses.saturating_add(1);
     }
 
@@ -41,7 +43,7 @@ impl<'a, 't, O: Observer> LentBus<'a, 't, O> {
     pub fn finish(&mut self)
         ensures { Finished self.old self.new }
     {
-        self.network
+        self.stations
             .play_rest(self.ticks, self.accesses, self.observer);
         self.ticks = &[];
     }

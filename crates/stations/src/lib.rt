@@ -9,17 +9,17 @@
 mod accesses;
 mod heap_frame;
 mod lent_bus;
-mod network;
 mod observer;
 mod outcomes;
 mod playing;
+mod stations;
 mod tick;
 mod wires;
 
 pub use heap_frame::HeapFrame;
 pub use lent_bus::LentBus;
-pub use network::Network;
 pub use observer::{Nobody, Observer};
 pub use outcomes::{Numbered, Outcomes};
+pub use stations::Stations;
 pub use tick::Tick;
 pub use wires::END_FRAMES;

@@ -1,4 +1,4 @@
-// What is played on a network.
+// What is played on the stations of a network.
 
 ghost use Rattle.std.specs.Prelude.{◌≡◌, ◌<◌, ◌≤◌, length};
 ghost use Rattle.adapter.specs.declared.step.StepKind.TheVariants.{TxPut};
@@ -8,12 +8,12 @@ ghost use Rattle.stations.specs.AtomicSteps.{PlaysNoted, watched};
 ghost use Rattle.stations.specs.PlayedTicks.{PlaysTicks};
 ghost use Rattle.stations.specs.declared.tick.Tick.TheVariants as tick;
 
-use crate::network::Network;
 use crate::observer::Observer;
+use crate::stations::Stations;
 use crate::tick::Tick;
 use adapter::{Outcome, StepKind};
 
-impl Network {
+impl Stations {
     /// Plays a tick. The observer is told its outcome, with the number of accesses that the call made before it.
     pub fn play<O: Observer>(&mut self, tick: Tick, accesses: u64, observer: &mut O)
         requires room { 0 < O.room_left observer.old }

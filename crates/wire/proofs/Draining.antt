@@ -15,9 +15,12 @@ use Rattle.host_calls.specs.DrainedHosts.{CanBeDrained, Drains, DrainsInto, Keep
 use Rattle.host_calls.specs.ConnectedHosts.{connected}
 use Rattle.wire.specs.DrainedNetworks.{KeepsCount, NetworkDrains, said_of_drain}
 use Rattle.wire.specs.Equations.{Delivers, IsExact, counted, sum_of}
-use Rattle.wire.specs.Networks.{HostStands, IsHost, NetworkStands, NetworkState}
+use Rattle.host_calls.specs.Networks.{IsHost, NetworkState, OnlyHostChanges, connected_at, nth_host}
+use Rattle.host_calls.proofs.HostsOfNetworks.{host-there}
+use Rattle.wire.specs.Networks.{HostStands, NetworkStands}
 use Rattle.wire.specs.EventParts.{HostsGo}
 use Rattle.wire.proofs.Delivering.{Tells, delivers-none}
+use Rattle.wire.proofs.Playing.{hosts-as}
 use Rattle.wire.proofs.Standing.{caller-behind, each-runs, hosts-go}
 use Rattle.wire.proofs.Tellings.{gives, tells-given}
 
@@ -55,11 +58,11 @@ stays-exact h a h' b keeps is =
     let both = keeps.exact is.exact is.below_greatest fits in
     record { exact = both.0; below_greatest = both.1; fits = omega (arith, same, fits) }
 
-pub host-drained : (old : NetworkState) (stations : List StationState) (host steps : ℕ) (h h' : HostState) (before behind : List Given)
+set-drained : (old : NetworkState) (stations : List StationState) (host steps : ℕ) (h h' : HostState) (before behind : List Given)
     → NetworkStands old → IsHost old host h → host < length old.hosts
     → DrainsInto steps host before behind (connected h old.stations) (connected h' stations)
     → NetworkDrains old host steps before behind (record { hosts = slice_set old.hosts host h'; stations = stations })
-host-drained old stations host steps h h' before behind stands there below into =
+set-drained old stations host steps h h' before behind stands there below into =
     let drains = into.drains in
     let new : NetworkState = record { hosts = slice_set old.hosts host h'; stations = stations } in
     let moves = length (world_at old.stations host).adapter.receiver.buffer in
@@ -99,6 +102,14 @@ host-drained old stations host steps h h' before behind stands there below into 
       delivers = go.delivers;
       stands = go.stands;
     }
+
+pub host-drained : (old new : NetworkState) (host steps : ℕ) (before behind : List Given) → NetworkStands old → host < length old.hosts
+    → OnlyHostChanges host old new → DrainsInto steps host before behind (connected_at old host) (connected_at new host)
+    → NetworkDrains old host steps before behind new
+host-drained old new host steps before behind stands below only into =
+    hosts-as (NetworkDrains old host steps before behind) new _ only
+    (set-drained old new.stations host steps (nth_host old host) (nth_host new host) before behind stands (host-there old host below) below
+    into)
 
 -- A host that isn't there.
 pub absent-drained : (old : NetworkState) (host : ℕ) (before : List Given) → NetworkStands old → length old.hosts ≤ host

@@ -30,11 +30,13 @@ use Rattle.network_plan.specs.declared.reply.Answer.TheVariants.{NoHost, Receive
 use Rattle.network_plan.specs.declared.reply.Reply.{Reply}
 use Rattle.host_calls.proofs.Calling.{runs-alone}
 use Rattle.host_calls.proofs.HostTrails.{happens-alone, none-alone}
-use Rattle.host_calls.specs.CallAnswers.{LeavesRecv, MakesRecv, RecvRuns, given_by}
+use Rattle.host_calls.specs.CallAnswers.{MakesRecv, RecvRuns, given_by}
 use Rattle.host_calls.specs.CallsOfHosts.{CallRuns, HostRuns, IsOfDriver}
 use Rattle.host_calls.specs.ConnectedHosts.{ConnectedHost, PlayedCall, connected, played_call}
 use Rattle.wire.specs.EventParts.{AbsentTold, CallPlayed, HostsGo, IsRecvAnswer, ticked}
-use Rattle.wire.specs.Networks.{IsHost, NetworkStands, NetworkState}
+use Rattle.host_calls.specs.Networks.{IsHost, NetworkState, OnlyHostChanges, connected_at, nth_host}
+use Rattle.host_calls.proofs.HostsOfNetworks.{host-there}
+use Rattle.wire.specs.Networks.{NetworkStands}
 use Rattle.wire.specs.RunObservers.{AreOfTicks, EventTold, Replies, TellsReply, ending, played_ticks, tick_in}
 use Rattle.wire.specs.Runs.{given_of}
 use Rattle.wire.proofs.Delivering.{Tells}
@@ -102,8 +104,15 @@ happened-as Holds happened answer answer' list list' same is holds =
     subst (λ (a : FrameAnswer). Holds (happened a list')) (sym same)
     (subst (λ (l : List Numbered). Holds (happened answer l)) (sym is) holds)
 
--- It answers, and its outcomes are numbered.
-pub call-played : (caller : ℕ) (ticks : List Tick) (old : NetworkState) (stations : List StationState) (heard : List TickTold → Type 0)
+-- A network whose hosts are these.
+pub hosts-as : (Holds : NetworkState → Type 0) (n : NetworkState) (hosts : List HostState) → n.hosts ≡ hosts
+    → (let network : NetworkState = record { hosts = hosts; stations = n.stations } in Holds network) → Holds n
+hosts-as Holds n hosts is holds =
+    subst (λ (list : List HostState). let network : NetworkState = record { hosts = list; stations = n.stations } in Holds network)
+    (sym is) holds
+
+-- It answers, and its outcomes are numbered. Its host was set.
+set-played : (caller : ℕ) (ticks : List Tick) (old : NetworkState) (stations : List StationState) (heard : List TickTold → Type 0)
     (accesses : ℕ) (answer : FrameAnswer) (h h' : HostState) (taken : List (List ℕ)) (given : List Given) (accepted : List (List ℕ))
     (made : List Access → Type 0)
     (happened : FrameAnswer → List Numbered → List Happening) (reply : Reply)
@@ -118,7 +127,7 @@ pub call-played : (caller : ℕ) (ticks : List Tick) (old : NetworkState) (stati
     → answers answer runs.steps (connected h old.stations) (connected h' stations)
     → CallPlayed (ticked caller ticks) (happened reply.answer reply.outcomes.list) reply answers old
     (record { hosts = slice_set old.hosts caller h'; stations = stations })
-call-played caller ticks old stations heard accesses answer h h' taken given accepted made happened reply answers stands there below some
+set-played caller ticks old stations heard accesses answer h h' taken given accepted made happened reply answers stands there below some
     runs replies tells answered =
     let new : NetworkState = record { hosts = slice_set old.hosts caller h'; stations = stations } in
     let noted = outcomes-are accesses answer runs.steps reply replies in
@@ -153,6 +162,26 @@ call-played caller ticks old stations heard accesses answer h h' taken given acc
           answered));
     }
 
+-- The same, of networks.
+pub call-played : (caller : ℕ) (ticks : List Tick) (old new : NetworkState) (heard : List TickTold → Type 0) (accesses : ℕ)
+    (answer : FrameAnswer) (taken : List (List ℕ)) (given : List Given) (accepted : List (List ℕ)) (made : List Access → Type 0)
+    (happened : FrameAnswer → List Numbered → List Happening) (reply : Reply)
+    (answers : FrameAnswer → List AtomicStep → (old new : ConnectedHost) → Type 0)
+    → NetworkStands old → caller < length old.hosts → OnlyHostChanges caller old new → answer ≢ NoHost
+    → (runs : CallRuns (played_call caller ticks heard accesses) (did taken given accepted) made (connected_at old caller)
+    (connected_at new caller))
+    → Replies (ending accesses answer (steps_told 0 runs.steps)) reply
+    → ((k : ℕ) → told ticks (noted_of 0 runs.steps) ≡ happened_in runs.steps
+    → Tells k (happened answer (noted_of 0 runs.steps)) runs.steps (wire_at old.stations) (of_host k caller given)
+    (of_host k caller accepted))
+    → answers answer runs.steps (connected_at old caller) (connected_at new caller)
+    → CallPlayed (ticked caller ticks) (happened reply.answer reply.outcomes.list) reply answers old new
+call-played caller ticks old new heard accesses answer taken given accepted made happened reply answers stands below only some runs replies
+    tells answered =
+    hosts-as (CallPlayed (ticked caller ticks) (happened reply.answer reply.outcomes.list) reply answers old) new _ only
+    (set-played caller ticks old new.stations heard accesses answer (nth_host old caller) (nth_host new caller) taken given accepted made
+    happened reply answers stands (host-there old caller below) below some runs replies tells answered)
+
 -- Ticks that are played in no call.
 
 ticks-run : (k : ℕ) (steps : List AtomicStep) (old : NetworkState) (stations : List StationState) (was is : HostState) → NetworkStands old
@@ -176,8 +205,8 @@ ticks-go caller happened steps old stations stands are leads tells =
     (leads caller)
     refl (λ k was is then now. ticks-run k steps old stations was is stands are (leads k) then now) tells
 
--- A call for a host that isn't there.
-pub absent-played : {O : Type 0} {g : OfObserver O} {ran : O → O → List Event → List Reply → Type 0} (caller : ℕ) (event : Event)
+-- A call for a host that isn't there plays ticks.
+absent-ticked : {O : Type 0} {g : OfObserver O} {ran : O → O → List Event → List Reply → Type 0} (caller : ℕ) (event : Event)
     (ticks : List Tick) (old : NetworkState) (stations : List StationState) (from to : O)
     (happened : FrameAnswer → List Numbered → List Happening) (answers : FrameAnswer → List AtomicStep → (old new : ConnectedHost) → Type 0)
     → NetworkStands old → length old.hosts ≤ caller
@@ -185,7 +214,7 @@ pub absent-played : {O : Type 0} {g : OfObserver O} {ran : O → O → List Even
     → ((list : List Numbered) → happened NoHost list ≡ told ticks list)
     → EventTold ran event from to (λ reply. CallPlayed (ticked caller ticks) (happened reply.answer reply.outcomes.list) reply answers old
     (record { hosts = old.hosts; stations = stations }))
-absent-played caller event ticks old stations from to happened answers stands past absent is =
+absent-ticked caller event ticks old stations from to happened answers stands past absent is =
     let plays = absent.plays in
     let reply = absent.tells.reply in
     let replies = absent.tells.replies in
@@ -221,25 +250,38 @@ absent-played caller event ticks old stations from to happened answers stands pa
       };
     }
 
+pub absent-played : {O : Type 0} {g : OfObserver O} {ran : O → O → List Event → List Reply → Type 0} (caller : ℕ) (event : Event)
+    (ticks : List Tick) (old new : NetworkState) (from to : O)
+    (happened : FrameAnswer → List Numbered → List Happening) (answers : FrameAnswer → List AtomicStep → (old new : ConnectedHost) → Type 0)
+    → NetworkStands old → length old.hosts ≤ caller → new.hosts ≡ old.hosts
+    → AbsentTold g ran event ticks (watched old.stations from) (watched new.stations to)
+    → ((list : List Numbered) → happened NoHost list ≡ told ticks list)
+    → EventTold ran event from to (λ reply. CallPlayed (ticked caller ticks) (happened reply.answer reply.outcomes.list) reply answers old
+    new)
+absent-played {ran = ran} caller event ticks old new from to happened answers stands past hosts absent is =
+    hosts-as (λ (n : NetworkState). EventTold ran event from to (λ reply. CallPlayed (ticked caller ticks)
+    (happened reply.answer reply.outcomes.list) reply answers old n)) new old.hosts hosts
+    (absent-ticked caller event ticks old new.stations from to happened answers stands past absent is)
+
 -- A socket was asked for its oldest frame.
 pub recv-told : {O : Type 0} {ran : O → O → List Event → List Reply → Type 0} (heard : List TickTold → Type 0) (event : Event)
-    (caller socket : ℕ) (ticks : List Tick) (old : NetworkState) (stations : List StationState) (accesses : ℕ)
-    (answer : Result (List ℕ) RecvError) (h h' : HostState) (from to : O)
-    → NetworkStands old → IsHost old caller h → caller < length old.hosts
-    → (recv : RecvRuns (played_call caller ticks heard accesses) socket answer (connected h old.stations) (connected h' stations))
+    (caller socket : ℕ) (ticks : List Tick) (old new : NetworkState) (accesses : ℕ) (answer : Result (List ℕ) RecvError) (from to : O)
+    → NetworkStands old → caller < length old.hosts → OnlyHostChanges caller old new
+    → (recv : RecvRuns (played_call caller ticks heard accesses) socket answer (connected_at old caller) (connected_at new caller))
     → TellsReply ran event (ending accesses (Received answer) (steps_told 0 recv.runs.steps)) from to
     → EventTold ran event from to (λ reply. CallPlayed (ticked caller ticks)
-    (told ticks reply.outcomes.list ++ given_of caller socket reply.answer) reply (IsRecvAnswer caller socket) old
-    (record { hosts = slice_set old.hosts caller h'; stations = stations }))
-recv-told heard event caller socket ticks old stations accesses answer h h' from to stands there below recv tells =
+    (told ticks reply.outcomes.list ++ given_of caller socket reply.answer) reply (IsRecvAnswer caller socket) old new)
+recv-told heard event caller socket ticks old new accesses answer from to stands below only recv tells =
     let runs = recv.runs in
+    let h = nth_host old caller in
+    let h' = nth_host new caller in
     record {
       reply = tells.reply;
       told = tells.told;
       holds =
-          call-played caller ticks old stations heard accesses (Received answer) h h' [] (given_by socket answer) []
+          call-played caller ticks old new heard accesses (Received answer) [] (given_by socket answer) []
           (MakesRecv answer socket h h') (λ answer list. told ticks list ++ given_of caller socket answer) tells.reply
-          (IsRecvAnswer caller socket) stands there below (λ none. absurd (cc)) runs tells.replies
+          (IsRecvAnswer caller socket) stands below only (λ none. absurd (cc)) runs tells.replies
           (λ k said.
           subst (λ (list : List Happening). Tells k (list ++ given_of caller socket (Received answer)) runs.steps (wire_at old.stations)
           (of_host k caller (given_by socket answer)) (of_host k caller [])) (sym said)
@@ -247,8 +289,7 @@ recv-told heard event caller socket ticks old stations accesses answer h h' from
           (record {
             result = answer;
             is = refl;
-            answers = recv.answers;
-            leaves = subst (LeavesRecv answer socket h h') runs.of_call.counted recv.leaves;
+            states = recv.states;
             makes = runs.makes;
           });
     }

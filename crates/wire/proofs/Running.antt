@@ -14,7 +14,8 @@ use Rattle.network_plan.specs.declared.event.Event.TheVariants.{Interrupt, Recv,
 use Rattle.network_plan.specs.declared.reply.Reply.{Reply}
 use Rattle.wire.specs.EventParts.{CallPlayed, IsInterruptAnswer, IsRecvAnswer, IsSendAnswer, TickPlayed, ticked}
 use Rattle.wire.specs.Equations.{Delivers}
-use Rattle.wire.specs.Networks.{NetworkStands, NetworkState}
+use Rattle.host_calls.specs.Networks.{NetworkState}
+use Rattle.wire.specs.Networks.{NetworkStands}
 use Rattle.stations.specs.ToldTicks.{ComposesTold, TickTold}
 use Rattle.wire.specs.RunObservers.{ComposesRuns, EventTold}
 use Rattle.wire.specs.Runs.{EventRuns, RunTold, RunsTo, StatesRun, accepted_of, caller_of, given_of, happenings, said}

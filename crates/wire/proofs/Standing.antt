@@ -36,7 +36,8 @@ use Rattle.host_calls.proofs.Calling.{others-run, ready-behind}
 use Rattle.host_calls.specs.CallsOfHosts.{HostRuns, IsOfDriver, IsTailWrite}
 use Rattle.host_calls.specs.ConnectedHosts.{connected}
 use Rattle.wire.specs.EventParts.{HostsGo}
-use Rattle.wire.specs.Networks.{HostStands, IsHost, NetworkStands, NetworkState}
+use Rattle.host_calls.specs.Networks.{IsHost, NetworkState}
+use Rattle.wire.specs.Networks.{HostStands, NetworkStands}
 use Rattle.wire.proofs.AdaptersStay.{adapter-behind}
 use Rattle.wire.proofs.Delivering.{Tells, delivers-runs}
 

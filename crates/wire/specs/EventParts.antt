@@ -27,13 +27,13 @@ use Rattle.network_plan.specs.declared.reply.Reply.{Reply}
 use Rattle.packet_socket.specs.HostCalls.{socket_frames, waiting_frames}
 use Rattle.host_calls.specs.InterruptCauses.{TellsCauses}
 use Rattle.host_calls.specs.CallsOfHosts.{IsOfDriver, OnlyLastWrites}
-use Rattle.host_calls.specs.CallAnswers.{AnswersInterrupt, AnswersRecv, AnswersSend, FreesFirstBy, LeavesRecv, LeavesSend, LooksBy}
-use Rattle.host_calls.specs.CallAnswers.{MakesInterrupt, MakesRecv, MakesSend}
+use Rattle.host_calls.specs.CallAnswers.{AnswersInterrupt, LooksBy, MakesInterrupt, MakesRecv, MakesSend, RecvResult, SendResult}
 use Rattle.delivery.specs.Counts.{counts_of}
 use Rattle.delivery.specs.StepAnswers.{AreAnswered, OfEachTick, counts_at}
 use Rattle.host_calls.specs.ConnectedHosts.{ConnectedHost, connected}
 use Rattle.wire.specs.Equations.{Delivers}
-use Rattle.wire.specs.Networks.{IsHost, NetworkStands, NetworkState}
+use Rattle.host_calls.specs.Networks.{IsHost, NetworkState}
+use Rattle.wire.specs.Networks.{NetworkStands}
 use Rattle.wire.specs.RunObservers.{TellsReply, ending}
 
 -- The atomic steps of an event, as every host finds them.
@@ -62,18 +62,14 @@ pub record IsSendAnswer (host : ℕ) (frame : List ℕ) (answer : FrameAnswer) (
   where
     pub result : SendAnswer
     pub is : answer ≡ Sent result
-    pub answers : AnswersSend result frame old.host new.host (world_at old.stations host)
-    pub leaves : LeavesSend result old.host new.host (counted_of 0 steps)
+    pub states : SendResult host frame result steps old new
     -- the accesses of its driver are exactly these, in order
     pub makes : MakesSend result frame old.host new.host (past_at host steps).accesses
-    -- Exactly the slots that are written back before the last load of a descriptor are freed.
-    pub frees_first : FreesFirstBy result host frame steps old new
 
 pub record IsRecvAnswer (host socket : ℕ) (answer : FrameAnswer) (steps : List AtomicStep) (old new : ConnectedHost) : Type 0 where
   pub result : Result (List ℕ) RecvError
   pub is : answer ≡ Received result
-  pub answers : AnswersRecv result socket old.host (world_at old.stations host)
-  pub leaves : LeavesRecv result socket old.host new.host (counted_of 0 steps)
+  pub states : RecvResult host socket result steps old new
   -- the accesses of its driver are exactly these, in order
   pub makes : MakesRecv result socket old.host new.host (past_at host steps).accesses
 

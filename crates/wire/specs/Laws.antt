@@ -2,7 +2,7 @@
 use Rattle.std.specs.Prelude.{◌++◌, List}
 use Rattle.network_plan.specs.declared.event.Event.{Event}
 use Rattle.network_plan.specs.declared.reply.Reply.{Reply}
-use Rattle.wire.specs.Networks.{NetworkState}
+use Rattle.host_calls.specs.Networks.{NetworkState}
 use Rattle.wire.specs.Runs.{RunsTo}
 
 -- If one run ends where the next begins, both are one run.

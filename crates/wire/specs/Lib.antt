@@ -6,7 +6,6 @@ pub mod Collecting
 pub mod EventParts
 pub mod Runs
 pub mod DrainedNetworks
-pub mod LanView
 pub mod Counting
 pub mod NewNetworks
 pub mod Laws

@@ -1,5 +1,5 @@
--- A network as plain data: its hosts, and their adapters, memories and ends of wires (our choice).
-use Rattle.std.specs.Prelude.{◌≡◌, ◌≤◌, ◌<◌, ◌+◌, [], ℕ, IsTrue, List, Some, length, slice_get}
+-- What holds of a network before and after each event (our choice).
+use Rattle.std.specs.Prelude.{◌≡◌, ◌≤◌, ◌<◌, ◌+◌, [], ℕ, IsTrue, length}
 use Rattle.registers.specs.Counting.{greatest_count}
 use Rattle.adapter.specs.HostFrames.{frames_to_send}
 use Rattle.adapter.specs.State.{IsAdapter}
@@ -9,18 +9,10 @@ use Rattle.driver_law.specs.DriverState.{owners}
 use Rattle.driver_law.specs.Calls.{HasNoForgottenWork, IsRefilled}
 use Rattle.packet_socket.specs.HostCalls.{HostReady, driver_of}
 use Rattle.packet_socket.specs.HostState.{HostState}
-use Rattle.stations.specs.Stations.{StationState, world_at}
+use Rattle.stations.specs.Stations.{world_at}
 use Rattle.delivery.specs.CountedHosts.{CanAnswer}
+use Rattle.host_calls.specs.Networks.{IsHost, NetworkState}
 use Rattle.wire.specs.Equations.{IsExact, counted}
-
--- Hosts are numbered from 0; the k-th station is the k-th host's.
-pub record NetworkState : Type 0 where
-  pub hosts : List HostState
-  pub stations : List StationState
-
--- This host is the k-th.
-abbrev pub IsHost : NetworkState → (k : ℕ) → HostState → Type 0
-IsHost network k host = slice_get network.hosts k ≡ Some host
 
 -- What its driver read of MPC, and then the whole count of misses, is exact below MPC's greatest value.
 pub record CountsExactly (host : HostState) (world : World) : Type 0 where

@@ -5,7 +5,7 @@ use Rattle.network_plan.specs.Plans.{IsPlanAnswer}
 use Rattle.network_plan.specs.declared.plan.HostPlan.{HostPlan}
 use Rattle.network_plan.specs.declared.plan_error.PlanError.{PlanError}
 use Rattle.network_plan.specs.declared.plan_error.PlanError.TheVariants as refused
-use Rattle.wire.specs.Networks.{NetworkState}
+use Rattle.host_calls.specs.Networks.{NetworkState}
 
 -- Each host is initialized as its plan says, with its sockets, rings, filter and link. No frame is anywhere, and none is counted. Two hosts
 -- are on one wire exactly if their plans name the same.

@@ -12,7 +12,8 @@ use Rattle.network_plan.specs.declared.reply.Reply.{Reply}
 use Rattle.host_calls.specs.ConnectedHosts.{ConnectedHost, connected}
 use Rattle.wire.specs.Equations.{Delivers}
 use Rattle.wire.specs.EventParts.{HostsGo, IsCallReply, IsInterruptAnswer, IsRecvAnswer, IsSendAnswer, IsTickReply, TickedCall, ticked}
-use Rattle.wire.specs.Networks.{IsHost, NetworkStands, NetworkState}
+use Rattle.host_calls.specs.Networks.{IsHost, NetworkState}
+use Rattle.wire.specs.Networks.{NetworkStands}
 
 -- What an event and its reply say of frames.
 

@@ -4,7 +4,8 @@ ghost use Rattle.std.specs.Prelude.{◌≤◌, ◌↔◌, IfSome, IsNone, length
 ghost use Rattle.packet_socket.specs.HostState.{HostState};
 ghost use Rattle.stations.specs.Stations.{world_at};
 ghost use Rattle.wire.specs.Counting.{AreCounts};
-ghost use Rattle.wire.specs.Networks.{IsHost, NetworkStands};
+ghost use Rattle.host_calls.specs.Networks.{IsHost};
+ghost use Rattle.wire.specs.Networks.{NetworkStands};
 
 use crate::Lan;
 
@@ -36,8 +37,9 @@ impl Lan {
             → IfSome result (AreCounts state (world_at self.now.stations host)) }
         ensures stands { NetworkStands self.now }
     {
-        let (sum, read_exactly) = self.hosts.get(host)?.missed();
-        let registers = self.network.counts(host);
+        let own = self.network.host(host)?;
+        let (sum, read_exactly) = own.missed();
+        let registers = self.network.stations().counts(host);
         let missed = sum.checked_add(u64::from(registers.missed));
         Some(Counts {
             missed: missed.unwrap_or(u64::MAX),
@@ -45,7 +47,7 @@ impl Lan {
             without_descriptor: registers.without_descriptor,
             received: registers.received,
             transmitted: registers.transmitted,
-            unclaimed: self.hosts.get(host)?.unclaimed(),
+            unclaimed: own.unclaimed(),
         })
     }
 }

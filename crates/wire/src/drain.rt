@@ -5,12 +5,10 @@ ghost use Rattle.host_calls.specs.DrainedHosts.{count_frames};
 ghost use Rattle.packet_socket.specs.HostState.{HostState};
 ghost use Rattle.stations.specs.Stations.{world_at};
 ghost use Rattle.wire.specs.DrainedNetworks.{NetworkDrains};
-ghost use Rattle.wire.specs.Networks.{IsHost, NetworkStands};
+ghost use Rattle.host_calls.specs.Networks.{IsHost};
 
 use crate::Lan;
 use host_calls::Outlet;
-use packet_socket::Host;
-use stations::Network;
 
 /// How many frames a receive packet buffer has room for, at most.
 const MOST_BUFFERED: usize = 24;
@@ -25,11 +23,10 @@ impl Lan {
             → count_frames state (world_at self.now.stations host) ≤ result }
         ensures none { length self.now.hosts ≤ host → result ≡ 0 }
     {
-        let hosts = self.hosts.as_slice();
-        if host >= hosts.len() {
+        let Some(host) = self.network.host(host) else {
             return 0;
-        }
-        usize::from(hosts[host].layout().buffers()) + MOST_BUFFERED
+        };
+        usize::from(host.layout().buffers()) + MOST_BUFFERED
     }
 
     /// Drains a host: gives each frame that it holds for its sockets to `sink`, with the socket's number, and returns
@@ -47,23 +44,9 @@ impl Lan {
         ensures left { length (S.frames sink.old) + S.room_left sink.old
             ≤ length (S.frames sink.new) + S.room_left sink.new }
     {
-        let hosts = self.hosts.as_mut_slice();
-        drain(hosts, &mut self.network, host, sink)
+        if host >= self.network.len() {
+            return 0;
+        }
+        self.network.drain(host, sink)
     }
-}
-
-/// The same, over the parts of a network.
-fn drain<S: Outlet>(hosts: &mut [Host], network: &mut Network, host: usize, sink: &mut S) -> u64
-    requires stands { NetworkStands (record { hosts = hosts.old; stations = network.old }) }
-    requires room { (state : HostState) → IsHost (record { hosts = hosts.old; stations = network.old }) host state
-        → state.driver.layout.buffers + 24 ≤ S.room_left sink.old }
-    ensures drains { NetworkDrains (record { hosts = hosts.old; stations = network.old }) host result
-        (S.frames sink.old) (S.frames sink.new) (record { hosts = hosts.new; stations = network.new }) }
-    ensures left { length (S.frames sink.old) + S.room_left sink.old
-        ≤ length (S.frames sink.new) + S.room_left sink.new }
-{
-    if host >= hosts.len() {
-        return 0;
-    }
-    host_calls::drain(&mut hosts[host], network, host, sink)
 }

@@ -1,4 +1,4 @@
-// One event, over all hosts and their stations.
+// One event of a network.
 
 ghost use Rattle.std.specs.Prelude.{◌≡◌, ◌≤◌, ◌++◌, ◌∷◌, [], length};
 ghost use Rattle.bus.specs.TickGroups.{without_go};
@@ -13,13 +13,12 @@ ghost use Rattle.stations.specs.AtomicSteps.{watched};
 
 use crate::run_observer::RunObserver;
 use adapter::Outcome;
-use host_calls::recv_into;
+use host_calls::Network;
 use network_plan::{Answer, Event};
-use packet_socket::Host;
-use stations::{Network, Tick};
+use stations::Tick;
 
 /// The call of an event, with the host and the ticks that the event names. The ticks are played in the call, on all
-/// hosts.
+/// stations.
 #[derive(Clone, Copy, Drop)]
 pub(crate) struct Call<'a> {
     pub(crate) event: &'a Event,
@@ -32,8 +31,9 @@ fn no_host<O: RunObserver>(network: &mut Network, call: &Call, observer: &mut O)
     requires answer { O.ready observer.old call.now.event.now }
     requires room { length call.now.ticks.now ≤ O.room_left observer.old }
     requires ticks { without_go is_go call.now.ticks.now ≡ played_ticks call.now.event.now }
-    ensures { AbsentTold O.Observer O.ran call.now.event.now call.now.ticks.now (watched network.old observer.old)
-        (watched network.new observer.new) }
+    ensures told { AbsentTold O.Observer O.ran call.now.event.now call.now.ticks.now
+        (watched network.old.stations observer.old) (watched network.new.stations observer.new) }
+    ensures hosts { network.new.hosts ≡ network.old.hosts }
 {
     network.play_rest(call.ticks, 0, observer);
     observer.answer(call.event, 0, Answer::NoHost, &[]);
@@ -42,34 +42,26 @@ fn no_host<O: RunObserver>(network: &mut Network, call: &Call, observer: &mut O)
 /// A host sends a frame, while ticks are played.
 #[inline(never)]
 pub(crate) fn send<O: RunObserver>(
-    hosts: &mut [Host],
     network: &mut Network,
     call: &Call,
     frame: &[u8],
     observer: &mut O,
 )
-    requires stands { NetworkStands (record { hosts = hosts.old; stations = network.old }) }
+    requires stands { NetworkStands network.old }
     requires answer { O.ready observer.old call.now.event.now }
     requires room { length call.now.ticks.now ≤ O.room_left observer.old }
     requires ticks { without_go is_go call.now.ticks.now ≡ played_ticks call.now.event.now }
     ensures { EventTold O.ran call.now.event.now observer.old observer.new (λ reply. CallPlayed
         (ticked call.now.host call.now.ticks.now)
         (accepted_of call.now.host frame.now reply.answer ++ told call.now.ticks.now reply.outcomes.list) reply
-        (IsSendAnswer call.now.host frame.now) (record { hosts = hosts.old; stations = network.old })
-        (record { hosts = hosts.new; stations = network.new })) }
+        (IsSendAnswer call.now.host frame.now) network.old
+        network.new) }
 {
-    if call.host >= hosts.len() {
+    if call.host >= network.len() {
         no_host(network, call, observer);
         return;
     }
-    let called = host_calls::send(
-        &mut hosts[call.host],
-        network,
-        call.host,
-        frame,
-        call.ticks,
-        observer,
-    );
+    let called = network.send(call.host, frame, call.ticks, observer);
     observer.answer(
         call.event,
         called.accesses,
@@ -81,36 +73,27 @@ pub(crate) fn send<O: RunObserver>(
 /// A host asks for the oldest frame of a socket, while ticks are played. The frame is copied to the front of `given`.
 #[inline(never)]
 pub(crate) fn recv<O: RunObserver>(
-    hosts: &mut [Host],
     network: &mut Network,
     call: &Call,
     socket: usize,
     given: &mut [u8; 1518],
     observer: &mut O,
 )
-    requires stands { NetworkStands (record { hosts = hosts.old; stations = network.old }) }
+    requires stands { NetworkStands network.old }
     requires answer { O.ready observer.old call.now.event.now }
     requires room { length call.now.ticks.now ≤ O.room_left observer.old }
     requires ticks { without_go is_go call.now.ticks.now ≡ played_ticks call.now.event.now }
     ensures { EventTold O.ran call.now.event.now observer.old observer.new (λ reply. CallPlayed
         (ticked call.now.host call.now.ticks.now)
         (told call.now.ticks.now reply.outcomes.list ++ given_of call.now.host socket reply.answer) reply
-        (IsRecvAnswer call.now.host socket) (record { hosts = hosts.old; stations = network.old })
-        (record { hosts = hosts.new; stations = network.new })) }
+        (IsRecvAnswer call.now.host socket) network.old
+        network.new) }
 {
-    if call.host >= hosts.len() {
+    if call.host >= network.len() {
         no_host(network, call, observer);
         return;
     }
-    let called = recv_into(
-        &mut hosts[call.host],
-        network,
-        call.host,
-        socket,
-        call.ticks,
-        observer,
-        given,
-    );
+    let called = network.recv_into(call.host, socket, call.ticks, observer, given);
     match called.answer {
         Ok(size) => {
             let answer = Answer::Received(Ok(()));
@@ -125,32 +108,21 @@ pub(crate) fn recv<O: RunObserver>(
 
 /// A host handles an interrupt, while ticks are played.
 #[inline(never)]
-pub(crate) fn interrupt<O: RunObserver>(
-    hosts: &mut [Host],
-    network: &mut Network,
-    call: &Call,
-    observer: &mut O,
-)
-    requires stands { NetworkStands (record { hosts = hosts.old; stations = network.old }) }
+pub(crate) fn interrupt<O: RunObserver>(network: &mut Network, call: &Call, observer: &mut O)
+    requires stands { NetworkStands network.old }
     requires answer { O.ready observer.old call.now.event.now }
     requires room { length call.now.ticks.now ≤ O.room_left observer.old }
     requires ticks { without_go is_go call.now.ticks.now ≡ played_ticks call.now.event.now }
     ensures { EventTold O.ran call.now.event.now observer.old observer.new (λ reply. CallPlayed
         (ticked call.now.host call.now.ticks.now) (told call.now.ticks.now reply.outcomes.list) reply
-        (IsInterruptAnswer call.now.host) (record { hosts = hosts.old; stations = network.old })
-        (record { hosts = hosts.new; stations = network.new })) }
+        (IsInterruptAnswer call.now.host) network.old
+        network.new) }
 {
-    if call.host >= hosts.len() {
+    if call.host >= network.len() {
         no_host(network, call, observer);
         return;
     }
-    let called = host_calls::interrupt(
-        &mut hosts[call.host],
-        network,
-        call.host,
-        call.ticks,
-        observer,
-    );
+    let called = network.interrupt(call.host, call.ticks, observer);
     let answer = Answer::Interrupted(called.answer);
     observer.answer(call.event, called.accesses, answer, &[]);
 }
@@ -168,8 +140,9 @@ pub(crate) fn tick<O: RunObserver>(
     requires answer { O.ready observer.old event.now }
     requires room { 1 ≤ O.room_left observer.old }
     requires ticks { tick ∷ [] ≡ played_ticks event.now }
-    ensures { EventTold O.ran event.now observer.old observer.new
-        (λ reply. TickPlayed tick reply network.old network.new) }
+    ensures told { EventTold O.ran event.now observer.old observer.new
+        (λ reply. TickPlayed tick reply network.old.stations network.new.stations) }
+    ensures hosts { network.new.hosts ≡ network.old.hosts }
 {
     match tick {
         Tick::Go => observer.note(tick, 0, Outcome::Nothing, &[]),

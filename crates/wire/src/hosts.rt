@@ -1,6 +1,6 @@
 // All hosts of a plan are brought up.
 
-ghost use Rattle.std.specs.Prelude.{◌≡◌, ◌≢◌, ◌<◌, ◌++◌, ◌∷◌, ℕ, [], IfErr, IfOk, Some, length, position, slice_get};
+ghost use Rattle.std.specs.Prelude.{◌≡◌, ◌≢◌, ◌<◌, ℕ, [], IfErr, IfOk, Some, length, position, slice_get};
 ghost use Rattle.std.specs.Prelude.{string_eq};
 ghost use Rattle.bring_up.specs.declared.init_error.InitError.TheVariants as InitError;
 ghost use Rattle.network_plan.specs.Plans.{HasConfigs};
@@ -12,10 +12,10 @@ ghost use Rattle.wire.specs.HostsUp as up;
 use crate::host::bring_up_host;
 use bring_up::InitError;
 use bus::Machine;
+use host_calls::Network;
 use network_plan::{HostPlan, Plan, PlanError};
 use packet_socket::Host;
-use stations::Network;
-use std::alloc::{AllocError, Global};
+use std::alloc::Global;
 
 /// Initializes all hosts of a plan, in order, each with its own adapter and memory. Hosts that name one wire are on it.
 /// Its number is the number of the first host that names it.
@@ -24,23 +24,23 @@ use std::alloc::{AllocError, Global};
 ///
 /// [`Memory`](PlanError::Memory) if memory is refused. [`Init`](PlanError::Init) with the number of the first host
 /// whose EEPROM's checksum is wrong, or whose link needs more than 2,000 ticks or never comes up.
-pub fn bring_up(alloc: Global, plan: &Plan) -> Result<(Vec<Host>, Network), PlanError>
+pub fn bring_up(alloc: Global, plan: &Plan) -> Result<Network, PlanError>
     requires { HasConfigs plan.now.hosts.items }
-    ensures up { IfOk result (λ made. AreUp plan.now.hosts.items (length plan.now.hosts.items) made.0.items made.1) }
-    ensures wires { IfOk result (λ made. ShareWires plan.now.hosts.items made.1) }
+    ensures up { IfOk result (λ network. AreUp plan.now.hosts.items (length plan.now.hosts.items) network.hosts
+        network.stations) }
+    ensures wires { IfOk result (λ network. ShareWires plan.now.hosts.items network.stations) }
     ensures refuses { IfErr result (IsRefusal plan.now.hosts.items) }
 {
     let plans = plan.hosts.as_slice();
-    let mut hosts = Vec::new(alloc);
     let mut network = Network::new(alloc);
     for number in 0..plans.len() {
-        let made = bring_up_one(alloc, plans, number)?;
+        let (host, machine) = bring_up_one(alloc, plans, number)?;
         let wire = wire_number(plans, &plans[number].wire);
-        let Ok(()) = connect(alloc, made, wire, &mut hosts, &mut network) else {
+        let Ok(()) = network.connect(alloc, host, machine, wire) else {
             return Err(PlanError::Memory);
         };
     }
-    Ok((hosts, network))
+    Ok(network)
 }
 
 /// Initializes one host of a plan, after those before it.
@@ -85,25 +85,4 @@ fn wire_number(plans: &[HostPlan], wire: &String) -> usize
     ensures { result ≡ up.wire_number plans.now wire.now }
 {
     first_on(plans, wire).unwrap_or(plans.len())
-}
-
-/// Appends a host to the others, and connects its machine to its wire.
-fn connect(
-    alloc: Global,
-    made: (Host, Machine),
-    wire: usize,
-    hosts: &mut Vec<Host>,
-    network: &mut Network,
-) -> Result<(), AllocError>
-    ensures host { IfOk result (λ done. hosts.new.items ≡ hosts.old.items ++ made.0 ∷ []) }
-    ensures connected { IfOk result (λ done. network.new ≡ network.old ++ record {
-      world = made.1.world;
-      wire = wire;
-      backlog = [];
-    } ∷ []) }
-{
-    let (host, machine) = made;
-    hosts.push(host)?;
-    network.connect(alloc, machine, wire)?;
-    Ok(())
 }

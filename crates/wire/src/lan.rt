@@ -3,33 +3,31 @@
 use crate::collector::Collector;
 use crate::events::{self, Call};
 use crate::run_observer::RunObserver;
+use host_calls::Network;
 use network_plan::{Event, Reply, Stopped};
-use packet_socket::Host;
-use stations::Network;
 use std::alloc::Global;
 use std::marker::Model;
 
 /// Hosts on wires.
 ///
-/// In contracts it is a `NetworkState`, plain data that `specs/Networks.antt` lists.
+/// In contracts it is a `NetworkState`, plain data that `specs/Networks.antt` of `host_calls` lists.
 #[derive(Drop)]
 pub struct Lan {
-    pub(crate) hosts: Vec<Host>,
     pub(crate) network: Network,
     /// The bytes of the last frame that a socket gave, which are lent to the observer.
     pub(crate) given: [u8; 1518],
 }
 
 impl Model for Lan {
-    ghost use Rattle.wire.specs.Networks.{NetworkState};
+    ghost use Rattle.host_calls.specs.Networks.{NetworkState};
 
     ghost Value = { NetworkState };
 
-    ghost use Rattle.wire.specs.LanView.{IsNetwork, network_of};
+    ghost use Rattle.wire.specs.Networks.{NetworkStands};
 
-    ghost view = { network_of };
+    ghost view = { λ inside. inside.network };
 
-    ghost invariant = { IsNetwork };
+    ghost invariant = { λ inside. NetworkStands inside.network };
 }
 
 impl Lan {
@@ -43,7 +41,6 @@ impl Lan {
         ensures { EventTold O.ran event.now observer.old observer.new
             (λ reply. EventRuns self.old event.now reply self.new) }
     {
-        let hosts = self.hosts.as_mut_slice();
         let network = &mut self.network;
         match event {
             Event::Send { host, frame, ticks } => {
@@ -52,7 +49,7 @@ impl Lan {
                     host: *host,
                     ticks: ticks.as_slice(),
                 };
-                events::send(hosts, network, &call, frame.as_slice(), observer);
+                events::send(network, &call, frame.as_slice(), observer);
             }
             Event::Recv {
                 host,
@@ -64,7 +61,7 @@ impl Lan {
                     host: *host,
                     ticks: ticks.as_slice(),
                 };
-                events::recv(hosts, network, &call, *socket, &mut self.given, observer);
+                events::recv(network, &call, *socket, &mut self.given, observer);
             }
             Event::Interrupt { host, ticks } => {
                 let call = Call {
@@ -72,7 +69,7 @@ impl Lan {
                     host: *host,
                     ticks: ticks.as_slice(),
                 };
-                events::interrupt(hosts, network, &call, observer);
+                events::interrupt(network, &call, observer);
             }
             Event::Tick(tick) => events::tick(network, event, *tick, observer),
         }

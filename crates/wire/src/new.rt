@@ -21,9 +21,8 @@ impl Lan {
         ensures { IsLanAnswer plan.now.hosts.items result }
     {
         plan.check()?;
-        let (hosts, network) = bring_up(alloc, plan)?;
+        let network = bring_up(alloc, plan)?;
         Ok(Lan {
-            hosts,
             network,
             given: [0; 1518],
         })

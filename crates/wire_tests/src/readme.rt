@@ -12,7 +12,7 @@ use driver::Handled;
 use eeprom::Image;
 use mdic_phy::Link;
 use network_plan::{HostPlan, Plan, PlanError};
-use stations::{LentBus, Network, Outcomes, Tick};
+use stations::{LentBus, Outcomes, Stations, Tick};
 use std::test::Fail;
 use wire::{Answer, Event, Lan, bring_up};
 
@@ -64,9 +64,9 @@ fn the_code_of_the_readme_of_wire_where_hosts_are_brought_up(rt: HostRuntime) ->
     // Hosts 0 and 1 on one wire.
     let plan = two_hosts(rt.alloc())?;
     plan.check()?;
-    let (hosts, network) = bring_up(rt.alloc(), &plan)?;
-    assert_eq!(rt; (hosts.len(), network.len()), (2, 2));
-    assert!(rt; hosts.iter().all(|host| host.unclaimed() == 0));
+    let network = bring_up(rt.alloc(), &plan)?;
+    assert_eq!(rt; (network.len(), network.stations().len()), (2, 2));
+    assert!(rt; network.host(1).is_some_and(|host| host.unclaimed() == 0));
     Ok(())
 }
 
@@ -106,10 +106,10 @@ fn the_code_of_the_readme_of_stations(rt: HostRuntime) -> Result<(), Fail> {
     let image = Image::with_address([0x02, 0, 0, 0, 0, 0x01]);
     let adapter = Adapter::new(rt.alloc(), &image, Link::Never)?;
     let machine = Machine::new(adapter, HostMemory::new(rt.alloc(), 4096)?);
-    let mut network = Network::new(rt.alloc());
-    network.connect(rt.alloc(), machine, 0)?; // host 0 is on wire 0, and alone there
+    let mut stations = Stations::new(rt.alloc());
+    stations.connect(rt.alloc(), machine, 0)?; // host 0 is on wire 0, and alone there
     let mut outcomes = Outcomes::with_room(rt.alloc(), 1)?;
-    network.play(Tick::Deliver(0), 0, &mut outcomes); // after no access
+    stations.play(Tick::Deliver(0), 0, &mut outcomes); // after no access
     for one in outcomes.as_slice() {
         assert_eq!(rt; one.outcome, Outcome::Nothing); // no frame waits at its end
     }
@@ -121,8 +121,8 @@ fn the_code_of_the_readme_of_stations_where_a_bus_is_lent(rt: HostRuntime) -> Re
     let image = Image::with_address([0x02, 0, 0, 0, 0, 0x01]);
     let adapter = Adapter::new(rt.alloc(), &image, Link::Never)?;
     let machine = Machine::new(adapter, HostMemory::new(rt.alloc(), 4096)?);
-    let mut network = Network::new(rt.alloc());
-    network.connect(rt.alloc(), machine, 0)?;
+    let mut stations = Stations::new(rt.alloc());
+    stations.connect(rt.alloc(), machine, 0)?;
     let mut outcomes = Outcomes::with_room(rt.alloc(), 4)?;
     let ticks = [
         Tick::Go, // none before the first access,
@@ -131,7 +131,7 @@ fn the_code_of_the_readme_of_stations_where_a_bus_is_lent(rt: HostRuntime) -> Re
         Tick::Deliver(0), // and one that is left for the end
     ];
     let mut bus = LentBus {
-        network: &mut network,
+        stations: &mut stations,
         ticks: &ticks,
         host: 0,
         accesses: 0,

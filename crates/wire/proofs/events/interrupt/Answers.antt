@@ -1,5 +1,4 @@
-use Rattle.std.proofs.Common.{[], List, map, refl, sym, subst, slice_index_or}
-use Rattle.std.proofs.lemmas.Option.{slice_get-get_or}
+use Rattle.std.proofs.Common.{ℕ, ◌<◌, ◌≤◌, [], List, map, refl, sym, subst}
 use Rattle.delivery.specs.Happenings.{Happening, of_host, told}
 use Rattle.stations.specs.AtomicRuns.{steps_told}
 use Rattle.stations.specs.Stations.{wire_at}
@@ -7,7 +6,9 @@ use Rattle.driver_law.specs.DriverState.{numbers_of}
 use Rattle.driver.specs.Parts.{joined_frames}
 use Rattle.network_plan.specs.declared.reply.Answer.TheVariants.{Interrupted}
 use Rattle.host_calls.specs.CallAnswers.{MakesInterrupt}
-use Rattle.host_calls.specs.ConnectedHosts.{connected, played_call}
+use Rattle.host_calls.specs.ConnectedHosts.{played_call}
+use Rattle.host_calls.specs.Networks.{connected_at, nth_host}
+use Rattle.host_calls.proofs.HostsOfNetworks.{host-there}
 use Rattle.wire.specs.EventParts.{IsInterruptAnswer}
 use Rattle.wire.proofs.Delivering.{Tells}
 use Rattle.wire.proofs.Playing.{absent-played, call-played, told-of_call}
@@ -15,60 +16,60 @@ use Rattle.wire.proofs.Taking.{takes-frames}
 use Rattle.wire.proofs.Tellings.{tells-call}
 use Rattle.wire.proofs.events.interrupt.Goals as goal
 
-pub returns-then-call-hosts : goal.returns-then-call-hosts
-returns-then-call-hosts g c =
+pub returns-then-call-len : goal.returns-then-call-len
+returns-then-call-len g c =
     absent-played c.args.call.now.host c.args.call.now.event.now c.args.call.now.ticks.now
-    (record { hosts = c.args.hosts.now; stations = c.args.network.now }) c.no_host.new.network c.args.observer.now c.no_host.new.observer
-    (λ answer list. told c.args.call.now.ticks.now list)
-    (IsInterruptAnswer c.args.call.now.host) c.requires.stands c.if-call-hosts.true c.no_host.ensures (λ list. refl)
+    c.args.network.now c.no_host.new.network c.args.observer.now c.no_host.new.observer
+    (λ answer list. told c.args.call.now.ticks.now list) (IsInterruptAnswer c.args.call.now.host) c.requires.stands
+    (subst (λ (n : ℕ). n ≤ c.args.call.now.host) c.len.ensures c.if-call-len.true) c.no_host.ensures.hosts c.no_host.ensures.told (λ list. refl)
 
 pub interrupt-called-requires-clause-ready : goal.interrupt-called-requires-clause-ready
 interrupt-called-requires-clause-ready g c =
-    let host = slice_index_or c.args.hosts.now c.args.call.now.host c.index-hosts-call.result in
-    (c.requires.stands.each c.args.call.now.host host
-    (slice_get-get_or c.args.hosts.now c.args.call.now.host c.index-hosts-call.result c.if-call-hosts.false)).ready
+    let k = c.args.call.now.host in
+    let below = subst (λ (n : ℕ). k < n) c.len.ensures c.if-call-len.false in
+    (c.requires.stands.each k (nth_host c.args.network.now k) (host-there c.args.network.now k below)).ready
 
 pub answer-requires-clause-room : goal.answer-requires-clause-room
 answer-requires-clause-room g c =
+    let handles = c.interrupt-called.ensures.handles in
     g.met.O.RunObserver.composes_runs.keeps_room c.args.observer.now c.interrupt-called.new.observer c.args.call.now.event.now
-    (steps_told 0 c.interrupt-called.ensures.runs.steps) c.interrupt-called.ensures.runs.of_call.heard c.requires.answer
+    (steps_told 0 handles.runs.steps) handles.runs.of_call.heard c.requires.answer
 
 pub returns : goal.returns
 returns g c =
-    let host = slice_index_or c.args.hosts.now c.args.call.now.host c.index-hosts-call.result in
     let called = c.interrupt-called in
-    let runs = called.ensures.runs in
-    let old = connected host c.args.network.now in
-    let new = connected called.new.host called.new.network in
+    let handles = called.ensures.handles in
+    let runs = handles.runs in
+    let k = c.args.call.now.host in
+    let below = subst (λ (n : ℕ). k < n) c.len.ensures c.if-call-len.false in
+    let ticks = c.args.call.now.ticks.now in
+    let result = called.result.answer in
+    let old = c.args.network.now in
+    let new = called.new.self in
+    let h = nth_host old k in
+    let h' = nth_host new k in
     let heard = g.O.Observer.heard c.args.observer.now called.new.observer in
     let tells = c.answer.ensures c.args.observer.now (steps_told 0 runs.steps) runs.of_call.heard
-    (told-of_call c.args.call.now.event.now (played_call c.args.call.now.host c.args.call.now.ticks.now heard called.result.accesses)
-    old new
+    (told-of_call c.args.call.now.event.now (played_call k ticks heard called.result.accesses) (connected_at old k) (connected_at new k)
     c.requires.ticks runs) in
     record {
       reply = tells.reply;
       told = tells.told;
       holds =
-          call-played c.args.call.now.host c.args.call.now.ticks.now (record { hosts = c.args.hosts.now; stations = c.args.network.now })
-          called.new.network heard called.result.accesses (Interrupted called.result.answer) host called.new.host
-          (joined_frames called.ensures.taken) [] []
-          (MakesInterrupt called.result.answer (map numbers_of called.ensures.taken) host called.new.host)
-          (λ answer list. told c.args.call.now.ticks.now list) tells.reply (IsInterruptAnswer c.args.call.now.host) c.requires.stands
-          (slice_get-get_or c.args.hosts.now c.args.call.now.host c.index-hosts-call.result c.if-call-hosts.false) c.if-call-hosts.false
-          (λ none. absurd (cc)) runs tells.replies
-          (λ k said.
-          subst (λ (list : List Happening). Tells k list runs.steps (wire_at c.args.network.now)
-          (of_host k c.args.call.now.host []) (of_host k c.args.call.now.host [])) (sym said)
-          (tells-call k c.args.call.now.host runs.steps (wire_at c.args.network.now)))
+          call-played k ticks old new heard called.result.accesses (Interrupted result) (joined_frames handles.taken) [] []
+          (MakesInterrupt result (map numbers_of handles.taken) h h') (λ answer list. told ticks list) tells.reply
+          (IsInterruptAnswer k) c.requires.stands below called.ensures.others (λ none. absurd (cc)) runs tells.replies
+          (λ j said.
+          subst (λ (list : List Happening). Tells j list runs.steps (wire_at old.stations) (of_host j k []) (of_host j k [])) (sym said)
+          (tells-call j k runs.steps (wire_at old.stations)))
           (record {
-            result = called.result.answer;
+            result = result;
             is = refl;
-            reads = record { causes = called.ensures.causes; tells = called.ensures.tells };
-            taken = called.ensures.taken;
-            answers = called.ensures.answer;
-            takes = takes-frames c.args.call.now.host runs.steps c.args.network.now called.new.network host called.new.host
-                (joined_frames called.ensures.taken) runs.runs;
+            reads = record { causes = handles.causes; tells = handles.tells };
+            taken = handles.taken;
+            answers = handles.answer;
+            takes = takes-frames k runs.steps old.stations new.stations h h' (joined_frames handles.taken) runs.runs;
             makes = runs.makes;
-            looks = called.ensures.looks;
+            looks = handles.looks;
           });
     }

@@ -5,15 +5,15 @@ use Rattle.wire.proofs.events.no_host.Goals as goal
 pub answer-requires-clause-room : goal.answer-requires-clause-room
 answer-requires-clause-room g c =
     g.met.O.RunObserver.composes_runs.keeps_room c.args.observer.now c.play_rest.new.observer c.args.call.now.event.now
-    (steps_told 0 c.play_rest.ensures.steps) c.play_rest.ensures.heard c.requires.answer
+    (steps_told 0 c.play_rest.ensures.plays.steps) c.play_rest.ensures.plays.heard c.requires.answer
 
-pub returns : goal.returns
-returns g c =
-    let plays = c.play_rest.ensures in
+pub returns-clause-told : goal.returns-clause-told
+returns-clause-told g c =
+    let plays = c.play_rest.ensures.plays in
     record {
       ticked = c.play_rest.new.observer;
       plays = plays;
       tells = c.answer.ensures c.args.observer.now (steps_told 0 plays.steps) plays.heard
-          (told-of_ticks c.args.call.now.event.now c.args.call.now.ticks.now plays.steps c.args.network.now c.play_rest.new.self
+          (told-of_ticks c.args.call.now.event.now c.args.call.now.ticks.now plays.steps c.args.network.now.stations c.play_rest.new.self.stations
           c.requires.ticks plays.played plays.leads);
     }

@@ -1,12 +1,13 @@
-use Rattle.std.proofs.Common.{◌++◌, [], List, refl, sym, subst, slice_index_or}
-use Rattle.std.proofs.lemmas.Option.{slice_get-get_or}
+use Rattle.std.proofs.Common.{ℕ, ◌<◌, ◌≤◌, ◌++◌, [], List, refl, sym, subst}
 use Rattle.delivery.specs.Happenings.{Happening, of_host, told}
 use Rattle.stations.specs.AtomicRuns.{steps_told}
 use Rattle.stations.specs.Stations.{wire_at}
 use Rattle.driver.specs.SendSteps.{accepted_by}
 use Rattle.network_plan.specs.declared.reply.Answer.TheVariants.{Sent}
-use Rattle.host_calls.specs.CallAnswers.{LeavesSend, MakesSend}
-use Rattle.host_calls.specs.ConnectedHosts.{connected, played_call}
+use Rattle.host_calls.specs.CallAnswers.{MakesSend}
+use Rattle.host_calls.specs.ConnectedHosts.{played_call}
+use Rattle.host_calls.specs.Networks.{connected_at, nth_host}
+use Rattle.host_calls.proofs.HostsOfNetworks.{host-there}
 use Rattle.wire.specs.EventParts.{IsSendAnswer}
 use Rattle.wire.specs.Runs.{accepted_of}
 use Rattle.wire.proofs.Delivering.{Tells}
@@ -14,59 +15,58 @@ use Rattle.wire.proofs.Playing.{absent-played, call-played, told-of_call}
 use Rattle.wire.proofs.Tellings.{tells-send}
 use Rattle.wire.proofs.events.send.Goals as goal
 
-pub returns-then-call-hosts : goal.returns-then-call-hosts
-returns-then-call-hosts g c =
+pub returns-then-call-len : goal.returns-then-call-len
+returns-then-call-len g c =
     absent-played c.args.call.now.host c.args.call.now.event.now c.args.call.now.ticks.now
-    (record { hosts = c.args.hosts.now; stations = c.args.network.now }) c.no_host.new.network c.args.observer.now c.no_host.new.observer
+    c.args.network.now c.no_host.new.network c.args.observer.now c.no_host.new.observer
     (λ answer list. accepted_of c.args.call.now.host c.args.frame.now answer ++ told c.args.call.now.ticks.now list)
-    (IsSendAnswer c.args.call.now.host c.args.frame.now) c.requires.stands c.if-call-hosts.true c.no_host.ensures (λ list. refl)
+    (IsSendAnswer c.args.call.now.host c.args.frame.now) c.requires.stands (subst (λ (n : ℕ). n ≤ c.args.call.now.host) c.len.ensures c.if-call-len.true) c.no_host.ensures.hosts
+    c.no_host.ensures.told (λ list. refl)
 
 pub send-called-requires-clause-ready : goal.send-called-requires-clause-ready
 send-called-requires-clause-ready g c =
-    let host = slice_index_or c.args.hosts.now c.args.call.now.host c.index-hosts-call.result in
-    (c.requires.stands.each c.args.call.now.host host
-    (slice_get-get_or c.args.hosts.now c.args.call.now.host c.index-hosts-call.result c.if-call-hosts.false)).ready
+    let k = c.args.call.now.host in
+    let below = subst (λ (n : ℕ). k < n) c.len.ensures c.if-call-len.false in
+    (c.requires.stands.each k (nth_host c.args.network.now k) (host-there c.args.network.now k below)).ready
 
 pub answer-requires-clause-room : goal.answer-requires-clause-room
 answer-requires-clause-room g c =
+    let sends = c.send-called.ensures.sends in
     g.met.O.RunObserver.composes_runs.keeps_room c.args.observer.now c.send-called.new.observer c.args.call.now.event.now
-    (steps_told 0 c.send-called.ensures.runs.steps) c.send-called.ensures.runs.of_call.heard c.requires.answer
+    (steps_told 0 sends.runs.steps) sends.runs.of_call.heard c.requires.answer
 
 pub returns : goal.returns
 returns g c =
-    let host = slice_index_or c.args.hosts.now c.args.call.now.host c.index-hosts-call.result in
     let called = c.send-called in
-    let runs = called.ensures.runs in
-    let old = connected host c.args.network.now in
-    let new = connected called.new.host called.new.network in
+    let sends = called.ensures.sends in
+    let runs = sends.runs in
+    let k = c.args.call.now.host in
+    let below = subst (λ (n : ℕ). k < n) c.len.ensures c.if-call-len.false in
+    let ticks = c.args.call.now.ticks.now in
+    let frame = c.args.frame.now in
+    let result = called.result.answer in
+    let old = c.args.network.now in
+    let new = called.new.self in
     let heard = g.O.Observer.heard c.args.observer.now called.new.observer in
     let tells = c.answer.ensures c.args.observer.now (steps_told 0 runs.steps) runs.of_call.heard
-    (told-of_call c.args.call.now.event.now (played_call c.args.call.now.host c.args.call.now.ticks.now heard called.result.accesses)
-    old new
+    (told-of_call c.args.call.now.event.now (played_call k ticks heard called.result.accesses) (connected_at old k) (connected_at new k)
     c.requires.ticks runs) in
     record {
       reply = tells.reply;
       told = tells.told;
       holds =
-          call-played c.args.call.now.host c.args.call.now.ticks.now (record { hosts = c.args.hosts.now; stations = c.args.network.now })
-          called.new.network heard called.result.accesses (Sent called.result.answer) host called.new.host [] []
-          (accepted_by called.result.answer c.args.frame.now) (MakesSend called.result.answer c.args.frame.now host called.new.host)
-          (λ answer list. accepted_of c.args.call.now.host c.args.frame.now answer ++ told c.args.call.now.ticks.now list) tells.reply
-          (IsSendAnswer c.args.call.now.host c.args.frame.now) c.requires.stands
-          (slice_get-get_or c.args.hosts.now c.args.call.now.host c.index-hosts-call.result c.if-call-hosts.false) c.if-call-hosts.false
-          (λ none. absurd (cc)) runs tells.replies
-          (λ k said.
-          subst (λ (list : List Happening). Tells k
-          (accepted_of c.args.call.now.host c.args.frame.now (Sent called.result.answer) ++ list) runs.steps (wire_at c.args.network.now)
-          (of_host k c.args.call.now.host []) (of_host k c.args.call.now.host (accepted_by called.result.answer c.args.frame.now)))
-          (sym said)
-          (tells-send k c.args.call.now.host c.args.frame.now called.result.answer runs.steps (wire_at c.args.network.now)))
+          call-played k ticks old new heard called.result.accesses (Sent result) [] [] (accepted_by result frame)
+          (MakesSend result frame (nth_host old k) (nth_host new k)) (λ answer list. accepted_of k frame answer ++ told ticks list)
+          tells.reply (IsSendAnswer k frame) c.requires.stands below called.ensures.others (λ none. absurd (cc)) runs
+          tells.replies
+          (λ j said.
+          subst (λ (list : List Happening). Tells j (accepted_of k frame (Sent result) ++ list) runs.steps (wire_at old.stations)
+          (of_host j k []) (of_host j k (accepted_by result frame))) (sym said)
+          (tells-send j k frame result runs.steps (wire_at old.stations)))
           (record {
-            result = called.result.answer;
+            result = result;
             is = refl;
-            answers = called.ensures.answers;
-            leaves = subst (LeavesSend called.result.answer host called.new.host) runs.of_call.counted called.ensures.leaves;
+            states = sends.states;
             makes = runs.makes;
-            frees_first = called.ensures.frees_first;
           });
     }

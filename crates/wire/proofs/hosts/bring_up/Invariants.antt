@@ -3,4 +3,4 @@ use Rattle.wire.proofs.hosts.bring_up.Given as goal
 
 -- the hosts before this one are up
 abbrev pub invariant-loop-number : goal.invariant-loop-number
-invariant-loop-number l = AreUp l.plans l.number l.hosts.items l.network
+invariant-loop-number l = AreUp l.plans l.number l.network.hosts l.network.stations

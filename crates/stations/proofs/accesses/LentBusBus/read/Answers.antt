@@ -12,24 +12,24 @@ pub invariant_of-self : goal.invariant_of-self
 invariant_of-self g c =
     let p = c.prepare.new.self in
     let stays = ap (λ (list : List StationState). length list) c.read.ensures.state
-    ∙ length-event p.host (Accesses (Reads c.args.offset c.read.result)) p.network.now in
+    ∙ length-event p.host (Accesses (Reads c.args.offset c.read.result)) p.stations.now in
     record { there = omega (arith, p.there, stays); room = p.room }
 
 pub returns-clause-keeps : goal.returns-clause-keeps
 returns-clause-keeps g c =
     let p = c.prepare.new.self in
     let there =
-    world-there p.network.now c.read.new.self p.host
+    world-there p.stations.now c.read.new.self p.host
     (Reads c.args.offset c.read.result) p.there c.read.ensures.answer c.read.ensures.state in
-    access-keeps c.args.self.now p _ c.prepare.ensures (record { network = refl; observer = refl; host = refl })
+    access-keeps c.args.self.now p _ c.prepare.ensures (record { stations = refl; observer = refl; host = refl })
     (ap (λ (w : World). length w.memory) there)
 
 pub returns-clause-acts : goal.returns-clause-acts
 returns-clause-acts g c = λ honest.
     let p = c.prepare.new.self in
     let there =
-    world-there p.network.now c.read.new.self p.host
+    world-there p.stations.now c.read.new.self p.host
     (Reads c.args.offset c.read.result) p.there c.read.ensures.answer c.read.ensures.state in
     acted c.args.self.now p _ (Reads c.args.offset c.read.result) _ c.prepare.ensures
-    (record { lent = record { network = refl; observer = refl; host = refl }; ticks = refl; accesses = refl; observer = refl })
+    (record { lent = record { stations = refl; observer = refl; host = refl }; ticks = refl; accesses = refl; observer = refl })
     p.there c.read.ensures.state c.read.ensures.answer c.read.ensures.adapter (c.read.ensures.answer, there)

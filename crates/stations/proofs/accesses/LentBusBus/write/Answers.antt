@@ -12,22 +12,22 @@ pub invariant_of-self : goal.invariant_of-self
 invariant_of-self g c =
     let p = c.prepare.new.self in
     let stays = ap (λ (list : List StationState). length list) c.write.ensures.state
-    ∙ length-event p.host (Accesses (Writes c.args.offset c.args.value)) p.network.now in
+    ∙ length-event p.host (Accesses (Writes c.args.offset c.args.value)) p.stations.now in
     record { there = omega (arith, p.there, stays); room = p.room }
 
 pub returns-clause-keeps : goal.returns-clause-keeps
 returns-clause-keeps g c =
     let p = c.prepare.new.self in
     let there =
-    world-there p.network.now c.write.new.self p.host (Writes c.args.offset c.args.value) p.there tt c.write.ensures.state in
-    access-keeps c.args.self.now p _ c.prepare.ensures (record { network = refl; observer = refl; host = refl })
+    world-there p.stations.now c.write.new.self p.host (Writes c.args.offset c.args.value) p.there tt c.write.ensures.state in
+    access-keeps c.args.self.now p _ c.prepare.ensures (record { stations = refl; observer = refl; host = refl })
     (ap (λ (w : World). length w.memory) there)
 
 pub returns-clause-acts : goal.returns-clause-acts
 returns-clause-acts g c = λ honest.
     let p = c.prepare.new.self in
     let there =
-    world-there p.network.now c.write.new.self p.host (Writes c.args.offset c.args.value) p.there tt c.write.ensures.state in
+    world-there p.stations.now c.write.new.self p.host (Writes c.args.offset c.args.value) p.there tt c.write.ensures.state in
     acted c.args.self.now p _ (Writes c.args.offset c.args.value) _ c.prepare.ensures
-    (record { lent = record { network = refl; observer = refl; host = refl }; ticks = refl; accesses = refl; observer = refl })
+    (record { lent = record { stations = refl; observer = refl; host = refl }; ticks = refl; accesses = refl; observer = refl })
     p.there c.write.ensures.state tt c.write.ensures.adapter there

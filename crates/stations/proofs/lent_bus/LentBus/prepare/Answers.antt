@@ -6,5 +6,5 @@ pub invariant_of-self : goal.invariant_of-self
 invariant_of-self g c =
     let plays = c.play_group-self.ensures.plays in
     let host = c.args.self.now.host in
-    let stays = length-stays host plays.steps c.args.self.now.network.now c.play_group-self.new.self (plays.leads host) in
+    let stays = length-stays host plays.steps c.args.self.now.stations.now c.play_group-self.new.self (plays.leads host) in
     record { there = omega (arith, c.args.self.now.there, stays); room = c.play_group-self.ensures.room }

@@ -2,6 +2,5 @@ use Rattle.wire.proofs.Bringing.{made-stands}
 use Rattle.wire.proofs.lan.Lan.new.Goals as goal
 
 pub invariant_of-result : goal.invariant_of-result
-invariant_of-result c = record {
-  stands = made-stands c.args.plan.now.hosts.items c.in_ok-hosts.hosts.items c.in_ok-hosts.network c.in_ok-hosts.ensures.up;
-}
+invariant_of-result c =
+    made-stands c.args.plan.now.hosts.items c.in_ok-network.network.hosts c.in_ok-network.network.stations c.in_ok-network.ensures.up

@@ -1,0 +1,118 @@
+-- One host of a network is called.
+use Rattle.std.proofs.Common.{◌≡◌, ◌<◌, ℕ, List, length, length-set, set-set, Some, slice_get, slice_set, slice_index_or}
+use Rattle.std.proofs.Common.{arith, refl, sym, ap, subst, ◌∙◌}
+use Rattle.std.proofs.lemmas.List.{set-get_or}
+use Rattle.std.proofs.lemmas.Option.{slice_get-get_or}
+use Rattle.circular_buffer.proofs.Places.{slice_get-set_same}
+use Rattle.packet_socket.specs.HostCalls.{HostDid}
+use Rattle.packet_socket.specs.HostState.{HostState}
+use Rattle.bus.specs.declared.event.Access.{Access}
+use Rattle.stations.specs.Stations.{StationState}
+use Rattle.stations.proofs.Lengths.{length-event, length-stays}
+use Rattle.stations.specs.AtomicSteps.{At, AtomicStep, Idles, after}
+use Rattle.host_calls.specs.CallsOfHosts.{CallRuns}
+use Rattle.host_calls.specs.ConnectedHosts.{ConnectedHost, PlayedCall, connected}
+use Rattle.host_calls.specs.Networks.{IsHost, NetworkState, OnlyHostChanges, connected_at, nth_host, host_or_empty}
+
+-- the network that has these
+abbrev pub network : List HostState → List StationState → NetworkState
+network hosts stations = record { hosts = hosts; stations = stations }
+
+-- The k-th host, as code has it by its number.
+pub host-found : (hosts : List HostState) (stations : List StationState) (n : NetworkState) (k : ℕ) (h : HostState)
+    → network hosts stations ≡ n → k < length n.hosts → h ≡ slice_index_or hosts k h → h ≡ nth_host n k
+host-found hosts stations n k h shown below found =
+    let same : hosts ≡ n.hosts = ap (λ (one : NetworkState). one.hosts) shown in
+    found
+    ∙ sym (ap host_or_empty (slice_get-get_or hosts k h (subst (λ (list : List HostState). k < length list) (sym same) below)))
+    ∙ ap (λ (list : List HostState). host_or_empty (slice_get list k)) same
+
+-- It is the k-th, if it is there.
+pub host-there : (n : NetworkState) (k : ℕ) → k < length n.hosts → IsHost n k (nth_host n k)
+host-there n k below =
+    let found = slice_get-get_or n.hosts k (nth_host n k) below in
+    found ∙ ap (λ (host : HostState). Some host) (sym (ap host_or_empty found))
+
+-- The k-th host, after it was set.
+pub host-behind : (hosts : List HostState) (stations : List StationState) (k : ℕ) (h : HostState) → k < length hosts
+    → nth_host (network (slice_set hosts k h) stations) k ≡ h
+host-behind hosts stations k h below = ap host_or_empty (slice_get-set_same hosts k h below)
+
+-- What code has of a network before a call of its k-th host.
+pub before-call : (hosts : List HostState) (stations : List StationState) (n : NetworkState) (k : ℕ) (h : HostState)
+    → network hosts stations ≡ n → k < length n.hosts → h ≡ slice_index_or hosts k h → connected h stations ≡ connected_at n k
+before-call hosts stations n k h shown below found =
+    ap (λ (one : HostState). connected one stations) (host-found hosts stations n k h shown below found)
+    ∙ ap (λ (one : NetworkState). connected (nth_host n k) one.stations) shown
+
+inside : (hosts : List HostState) (stations : List StationState) (n : NetworkState) (k : ℕ) → network hosts stations ≡ n
+    → k < length n.hosts → k < length hosts
+inside hosts stations n k shown below = subst (λ (one : NetworkState). k < length one.hosts) (sym shown) below
+
+-- What holds of the host and the stations that a call leaves holds of the network.
+pub after-call : (Holds : ConnectedHost → ConnectedHost → Type 0) (hosts : List HostState) (stations : List StationState)
+    (n : NetworkState) (k : ℕ) (h h' : HostState) (left : List StationState) → connected h stations ≡ connected_at n k
+    → network hosts stations ≡ n → k < length n.hosts → Holds (connected h stations) (connected h' left)
+    → Holds (connected_at n k) (connected_at (network (slice_set hosts k h') left) k)
+after-call Holds hosts stations n k h h' left before shown below holds =
+    let behind = host-behind hosts left k h' (inside hosts stations n k shown below) in
+    subst (λ (old : ConnectedHost). Holds old (connected_at (network (slice_set hosts k h') left) k)) before
+    (subst (λ (host : HostState). Holds (connected h stations) (connected host left)) (sym behind) holds)
+
+pub others-stay : (hosts : List HostState) (stations : List StationState) (n : NetworkState) (k : ℕ) (h' : HostState)
+    (left : List StationState) → network hosts stations ≡ n → k < length n.hosts
+    → OnlyHostChanges k n (network (slice_set hosts k h') left)
+others-stay hosts stations n k h' left shown below =
+    let behind = host-behind hosts left k h' (inside hosts stations n k shown below) in
+    ap (λ (one : NetworkState). slice_set one.hosts k h') shown
+    ∙ ap (λ (one : HostState). slice_set n.hosts k one) (sym behind)
+
+-- A call leaves as many stations as there are hosts.
+pub same-stations : {done : HostDid} {made : List Access → Type 0} (call : PlayedCall) (hosts : List HostState) (a b : List StationState)
+    (k : ℕ) (h h' : HostState) → CallRuns call done made (connected h a) (connected h' b) → length a ≡ length hosts
+    → length b ≡ length (slice_set hosts k h')
+same-stations call hosts a b k h h' runs same =
+    length-stays call.caller runs.steps a b runs.of_call.leads ∙ same ∙ sym (length-set hosts k h')
+
+-- So does a tick.
+pub length-played : (step : AtomicStep) (stations : List StationState) → length (after step stations) ≡ length stations
+length-played (At host event) stations = length-event host event stations
+length-played (Idles tick) stations = refl
+
+-- What holds of the k-th host and of stations that changed by themselves holds of the network.
+pub stations-changed : (Holds : ConnectedHost → ConnectedHost → Type 0) (hosts : List HostState) (stations : List StationState)
+    (n : NetworkState) (k : ℕ) (left : List StationState) → network hosts stations ≡ n
+    → Holds (connected (nth_host n k) stations) (connected (nth_host n k) left)
+    → Holds (connected_at n k) (connected_at (network hosts left) k)
+stations-changed Holds hosts stations n k left shown =
+    subst (λ (one : NetworkState). Holds (connected (nth_host one k) stations) (connected (nth_host one k) left)
+    → Holds (connected_at one k) (connected_at (network hosts left) k)) shown (λ holds. holds)
+
+-- The stations that code has are the network's.
+pub stations-are : (hosts : List HostState) (stations : List StationState) (n : NetworkState) → network hosts stations ≡ n
+    → n.stations ≡ stations
+stations-are hosts stations n shown = sym (ap (λ (one : NetworkState). one.stations) shown)
+
+pub station-there : (hosts : List HostState) (stations : List StationState) (n : NetworkState) (k : ℕ) → network hosts stations ≡ n
+    → length stations ≡ length hosts → k < length n.hosts → k < length stations
+station-there hosts stations n k shown same below = omega (arith, same, inside hosts stations n k shown below)
+
+-- Of all hosts only one changed.
+
+-- it didn't change either
+pub only-same : (a b : NetworkState) (k : ℕ) → k < length a.hosts → b.hosts ≡ a.hosts → OnlyHostChanges k a b
+only-same a b k below same =
+    let own = nth_host b k in
+    let found : own ≡ slice_index_or a.hosts k own =
+    ap (λ (list : List HostState). host_or_empty (slice_get list k)) same ∙ ap host_or_empty (slice_get-get_or a.hosts k own below) in
+    same ∙ sym (ap (λ (host : HostState). slice_set a.hosts k host) found ∙ set-get_or a.hosts k own)
+
+-- it changed twice
+pub only-join : (a b c : NetworkState) (k : ℕ) → OnlyHostChanges k a b → OnlyHostChanges k b c → OnlyHostChanges k a c
+only-join a b c k one two =
+    two
+    ∙ ap (λ (list : List HostState). slice_set list k (nth_host c k)) one
+    ∙ set-set a.hosts k (nth_host b k) (nth_host c k)
+
+pub only-length : (a b : NetworkState) (k : ℕ) → OnlyHostChanges k a b → length b.hosts ≡ length a.hosts
+only-length a b k only = ap (λ (list : List HostState). length list) only ∙ length-set a.hosts k (nth_host b k)

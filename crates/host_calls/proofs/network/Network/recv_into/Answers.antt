@@ -1,0 +1,73 @@
+use Rattle.std.proofs.Common.{rules, ◌≡◌, length, refl, slice_set, subst, sym, true, List}
+use Rattle.packet_socket.specs.HostCalls.{HostReady}
+use Rattle.stations.specs.Stations.{StationState, world_at}
+use Rattle.host_calls.specs.CallAnswers.{LeavesRecv, RecvRuns, frame_in}
+use Rattle.host_calls.specs.ConnectedHosts.{ConnectedHost, connected, played_call}
+use Rattle.host_calls.proofs.Calling.{lent-back}
+use Rattle.host_calls.proofs.HostsOfNetworks.{after-call, before-call, others-stay, same-stations}
+use Rattle.host_calls.proofs.Receiving.{any-answers, any-leaves, any-legal, any-runs}
+use Rattle.host_calls.proofs.network.Network.recv_into.Goals as goal
+
+pub invariant_of-self : goal.invariant_of-self
+invariant_of-self g c =
+    let k = c.args.number in
+    let h = c.index_mut.result.now in
+    let h' = c.recv-answer.new.self in
+    let hosts = c.self.inside.hosts.items in
+    let old = c.self.inside.stations in
+    let ends = c.finish.new.self in
+    let before = before-call hosts old c.args.self.now k h c.self.view_is c.requires.there c.index_mut.ensures.value in
+    let ready = subst (λ (one : ConnectedHost). HostReady one.host (world_at one.stations k)) (sym before) c.requires.ready in
+    let ensures = c.recv-answer.ensures in
+    let runs = any-runs g.met.O.Observer.composes _ c.recv-answer.new.bus ends h h' c.args.socket c.recv-answer.result c.args.into.now
+    c.recv-answer.new.into refl (search rules) ready (ensures.receives true (record { honest = tt; ready = ready })) ensures.ok ensures.err
+    c.finish.ensures in
+    record {
+      same = lent-back (λ (stations : List StationState) told. length stations ≡ length (slice_set hosts k h')) ends.stations.now _
+          ends.observer.now ends.observer.now (search rules) refl
+          (same-stations _ hosts old ends.stations.now k h h' runs c.self.invariant.same);
+    }
+
+pub returns-clause-gives : goal.returns-clause-gives
+returns-clause-gives g c =
+    let k = c.args.number in
+    let h = c.index_mut.result.now in
+    let h' = c.recv-answer.new.self in
+    let into = c.recv-answer.new.into in
+    let result = c.recv-answer.result in
+    let m = c.recv-answer.new.bus in
+    let ends = c.finish.new.self in
+    let ensures = c.recv-answer.ensures in
+    let before = before-call c.self.inside.hosts.items c.self.inside.stations c.args.self.now k h c.self.view_is c.requires.there
+    c.index_mut.ensures.value in
+    let ready = subst (λ (one : ConnectedHost). HostReady one.host (world_at one.stations k)) (sym before) c.requires.ready in
+    let receives = ensures.receives true (record { honest = tt; ready = ready }) in
+    let runs = any-runs g.met.O.Observer.composes _ m ends h h' c.args.socket result c.args.into.now into refl (search rules)
+    ready receives ensures.ok ensures.err c.finish.ensures in
+    after-call (RecvRuns
+    (played_call k c.args.ticks.now (g.O.Observer.heard c.args.observer.now _) ends.accesses) c.args.socket
+    (frame_in into result))
+    c.self.inside.hosts.items c.self.inside.stations c.args.self.now k h h' _ before c.self.view_is c.requires.there
+    (lent-back (λ (stations : List StationState) told. RecvRuns
+    (played_call k c.args.ticks.now (g.O.Observer.heard c.args.observer.now told) ends.accesses) c.args.socket (frame_in into result)
+    (connected h c.self.inside.stations) (connected h' stations))
+    ends.stations.now _ ends.observer.now _ (search rules) (search rules)
+    (record {
+      runs = runs;
+      states = record {
+        answers = any-answers _ m h h' c.args.socket result into receives ensures.no_socket ensures.empty;
+        leaves = subst (LeavesRecv (frame_in into result) c.args.socket h h') runs.of_call.counted
+            (any-leaves _ m ends h h' c.args.socket result c.args.into.now into refl (search rules) ensures.ok ensures.err
+            c.finish.ensures);
+      };
+    }))
+
+pub returns-clause-size : goal.returns-clause-size
+returns-clause-size g c =
+    any-legal c.index_mut.result.now c.recv-answer.new.self c.args.socket c.recv-answer.result c.args.into.now
+    c.recv-answer.new.into c.recv-answer.ensures.ok
+
+pub returns-clause-others : goal.returns-clause-others
+returns-clause-others g c =
+    others-stay c.self.inside.hosts.items c.self.inside.stations c.args.self.now c.args.number c.recv-answer.new.self
+    c.finish.new.self.stations.now c.self.view_is c.requires.there

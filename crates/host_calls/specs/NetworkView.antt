@@ -1,0 +1,11 @@
+-- How a `Network` keeps its hosts and their stations (our choice).
+use Rattle.std.specs.Prelude.{◌≡◌, length}
+use Rattle.host_calls.specs.Networks.{NetworkState}
+use Rattle.host_calls.specs.declared.network.Network.TheInside.{Inside}
+
+abbrev pub network_in : Inside → NetworkState
+network_in inside = record { hosts = inside.hosts.items; stations = inside.stations }
+
+-- each host has its station
+pub record HasStations (inside : Inside) : Type 0 where
+  pub same : length inside.stations ≡ length inside.hosts.items

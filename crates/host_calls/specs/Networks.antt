@@ -1,0 +1,47 @@
+-- A network as plain data: its hosts, and their stations (our choice).
+use Rattle.std.specs.Prelude.{◌≡◌, [], ℕ, true, List, None, Option, Some, slice_get, slice_set}
+use Rattle.driver_law.specs.DriverState.{DriverState}
+use Rattle.packet_socket.specs.HostState.{HostState, new_host}
+use Rattle.stations.specs.Stations.{StationState}
+use Rattle.host_calls.specs.ConnectedHosts.{ConnectedHost, connected}
+
+-- A host is a driver with its sockets. Hosts are numbered from 0; the k-th station is the k-th host's.
+pub record NetworkState : Type 0 where
+  pub hosts : List HostState
+  pub stations : List StationState
+
+-- This host is the k-th.
+abbrev pub IsHost : NetworkState → (k : ℕ) → HostState → Type 0
+IsHost network k host = slice_get network.hosts k ≡ Some host
+
+-- What is known of a host, also of one that isn't there: that one has no slots, no buffers and no sockets.
+
+abbrev pub no_driver : DriverState
+no_driver = record {
+  layout = record { rx = 0; tx = 0; buffers = 0 };
+  oldest_receive = 0;
+  buffers = [];
+  staged = [];
+  pool = [];
+  handed_out = [];
+  oldest_transmit = 0;
+  sending = 0;
+  missed = 0;
+  exact = true;
+  bad = 0;
+}
+
+abbrev pub host_or_empty : Option HostState → HostState
+host_or_empty None = new_host no_driver []
+host_or_empty (Some host) = host
+
+abbrev pub nth_host : NetworkState → (k : ℕ) → HostState
+nth_host network k = host_or_empty (slice_get network.hosts k)
+
+-- the k-th host, with all stations
+abbrev pub connected_at : NetworkState → (k : ℕ) → ConnectedHost
+connected_at network k = connected (nth_host network k) network.stations
+
+-- Of all hosts only the k-th changes. Nothing is said of stations.
+abbrev pub OnlyHostChanges : (k : ℕ) → (old new : NetworkState) → Type 0
+OnlyHostChanges k old new = new.hosts ≡ slice_set old.hosts k (nth_host new k)

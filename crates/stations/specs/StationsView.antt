@@ -1,0 +1,21 @@
+-- How `Stations` keeps them (our choice): the machines of all hosts, and beside them their ends of wires.
+use Rattle.std.specs.Prelude.{◌≡◌, List, [], ◌∷◌, length}
+use Rattle.bus.specs.Machines.{MachineState}
+use Rattle.stations.specs.Ends.{EndState}
+use Rattle.stations.specs.Stations.{StationState}
+use Rattle.stations.specs.declared.stations.Stations.TheInside.{Inside}
+
+abbrev pub station_of : MachineState → EndState → StationState
+station_of machine end = record { world = machine.world; wire = end.wire; backlog = end.line }
+
+abbrev pub stations_of : List MachineState → List EndState → List StationState
+stations_of [] ends = []
+stations_of (machine ∷ machines) [] = []
+stations_of (machine ∷ machines) (end ∷ ends) = station_of machine end ∷ stations_of machines ends
+
+abbrev pub stations_in : Inside → List StationState
+stations_in inside = stations_of inside.machines.items inside.wires
+
+-- each host has its end
+pub record HasEnds (inside : Inside) : Type 0 where
+  pub ends : length inside.wires ≡ length inside.machines.items

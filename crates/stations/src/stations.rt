@@ -1,0 +1,174 @@
+// The stations of a network.
+
+use crate::wires::Wires;
+use adapter::{FrameCounts, Outcome, StepKind};
+use bus::Machine;
+use std::alloc::{AllocError, Global};
+use std::marker::Model;
+
+/// The stations of a network. Each host has one: its adapter with the host's memory, and its end of a wire. Stations have
+/// numbers, in the order in which they were connected.
+///
+/// In contracts it is a list of `StationState`, plain data that `specs/Stations.antt` lists.
+#[derive(Drop)]
+pub struct Stations {
+    pub(crate) machines: Vec<Machine>,
+    pub(crate) wires: Wires,
+}
+
+impl Model for Stations {
+    ghost use Rattle.std.specs.Prelude.{List};
+    ghost use Rattle.stations.specs.Stations.{StationState};
+
+    ghost Value = { List StationState };
+
+    ghost use Rattle.stations.specs.StationsView.{stations_in, HasEnds};
+
+    ghost view = { stations_in };
+
+    ghost invariant = { HasEnds };
+}
+
+impl Stations {
+    ghost use Rattle.std.specs.Prelude.{◌≡◌, ◌≢◌, ◌<◌, ◌↔◌, ◌∷◌, ◌++◌, [], length, true, IfOk, IsTrue, OnErr};
+    ghost use Rattle.adapter.specs.Outcomes.{framed};
+    ghost use Rattle.adapter.specs.Registers.{answer_at};
+    ghost use Rattle.adapter.specs.State.{IsAdapter};
+    ghost use Rattle.adapter.specs.declared.step.StepKind.TheVariants.{TxPut};
+    ghost use Rattle.bus.specs.Trails.{Occurs};
+    ghost use Rattle.bus.specs.declared.event.Access.TheVariants.{Reads, Stores, Writes};
+    ghost use Rattle.bus.specs.declared.event.Event.TheVariants.{Accesses, Steps};
+    ghost use Rattle.dma_memory.specs.HostMemory.{bytes_at, LiesIn};
+    ghost use Rattle.registers.specs.Bits.{Meet};
+    ghost use Rattle.stations.specs.Stations.{stations_after, world_at};
+
+    /// No stations.
+    pub fn new(alloc: Global) -> Stations
+        ensures { result ≡ [] }
+    {
+        Stations {
+            machines: Vec::new(alloc),
+            wires: Wires::new(alloc),
+        }
+    }
+
+    /// Appends a station with this machine, on this wire. No frame waits at its end.
+    ///
+    /// # Errors
+    ///
+    /// Only if memory is refused.
+    pub fn connect(
+        &mut self,
+        alloc: Global,
+        machine: Machine,
+        wire: usize,
+    ) -> Result<(), AllocError>
+        ensures connected { IfOk result (λ done. self.new ≡ self.old ++ record {
+          world = machine.world;
+          wire = wire;
+          backlog = [];
+        } ∷ []) }
+        ensures err { OnErr result (self.new ≡ self.old) }
+    {
+        self.machines.reserve(1)?;
+        self.wires.connect(alloc, wire)?;
+        let _ = self.machines.push(machine);
+        Ok(())
+    }
+
+    /// The number of stations.
+    pub fn len(&self) -> usize
+        ensures { result ≡ length self.now }
+    {
+        self.machines.len()
+    }
+
+    /// A host's machine.
+    fn machine(&self, host: usize) -> &Machine
+        requires there { host < length self.now }
+        ensures { result.now.world ≡ world_at self.now host }
+    {
+        &self.machines[host]
+    }
+
+    /// What the statistics registers of a host's adapter hold; none is cleared.
+    pub fn counts(&self, host: usize) -> FrameCounts
+        requires there { host < length self.now }
+        ensures missed { result.missed ≡ (world_at self.now host).adapter.missed_packets }
+        ensures without_descriptor { result.without_descriptor ≡ (world_at self.now host).adapter.no_receive_buffers }
+        ensures received { result.received ≡ (world_at self.now host).adapter.received_packets }
+        ensures transmitted { result.transmitted ≡ (world_at self.now host).adapter.transmitted_packets }
+    {
+        self.machine(host).counts()
+    }
+
+    /// A host's adapter takes a step by itself. No other station and no wire changes. The step isn't TxPut, so it
+    /// doesn't matter whether the wire is free.
+    pub fn step(&mut self, host: usize, kind: StepKind) -> Outcome<()>
+        requires there { host < length self.old }
+        requires stays { kind ≢ TxPut }
+        ensures occurs { Occurs (Steps kind true (framed result (world_at self.old host).adapter))
+            (world_at self.old host) }
+        ensures state { self.new
+            ≡ stations_after host (Steps kind true (framed result (world_at self.old host).adapter)) self.old }
+    {
+        self.machines[host].step(kind, true)
+    }
+
+    /// Whether a host's interrupt line is asserted.
+    pub fn line(&self, host: usize) -> bool
+        requires there { host < length self.now }
+        ensures line { IsTrue result ↔ Meet (world_at self.now host).adapter.causes.recorded
+            (world_at self.now host).adapter.causes.mask }
+        ensures adapter { IsAdapter (world_at self.now host).adapter }
+    {
+        self.machine(host).line()
+    }
+
+    /// Reads a register of a host. No other station and no wire changes.
+    pub(crate) fn read(&mut self, host: usize, offset: u32) -> u32
+        requires there { host < length self.old }
+        ensures answer { result ≡ answer_at offset (world_at self.old host).adapter }
+        ensures state { self.new ≡ stations_after host (Accesses (Reads offset result)) self.old }
+        ensures adapter { IsAdapter (world_at self.old host).adapter }
+    {
+        self.machines[host].read(offset)
+    }
+
+    /// Writes a register of a host. No other station and no wire changes.
+    pub(crate) fn write(&mut self, host: usize, offset: u32, value: u32)
+        requires there { host < length self.old }
+        ensures state { self.new ≡ stations_after host (Accesses (Writes offset value)) self.old }
+        ensures adapter { IsAdapter (world_at self.old host).adapter }
+    {
+        self.machines[host].write(offset, value);
+    }
+
+    /// Loads bytes of a host's memory.
+    pub(crate) fn load(&self, host: usize, address: u64, into: &mut [u8])
+        requires there { host < length self.now }
+        requires lies { LiesIn (world_at self.now host).memory address (length into.old) }
+        ensures loaded { into.new ≡ bytes_at (world_at self.now host).memory address (length into.old) }
+        ensures adapter { IsAdapter (world_at self.now host).adapter }
+    {
+        self.machine(host).load(address, into);
+    }
+
+    /// Stores bytes in a host's memory. No other station and no wire changes.
+    pub(crate) fn store(&mut self, host: usize, address: u64, bytes: &[u8])
+        requires there { host < length self.old }
+        requires lies { LiesIn (world_at self.old host).memory address (length bytes.now) }
+        ensures state { self.new ≡ stations_after host (Accesses (Stores address bytes.now)) self.old }
+        ensures adapter { IsAdapter (world_at self.old host).adapter }
+    {
+        self.machines[host].store(address, bytes);
+    }
+
+    /// How many bytes a host's memory has.
+    pub(crate) fn size(&self, host: usize) -> u64
+        requires there { host < length self.now }
+        ensures { result ≡ length (world_at self.now host).memory }
+    {
+        self.machine(host).size()
+    }
+}
