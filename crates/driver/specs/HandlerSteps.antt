@@ -289,19 +289,18 @@ pub record TakesAndOffers (d d' : DriverState) (taken : List ℕ) : Type 0 where
   pub newest : d'.buffers ≡ rest ++ (d.staged ++ offered)
   pub no_bad : d'.bad ≡ d.bad
 
--- n frames are taken and shown to the receiver, and then slots are offered. The run is split at a moment after the last load of a
--- descriptor and before the next access.
-pub record Works {B R : Type 0} (bus : Ghosts B) (receivers : OfReceiver R) (n : ℕ) (up : Bool) (old new : Scene B R) : Type 0 where
-  pub frames : ShowsFrames receivers n old.receiver new.receiver
+-- Frames are taken, each in the pieces of one list of `taken`, and then slots are offered. The run is split at a moment after the last load
+-- of a descriptor and before the next access.
+pub record Works {B : Type 0} (bus : Ghosts B) (taken : List (List HandedOut)) (up : Bool) (old new : Moment B) : Type 0 where
   pub misses : ReadsMisses old.driver new.driver
-  pub served : TakesAndOffers old.driver new.driver (numbers_of (pieces_of frames.taken))
+  pub served : TakesAndOffers old.driver new.driver (numbers_of (pieces_of taken))
   pub loads : ℕ
   pub ran :
       Ran bus up (call_did
-      (taking_accesses old.driver misses.misses (map numbers_of frames.taken) loads
+      (taking_accesses old.driver misses.misses (map numbers_of taken) loads
       ++ offering_accesses old.driver served.offered (next_receive new.driver))
-      (joined_frames frames.taken) []) (moment old) (held_at (old.driver.handed_out ++ pieces_of frames.kept) (moment new))
-  pub split : IsSplit ran (taking_accesses old.driver misses.misses (map numbers_of frames.taken) loads)
+      (joined_frames taken) []) old new
+  pub split : IsSplit ran (taking_accesses old.driver misses.misses (map numbers_of taken) loads)
       (offering_accesses old.driver served.offered (next_receive new.driver))
   pub look : IsLook new.driver.oldest_receive served.rest (bus.world split.middle) loads
 
@@ -316,20 +315,27 @@ pub record DoesNothing {B : Type 0} (bus : Ghosts B) {up : Bool} (old new : Mome
   pub none : ¬ Meet asked.causes handled_causes
   pub still : new.bus ≡ asked.after_read
   pub work : HasNoForgottenWork old.driver (bus.world old.bus) → HasNoForgottenWork new.driver (bus.world new.bus)
+  pub flows : FlowsTo up (in_world_of bus old) (in_world_of bus new) (driver_did [] []) asked.reads.past
 
--- It does its work.
-pub record HandlesIt {B R : Type 0} (bus : Ghosts B) (receivers : OfReceiver R) (n : ℕ) {up : Bool} (old new : Scene B R)
-    (asked : Asked bus up (moment old)) : Type 0 where
+-- It does its work: n frames are taken, in these pieces, whoever holds them at the end.
+pub record HandlesCauses {B : Type 0} (bus : Ghosts B) (taken : List (List HandedOut)) (n : ℕ) {up : Bool} (old new : Moment B)
+    (asked : Asked bus up old) : Type 0 where
   pub some : Meet asked.causes handled_causes
-  pub works : Works bus receivers n up (record old { bus = asked.after_read }) new
+  pub works : Works bus taken up (at asked.after_read old.driver) new
   -- It takes at least the frames that ended in finished slots at the beginning.
-  pub least : length (frames_ended (in_world_of bus (moment old))) ≤ n
+  pub least : length (frames_ended (in_world_of bus old)) ≤ n
   -- If RXT0 is in the mask at the beginning, no work is forgotten at the end.
   pub work : HasBit (bus.world old.bus).adapter.causes.mask rxt0 → HasNoForgottenWork new.driver (bus.world new.bus)
   -- the read of ICR and the work together
-  pub flows : FlowsTo up (in_world_of bus (moment old))
-      (in_world_of bus (held_at (old.driver.handed_out ++ pieces_of works.frames.kept) (moment new)))
-      (driver_did (joined_frames works.frames.taken) []) (joined asked.reads.past works.ran.past)
+  pub flows :
+      FlowsTo up (in_world_of bus old) (in_world_of bus new) (driver_did (joined_frames taken) []) (joined asked.reads.past works.ran.past)
+
+-- A driver with a receiver does its work. The frames are shown to the receiver, and those that it keeps are held at the end.
+pub record HandlesIt {B R : Type 0} (bus : Ghosts B) (receivers : OfReceiver R) (n : ℕ) {up : Bool} (old new : Scene B R)
+    (asked : Asked bus up (moment old)) : Type 0 where
+  pub frames : ShowsFrames receivers n old.receiver new.receiver
+  pub driver :
+      HandlesCauses bus frames.taken n (moment old) (held_at (old.driver.handed_out ++ pieces_of frames.kept) (moment new)) asked
 
 -- by the answer
 abbrev pub HandlesBy : {B R : Type 0} (bus : Ghosts B) → OfReceiver R → Handled → {up : Bool} → (old new : Scene B R)

@@ -29,13 +29,14 @@ use Rattle.driver.specs.SendSteps.{HasWrongLength, IsTransmitAnswer, SendAnswer,
 use Rattle.driver.specs.SendSteps.{loads_to_free, with_transmit_slots}
 use Rattle.driver.specs.declared.transmit.SendError.{SendError}
 use Rattle.driver.specs.declared.transmit.SendError.TheVariants.{RingFull, TooLong, TooShort}
-use Rattle.packet_socket.specs.HostCalls.{Accounts, HostGoesTo, HostReady, HostSends, did, driver_at, driver_of, host_at, in_world}
+use Rattle.packet_socket.specs.HostCalls.{HostGoesTo, HostReady, HostSends, KeepsAccount, did, driver_at, driver_of, host_at, in_world}
 use Rattle.packet_socket.specs.HostState.{HostState}
+use Rattle.packet_socket.proofs.Stretches.{interval-of}
 use Rattle.host_calls.specs.LentCalls.{lent}
 use Rattle.host_calls.specs.CallAnswers.{AnswersSend, AreLeft, FreesBy, FreesFirstBy, LeavesSend, MakesSend}
 use Rattle.host_calls.specs.CallsOfHosts.{CallRuns, IsOfDriver, OnlyLastWrites}
 use Rattle.host_calls.specs.ConnectedHosts.{connected}
-use Rattle.host_calls.proofs.Calling.{call-runs_by, lent_call, whole-accesses, work-goes}
+use Rattle.host_calls.proofs.Calling.{call-runs_by, flows-of, lent_call, whole-accesses, work-goes}
 use Rattle.host_calls.proofs.DriversAccesses.{sends-last, sends-of_driver}
 use Rattle.host_calls.proofs.HostTrails.{none-alone}
 use Rattle.host_calls.proofs.Retellings.{retelling-ends, retellings-join}
@@ -65,12 +66,13 @@ send-runs composes a m b h h' frame result past zero ready others sent retells o
     let held = frames_held h.driver.oldest_receive (world_here a) in
     let stored : ran.past.stored ≡ past.stored =
     append_cancel_left held ran.past.stored past.stored (sym ran.goes.flows.holds ∙ driver_goes.flows.holds) in
-    let accounts = subst (Accounts h (world_here a) h' (world_here m) []) stored sent.ran.accounts in
-    let goes : HostGoesTo true (in_world h (world_here a)) (in_world h' (world_here m)) (did [] [] (accepted_by result frame)) past =
-    record { sizes = sent.ran.sizes; driver = driver_goes; accounts = accounts } in
+    let done = did [] [] (accepted_by result frame) in
+    let sockets = subst (λ (frames : List (List ℕ)). KeepsAccount lent [] frames (host_at a h) (host_at m h')) stored sent.ran.sockets in
+    let goes : HostGoesTo true (in_world h (world_here a)) (in_world h' (world_here m)) done past =
+    interval-of lent (GoesTo true) (host_at a h) (host_at m h') done past driver_goes sockets in
     let some : 0 < h.driver.layout.tx = omega (arith, ready.ready.transmit.oldest_slot) in
     call-runs_by composes a m b past h h' [] [] (accepted_by result frame) (MakesSend result frame h h') zero retells
-    (record { sizes = sent.ran.sizes; driver = driver_goes.flows; accounts = accounts })
+    (flows-of h (world_here a) h' (world_here m) [] [] (accepted_by result frame) past goes)
     (subst (λ (accesses : List Access). All (IsOfDriver h.driver.layout) accesses) (sym only)
     (sends-of_driver h.driver.layout result h.driver h'.driver frame refl some))
     (subst OnlyLastWrites (sym only) (sends-last result h.driver h'.driver frame))

@@ -11,12 +11,13 @@ use Rattle.bus.specs.declared.event.Access.{Access}
 use Rattle.driver_law.proofs.Steps.{goes-happens}
 use Rattle.bus.specs.declared.bus.Bus.{Ghosts}
 use Rattle.driver_law.specs.Calls.{DriverDid, DriverInWorld, FlowsTo, GoesTo, Moment, Ran, at, call_did, driver_did, driver_in, held_at}
+use Rattle.driver_law.specs.Calls.{in_world_of}
 use Rattle.driver_law.specs.DriverState.{DriverState, HandedOut, holding}
 use Rattle.driver_law.specs.ReadyDrivers.{ReadyWith, Stands}
 use Rattle.driver.specs.SendSteps.{FreesFirst, IsTransmitAnswer, SendAnswer, Sends, accepted_by, accesses_by}
 use Rattle.packet_socket.specs.HostCalls.{Accounts, HostDid, HostGoesTo, HostInWorld, HostInterval, HostMoment, HostReadyWith, HostSends}
 use Rattle.packet_socket.specs.HostCalls.{IsReadyHost, did_both, did_nothing, driver_at, driver_of, host_at, in_world, waiting_frame}
-use Rattle.packet_socket.specs.HostCalls.{waiting_frames}
+use Rattle.packet_socket.specs.HostCalls.{KeepsAccount, waiting_frames}
 use Rattle.packet_socket.specs.HostState.{HostState, all_of, queue_at}
 use Rattle.packet_socket.proofs.Accounts.{accounts, accounts-join}
 use Rattle.packet_socket.proofs.WaitingFrames.{AreSame, all-long, all-same, ends-as, queue-frames-same}
@@ -112,16 +113,26 @@ host-transmits bus old new frame result is sends =
     let end : e ≡ e' = sym (driver-stays h new.driver (bus.world old.bus) (bus.world new.bus) is.ready flows.layout flows.ready.stand) in
     record {
       ran = record {
-        sizes = is.ready.sizes;
         ran = ran-as bus (accesses_by result d e frame) (accesses_by result d e' frame) old.bus new.bus d e e' []
             (accepted_by result frame)
             (ap (λ (s : DriverState). accesses_by result d s frame) end) end sends.ran;
-        accounts = accounts-stay h new.driver (bus.world old.bus) (bus.world new.bus) sends.ran.past.stored is.ready flows.layout
-            flows.ready.stand flows.holds;
+        sockets = record {
+          sizes = is.ready.sizes;
+          accounts = accounts-stay h new.driver (bus.world old.bus) (bus.world new.bus) sends.ran.past.stored is.ready flows.layout
+              flows.ready.stand flows.holds;
+        };
       };
       answer = subst (λ (s : DriverState). IsTransmitAnswer bus result (driver_at bus old) (at new.bus s)) end sends.answer;
       frees_first = subst (λ (s : DriverState). FreesFirst bus frame result (driver_at bus old) (at new.bus s)) end sends.frees_first;
     }
+
+-- An interval of a host's run: the driver's, with the sockets' part.
+abbrev pub interval-of : {B : Type 0} (bus : Ghosts B) (Holds : DriverInWorld → DriverInWorld → DriverDid → Past → Type 0)
+    (old new : HostMoment B) (done : HostDid) (past : Past)
+    → Holds (in_world_of bus (driver_at bus old)) (in_world_of bus (driver_at bus new)) (driver_did done.taken done.accepted) past
+    → KeepsAccount bus done.given past.stored old new
+    → HostInterval Holds (in_world old.host (bus.world old.bus)) (in_world new.host (bus.world new.bus)) done past
+interval-of bus Holds old new done past driver sockets = record { sizes = sockets.sizes; driver = driver; accounts = sockets.accounts }
 
 -- Whatever happens between two calls.
 pub host-happens : {up : Bool} (h : HostState) (a b : World) (past : Past) → HostReadyWith up h a → Happens a b past

@@ -3,8 +3,6 @@ use Rattle.std.specs.Prelude.{⊤, ◌≡◌, ◌==◌, ◌≤◌, ◌<◌, ◌+
 use Rattle.std.specs.Prelude.{ℕ, Bool, true, List, Result, Ok, Err, count_by}
 use Rattle.std.specs.Prelude.{All, drop, filter, flat_map, length, map, slice_set, take}
 use Rattle.std.specs.List.Sorted.{IsPermutation}
-use Rattle.registers.specs.Bits.{HasBit, Meet}
-use Rattle.registers.specs.Places.{rxt0}
 use Rattle.dma_memory.specs.HostMemory.{bytes_at}
 use Rattle.dma_memory.specs.Layout.{Counts}
 use Rattle.dma_memory.specs.Owners.{HaveSameNumbers}
@@ -15,14 +13,13 @@ use Rattle.adapter.specs.World.{World}
 use Rattle.bus.specs.declared.bus.Bus.{Ghosts}
 use Rattle.bus.specs.PastOfStretch.{Past, joined}
 use Rattle.bus.specs.declared.event.Access.{Access}
-use Rattle.driver_law.specs.Calls.{Did, DriverDid, DriverInWorld, FlowsTo, GoesTo, HasNoForgottenWork, IsRefilled, Moment, Ran, at}
-use Rattle.driver_law.specs.Calls.{call_did, driver_did, driver_in, frames_ended, only, stores_from, tail_write}
+use Rattle.driver_law.specs.Calls.{Did, DriverDid, DriverInWorld, FlowsTo, GoesTo, IsRefilled, Moment, Ran, driver_did, driver_in, only}
+use Rattle.driver_law.specs.Calls.{stores_from, tail_write}
 use Rattle.driver_law.specs.DriverState.{DriverState, HandedOut, buffer_at, frame_of, holding, next_receive, numbers_of, with_owners}
 use Rattle.driver_law.specs.ReadyDrivers.{ReadyWith}
-use Rattle.bring_up.specs.WrittenRegisters.{handled_causes}
-use Rattle.driver.specs.HandlerSteps.{IsTaken, AreOfOneFrame, Asked, DoesNothing, GrowsBy, IsLook, IsRun, IsSplit, ReadsMisses}
-use Rattle.driver.specs.HandlerSteps.{RunOfSlots, TakesAndOffers, bad_runs, offering_accesses, run_buffers, taking_accesses, whole_frames}
-use Rattle.driver.specs.Parts.{AreFrames, IsFrameSize, joined_frames, part_loads, pieces_of, received_of}
+use Rattle.driver.specs.HandlerSteps.{AreOfOneFrame, Asked, DoesNothing, GrowsBy, HandlesCauses, IsRun, IsTaken, ReadsMisses}
+use Rattle.driver.specs.HandlerSteps.{RunOfSlots, bad_runs, run_buffers, whole_frames}
+use Rattle.driver.specs.Parts.{AreFrames, IsFrameSize, part_loads, received_of}
 use Rattle.driver.specs.declared.parts.Part.{Part}
 use Rattle.driver.specs.SendSteps.{FreesFirst, IsTransmitAnswer, SendAnswer, sent_by}
 use Rattle.driver.specs.declared.interrupt.Handled.{Handled}
@@ -176,12 +173,17 @@ WhereReadyHost bus old new Holds = (up : Bool) → IsReadyHost bus up old → Ho
 abbrev pub WhereUpHost : {B : Type 0} → Ghosts B → (old new : HostMoment B) → (HostMoment B → HostMoment B → Type 0) → Type 0
 WhereUpHost bus old new Holds = IsReadyHost bus true old → Holds old new
 
--- From one moment to another the driver did exactly this, and the sockets returned these frames. So the host is ready at the end: `sizes`,
--- and `ready` of `ran.goes.flows`.
-pub record HostRan {B : Type 0} (bus : Ghosts B) (up : Bool) (done : Did) (given : List Given) (old new : HostMoment B) : Type 0 where
+-- The sockets' part of an interval over a bus: they returned these frames, while these were stored. Each queued frame has 60 to 1,518
+-- bytes at the end, and the account of frames holds.
+pub record KeepsAccount {B : Type 0} (bus : Ghosts B) (given : List Given) (stored : List (List ℕ)) (old new : HostMoment B) : Type 0 where
   pub sizes : AreFrames (all_of new.host.queues)
+  pub accounts : Accounts old.host (bus.world old.bus) new.host (bus.world new.bus) given stored
+
+-- From one moment to another the driver did exactly this, and the sockets returned these frames. So the host is ready at the end: `sizes`
+-- of `sockets`, and `ready` of `ran.goes.flows`.
+pub record HostRan {B : Type 0} (bus : Ghosts B) (up : Bool) (done : Did) (given : List Given) (old new : HostMoment B) : Type 0 where
   pub ran : Ran bus up done (driver_at bus old) (driver_at bus new)
-  pub accounts : Accounts old.host (bus.world old.bus) new.host (bus.world new.bus) given ran.past.stored
+  pub sockets : KeepsAccount bus given ran.past.stored old new
 
 -- Sending.
 
@@ -306,52 +308,27 @@ pub record HostServes (h h' : HostState) (n : ℕ) : Type 0 where
   pub refilled : IsRefilled h'.driver
   pub offered : h'.driver.staged ≡ []
 
--- n frames were taken, each with its pieces, and sorted.
+-- n frames were taken, each in the pieces of one list, and sorted.
 pub record AreSorted (n : ℕ) (h h' : HostState) (taken : List (List HandedOut)) : Type 0 where
   pub count : length taken ≡ n
   pub groups : All AreOfOneFrame (map numbers_of taken)
   pub each : All IsTaken taken
   pub sorted : SortsFrames h h' (map received_of taken)
 
--- The work after the read of ICR: n frames are taken and sorted. Then slots are offered. `ran` has the accesses, in order, and is split at
--- a moment after the last load of a descriptor and before the next access.
-pub record HostWorks {B : Type 0} (bus : Ghosts B) (n : ℕ) {up : Bool} (old new : HostMoment B) (asked : Asked bus up (driver_at bus old))
-    : Type 0 where
-  pub taken : List (List HandedOut)
-  pub frames : AreSorted n old.host new.host taken
-  pub misses : ReadsMisses old.host.driver new.host.driver
-  pub served : TakesAndOffers old.host.driver new.host.driver (numbers_of (pieces_of taken))
-  pub loads : ℕ
-  pub ran :
-      Ran bus up (call_did
-      (taking_accesses old.host.driver misses.misses (map numbers_of taken) loads
-      ++ offering_accesses old.host.driver served.offered (next_receive new.host.driver))
-      (joined_frames taken) []) (at asked.after_read (driver_at bus old).driver) (driver_at bus new)
-  pub split : IsSplit ran (taking_accesses old.host.driver misses.misses (map numbers_of taken) loads)
-      (offering_accesses old.host.driver served.offered (next_receive new.host.driver))
-  pub look : IsLook new.host.driver.oldest_receive served.rest (bus.world split.middle) loads
-
--- It handles the interrupt: ICR had one of its causes.
+-- It handles the interrupt: its driver does its work, and the frames are sorted. The frames of the queues are those that others hold.
 pub record HostHandlesIt {B : Type 0} (bus : Ghosts B) (n : ℕ) {up : Bool} (old new : HostMoment B)
     (asked : Asked bus up (driver_at bus old)) : Type 0 where
-  pub some : Meet asked.causes handled_causes
-  pub works : HostWorks bus n old new asked
-  -- It takes at least the frames that ended in finished slots at the beginning.
-  pub least : length (frames_ended (driver_in old.host.driver (bus.world old.bus))) ≤ n
-  -- If RXT0 is in the mask at the beginning, no work is forgotten at the end.
-  pub work : HasBit (bus.world old.bus).adapter.causes.mask rxt0 → HasNoForgottenWork new.host.driver (bus.world new.bus)
-  -- the read of ICR and the work together
-  pub flows :
-      HostFlowsTo up (in_world old.host (bus.world old.bus)) (in_world new.host (bus.world new.bus))
-      (did (joined_frames works.taken) [] []) (joined asked.reads.past works.ran.past)
+  pub taken : List (List HandedOut)
+  pub sorted : AreSorted n old.host new.host taken
+  pub driver : HandlesCauses bus taken n (driver_at bus old) (driver_at bus new) asked
+  pub sockets : KeepsAccount bus [] (joined asked.reads.past driver.works.ran.past).stored old new
 
 -- It does nothing more: ICR had none of its causes.
 pub record HostDoesNothing {B : Type 0} (bus : Ghosts B) {up : Bool} (old new : HostMoment B) (asked : Asked bus up (driver_at bus old))
     : Type 0 where
   pub stays : new.host ≡ old.host
-  pub leaves : DoesNothing bus (driver_at bus old) (driver_at bus new) asked
-  pub flows :
-      HostFlowsTo up (in_world old.host (bus.world old.bus)) (in_world new.host (bus.world new.bus)) did_nothing asked.reads.past
+  pub driver : DoesNothing bus (driver_at bus old) (driver_at bus new) asked
+  pub sockets : KeepsAccount bus [] asked.reads.past.stored old new
 
 -- by the answer
 abbrev pub HostHandlesBy : {B : Type 0} (bus : Ghosts B) → Handled → {up : Bool} → (old new : HostMoment B)

@@ -22,6 +22,7 @@ returns-then-not-is_mine-clause-handles g c up held is =
         none = none;
         still = refl;
         work = reads.work (λ bit. none (handled-timer c.read.result c.read.type_inv bit));
+        flows = reads.flows;
       };
     }
 
