@@ -253,8 +253,9 @@ walks-next bus receivers stays joins also a b c e r s t d1 d2 d3 d4 n m run part
           let there = ready-on bus (at a (holding held d1)) (at b (holding later d2)) keeps1 is before.ran in
           let found = finds up later there in
           let shown : whole ≡ true = whole_is ∙ found.is_run.whole in
-          let sizes = whole-run hands.shows.received parts
-          (hands.shows.frames ∙ ap (λ (b : Bool). whole_frames (run_of parts b ∷ [])) shown) hands.shows.sizes
+          let frames = hands.shows.receiver.frames in
+          let sizes = whole-run hands.shows.receiver.received parts
+          (frames.parts ∙ ap (λ (b : Bool). whole_frames (run_of parts b ∷ [])) shown) frames.sizes
           (subst FillBuffers (sym leaves.lengths) (full (subst IsTrue (sym found.is_run.whole) refl))) in
           subst (λ (k : ℕ). Takes bus receivers k up (scene a (holding held d1) r) (scene e (holding held d4) t))
           (ap (λ (b : Bool). n + length (whole_frames (run_of parts b ∷ []))) (sym shown) ∙ more)

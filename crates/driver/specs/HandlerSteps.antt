@@ -6,7 +6,7 @@ use Rattle.std.specs.Prelude.{ℕ, suc, Bool, not, All, List, count_by, filter, 
 use Rattle.std.specs.Prelude.{IsTrue, min, take}
 use Rattle.std.specs.List.{concat}
 use Rattle.dma_memory.specs.Layout.{receive_buffer_bytes}
-use Rattle.dma_memory.specs.Owners.{HaveSameNumbers}
+use Rattle.dma_memory.specs.Owners.{HasNoSecondOwner, HaveSameNumbers}
 use Rattle.descriptors.specs.Frames.{longest_frame}
 use Rattle.rx_engine.specs.Addresses.{ether_type}
 use Rattle.descriptors.specs.RingLaws.{place}
@@ -16,13 +16,12 @@ use Rattle.adapter.specs.World.{World}
 use Rattle.bus.specs.declared.bus.Bus.{Ghosts}
 use Rattle.bus.specs.declared.event.Access.{Access}
 use Rattle.bus.specs.declared.event.Access.TheVariants.{Reads}
-use Rattle.driver_law.specs.Calls.{Did, FlowsTo, HasNoForgottenWork, IsReady, Moment, OffersAll, Ran, ReadsCauses, at, call_did}
+use Rattle.driver_law.specs.Calls.{Did, FlowsTo, HasNoForgottenWork, IsReady, IsRefilled, Moment, Ran, ReadsCauses, at, call_did}
 use Rattle.driver_law.specs.Calls.{driver_did}
 use Rattle.driver_law.specs.Calls.{ether_type_load, frames_ended, held_at, in_world_of, only, receive_loads, stores_from, tail_write}
 use Rattle.driver_law.specs.Calls.{takes_from, with_missed}
 use Rattle.driver_law.specs.DriverState.{DriverState, HandedOut, frame_of, holding, next_receive, numbers_of, owners}
 use Rattle.driver_law.specs.ReceiveSteps.{after_slots}
-use Rattle.driver.specs.RefillSteps.{OffersAfter}
 use Rattle.driver.specs.Parts.{AreFrames, FillBuffers, IsWholeFrame, buffers_in, buffers_of}
 use Rattle.driver.specs.Parts.{joined_frames, lengths_in, parts_of, pieces_of, received_of}
 use Rattle.driver.specs.declared.look.Run.{Run}
@@ -87,17 +86,25 @@ whole_frames runs = map (λ (run : RunOfSlots). run.parts) (filter (λ (run : Ru
 abbrev pub bad_runs : List RunOfSlots → ℕ
 bad_runs runs = count_by (λ (run : RunOfSlots). not run.whole) runs
 
--- The whole frames of these runs were shown to the receiver, one after the other, each with the buffers and lengths of its run. The
--- receiver kept some of them. The buffers of the others, and those of the bad runs, went to the pool.
-pub record ShowsAll {R : Type 0} (took : R → R → List Received → List Received → Type 0) (before after : R) (runs : List RunOfSlots)
-    (pool pool' : List ℕ) : Type 0 where
+-- These are the whole frames of these runs, one after the other, each with the buffers and lengths of its run. Each has a legal size.
+pub record AreFramesOf (runs : List RunOfSlots) (received : List Received) : Type 0 where
+  pub parts : map (λ (one : Received). one.parts) received ≡ whole_frames runs
+  pub sizes : AreFrames received
+
+-- The whole frames of these runs were shown to the receiver, one after the other. The receiver kept some of them.
+pub record ShowsRuns {R : Type 0} (took : R → R → List Received → List Received → Type 0) (before after : R) (runs : List RunOfSlots)
+    : Type 0 where
   pub received : List Received
+  pub frames : AreFramesOf runs received
   pub kept : List Received
   pub shown : took before after received kept
-  pub frames : map (λ (one : Received). one.parts) received ≡ whole_frames runs
-  pub sizes : AreFrames received
   pub part : IsPart kept received
-  pub buffers : HaveSameNumbers (run_buffers runs ++ pool) (pool' ++ buffers_of kept)
+
+-- They were shown so. The buffers of the frames that the receiver didn't keep, and those of the bad runs, went to the pool.
+pub record ShowsAll {R : Type 0} (took : R → R → List Received → List Received → Type 0) (before after : R) (runs : List RunOfSlots)
+    (pool pool' : List ℕ) : Type 0 where
+  pub receiver : ShowsRuns took before after runs
+  pub buffers : HaveSameNumbers (run_buffers runs ++ pool) (pool' ++ buffers_of receiver.kept)
 
 -- A run was passed on: its whole frame was shown to the receiver; or it counts as bad, and its buffers went to the pool.
 pub record HandsOn {R : Type 0} (took : R → R → List Received → List Received → Type 0) (before after : R) (run : RunOfSlots)
@@ -253,8 +260,8 @@ abbrev pub offering_accesses : DriverState → (offered : List ℕ) → (tail : 
 offering_accesses d offered tail = stores_from d.layout (next_receive d) offered ++ tail_write tail (d.staged ++ offered)
 
 -- The last look, in the world at a moment after its last load and before the next access. Then the buffers `rest` are outstanding, and
--- `oldest` is the oldest slot's index. No frame ends in finished slots. The descriptors of the finished slots, which contain the beginning of a
--- frame, were loaded, and that of the next outstanding slot, if there is one.
+-- `oldest` is the oldest slot's index. No frame ends in finished slots. The descriptors of the finished slots, which contain the beginning
+-- of a frame, were loaded, and that of the next outstanding slot, if there is one.
 pub record IsLook (oldest : ℕ) (rest : List ℕ) (world : World) (loads : ℕ) : Type 0 where
   pub none_left : frames_of (finished_pieces oldest world) ≡ []
   -- Their pieces are full, and no longer together than the longest frame. So with buffers of 256 bytes they are at most five.
@@ -279,9 +286,9 @@ pub record ReadsMisses (d d' : DriverState) : Type 0 where
   pub missed : d'.missed ≡ (with_missed misses d).missed
   pub exact : d'.exact ≡ (with_missed misses d).exact
 
--- The slots of the buffers `taken` were the oldest, and the count of bad runs doesn't change. Then slots are offered after the others: those that were
--- staged, and new ones with the buffers `offered`. `oldest` and `newest` are equations of the whole lists of buffers: before the call, the
--- buffers taken and the others; after it, the others, the staged and the offered ones.
+-- The slots of the buffers `taken` were the oldest, and the count of bad runs doesn't change. Then slots are offered after the others: those
+-- that were staged, and new ones with the buffers `offered`. `oldest` and `newest` are equations of the whole lists of buffers: before the
+-- call, the buffers taken and the others; after it, the others, the staged and the offered ones.
 pub record TakesAndOffers (d d' : DriverState) (taken : List ℕ) : Type 0 where
   pub rest : List ℕ
   pub offered : List ℕ
@@ -357,17 +364,44 @@ pub record OnlyReceives (d d' : DriverState) : Type 0 where
   pub oldest : d'.oldest_transmit ≡ d.oldest_transmit
   pub sending : d'.sending ≡ d.sending
 
--- A value is added to the driver's sum of missed frames, runs of slots leave the ring, of which n are shown as whole frames, and then the
--- ring is refilled.
-pub record Serves {R : Type 0} (receivers : OfReceiver R) (before after : R) (d d' : DriverState) (n : ℕ) : Type 0 where
+-- These runs left the ring, the oldest first, each with one to six slots. Then slots were offered after the others: those that were staged,
+-- and new ones with the buffers `offered`.
+pub record LeaveRing (d d' : DriverState) (runs : List RunOfSlots) : Type 0 where
+  pub are_runs : All IsRun runs
+  pub rest : List ℕ
+  pub offered : List ℕ
+  pub oldest : d.buffers ≡ run_buffers runs ++ rest
+  pub newest : d'.buffers ≡ rest ++ (d.staged ++ offered)
+  pub next : d'.oldest_receive ≡ place d.layout.rx d.oldest_receive (length (run_buffers runs))
+
+-- A value was added to the driver's sum of missed frames, these runs of slots left the ring, of which n were shown as whole frames, and
+-- then slots were offered. Which runs are bad, and where a bad run ends, is open here, as in `TakesSlots`.
+pub record ServesRing (d d' : DriverState) (runs : List RunOfSlots) (n : ℕ) : Type 0 where
   -- This record says nothing else of this value. Over a bus that obeys the law, `Handles` says that it was read from MPC.
-  pub misses : ℕ
-  -- the driver after the frames were taken and before the refill
-  pub between : DriverState
-  pub takes : TakesSlots receivers n before after (with_missed misses d) between
-  pub offers : OffersAll between d'
-  -- The slots offered are after those that were outstanding, and after those that were staged.
-  pub order : OffersAfter between d'
-  -- The refill loses no buffer, and none has another number of owners. `takes` says the same of the taking (`oldest`, `shows.buffers`),
-  -- with the receiver as an owner.
-  pub owners : HaveSameNumbers (owners between) (owners d')
+  pub misses : ReadsMisses d d'
+  pub count : length (whole_frames runs) ≡ n
+  pub leave : LeaveRing d d' runs
+  -- Each bad run is counted once.
+  pub bad : GrowsBy d.bad d'.bad (bad_runs runs)
+  -- No buffer is free, or all slots but one are outstanding.
+  pub refilled : IsRefilled d'
+  pub none_out : d.handed_out ≡ []
+  pub one_owner : HasNoSecondOwner d'.layout.buffers (owners d')
+  -- No slot is staged at the end, and nothing else of the driver changes.
+  pub others :
+      d' ≡ record d {
+        oldest_receive = d'.oldest_receive;
+        buffers = d'.buffers;
+        staged = [];
+        pool = d'.pool;
+        missed = d'.missed;
+        exact = d'.exact;
+        bad = d'.bad;
+      }
+
+-- With a receiver: it was shown the whole frames of the runs. No buffer is lost or has another number of owners; the receiver is an owner.
+pub record Serves {R : Type 0} (receivers : OfReceiver R) (before after : R) (d d' : DriverState) (n : ℕ) : Type 0 where
+  pub runs : List RunOfSlots
+  pub ring : ServesRing d d' runs n
+  pub receiver : ShowsRuns receivers.took before after runs
+  pub owners : HaveSameNumbers (owners d) (owners d' ++ buffers_of receiver.kept)

@@ -16,7 +16,7 @@ use Rattle.stations.specs.ToldTicks.{ComposesTold}
 use Rattle.stations.specs.declared.lent_bus.LentBus.{LentBus}
 use Rattle.stations.specs.declared.observer.Observer.{Ghosts as OfObserver}
 use Rattle.driver_law.proofs.Places.{place-below}
-use Rattle.driver_law.specs.DriverState.{HandedOut, frame_of, next_receive, numbers_of}
+use Rattle.driver_law.specs.DriverState.{DriverState, HandedOut, frame_of, next_receive, numbers_of}
 use Rattle.driver_law.specs.Calls.{FlowsTo, IsRefilled}
 use Rattle.driver.specs.HandlerSteps.{GrowsBy, IfHandled, IsLook, OnlyReceives, TakesAndOffers, offering_accesses, taking_accesses}
 use Rattle.driver.specs.Parts.{joined_frames, pieces_of, received_of}
@@ -229,4 +229,5 @@ pub interrupt-runs : {O : Type 0} {g : OfObserver O} → ComposesTold g.heard
 interrupt-runs composes a m b h h' NotMine zero ready only_receives serves handles finished = leaves-runs composes a m b h h' zero ready
     handles finished
 interrupt-runs composes a m b h h' (answers.Handled n) zero ready only_receives serves handles finished =
-    works-runs composes a m b h h' n zero ready serves.refilled serves.offered only_receives handles finished
+    works-runs composes a m b h h' n zero ready serves.ring.refilled (ap (λ (d : DriverState). d.staged) serves.ring.others)
+    only_receives handles finished

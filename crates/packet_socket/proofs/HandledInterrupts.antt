@@ -13,7 +13,7 @@ use Rattle.bus.proofs.Lists.{all-left, all-right}
 use Rattle.bus.specs.PastOfStretch.{joined}
 use Rattle.driver_law.proofs.TakenSlots.{buffers_can_come_back}
 use Rattle.bus.specs.declared.bus.Bus.{Ghosts}
-use Rattle.driver_law.specs.Calls.{at, with_missed}
+use Rattle.driver_law.specs.Calls.{at}
 use Rattle.driver_law.specs.DriverState.{DriverState, HandedOut, frame_of, holding, numbers_of, owners}
 use Rattle.driver_law.specs.ReadyDrivers.{ReadyWith, Stands}
 use Rattle.driver.specs.HandlerSteps.{Asked, DoesNothing, GrowsBy, Handles, HandlesIt, IfHandled, IfNotMine, IsPart, Scene, Serves}
@@ -23,7 +23,7 @@ use Rattle.driver.specs.declared.interrupt.Handled.{Handled}
 use Rattle.driver.specs.declared.interrupt.Handled.TheVariants.{NotMine}
 use Rattle.driver.specs.declared.interrupt.Handled.TheVariants as answers
 use Rattle.driver.specs.declared.receiver.Received.{Received}
-use Rattle.driver.proofs.ShownRuns.{slots-few}
+use Rattle.driver.proofs.ShownRuns.{served-few}
 use Rattle.packet_socket.specs.HostCalls.{HostDoesNothing, HostHandles, HostHandlesIt, HostMoment, HostReadyWith, IsReadyHost, Queues}
 use Rattle.packet_socket.specs.HostCalls.{driver_at, driver_of, socket_entries, host_at, socket_frames, waiting_frame, waiting_frames}
 use Rattle.packet_socket.specs.HostCalls.{waiting_pieces, without_socket}
@@ -173,9 +173,8 @@ works {up} bus old new n sound sound' is asked it serves =
     let last = holding (d.handed_out ++ pieces_of frames.kept) e in
     let joined_taken = joined_frames frames.taken in
     let past = joined asked.reads.past w.ran.past in
-    let slots : n + length serves.between.buffers ≤ length old.driver.buffers =
-    slots-few (record { took = Sorts }) n before after (with_missed serves.misses old.driver) serves.between serves.takes in
-    let few : length frames.taken ≤ length old.driver.buffers = omega (arith, frames.count, slots) in
+    let few : length frames.taken ≤ length old.driver.buffers =
+    omega (arith, frames.count, served-few n old.driver driver' serves.runs serves.ring) in
     let all = sorted old.driver driver' before after a b frames.taken frames.kept sound sound' is.ready handles.flows.layout
     w.ran.goes.flows.ready frames.part few frames.shown in
     let list = (driver_of h' b).handed_out in

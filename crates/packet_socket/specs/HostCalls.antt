@@ -6,7 +6,6 @@ use Rattle.std.specs.List.Sorted.{IsPermutation}
 use Rattle.dma_memory.specs.HostMemory.{bytes_at}
 use Rattle.dma_memory.specs.Layout.{Counts}
 use Rattle.dma_memory.specs.Owners.{HaveSameNumbers}
-use Rattle.descriptors.specs.RingLaws.{place}
 use Rattle.rx_engine.specs.Addresses.{ether_type}
 use Rattle.adapter.specs.HostFrames.{frames_held}
 use Rattle.adapter.specs.World.{World}
@@ -17,8 +16,8 @@ use Rattle.driver_law.specs.Calls.{Did, DriverDid, DriverInWorld, FlowsTo, GoesT
 use Rattle.driver_law.specs.Calls.{stores_from, tail_write}
 use Rattle.driver_law.specs.DriverState.{DriverState, HandedOut, buffer_at, frame_of, holding, next_receive, numbers_of, with_owners}
 use Rattle.driver_law.specs.ReadyDrivers.{ReadyWith}
-use Rattle.driver.specs.HandlerSteps.{AreOfOneFrame, Asked, DoesNothing, GrowsBy, HandlesCauses, IsRun, IsTaken, ReadsMisses}
-use Rattle.driver.specs.HandlerSteps.{RunOfSlots, bad_runs, run_buffers, whole_frames}
+use Rattle.driver.specs.HandlerSteps.{AreFramesOf, AreOfOneFrame, Asked, DoesNothing, GrowsBy, HandlesCauses, IsTaken, RunOfSlots}
+use Rattle.driver.specs.HandlerSteps.{ServesRing}
 use Rattle.driver.specs.Parts.{AreFrames, IsFrameSize, part_loads, received_of}
 use Rattle.driver.specs.declared.parts.Part.{Part}
 use Rattle.driver.specs.SendSteps.{FreesFirst, IsTransmitAnswer, SendAnswer, sent_by}
@@ -276,37 +275,15 @@ pub record SortsFrames (h h' : HostState) (shown : List Received) : Type 0 where
   pub queues : Queues h.kinds h.queues h'.queues (claimed_of h.kinds shown)
   pub unclaimed : GrowsBy h.unclaimed h'.unclaimed (unclaimed_of h.kinds shown)
 
--- The whole frames of these runs of slots were sorted, each with the buffers and lengths of its run. The other runs were counted as bad.
-pub record SortsAll (h h' : HostState) (runs : List RunOfSlots) : Type 0 where
-  pub shown : List Received
-  pub frames : map (λ (one : Received). one.parts) shown ≡ whole_frames runs
-  pub sizes : AreFrames shown
-  pub sorted : SortsFrames h h' shown
-  pub bad : GrowsBy h.driver.bad h'.driver.bad (bad_runs runs)
-
--- These runs left the ring, the oldest first, each with one to six slots. Then slots were offered after the others: those that were staged,
--- and new ones with the buffers `offered`.
-pub record LeaveRing (d d' : DriverState) (runs : List RunOfSlots) : Type 0 where
-  pub are_runs : All IsRun runs
-  pub rest : List ℕ
-  pub offered : List ℕ
-  pub oldest : d.buffers ≡ run_buffers runs ++ rest
-  pub newest : d'.buffers ≡ rest ++ (d.staged ++ offered)
-  pub next : d'.oldest_receive ≡ place d.layout.rx d.oldest_receive (length (run_buffers runs))
-
--- A value was added to the driver's sum of missed frames, runs of slots left the ring, of which n were taken as whole frames, and then
--- slots were offered. Which runs are bad, and where a bad run ends, is open here, as in `TakesSlots`.
+-- Over any bus: the driver's ring was served, and the whole frames of the runs that left it were sorted.
 pub record HostServes (h h' : HostState) (n : ℕ) : Type 0 where
-  pub misses : ReadsMisses h.driver h'.driver
   pub runs : List RunOfSlots
-  pub count : length (whole_frames runs) ≡ n
-  pub leave : LeaveRing h.driver h'.driver runs
-  pub sorts : SortsAll h h' runs
+  pub ring : ServesRing h.driver h'.driver runs n
+  pub shown : List Received
+  pub frames : AreFramesOf runs shown
+  pub sorted : SortsFrames h h' shown
   -- No buffer is lost or has another number of owners.
   pub owners : HaveSameNumbers (host_owners h) (host_owners h')
-  -- No buffer is free, or all slots but one are outstanding; and each slot whose descriptor is stored is offered.
-  pub refilled : IsRefilled h'.driver
-  pub offered : h'.driver.staged ≡ []
 
 -- n frames were taken, each in the pieces of one list, and sorted.
 pub record AreSorted (n : ℕ) (h h' : HostState) (taken : List (List HandedOut)) : Type 0 where
