@@ -62,12 +62,12 @@ send-runs : {O : Type 0} {g : OfObserver O} → ComposesTold g.heard
     → ((runs : CallRuns (lent_call a b) (did [] [] (accepted_by result frame)) (MakesSend result frame h h') (connected h a.network.now)
     (connected h' b.network.now)) × (runs.steps ≡ retells.steps ++ finished.plays.steps))
 send-runs composes a m b h h' frame result past zero ready others sent retells only driver_goes finished =
-    let ran = sent.ran.ran in
+    let ran = sent.sends.ran in
     let held = frames_held h.driver.oldest_receive (world_here a) in
     let stored : ran.past.stored ≡ past.stored =
     append_cancel_left held ran.past.stored past.stored (sym ran.goes.flows.holds ∙ driver_goes.flows.holds) in
     let done = did [] [] (accepted_by result frame) in
-    let sockets = subst (λ (frames : List (List ℕ)). KeepsAccount lent [] frames (host_at a h) (host_at m h')) stored sent.ran.sockets in
+    let sockets = subst (λ (frames : List (List ℕ)). KeepsAccount lent [] frames (host_at a h) (host_at m h')) stored sent.sockets in
     let goes : HostGoesTo true (in_world h (world_here a)) (in_world h' (world_here m)) done past =
     interval-of lent (GoesTo true) (host_at a h) (host_at m h') done past driver_goes sockets in
     let some : 0 < h.driver.layout.tx = omega (arith, ready.ready.transmit.oldest_slot) in
@@ -97,7 +97,7 @@ refused-call : {O : Type 0} {g : OfObserver O} → ComposesTold g.heard
     → CallRuns (lent_call a b) (did [] [] []) (MakesSend (Err error) frame h h') (connected h a.network.now)
     (connected h' b.network.now)
 refused-call composes a m b h h' frame error zero ready others sent finished =
-    let ran = sent.ran.ran in
+    let ran = sent.sends.ran in
     (send-runs composes a m b h h' frame (Err error) ran.past zero ready others sent ran.reports
     (ran.only ∙ sends-as (Err error) h h' (world_here a) (world_here m) frame) ran.goes finished).0
 
@@ -115,7 +115,7 @@ full-call : {O : Type 0} {g : OfObserver O} → ComposesTold g.heard → (a m b 
     → HostSends lent frame (Err RingFull) (host_at a h) (host_at m h') → Finished m b
     → SentCall a b h h' frame (Err RingFull)
 full-call composes a m b h h' frame zero ready others sent finished =
-    let ran = sent.frees_first.ran in
+    let ran = sent.sends.frees_first.ran in
     let reports = ran.reports in
     let made = send-runs composes a m b h h' frame (Err RingFull) ran.past zero ready others sent reports ran.only ran.goes finished in (
       made.0,
@@ -131,7 +131,7 @@ full-call composes a m b h h' frame zero ready others sent finished =
         };
         others = none-alone a.host finished.plays.steps finished.plays.are;
         are_left = subst (λ (k : ℕ). AreLeft h'.driver.oldest_transmit h'.driver.sending (world_at m.network.now k)) reports.lent.host
-            (left-over (driver_of h' (world_here m)) (world_here m) ran.goes.flows.ready sent.frees_first.none);
+            (left-over (driver_of h' (world_here m)) (world_here m) ran.goes.flows.ready sent.sends.frees_first.none);
       },
     )
 
@@ -151,7 +151,7 @@ accepted-call : {O : Type 0} {g : OfObserver O} → ComposesTold g.heard
     → HostSends lent frame (Ok u) (host_at a h) (host_at m h') → Finished m b
     → SentCall a b h h' frame (Ok u)
 accepted-call composes a m b h h' frame u zero ready others sent finished =
-    let parts = sent.frees_first in
+    let parts = sent.sends.frees_first in
     let freed = parts.freed.driver in
     let between = parts.freed.bus in
     let frees = parts.reclaims.ran in

@@ -20,7 +20,7 @@ use Rattle.driver.specs.HandlerSteps.{AreFramesOf, AreOfOneFrame, Asked, DoesNot
 use Rattle.driver.specs.HandlerSteps.{ServesRing}
 use Rattle.driver.specs.Parts.{AreFrames, IsFrameSize, part_loads, received_of}
 use Rattle.driver.specs.declared.parts.Part.{Part}
-use Rattle.driver.specs.SendSteps.{FreesFirst, IsTransmitAnswer, SendAnswer, sent_by}
+use Rattle.driver.specs.SendSteps.{SendAnswer, Sends}
 use Rattle.driver.specs.declared.interrupt.Handled.{Handled}
 use Rattle.driver.specs.declared.interrupt.Handled.TheVariants.{NotMine}
 use Rattle.driver.specs.declared.interrupt.Handled.TheVariants as answers
@@ -112,28 +112,28 @@ in_world host world = record { host = host; world = world }
 abbrev pub host_driver_in : HostInWorld → DriverInWorld
 host_driver_in now = driver_in (driver_of now.host now.world) now.world
 
--- What a host did with frames: those it took off its receive ring, those its sockets returned, and those it accepted for sending.
+-- What a host did with frames: what its driver did, and the frames that its sockets returned.
 pub record HostDid : Type 0 where
-  pub taken : List (List ℕ)
+  pub driver : DriverDid
   pub given : List Given
-  pub accepted : List (List ℕ)
 
 abbrev pub did : (taken : List (List ℕ)) → (given : List Given) → (accepted : List (List ℕ)) → HostDid
-did taken given accepted = record { taken = taken; given = given; accepted = accepted }
+did taken given accepted = record { driver = driver_did taken accepted; given = given }
 
 abbrev pub did_nothing : HostDid
 did_nothing = did [] [] []
 
 -- one interval after the other
 abbrev pub did_both : (first later : HostDid) → HostDid
-did_both first later = did (first.taken ++ later.taken) (first.given ++ later.given) (first.accepted ++ later.accepted)
+did_both first later =
+    did (first.driver.taken ++ later.driver.taken) (first.given ++ later.given) (first.driver.accepted ++ later.driver.accepted)
 
 -- An interval in which the host did this with frames. `Holds` relates its driver at the beginning and at the end. The host is ready at the
 -- end: `sizes`, and what `Holds` says of the driver at the end.
 pub record HostInterval (Holds : DriverInWorld → DriverInWorld → DriverDid → Past → Type 0) (old new : HostInWorld) (done : HostDid)
     (past : Past) : Type 0 where
   pub sizes : AreFrames (all_of new.host.queues)
-  pub driver : Holds (host_driver_in old) (host_driver_in new) (driver_did done.taken done.accepted) past
+  pub driver : Holds (host_driver_in old) (host_driver_in new) done.driver past
   pub accounts : Accounts old.host old.world new.host new.world done.given past.stored
 
 -- Any register may have been read.
@@ -187,14 +187,11 @@ pub record HostRan {B : Type 0} (bus : Ghosts B) (up : Bool) (done : Did) (given
 -- Sending.
 
 -- The driver's transmit, over the whole host. No socket returns a frame. The accesses don't depend on the frames that others hold, so they
--- are those of `old.host.driver` and `new.host.driver`, too.
+-- are those of `old.host.driver` and `new.host.driver`, too. In `sends` the queued frames are held (`driver_at`). So for Ok, `slots` and
+-- `more` of `frees_first` also state that the bytes of the queued frames don't change. For RingFull, `same` of `answer` states this.
 pub record HostSends {B : Type 0} (bus : Ghosts B) (frame : List ℕ) (result : SendAnswer) (old new : HostMoment B) : Type 0 where
-  pub ran : HostRan bus true (sent_by result (driver_at bus old).driver (driver_at bus new).driver frame) [] old new
-  pub answer : IsTransmitAnswer bus result (driver_at bus old) (driver_at bus new)
-  -- For Ok and RingFull, slots are freed first, up to one that isn't written back, or until none is left. For Ok, the frame is sent then.
-  -- The drivers here hold the queued frames (`driver_at`). So for Ok, `slots` and `more` also state that the bytes of the queued frames
-  -- don't change. For RingFull, `same` of `answer` states this.
-  pub frees_first : FreesFirst bus frame result (driver_at bus old) (driver_at bus new)
+  pub sends : Sends bus frame result (driver_at bus old) (driver_at bus new)
+  pub sockets : KeepsAccount bus [] sends.ran.past.stored old new
 
 abbrev pub HostTransmits : {B : Type 0} → Ghosts B → List ℕ → SendAnswer → (old new : HostMoment B) → Type 0
 HostTransmits bus frame result old new = WhereUpHost bus old new (HostSends bus frame result)

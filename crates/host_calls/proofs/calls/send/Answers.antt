@@ -26,6 +26,6 @@ returns g c =
       runs = call.0;
       frees_first = call.1;
       answers = send-answers _ c.send-answer.new.bus h h' frame result c.requires.ready c.send-answer.ensures.too_short
-          c.send-answer.ensures.too_long (ap (λ (host : HostState). host.driver.layout) others) sent.answer;
+          c.send-answer.ensures.too_long (ap (λ (host : HostState). host.driver.layout) others) sent.sends.answer;
       leaves = send-leaves _ c.send-answer.new.bus ends h h' result refl others c.send-answer.ensures.nothing c.finish.ensures;
     })
