@@ -3,7 +3,7 @@
 -- name are for private functions.
 use Rattle.std.specs.Prelude.{⊤, ◌≡◌, ◌≤◌, ◌<◌, ◌⊎◌, ◌+◌, ◌-◌, ◌*◌, ◌^◌, ◌++◌, ◌∷◌, []}
 use Rattle.std.specs.Prelude.{ℕ, suc, Bool, not, All, List, count_by, filter, flat_map, length, map}
-use Rattle.std.specs.Prelude.{IsTrue, min, take}
+use Rattle.std.specs.Prelude.{IsTrue, min, sum, take}
 use Rattle.std.specs.List.{concat}
 use Rattle.dma_memory.specs.Layout.{receive_buffer_bytes}
 use Rattle.dma_memory.specs.Owners.{HasNoSecondOwner, HaveSameNumbers}
@@ -22,7 +22,7 @@ use Rattle.driver_law.specs.Calls.{ether_type_load, frames_ended, held_at, in_wo
 use Rattle.driver_law.specs.Calls.{takes_from, with_missed}
 use Rattle.driver_law.specs.DriverState.{DriverState, HandedOut, frame_of, holding, next_receive, numbers_of, owners}
 use Rattle.driver_law.specs.ReceiveSteps.{after_slots}
-use Rattle.driver.specs.Parts.{AreFrames, FillBuffers, IsWholeFrame, buffers_in, buffers_of}
+use Rattle.driver.specs.Parts.{AreFrames, FillBuffers, FitIntoBuffers, IsFrameSize, IsWholeFrame, buffers_in, buffers_of}
 use Rattle.driver.specs.Parts.{joined_frames, lengths_in, parts_of, pieces_of, received_of}
 use Rattle.driver.specs.declared.look.Run.{Run}
 use Rattle.driver.specs.declared.parts.Part.{Part}
@@ -117,6 +117,13 @@ pub record LeavesRing (run : Run) (parts : List Part) (d d' : DriverState) : Typ
   pub first : d.buffers ≡ buffers_in parts ++ d'.buffers
   pub lengths : lengths_in parts ≡ take run.count run.lengths
   pub others : d' ≡ after_slots d run.count d'.buffers d.handed_out
+
+-- These parts are those of a run. If it is whole, it has the size of a frame, and each part fits into its buffer.
+pub record HasParts (run : Run) (parts : List Part) : Type 0 where
+  pub lengths : lengths_in parts ≡ take run.count run.lengths
+  pub length_is : run.length ≡ sum (lengths_in parts)
+  pub size : IsTrue run.whole → IsFrameSize run.length
+  pub fits : IsTrue run.whole → FitIntoBuffers (lengths_in parts)
 
 -- With a receiver.
 
@@ -286,9 +293,9 @@ pub record ReadsMisses (d d' : DriverState) : Type 0 where
   pub missed : d'.missed ≡ (with_missed misses d).missed
   pub exact : d'.exact ≡ (with_missed misses d).exact
 
--- The slots of the buffers `taken` were the oldest, and the count of bad runs doesn't change. Then slots are offered after the others: those
--- that were staged, and new ones with the buffers `offered`. `oldest` and `newest` are equations of the whole lists of buffers: before the
--- call, the buffers taken and the others; after it, the others, the staged and the offered ones.
+-- The slots of the buffers `taken` were the oldest, and the count of bad runs doesn't change. Then slots are offered after the others:
+-- those that were staged, and new ones with the buffers `offered`. `oldest` and `newest` are equations of the whole lists of buffers:
+-- before the call, the buffers taken and the others; after it, the others, the staged and the offered ones.
 pub record TakesAndOffers (d d' : DriverState) (taken : List ℕ) : Type 0 where
   pub rest : List ℕ
   pub offered : List ℕ
