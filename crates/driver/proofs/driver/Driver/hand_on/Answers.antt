@@ -30,6 +30,8 @@ pub ether_type-ether_type-requires-clause-known : goal.ether_type-ether_type-req
 ether_type-ether_type-requires-clause-known g c =
     known-all c.args.self.now.layout.buffers (buffers_in c.args.parts) (owners c.args.self.now) c.requires.one_owner
 
+-- The run is whole: the frame that is shown has all of the run's parts, and its length.
+-- They are those of a frame, by what is required of the run and its parts.
 pub returns-clause-hands : goal.returns-clause-hands
 returns-clause-hands g c =
     let whole = c.if-not-run.false in
