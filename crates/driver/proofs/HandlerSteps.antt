@@ -112,7 +112,7 @@ pub works : {up : Bool} {B R : Type 0} (bus : Ghosts B) (receivers : OfReceiver 
     (held_in held (record c { receiver = e.receiver })))
     → Refills bus up (held_at (held ++ pieces_of all.takes.frames.kept) (moment c))
     (held_at (held ++ pieces_of all.takes.frames.kept) (moment e))
-    → Works bus receivers n up (held_in held a) (held_in held e)
+    → Works bus all.takes.frames.taken up (held_at held (moment a)) (held_at (held ++ pieces_of all.takes.frames.kept) (moment e))
 unfolding ran-on ran_by-join ran-same
 works {up} bus receivers joins a b c e misses n slots held follows counts all refills =
     let takes = all.takes in
@@ -145,7 +145,6 @@ works {up} bus receivers joins a b c e misses n slots held follows counts all re
     let up_to = ran-on bus joins (ran-on bus joins counts takes.ran) all.looks in
     let ran = ran-on bus joins up_to refills.ran in
     record {
-      frames = takes.frames;
       misses = record {
         misses = misses;
         missed = ap (λ (d : DriverState). d.missed) follows.refilled ∙ ap (λ (d : DriverState). d.missed) same;
@@ -197,29 +196,31 @@ handles-it {up} bus receivers joins o a b c e causes misses n slots held follows
     let held2 = held ++ pieces_of takes.frames.kept in
     let all = works bus receivers joins a b c e misses n slots held follows counts taking refills in
     record {
-      some = some;
-      works = all;
-      least =
-          omega (
-            arith,
-            reads.flows.least,
-            counts.goes.flows.least,
-            takes.ran.goes.flows.least,
-            taking.looks.goes.flows.least,
-            ap length taking.none_left,
-            length-map takes.frames.taken frame_of,
-            takes.frames.count,
-          );
-      work = λ enabled.
-          let mask = taking.looks.goes.flows.mask ∙ takes.ran.goes.flows.mask ∙ counts.goes.flows.mask ∙ reads.flows.mask in
-          let before : HasNoForgottenWork (holding held2 c.driver) (bus.world c.bus) = record
-          { enabled = subst (λ (m : ℕ). HasBit m 7) (sym mask) enabled; asked = inl taking.none_left } in
-          let behind = work_kept (holding held2 c.driver) (holding held2 e.driver) (bus.world c.bus) (bus.world e.bus) [] []
-          refills.ran.past refills.ran.goes before in
-          record { enabled = behind.enabled; asked = behind.asked };
-      flows =
-          flows_join (holding held a.driver) (holding held a.driver) (holding (held ++ pieces_of all.frames.kept) e.driver) (bus.world o)
-          (bus.world a.bus) (bus.world e.bus) []
-          (joined_frames all.frames.taken) [] [] reads.past all.ran.past
-          reads.flows all.ran.goes.flows;
+      frames = takes.frames;
+      driver = record {
+        some = some;
+        works = all;
+        least =
+            omega (
+              arith,
+              reads.flows.least,
+              counts.goes.flows.least,
+              takes.ran.goes.flows.least,
+              taking.looks.goes.flows.least,
+              ap length taking.none_left,
+              length-map takes.frames.taken frame_of,
+              takes.frames.count,
+            );
+        work = λ enabled.
+            let mask = taking.looks.goes.flows.mask ∙ takes.ran.goes.flows.mask ∙ counts.goes.flows.mask ∙ reads.flows.mask in
+            let before : HasNoForgottenWork (holding held2 c.driver) (bus.world c.bus) = record
+            { enabled = subst (λ (m : ℕ). HasBit m 7) (sym mask) enabled; asked = inl taking.none_left } in
+            work_kept (holding held2 c.driver) (holding held2 e.driver) (bus.world c.bus) (bus.world e.bus) [] []
+            refills.ran.past refills.ran.goes before;
+        flows =
+            flows_join (holding held a.driver) (holding held a.driver) (holding held2 e.driver) (bus.world o)
+            (bus.world a.bus) (bus.world e.bus) []
+            (joined_frames takes.frames.taken) [] [] reads.past all.ran.past
+            reads.flows all.ran.goes.flows;
+      };
     }

@@ -10,14 +10,17 @@ use Rattle.descriptors.specs.RingLaws.{place}
 use Rattle.driver_law.proofs.Places.{place-add}
 use Rattle.dma_memory.specs.Layout.{Counts}
 use Rattle.dma_memory.specs.Owners.{HasNoSecondOwner, HaveSameNumbers, copies}
-use Rattle.dma_memory.specs.OwnersLaws.{copies-append, known_from_no_second}
+use Rattle.dma_memory.specs.OwnersLaws.{copies-append, copies-itself, known_from_no_second}
 use Rattle.bus.proofs.Lists.{all-head, all-none, all-tail}
 use Rattle.driver_law.proofs.Owners.{all-copies, owners-count}
-use Rattle.driver_law.specs.DriverState.{DriverState, owners}
+use Rattle.driver_law.specs.Calls.{OffersAll, with_missed}
+use Rattle.driver_law.specs.DriverState.{DriverState, HandedOut, holding, numbers_of, owners, with_owners}
 use Rattle.driver.specs.Answers.{Answers}
-use Rattle.driver.specs.HandlerSteps.{GrowsBy, HandsOn, IsPart, IsRun, LeavesRing, RunOfSlots, Shows, ShowsAll, TakesSlots}
+use Rattle.driver.specs.HandlerSteps.{GrowsBy, HandsOn, IsPart, IsRun, LeavesRing, RunOfSlots, Serves, ServesRing, Shows, ShowsAll}
+use Rattle.driver.specs.HandlerSteps.{ShowsRuns, TakesSlots}
 use Rattle.driver.specs.HandlerSteps.{bad_runs, part_none, part_with, part_without, run_buffers, run_of, whole_frames}
 use Rattle.driver.specs.Parts.{FillBuffers, IsWholeFrame, buffers_in, buffers_of, lengths_in}
+use Rattle.driver.specs.RefillSteps.{OffersAfter}
 use Rattle.driver.specs.declared.look.Run.{Run}
 use Rattle.driver.specs.declared.parts.Part.{Part}
 use Rattle.driver.specs.declared.receiver.Received.{Received}
@@ -76,15 +79,27 @@ pub hands-shown : {R : Type 0} (took : R → R → List Received → List Receiv
     → HandsOn took before after (run_of received.parts true) d d'
 hands-shown took before after received d d' whole shows bad = record {
   shows = record {
-    received = received ∷ [];
-    kept = shows.kept;
-    shown = shows.shown;
-    frames = refl;
-    sizes = All-cons IsWholeFrame received [] whole (all-none IsWholeFrame);
-    part = kept-part received shows.kept shows.whether;
+    receiver = record {
+      received = received ∷ [];
+      frames = record { parts = refl; sizes = All-cons IsWholeFrame received [] whole (all-none IsWholeFrame) };
+      kept = shows.kept;
+      shown = shows.shown;
+      part = kept-part received shows.kept shows.whether;
+    };
     buffers = λ k. ap (λ (list : List ℕ). copies k (list ++ d.pool)) (append-nil (buffers_in received.parts)) ∙ shows.buffers k;
   };
   bad = record { least = omega (arith, bad); most = omega (arith, bad); exactly = λ below. omega (arith, bad) };
+}
+
+-- No run is whole.
+abbrev shows-no_frame : {R : Type 0} (took : R → R → List Received → List Received → Type 0) → ((r : R) → took r r [] []) → (r : R)
+    (runs : List RunOfSlots) → [] ≡ whole_frames runs → ShowsRuns took r r runs
+shows-no_frame took stays r runs none = record {
+  received = [];
+  frames = record { parts = none; sizes = all-none IsWholeFrame };
+  kept = [];
+  shown = stays r;
+  part = part_none;
 }
 
 pub hands-bad : {R : Type 0} (took : R → R → List Received → List Received → Type 0) → ((r : R) → took r r [] []) → (r : R)
@@ -92,12 +107,7 @@ pub hands-bad : {R : Type 0} (took : R → R → List Received → List Received
     → HandsOn took r r (run_of parts false) d d'
 hands-bad took stays r parts d d' bad back = record {
   shows = record {
-    received = [];
-    kept = [];
-    shown = stays r;
-    frames = refl;
-    sizes = all-none IsWholeFrame;
-    part = part_none;
+    receiver = shows-no_frame took stays r (run_of parts false ∷ []) refl;
     buffers = λ k.
         ap (λ (list : List ℕ). copies k (list ++ d.pool)) (append-nil (buffers_in parts)) ∙ back k
         ∙ ap (copies k) (sym (append-nil d'.pool));
@@ -127,12 +137,7 @@ grows a b c m n one two = record {
 pub shows-none : {R : Type 0} (took : R → R → List Received → List Received → Type 0) → ((r : R) → took r r [] []) → (r : R)
     (pool : List ℕ) → ShowsAll took r r [] pool pool
 shows-none took stays r pool = record {
-  received = [];
-  kept = [];
-  shown = stays r;
-  frames = refl;
-  sizes = all-none IsWholeFrame;
-  part = part_none;
+  receiver = shows-no_frame took stays r [] refl;
   buffers = λ k. ap (copies k) (sym (append-nil pool));
 }
 
@@ -160,32 +165,38 @@ shows-more : {R : Type 0} (took : R → R → List Received → List Received �
     → ShowsAll took s t later pool2 pool3 → ShowsAll took r t (runs ++ later) pool1 pool3
 shows-more took also r s t runs later pool1 pool2 pool3 one two =
     let parts : Received → List Part = λ r. r.parts in
+    let first = one.receiver in
+    let second = two.receiver in
     record {
-      received = one.received ++ two.received;
-      kept = one.kept ++ two.kept;
-      shown = also r s t one.received one.kept two.received two.kept one.shown two.shown;
-      frames =
-          map-append parts one.received two.received
-          ∙ ap (λ (list : List (List Part)). list ++ map parts two.received) one.frames
-          ∙ ap (λ (list : List (List Part)). whole_frames runs ++ list) two.frames
-          ∙ sym (whole-frames-append runs later);
-      sizes = All-append IsWholeFrame one.received two.received one.sizes two.sizes;
-      part = part-append one.part two.part;
+      receiver = record {
+        received = first.received ++ second.received;
+        frames = record {
+          parts =
+              map-append parts first.received second.received
+              ∙ ap (λ (list : List (List Part)). list ++ map parts second.received) first.frames.parts
+              ∙ ap (λ (list : List (List Part)). whole_frames runs ++ list) second.frames.parts
+              ∙ sym (whole-frames-append runs later);
+          sizes = All-append IsWholeFrame first.received second.received first.frames.sizes second.frames.sizes;
+        };
+        kept = first.kept ++ second.kept;
+        shown = also r s t first.received first.kept second.received second.kept first.shown second.shown;
+        part = part-append first.part second.part;
+      };
       buffers = λ k.
           omega (
             arith,
             one.buffers k,
             two.buffers k,
             copies-append k (run_buffers runs) pool1,
-            copies-append k pool2 (buffers_of one.kept),
+            copies-append k pool2 (buffers_of first.kept),
             copies-append k (run_buffers later) pool2,
-            copies-append k pool3 (buffers_of two.kept),
+            copies-append k pool3 (buffers_of second.kept),
             ap (copies k) (run-buffers-append runs later),
             copies-append k (run_buffers runs) (run_buffers later),
             copies-append k (run_buffers (runs ++ later)) pool1,
-            ap (copies k) (flat_map-append (λ (x : Received). buffers_in x.parts) one.kept two.kept),
-            copies-append k (buffers_of one.kept) (buffers_of two.kept),
-            copies-append k pool3 (buffers_of (one.kept ++ two.kept)),
+            ap (copies k) (flat_map-append (λ (x : Received). buffers_in x.parts) first.kept second.kept),
+            copies-append k (buffers_of first.kept) (buffers_of second.kept),
+            copies-append k pool3 (buffers_of (first.kept ++ second.kept)),
           );
     }
 
@@ -288,27 +299,44 @@ runs-few (run ∷ later) all =
       length-map run.parts (λ (part : Part). part.buffer),
     )
 
-pub slots-few : {R : Type 0} (receivers : OfReceiver R) (n : ℕ) (before after : R) (d d' : DriverState)
-    → TakesSlots receivers n before after d d' → n + length d'.buffers ≤ length d.buffers
-slots-few receivers n before after d d' slots =
+whole-few : (runs : List RunOfSlots) → All IsRun runs → length (whole_frames runs) ≤ length (run_buffers runs)
+whole-few runs all =
     let whole : RunOfSlots → Bool = λ run. run.whole in
     omega (
       arith,
+      length-map (filter whole runs) (λ (run : RunOfSlots). run.parts),
+      length-filter whole runs,
+      count_by-le-length whole runs,
+      runs-few runs all,
+    )
+
+pub slots-few : {R : Type 0} (receivers : OfReceiver R) (n : ℕ) (before after : R) (d d' : DriverState)
+    → TakesSlots receivers n before after d d' → n + length d'.buffers ≤ length d.buffers
+slots-few receivers n before after d d' slots =
+    omega (
+      arith,
       slots.count,
-      length-map (filter whole slots.runs) (λ (run : RunOfSlots). run.parts),
-      length-filter whole slots.runs,
-      count_by-le-length whole slots.runs,
-      runs-few slots.runs slots.are_runs,
+      whole-few slots.runs slots.are_runs,
       ap length slots.oldest,
       length-append (run_buffers slots.runs) d'.buffers,
     )
 
+pub served-few : (n : ℕ) (d d' : DriverState) (runs : List RunOfSlots) → ServesRing d d' runs n → n ≤ length d.buffers
+served-few n d d' runs ring =
+    omega (
+      arith,
+      ring.count,
+      whole-few runs ring.leave.are_runs,
+      ap length ring.leave.oldest,
+      length-append (run_buffers runs) ring.leave.rest,
+    )
+
 -- Each buffer has the same number of owners as before, with the receiver among them.
 pub slots-owners : {R : Type 0} (receivers : OfReceiver R) (n : ℕ) (before after : R) (d d' : DriverState)
-    → (slots : TakesSlots receivers n before after d d') → HaveSameNumbers (owners d) (owners d' ++ buffers_of slots.shows.kept)
+    → (slots : TakesSlots receivers n before after d d') → HaveSameNumbers (owners d) (owners d' ++ buffers_of slots.shows.receiver.kept)
 slots-owners receivers n before after d d' slots = λ k.
     let later : DriverState = record d { oldest_receive = d'.oldest_receive; buffers = d'.buffers; pool = d'.pool; bad = d'.bad } in
-    let kept = buffers_of slots.shows.kept in
+    let kept = buffers_of slots.shows.receiver.kept in
     omega (
       arith,
       owners-count k d,
@@ -333,5 +361,75 @@ slots-one_owner receivers n before after d d' slots once =
       arith,
       once k,
       slots-owners receivers n before after d d' slots k,
-      copies-append k (owners d') (buffers_of slots.shows.kept),
+      copies-append k (owners d') (buffers_of slots.shows.receiver.kept),
     ))
+
+-- The ring is refilled after that.
+
+-- Others hold no frame if they own no buffer.
+none-held : (held : List HandedOut) → ((k : ℕ) → copies k (numbers_of held) ≡ 0) → held ≡ []
+none-held [] none = refl
+none-held (one ∷ later) none = absurd (omega (arith, none one.number, copies-itself one.number (numbers_of later)))
+
+pub served : {R : Type 0} (receivers : OfReceiver R) (n misses : ℕ) (before after : R) (d between d' : DriverState)
+    → TakesSlots receivers n before after (with_missed misses d) between → OffersAll between d' → OffersAfter between d'
+    → HaveSameNumbers (owners between) (owners d') → Serves receivers before after d d' n
+served receivers n misses before after d between d' takes offers order same =
+    let kept = buffers_of takes.shows.receiver.kept in
+    let shape : DriverState → DriverState = λ s. record d
+    { oldest_receive = s.oldest_receive; buffers = s.buffers; staged = []; pool = s.pool; missed = s.missed; exact = s.exact; bad = s.bad }
+    in
+    let made : DriverState = with_owners (record (with_missed misses d)
+    { oldest_receive = between.oldest_receive; buffers = between.buffers; pool = between.pool; bad = between.bad }) d'.buffers [] d'.pool []
+    in
+    let is : d' ≡ made = offers.others ∙ ap (λ (s : DriverState). with_owners s d'.buffers [] d'.pool []) takes.others in
+    let staged : d'.staged ≡ [] = ap (λ (s : DriverState). s.staged) is in
+    let out : d'.handed_out ≡ [] = ap (λ (s : DriverState). s.handed_out) is in
+    let none : d.handed_out ≡ [] = none-held d.handed_out (λ k.
+    omega (
+      arith,
+      same k,
+      owners-count k between,
+      owners-count k d',
+      ap (λ (s : DriverState). copies k (numbers_of s.handed_out)) takes.others,
+      ap (copies k) order.newest,
+      copies-append k between.buffers (between.staged ++ order.offered),
+      copies-append k between.staged order.offered,
+      order.pool k,
+      copies-append k order.offered d'.pool,
+      ap (copies k) staged,
+      ap (λ (list : List HandedOut). copies k (numbers_of list)) out,
+    )) in
+    record {
+      runs = takes.runs;
+      ring = record {
+        misses = record {
+          misses = misses;
+          missed = ap (λ (s : DriverState). s.missed) is;
+          exact = ap (λ (s : DriverState). s.exact) is;
+        };
+        count = takes.count;
+        leave = record {
+          are_runs = takes.are_runs;
+          rest = between.buffers;
+          offered = order.offered;
+          oldest = takes.oldest;
+          newest = order.newest ∙ ap (λ (s : DriverState). between.buffers ++ (s.staged ++ order.offered)) takes.others;
+          next = ap (λ (s : DriverState). s.oldest_receive) offers.others ∙ takes.next;
+        };
+        bad = subst (λ (k : ℕ). GrowsBy d.bad k (bad_runs takes.runs)) (sym (ap (λ (s : DriverState). s.bad) offers.others)) takes.bad;
+        refilled = offers.refilled;
+        none_out = none;
+        one_owner = offers.one_owner;
+        others = is ∙ ap (λ (list : List HandedOut). holding list made) (sym none) ∙ ap shape (sym is);
+      };
+      receiver = takes.shows.receiver;
+      owners = λ k.
+          omega (
+            arith,
+            slots-owners receivers n before after (with_missed misses d) between takes k,
+            same k,
+            copies-append k (owners between) kept,
+            copies-append k (owners d') kept,
+          );
+    }

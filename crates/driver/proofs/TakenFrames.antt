@@ -1,7 +1,7 @@
 -- Frames are taken one after the other.
-use Rattle.std.proofs.Common.{◌≡◌, ◌≤◌, ◌+◌, ◌++◌, ◌∷◌, [], ◌∙◌}
+use Rattle.std.proofs.Common.{◌≡◌, ◌+◌, ◌++◌, ◌∷◌, [], ◌∙◌}
 use Rattle.std.proofs.Common.{Bool, IsTrue, true, ℕ, List, length, map, refl, sym, ap, subst}
-use Rattle.std.proofs.Common.{append_assoc, length-append, length-take, sum, take, arith}
+use Rattle.std.proofs.Common.{append_assoc, length-append, length-take, sum, arith}
 use Rattle.std.specs.List.{concat}
 use Rattle.std.proofs.lemmas.Grind.{flat_map-append}
 use Rattle.std.proofs.lemmas.List.{append-nil, length-map, map-append}
@@ -26,7 +26,7 @@ use Rattle.driver_law.specs.ReadyDrivers.{ReadyWith, Stands}
 use Rattle.driver_law.specs.ReceiveSteps.{after_slots}
 use Rattle.driver.specs.HandlerSteps.{AreOfOneFrame, HandsOn, HandsOver, HasEtherType, IsTaken, LeavesRing, Scene, Takes, TakesSlots}
 use Rattle.driver.specs.HandlerSteps.{WhereReadyIn, WhereTaken, part_none, run_buffers, run_of, scene, whole_frames}
-use Rattle.driver.specs.Looks.{FindsFrame}
+use Rattle.driver.specs.Looks.{FindsFrame, IsLookedRun}
 use Rattle.driver.specs.Parts.{AreFrames, FillBuffers, FitIntoBuffers, IsFrameSize, IsWholeFrame, buffers_in, buffers_of, joined_frames}
 use Rattle.driver.specs.Parts.{lengths_in, parts_of, pieces_of, received_of}
 use Rattle.driver.specs.declared.look.Run.{Run}
@@ -223,15 +223,15 @@ pub walks-next : {B R : Type 0} (bus : Ghosts B) (receivers : OfReceiver R)
     → ((a b c : B) (first later : Past) → bus.happened a b first → bus.happened b c later → bus.happened a c (joined first later))
     → ((a b c : R) (shown kept later more : List Received) → receivers.took a b shown kept → receivers.took b c later more
     → receivers.took a c (shown ++ later) (kept ++ more))
-    → (a b c e : B) (r s t : R) (d1 d2 d3 d4 : DriverState) (n m : ℕ) (run : Run) (parts : List Part) (whole : Bool)
+    → (a b c e : B) (r s t : R) (d1 d2 d3 d4 : DriverState) (n m outstanding : ℕ) (run : Run) (parts : List Part) (whole : Bool)
     → n + length (whole_frames (run_of parts whole ∷ [])) ≡ m → Keeps bus a b → Keeps bus b c
     → Walks bus receivers n (scene a d1 r) (scene b d2 s)
-    → 1 ≤ run.count → run.count ≤ 6 → length run.lengths ≡ 6 → (IsTrue run.whole → FillBuffers (take run.count run.lengths))
+    → IsLookedRun outstanding run
     → WhereReady bus (at b d2) (at c d2) (FindsFrame bus run) → LeavesRing run parts d2 d3
     → d4 ≡ record d3 { pool = d4.pool; bad = d4.bad } → HandsOn receivers.took s t (run_of parts whole) d3 d4 → whole ≡ run.whole
     → WhereTaken bus parts whole (scene c d3 s) (scene e d4 t) (HandsOver bus receivers)
     → Walks bus receivers m (scene a d1 r) (scene e d4 t)
-walks-next bus receivers stays joins also a b c e r s t d1 d2 d3 d4 n m run parts whole more keeps1 keeps2 walks some few six full finds
+walks-next bus receivers stays joins also a b c e r s t d1 d2 d3 d4 n m outstanding run parts whole more keeps1 keeps2 walks looked finds
     leaves given hands whole_is over =
     let size : length (buffers_in parts) ≡ run.count = omega (
       arith,
@@ -239,23 +239,24 @@ walks-next bus receivers stays joins also a b c e r s t d1 d2 d3 d4 n m run part
       length-map parts (λ (part : Part). part.length),
       ap length leaves.lengths,
       length-take run.count run.lengths,
-      few,
-      six,
+      looked.most,
+      looked.room,
     ) in
     let slots = walks.slots in
     let others = slots.others in
     record {
-      slots = slots-next receivers also r s t d1 d2 d3 d4 n m run parts whole more size some few
-          (λ is. subst FillBuffers (sym leaves.lengths) (full (subst IsTrue whole_is is))) slots leaves given hands;
+      slots = slots-next receivers also r s t d1 d2 d3 d4 n m run parts whole more size looked.least looked.most
+          (λ is. subst FillBuffers (sym leaves.lengths) (looked.full (subst IsTrue whole_is is))) slots leaves given hands;
       takes = λ up held is.
           let before = walks.takes up held is in
           let later = held ++ pieces_of before.frames.kept in
           let there = ready-on bus (at a (holding held d1)) (at b (holding later d2)) keeps1 is before.ran in
           let found = finds up later there in
           let shown : whole ≡ true = whole_is ∙ found.is_run.whole in
-          let sizes = whole-run hands.shows.received parts
-          (hands.shows.frames ∙ ap (λ (b : Bool). whole_frames (run_of parts b ∷ [])) shown) hands.shows.sizes
-          (subst FillBuffers (sym leaves.lengths) (full (subst IsTrue (sym found.is_run.whole) refl))) in
+          let frames = hands.shows.receiver.frames in
+          let sizes = whole-run hands.shows.receiver.received parts
+          (frames.parts ∙ ap (λ (b : Bool). whole_frames (run_of parts b ∷ [])) shown) frames.sizes
+          (subst FillBuffers (sym leaves.lengths) (looked.full (subst IsTrue (sym found.is_run.whole) refl))) in
           subst (λ (k : ℕ). Takes bus receivers k up (scene a (holding held d1) r) (scene e (holding held d4) t))
           (ap (λ (b : Bool). n + length (whole_frames (run_of parts b ∷ []))) (sym shown) ∙ more)
           (takes-next bus receivers stays joins also a b c e r s t d1 d2 d3 d4 n (length (run_buffers slots.runs)) run parts held

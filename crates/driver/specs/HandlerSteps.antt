@@ -3,10 +3,10 @@
 -- name are for private functions.
 use Rattle.std.specs.Prelude.{⊤, ◌≡◌, ◌≤◌, ◌<◌, ◌⊎◌, ◌+◌, ◌-◌, ◌*◌, ◌^◌, ◌++◌, ◌∷◌, []}
 use Rattle.std.specs.Prelude.{ℕ, suc, Bool, not, All, List, count_by, filter, flat_map, length, map}
-use Rattle.std.specs.Prelude.{IsTrue, min, take}
+use Rattle.std.specs.Prelude.{IsTrue, min, sum, take}
 use Rattle.std.specs.List.{concat}
 use Rattle.dma_memory.specs.Layout.{receive_buffer_bytes}
-use Rattle.dma_memory.specs.Owners.{HaveSameNumbers}
+use Rattle.dma_memory.specs.Owners.{HasNoSecondOwner, HaveSameNumbers}
 use Rattle.descriptors.specs.Frames.{longest_frame}
 use Rattle.rx_engine.specs.Addresses.{ether_type}
 use Rattle.descriptors.specs.RingLaws.{place}
@@ -16,14 +16,13 @@ use Rattle.adapter.specs.World.{World}
 use Rattle.bus.specs.declared.bus.Bus.{Ghosts}
 use Rattle.bus.specs.declared.event.Access.{Access}
 use Rattle.bus.specs.declared.event.Access.TheVariants.{Reads}
-use Rattle.driver_law.specs.Calls.{Did, FlowsTo, HasNoForgottenWork, IsReady, Moment, OffersAll, Ran, ReadsCauses, at, call_did}
+use Rattle.driver_law.specs.Calls.{Did, FlowsTo, HasNoForgottenWork, IsReady, IsRefilled, Moment, Ran, ReadsCauses, at, call_did}
 use Rattle.driver_law.specs.Calls.{driver_did}
 use Rattle.driver_law.specs.Calls.{ether_type_load, frames_ended, held_at, in_world_of, only, receive_loads, stores_from, tail_write}
 use Rattle.driver_law.specs.Calls.{takes_from, with_missed}
 use Rattle.driver_law.specs.DriverState.{DriverState, HandedOut, frame_of, holding, next_receive, numbers_of, owners}
 use Rattle.driver_law.specs.ReceiveSteps.{after_slots}
-use Rattle.driver.specs.RefillSteps.{OffersAfter}
-use Rattle.driver.specs.Parts.{AreFrames, FillBuffers, IsWholeFrame, buffers_in, buffers_of}
+use Rattle.driver.specs.Parts.{AreFrames, FillBuffers, FitIntoBuffers, IsFrameSize, IsWholeFrame, buffers_in, buffers_of}
 use Rattle.driver.specs.Parts.{joined_frames, lengths_in, parts_of, pieces_of, received_of}
 use Rattle.driver.specs.declared.look.Run.{Run}
 use Rattle.driver.specs.declared.parts.Part.{Part}
@@ -87,17 +86,25 @@ whole_frames runs = map (λ (run : RunOfSlots). run.parts) (filter (λ (run : Ru
 abbrev pub bad_runs : List RunOfSlots → ℕ
 bad_runs runs = count_by (λ (run : RunOfSlots). not run.whole) runs
 
--- The whole frames of these runs were shown to the receiver, one after the other, each with the buffers and lengths of its run. The
--- receiver kept some of them. The buffers of the others, and those of the bad runs, went to the pool.
-pub record ShowsAll {R : Type 0} (took : R → R → List Received → List Received → Type 0) (before after : R) (runs : List RunOfSlots)
-    (pool pool' : List ℕ) : Type 0 where
+-- These are the whole frames of these runs, one after the other, each with the buffers and lengths of its run. Each has a legal size.
+pub record AreFramesOf (runs : List RunOfSlots) (received : List Received) : Type 0 where
+  pub parts : map (λ (one : Received). one.parts) received ≡ whole_frames runs
+  pub sizes : AreFrames received
+
+-- The whole frames of these runs were shown to the receiver, one after the other. The receiver kept some of them.
+pub record ShowsRuns {R : Type 0} (took : R → R → List Received → List Received → Type 0) (before after : R) (runs : List RunOfSlots)
+    : Type 0 where
   pub received : List Received
+  pub frames : AreFramesOf runs received
   pub kept : List Received
   pub shown : took before after received kept
-  pub frames : map (λ (one : Received). one.parts) received ≡ whole_frames runs
-  pub sizes : AreFrames received
   pub part : IsPart kept received
-  pub buffers : HaveSameNumbers (run_buffers runs ++ pool) (pool' ++ buffers_of kept)
+
+-- They were shown so. The buffers of the frames that the receiver didn't keep, and those of the bad runs, went to the pool.
+pub record ShowsAll {R : Type 0} (took : R → R → List Received → List Received → Type 0) (before after : R) (runs : List RunOfSlots)
+    (pool pool' : List ℕ) : Type 0 where
+  pub receiver : ShowsRuns took before after runs
+  pub buffers : HaveSameNumbers (run_buffers runs ++ pool) (pool' ++ buffers_of receiver.kept)
 
 -- A run was passed on: its whole frame was shown to the receiver; or it counts as bad, and its buffers went to the pool.
 pub record HandsOn {R : Type 0} (took : R → R → List Received → List Received → Type 0) (before after : R) (run : RunOfSlots)
@@ -110,6 +117,13 @@ pub record LeavesRing (run : Run) (parts : List Part) (d d' : DriverState) : Typ
   pub first : d.buffers ≡ buffers_in parts ++ d'.buffers
   pub lengths : lengths_in parts ≡ take run.count run.lengths
   pub others : d' ≡ after_slots d run.count d'.buffers d.handed_out
+
+-- These parts are those of a run. If it is whole, it has the size of a frame, and each part fits into its buffer.
+pub record HasParts (run : Run) (parts : List Part) : Type 0 where
+  pub lengths : lengths_in parts ≡ take run.count run.lengths
+  pub length_is : run.length ≡ sum (lengths_in parts)
+  pub size : IsTrue run.whole → IsFrameSize run.length
+  pub fits : IsTrue run.whole → FitIntoBuffers (lengths_in parts)
 
 -- With a receiver.
 
@@ -253,8 +267,8 @@ abbrev pub offering_accesses : DriverState → (offered : List ℕ) → (tail : 
 offering_accesses d offered tail = stores_from d.layout (next_receive d) offered ++ tail_write tail (d.staged ++ offered)
 
 -- The last look, in the world at a moment after its last load and before the next access. Then the buffers `rest` are outstanding, and
--- `oldest` is the oldest slot's index. No frame ends in finished slots. The descriptors of the finished slots, which contain the beginning of a
--- frame, were loaded, and that of the next outstanding slot, if there is one.
+-- `oldest` is the oldest slot's index. No frame ends in finished slots. The descriptors of the finished slots, which contain the beginning
+-- of a frame, were loaded, and that of the next outstanding slot, if there is one.
 pub record IsLook (oldest : ℕ) (rest : List ℕ) (world : World) (loads : ℕ) : Type 0 where
   pub none_left : frames_of (finished_pieces oldest world) ≡ []
   -- Their pieces are full, and no longer together than the longest frame. So with buffers of 256 bytes they are at most five.
@@ -279,9 +293,9 @@ pub record ReadsMisses (d d' : DriverState) : Type 0 where
   pub missed : d'.missed ≡ (with_missed misses d).missed
   pub exact : d'.exact ≡ (with_missed misses d).exact
 
--- The slots of the buffers `taken` were the oldest, and the count of bad runs doesn't change. Then slots are offered after the others: those that were
--- staged, and new ones with the buffers `offered`. `oldest` and `newest` are equations of the whole lists of buffers: before the call, the
--- buffers taken and the others; after it, the others, the staged and the offered ones.
+-- The slots of the buffers `taken` were the oldest, and the count of bad runs doesn't change. Then slots are offered after the others:
+-- those that were staged, and new ones with the buffers `offered`. `oldest` and `newest` are equations of the whole lists of buffers:
+-- before the call, the buffers taken and the others; after it, the others, the staged and the offered ones.
 pub record TakesAndOffers (d d' : DriverState) (taken : List ℕ) : Type 0 where
   pub rest : List ℕ
   pub offered : List ℕ
@@ -289,19 +303,18 @@ pub record TakesAndOffers (d d' : DriverState) (taken : List ℕ) : Type 0 where
   pub newest : d'.buffers ≡ rest ++ (d.staged ++ offered)
   pub no_bad : d'.bad ≡ d.bad
 
--- n frames are taken and shown to the receiver, and then slots are offered. The run is split at a moment after the last load of a
--- descriptor and before the next access.
-pub record Works {B R : Type 0} (bus : Ghosts B) (receivers : OfReceiver R) (n : ℕ) (up : Bool) (old new : Scene B R) : Type 0 where
-  pub frames : ShowsFrames receivers n old.receiver new.receiver
+-- Frames are taken, each in the pieces of one list of `taken`, and then slots are offered. The run is split at a moment after the last load
+-- of a descriptor and before the next access.
+pub record Works {B : Type 0} (bus : Ghosts B) (taken : List (List HandedOut)) (up : Bool) (old new : Moment B) : Type 0 where
   pub misses : ReadsMisses old.driver new.driver
-  pub served : TakesAndOffers old.driver new.driver (numbers_of (pieces_of frames.taken))
+  pub served : TakesAndOffers old.driver new.driver (numbers_of (pieces_of taken))
   pub loads : ℕ
   pub ran :
       Ran bus up (call_did
-      (taking_accesses old.driver misses.misses (map numbers_of frames.taken) loads
+      (taking_accesses old.driver misses.misses (map numbers_of taken) loads
       ++ offering_accesses old.driver served.offered (next_receive new.driver))
-      (joined_frames frames.taken) []) (moment old) (held_at (old.driver.handed_out ++ pieces_of frames.kept) (moment new))
-  pub split : IsSplit ran (taking_accesses old.driver misses.misses (map numbers_of frames.taken) loads)
+      (joined_frames taken) []) old new
+  pub split : IsSplit ran (taking_accesses old.driver misses.misses (map numbers_of taken) loads)
       (offering_accesses old.driver served.offered (next_receive new.driver))
   pub look : IsLook new.driver.oldest_receive served.rest (bus.world split.middle) loads
 
@@ -316,20 +329,27 @@ pub record DoesNothing {B : Type 0} (bus : Ghosts B) {up : Bool} (old new : Mome
   pub none : ¬ Meet asked.causes handled_causes
   pub still : new.bus ≡ asked.after_read
   pub work : HasNoForgottenWork old.driver (bus.world old.bus) → HasNoForgottenWork new.driver (bus.world new.bus)
+  pub flows : FlowsTo up (in_world_of bus old) (in_world_of bus new) (driver_did [] []) asked.reads.past
 
--- It does its work.
-pub record HandlesIt {B R : Type 0} (bus : Ghosts B) (receivers : OfReceiver R) (n : ℕ) {up : Bool} (old new : Scene B R)
-    (asked : Asked bus up (moment old)) : Type 0 where
+-- It does its work: n frames are taken, in these pieces, whoever holds them at the end.
+pub record HandlesCauses {B : Type 0} (bus : Ghosts B) (taken : List (List HandedOut)) (n : ℕ) {up : Bool} (old new : Moment B)
+    (asked : Asked bus up old) : Type 0 where
   pub some : Meet asked.causes handled_causes
-  pub works : Works bus receivers n up (record old { bus = asked.after_read }) new
+  pub works : Works bus taken up (at asked.after_read old.driver) new
   -- It takes at least the frames that ended in finished slots at the beginning.
-  pub least : length (frames_ended (in_world_of bus (moment old))) ≤ n
+  pub least : length (frames_ended (in_world_of bus old)) ≤ n
   -- If RXT0 is in the mask at the beginning, no work is forgotten at the end.
   pub work : HasBit (bus.world old.bus).adapter.causes.mask rxt0 → HasNoForgottenWork new.driver (bus.world new.bus)
   -- the read of ICR and the work together
-  pub flows : FlowsTo up (in_world_of bus (moment old))
-      (in_world_of bus (held_at (old.driver.handed_out ++ pieces_of works.frames.kept) (moment new)))
-      (driver_did (joined_frames works.frames.taken) []) (joined asked.reads.past works.ran.past)
+  pub flows :
+      FlowsTo up (in_world_of bus old) (in_world_of bus new) (driver_did (joined_frames taken) []) (joined asked.reads.past works.ran.past)
+
+-- A driver with a receiver does its work. The frames are shown to the receiver, and those that it keeps are held at the end.
+pub record HandlesIt {B R : Type 0} (bus : Ghosts B) (receivers : OfReceiver R) (n : ℕ) {up : Bool} (old new : Scene B R)
+    (asked : Asked bus up (moment old)) : Type 0 where
+  pub frames : ShowsFrames receivers n old.receiver new.receiver
+  pub driver :
+      HandlesCauses bus frames.taken n (moment old) (held_at (old.driver.handed_out ++ pieces_of frames.kept) (moment new)) asked
 
 -- by the answer
 abbrev pub HandlesBy : {B R : Type 0} (bus : Ghosts B) → OfReceiver R → Handled → {up : Bool} → (old new : Scene B R)
@@ -351,17 +371,44 @@ pub record OnlyReceives (d d' : DriverState) : Type 0 where
   pub oldest : d'.oldest_transmit ≡ d.oldest_transmit
   pub sending : d'.sending ≡ d.sending
 
--- A value is added to the driver's sum of missed frames, runs of slots leave the ring, of which n are shown as whole frames, and then the
--- ring is refilled.
-pub record Serves {R : Type 0} (receivers : OfReceiver R) (before after : R) (d d' : DriverState) (n : ℕ) : Type 0 where
+-- These runs left the ring, the oldest first, each with one to six slots. Then slots were offered after the others: those that were staged,
+-- and new ones with the buffers `offered`.
+pub record LeaveRing (d d' : DriverState) (runs : List RunOfSlots) : Type 0 where
+  pub are_runs : All IsRun runs
+  pub rest : List ℕ
+  pub offered : List ℕ
+  pub oldest : d.buffers ≡ run_buffers runs ++ rest
+  pub newest : d'.buffers ≡ rest ++ (d.staged ++ offered)
+  pub next : d'.oldest_receive ≡ place d.layout.rx d.oldest_receive (length (run_buffers runs))
+
+-- A value was added to the driver's sum of missed frames, these runs of slots left the ring, of which n were shown as whole frames, and
+-- then slots were offered. Which runs are bad, and where a bad run ends, is open here, as in `TakesSlots`.
+pub record ServesRing (d d' : DriverState) (runs : List RunOfSlots) (n : ℕ) : Type 0 where
   -- This record says nothing else of this value. Over a bus that obeys the law, `Handles` says that it was read from MPC.
-  pub misses : ℕ
-  -- the driver after the frames were taken and before the refill
-  pub between : DriverState
-  pub takes : TakesSlots receivers n before after (with_missed misses d) between
-  pub offers : OffersAll between d'
-  -- The slots offered are after those that were outstanding, and after those that were staged.
-  pub order : OffersAfter between d'
-  -- The refill loses no buffer, and none has another number of owners. `takes` says the same of the taking (`oldest`, `shows.buffers`),
-  -- with the receiver as an owner.
-  pub owners : HaveSameNumbers (owners between) (owners d')
+  pub misses : ReadsMisses d d'
+  pub count : length (whole_frames runs) ≡ n
+  pub leave : LeaveRing d d' runs
+  -- Each bad run is counted once.
+  pub bad : GrowsBy d.bad d'.bad (bad_runs runs)
+  -- No buffer is free, or all slots but one are outstanding.
+  pub refilled : IsRefilled d'
+  pub none_out : d.handed_out ≡ []
+  pub one_owner : HasNoSecondOwner d'.layout.buffers (owners d')
+  -- No slot is staged at the end, and nothing else of the driver changes.
+  pub others :
+      d' ≡ record d {
+        oldest_receive = d'.oldest_receive;
+        buffers = d'.buffers;
+        staged = [];
+        pool = d'.pool;
+        missed = d'.missed;
+        exact = d'.exact;
+        bad = d'.bad;
+      }
+
+-- With a receiver: it was shown the whole frames of the runs. No buffer is lost or has another number of owners; the receiver is an owner.
+pub record Serves {R : Type 0} (receivers : OfReceiver R) (before after : R) (d d' : DriverState) (n : ℕ) : Type 0 where
+  pub runs : List RunOfSlots
+  pub ring : ServesRing d d' runs n
+  pub receiver : ShowsRuns receivers.took before after runs
+  pub owners : HaveSameNumbers (owners d) (owners d' ++ buffers_of receiver.kept)

@@ -1,7 +1,7 @@
 -- What a driver finds in its oldest receive slots, by loads of their descriptors.
-use Rattle.std.specs.Prelude.{◌≡◌, ◌+◌, ◌++◌, ◌∷◌, []}
+use Rattle.std.specs.Prelude.{◌≡◌, ◌≤◌, ◌+◌, ◌++◌, ◌∷◌, []}
 use Rattle.std.specs.Prelude.{ℕ, Bool, true, false, IsTrue, List, None, Option, Some, length, map, min, replicate}
-use Rattle.std.specs.Prelude.{suc, take}
+use Rattle.std.specs.Prelude.{suc, sum, take}
 use Rattle.std.specs.List.{concat}
 use Rattle.dma_memory.specs.Layout.{receive_buffer_bytes}
 use Rattle.registers.specs.Bits.{is_set}
@@ -13,6 +13,7 @@ use Rattle.adapter.specs.HostFrames.{finished_pieces}
 use Rattle.bus.specs.declared.bus.Bus.{Ghosts}
 use Rattle.driver_law.specs.Calls.{Moment, Ran, frames_ended, in_world_of, only, receive_loads}
 use Rattle.driver_law.specs.OldestSlot.{LooksAtSlot}
+use Rattle.driver.specs.Parts.{FillBuffers, IsFrameSize}
 use Rattle.driver.specs.declared.look.Run.{Run}
 
 -- no slots
@@ -32,6 +33,17 @@ ends descriptor = is_set (status_bits descriptor.status) eop
 pub record IsSoundPart (descriptor : RxDesc) : Type 0 where
   pub no_errors : descriptor.errors ≡ 0
   pub size : IsPartSize (ends descriptor) descriptor.length
+
+-- A run of so many outstanding slots, or fewer: one to six. If it is whole, it has the size of a frame, each slot before the last is full,
+-- and the last isn't empty.
+pub record IsLookedRun (outstanding : ℕ) (run : Run) : Type 0 where
+  pub room : length run.lengths ≡ 6
+  pub least : 1 ≤ run.count
+  pub most : run.count ≤ 6
+  pub inside : run.count ≤ outstanding
+  pub length_is : run.length ≡ sum (take run.count run.lengths)
+  pub size : IsTrue run.whole → IsFrameSize run.length
+  pub full : IsTrue run.whole → FillBuffers (take run.count run.lengths)
 
 -- Over a bus that obeys the law.
 

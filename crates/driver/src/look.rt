@@ -1,14 +1,14 @@
 // A driver looks at its oldest receive slots.
 
 ghost use Rattle.std.specs.Prelude.{◌≡◌, ◌↔◌, ◌+◌, ◌*◌, ◌<◌, ◌≤◌, length};
-ghost use Rattle.std.specs.Prelude.{replicate, slice_set, sum, take, IfNone, IfSome, IsTrue};
+ghost use Rattle.std.specs.Prelude.{replicate, slice_set, IfNone, IfSome, IsTrue};
 ghost use Rattle.dma_memory.specs.Layout.{size_of};
 ghost use Rattle.registers.specs.Bits.{HasBit, is_set};
 ghost use Rattle.descriptors.specs.RxStatus.{dd, eop, status_bits};
 ghost use Rattle.bus.specs.Keeping.{Keeps};
 ghost use Rattle.driver_law.specs.Calls.{WhereReady, at};
-ghost use Rattle.driver.specs.Looks.{IsSoundPart, LooksAt, LooksAtPlace, new_run};
-ghost use Rattle.driver.specs.Parts.{FillBuffers, FitIntoBuffers, IsFrameSize};
+ghost use Rattle.driver.specs.Looks.{IsLookedRun, IsSoundPart, LooksAt, LooksAtPlace, new_run};
+ghost use Rattle.driver.specs.Parts.{IsFrameSize};
 
 use crate::Driver;
 use crate::parts::MOST_PARTS;
@@ -125,14 +125,7 @@ impl Driver {
     pub(crate) fn look<B: Bus>(&self, bus: &mut B) -> Option<Run>
         requires memory { size_of self.now.layout ≤ B.extent bus.old }
         ensures keeps { Keeps B.Bus bus.old bus.new }
-        ensures lengths { IfSome result (λ run. length run.lengths ≡ 6) }
-        ensures some { IfSome result (λ run. 1 ≤ run.count) }
-        ensures most { IfSome result (λ run. run.count ≤ 6) }
-        ensures outstanding { IfSome result (λ run. run.count ≤ length self.now.buffers) }
-        ensures sum { IfSome result (λ run. run.length ≡ sum (take run.count run.lengths)) }
-        ensures size { IfSome result (λ run. IsTrue run.whole → IsFrameSize run.length) }
-        ensures fits { IfSome result (λ run. IsTrue run.whole → FitIntoBuffers (take run.count run.lengths)) }
-        ensures full { IfSome result (λ run. IsTrue run.whole → FillBuffers (take run.count run.lengths)) }
+        ensures finds { IfSome result (IsLookedRun (length self.now.buffers)) }
         ensures looks { WhereReady B.Bus (at bus.old self.now) (at bus.new self.now) (LooksAt B.Bus result) }
     {
         let outstanding = self.buffers.len() - usize::from(self.staged);

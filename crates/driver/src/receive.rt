@@ -1,15 +1,15 @@
 // A driver takes received frames off its ring.
 
-ghost use Rattle.std.specs.Prelude.{◌≡◌, ◌+◌, ◌<◌, ◌≤◌, ◌++◌, ◌∷◌, [], drop, length, sum, take, All, IsTrue};
+ghost use Rattle.std.specs.Prelude.{◌≡◌, ◌+◌, ◌<◌, ◌≤◌, ◌++◌, ◌∷◌, [], drop, length, take, All};
 ghost use Rattle.circular_buffer.specs.Buffer.{buffer};
 ghost use Rattle.dma_memory.specs.Layout.{size_of};
 ghost use Rattle.dma_memory.specs.Owners.{HasNoSecondOwner, HaveSameNumbers};
 ghost use Rattle.bus.specs.Keeping.{Keeps};
 ghost use Rattle.driver_law.specs.Calls.{Runs, at, ether_type_load, only};
 ghost use Rattle.driver_law.specs.DriverState.{owners};
-ghost use Rattle.driver.specs.HandlerSteps.{HandsOn, HandsOver, LeavesRing, ReadsEtherType, Shows, TakesAll};
+ghost use Rattle.driver.specs.HandlerSteps.{HandsOn, HandsOver, HasParts, LeavesRing, ReadsEtherType, Shows, TakesAll};
 ghost use Rattle.driver.specs.HandlerSteps.{TakesSlots, WhereReadyIn, WhereTaken, run_of, scene};
-ghost use Rattle.driver.specs.Parts.{FitIntoBuffers, IsFrameSize, buffers_in, lengths_in};
+ghost use Rattle.driver.specs.Parts.{buffers_in, lengths_in};
 
 use crate::look::Run;
 use crate::{Driver, Part, Parts, Received, Receiver};
@@ -95,10 +95,7 @@ impl Driver {
     ) -> bool
         requires memory { size_of self.old.layout ≤ B.extent bus.old }
         requires one_owner { HasNoSecondOwner self.old.layout.buffers (buffers_in parts ++ owners self.old) }
-        requires lengths { lengths_in parts ≡ take run.now.count run.now.lengths }
-        requires sum { run.now.length ≡ sum (lengths_in parts) }
-        requires size { IsTrue run.now.whole → IsFrameSize run.now.length }
-        requires fits { IsTrue run.now.whole → FitIntoBuffers (take run.now.count run.now.lengths) }
+        requires parts { HasParts run.now parts }
         ensures keeps { Keeps B.Bus bus.old bus.new }
         ensures whole { result ≡ run.now.whole }
         ensures others { self.new ≡ record self.old { pool = self.new.pool; bad = self.new.bad } }
@@ -122,8 +119,8 @@ impl Driver {
         true
     }
 
-    /// Takes runs of finished receive slots, the oldest first, until a look finds neither EOP nor six finished slots. It
-    /// shows the frame of each whole run to the receiver, and returns their number. Finished slots that no end of a
+    /// Takes runs of finished receive slots, the oldest first, until a look finds neither EOP nor six finished slots.
+    /// It shows the frame of each whole run to the receiver, and returns their number. Finished slots that no end of a
     /// frame follows remain in the ring. Over a bus that obeys the law, each descriptor is loaded once, and after those
     /// of a frame bytes 12 and 13 of the frame.
     pub fn take_finished<B: Bus, R: Receiver>(&mut self, bus: &mut B, receiver: &mut R) -> usize

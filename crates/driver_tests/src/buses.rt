@@ -41,8 +41,8 @@ pub(crate) fn good_bus(alloc: Global) -> Result<SoloBus, AllocError> {
     lively_bus(alloc, &Image::with_address(ADDRESS), Link::After(1))
 }
 
-/// A bus without an adapter, and it may lie: its registers all read one value, and its descriptors are all alike, except
-/// the first that are loaded. All its other bytes are ones. It keeps nothing, and counts its accesses.
+/// A bus without an adapter, and it may lie: its registers all read one value, and its descriptors are all alike,
+/// except the first that are loaded. All its other bytes are ones. It keeps nothing, and counts its accesses.
 #[derive(Drop)]
 pub(crate) struct FakeBus {
     register: u32,

@@ -130,8 +130,8 @@ fn handed_out(rt: &impl Abort, driver: &Driver, keeper: &Keeper, frames: u8, bad
 }
 
 /// Registers are all ones, so that MPC is at its greatest, and every descriptor is done for ever: each of seven slots
-/// is taken once. Ones have errors, too, and a length that no frame has. A slot is also bad if only one bit of errors is
-/// set. Six slots without EOP are one bad run. The seventh stays in the ring, as no slot with EOP follows it.
+/// is taken once. Ones have errors, too, and a length that no frame has. A slot is also bad if only one bit of errors
+/// is set. Six slots without EOP are one bad run. The seventh stays in the ring, as no slot with EOP follows it.
 #[test]
 fn lengths_that_no_frame_has_are_bad(rt: HostRuntime) -> Result<(), Fail> {
     let mut bus = good_bus(rt.alloc())?;
@@ -181,9 +181,9 @@ fn run_of(rt: &impl Abort, driver: &mut Driver, slots: &[[u8; 16]], wanted: Brou
     assert!(rt; driver.receiving() == 7);
 }
 
-/// A frame's pieces fill their buffers, except the last, which has 1 to 256 bytes; a frame has 60 to 1,518 bytes, and no
-/// slot of it has errors. A run that is no frame is one bad run, however many slots it has. Slots that aren't followed
-/// by one with EOP stay in the ring.
+/// A frame's pieces fill their buffers, except the last, which has 1 to 256 bytes; a frame has 60 to 1,518 bytes, and
+/// no slot of it has errors. A run that is no frame is one bad run, however many slots it has. Slots that aren't
+/// followed by one with EOP stay in the ring.
 #[test]
 fn runs_that_are_no_frame_are_bad(rt: HostRuntime) -> Result<(), Fail> {
     let mut bus = good_bus(rt.alloc())?;

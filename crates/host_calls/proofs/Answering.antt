@@ -101,17 +101,17 @@ by-answer : {O : Type 0} {g : OfObserver O} (a m : LentBus O g) (h h' : HostStat
     → AnswersCauses result a.host (world_here a).adapter early
 by-answer a m h h' asked NotMine early b ready behind run =
     quiet-answer a.host early a.stations.now b asked.causes _ _ run ready.ready.law.sound
-    behind.leaves.none
+    behind.driver.none
 by-answer a m h h' asked (answers.Handled taken) early b ready behind run =
-    mine-answer a.host early a.stations.now b asked.causes run behind.some
+    mine-answer a.host early a.stations.now b asked.causes run behind.driver.some
 
 -- The answer is that of the causes read.
 by-causes : {O : Type 0} {g : OfObserver O} (a m : LentBus O g) (h h' : HostState) (asked : Asked lent true
     (driver_at lent (host_at a h))) (result : Handled)
     → HostHandlesBy lent result (host_at a h) (host_at m h') asked
     → ((result ≡ NotMine) ↔ (¬ (Meet asked.causes handled_causes)))
-by-causes a m h h' asked NotMine behind = (λ is. behind.leaves.none, λ none. refl)
-by-causes a m h h' asked (answers.Handled taken) behind = (λ is. absurd (cc), λ none. absurd (none behind.some))
+by-causes a m h h' asked NotMine behind = (λ is. behind.driver.none, λ none. refl)
+by-causes a m h h' asked (answers.Handled taken) behind = (λ is. absurd (cc), λ none. absurd (none behind.driver.some))
 
 pub calls-tell_causes : {O : Type 0} {g : OfObserver O} (a m b : LentBus O g) (h h' : HostState) (result : Handled) (past : Past)
     (more : List Access)

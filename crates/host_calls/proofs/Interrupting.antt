@@ -16,16 +16,17 @@ use Rattle.stations.specs.ToldTicks.{ComposesTold}
 use Rattle.stations.specs.declared.lent_bus.LentBus.{LentBus}
 use Rattle.stations.specs.declared.observer.Observer.{Ghosts as OfObserver}
 use Rattle.driver_law.proofs.Places.{place-below}
-use Rattle.driver_law.specs.DriverState.{HandedOut, frame_of, next_receive, numbers_of}
-use Rattle.driver_law.specs.Calls.{IsRefilled}
+use Rattle.driver_law.specs.DriverState.{DriverState, HandedOut, frame_of, next_receive, numbers_of}
+use Rattle.driver_law.specs.Calls.{FlowsTo, IsRefilled}
 use Rattle.driver.specs.HandlerSteps.{GrowsBy, IfHandled, IsLook, OnlyReceives, TakesAndOffers, offering_accesses, taking_accesses}
 use Rattle.driver.specs.Parts.{joined_frames, pieces_of, received_of}
 use Rattle.driver.specs.declared.receiver.Received.{Received}
 use Rattle.driver.specs.declared.interrupt.Handled.{Handled}
 use Rattle.driver.specs.declared.interrupt.Handled.TheVariants.{NotMine}
 use Rattle.driver.specs.declared.interrupt.Handled.TheVariants as answers
-use Rattle.packet_socket.specs.HostCalls.{HostFlowsTo, HostHandles, HostReady, HostServes, did, host_at, in_world}
-use Rattle.packet_socket.specs.HostCalls.{unclaimed_of, without_socket}
+use Rattle.packet_socket.specs.HostCalls.{HostFlowsTo, HostHandles, HostReady, HostServes, did, did_nothing, host_at}
+use Rattle.packet_socket.specs.HostCalls.{in_world, unclaimed_of, without_socket}
+use Rattle.packet_socket.proofs.Stretches.{interval-of}
 use Rattle.packet_socket.specs.HostState.{HostState}
 use Rattle.packet_socket.specs.SocketKinds.{has_none}
 use Rattle.packet_socket.specs.declared.socket_kind.SocketKind.{SocketKind}
@@ -79,13 +80,14 @@ leaves-runs {O} {g} composes a m b h h' zero ready handles finished =
     let leaves = handles.then_does in
     let past = handles.asked.reads.past in
     let only = handles.asked.reads.only in
-    let retells = subst (λ (bus : LentBus O g). Retells a bus past) (sym leaves.leaves.still) handles.asked.reads.reports in
-    let made = call-runs_by composes a m b past h h' [] [] [] (MakesInterrupt NotMine [] h h') zero retells leaves.flows
+    let retells = subst (λ (bus : LentBus O g). Retells a bus past) (sym leaves.driver.still) handles.asked.reads.reports in
+    let flows = interval-of lent (FlowsTo true) (host_at a h) (host_at m h') did_nothing past leaves.driver.flows leaves.sockets in
+    let made = call-runs_by composes a m b past h h' [] [] [] (MakesInterrupt NotMine [] h h') zero retells flows
     (subst (λ (accesses : List Access). All (IsOfDriver h.driver.layout) accesses) (sym only)
     (causes-of_driver h.driver.layout handles.asked.causes))
     (subst OnlyLastWrites (sym only) tt)
     (handles.asked.causes, only)
-    (λ before. let behind = leaves.leaves.work (record { enabled = before.enabled; asked = before.asked }) in record
+    (λ before. let behind = leaves.driver.work (record { enabled = before.enabled; asked = before.asked }) in record
     { enabled = behind.enabled; asked = behind.asked })
     (subst (λ (host : HostState). IsRefilled h.driver → IsRefilled host.driver) (sym leaves.stays) (λ refilled. refilled))
     (subst (λ (host : HostState). h.driver.staged ≡ [] → host.driver.staged ≡ []) (sym leaves.stays) (λ offered. offered))
@@ -114,16 +116,17 @@ works-runs : {O : Type 0} {g : OfObserver O} → ComposesTold g.heard → (a m b
     → InterruptRuns (lent_call a b) (answers.Handled n) (connected h a.stations.now) (connected h' b.stations.now)
 works-runs composes a m b h h' n zero ready refilled offered only_receives handles finished =
     let it = handles.then_does in
-    let works = it.works in
+    let works = it.driver.works in
     let served = works.served in
     let split = works.split in
     let past = handles.asked.reads.past in
     let only = handles.asked.reads.only in
     let own = h.driver.layout in
-    let counts = it.flows.driver.layout in
-    let driver = it.flows.driver.ready.driver_is in
+    let counts = it.driver.flows.layout in
+    let driver = it.driver.flows.ready.driver_is in
     let last = finished.plays.steps in
-    let numbers = map numbers_of works.taken in
+    let done = did (joined_frames it.taken) [] [] in
+    let numbers = map numbers_of it.taken in
     let taking = taking_accesses h.driver works.misses.misses numbers works.loads in
     let offering = offering_accesses h.driver served.offered (next_receive h'.driver) in
     let below : next_receive h'.driver < h'.driver.layout.rx =
@@ -145,7 +148,7 @@ works-runs composes a m b h h' n zero ready refilled offered only_receives handl
     let serves : TakesAndOffers h.driver h'.driver (concat numbers) = record {
       rest = served.rest;
       offered = served.offered;
-      oldest = served.oldest ∙ ap (λ (list : List ℕ). list ++ served.rest) (numbers-joined works.taken);
+      oldest = served.oldest ∙ ap (λ (list : List ℕ). list ++ served.rest) (numbers-joined it.taken);
       newest = served.newest;
       no_bad = served.no_bad;
     } in
@@ -153,22 +156,22 @@ works-runs composes a m b h h' n zero ready refilled offered only_receives handl
     → MakesHandling numbers h h' list = λ list is.
     record {
       causes = handles.asked.causes;
-      missed = works.misses;
+      missed = record { misses = works.misses.misses; missed = works.misses.missed; exact = works.misses.exact };
       served = serves;
       loads = works.loads;
       exact = is;
     } in
-    let made = call-runs_by composes a m b (joined past both) h h' (joined_frames works.taken) [] []
+    let made = call-runs_by composes a m b (joined past both) h h' (joined_frames it.taken) [] []
     (MakesInterrupt (answers.Handled n) numbers h h') zero whole.0
-    (subst (λ (p : Past). HostFlowsTo true (in_world h (world_here a)) (in_world h' (world_here m))
-    (did (joined_frames works.taken) [] []) (joined past p)) split.whole it.flows)
+    (subst (λ (p : Past). HostFlowsTo true (in_world h (world_here a)) (in_world h' (world_here m)) done (joined past p)) split.whole
+    (interval-of lent (FlowsTo true) (host_at a h) (host_at m h') done (joined past works.ran.past) it.driver.flows it.sockets))
     (subst (λ (list : List Access). All (IsOfDriver own) list) (sym all)
     (All-append (IsOfDriver own) (Reads ICR handles.asked.causes ∷ []) (taking ++ offering)
     (causes-of_driver own handles.asked.causes) driver_accesses))
     (subst OnlyLastWrites (sym all)
     (handles-last h.driver works.misses.misses numbers works.loads served.offered (next_receive h'.driver)))
     (makes (joined past both).accesses all)
-    (λ work. it.work work.enabled)
+    (λ work. let behind = it.driver.work work.enabled in record { enabled = behind.enabled; asked = behind.asked })
     (λ before. refilled) (λ before. offered) finished in
     let steps = made.0.steps in
     let played : (past_at a.host steps).accesses ≡ Reads ICR handles.asked.causes ∷ taking ++ offering =
@@ -176,7 +179,7 @@ works-runs composes a m b h h' n zero ready refilled offered only_receives handl
     ∙ whole-accesses a.host whole.0.steps last (none-alone a.host last finished.plays.are)
     ∙ ap (λ (p : Past). p.accesses) (sym whole.0.past_is) ∙ all in
     record {
-      taken = works.taken;
+      taken = it.taken;
       runs = made.0;
       causes = handles.asked.causes;
       tells = tells-on a.host whole.0.steps last steps handles.asked.causes (world_here a).adapter
@@ -211,9 +214,9 @@ works-runs composes a m b h h' n zero ready refilled offered only_receives handl
             first.0.lent.host works.look;
       };
       answer = record {
-        frames = works.frames;
-        least = it.least;
-        unclaimed = taken-unclaimed h.kinds works.taken h.unclaimed h'.unclaimed works.frames.sorted.unclaimed;
+        frames = it.sorted;
+        least = it.driver.least;
+        unclaimed = taken-unclaimed h.kinds it.taken h.unclaimed h'.unclaimed it.sorted.sorted.unclaimed;
         only_receives = only_receives;
       };
     }
@@ -226,4 +229,5 @@ pub interrupt-runs : {O : Type 0} {g : OfObserver O} → ComposesTold g.heard
 interrupt-runs composes a m b h h' NotMine zero ready only_receives serves handles finished = leaves-runs composes a m b h h' zero ready
     handles finished
 interrupt-runs composes a m b h h' (answers.Handled n) zero ready only_receives serves handles finished =
-    works-runs composes a m b h h' n zero ready serves.refilled serves.offered only_receives handles finished
+    works-runs composes a m b h h' n zero ready serves.ring.refilled (ap (λ (d : DriverState). d.staged) serves.ring.others)
+    only_receives handles finished

@@ -16,8 +16,8 @@ use Rattle.stations.specs.declared.lent_bus.LentBus.{LentBus}
 use Rattle.stations.specs.declared.observer.Observer.{Ghosts as OfObserver}
 use Rattle.driver_law.proofs.Places.{place-below}
 use Rattle.driver_law.specs.DriverState.{next_receive, with_owners}
-use Rattle.driver_law.specs.Calls.{IsRefilled}
-use Rattle.packet_socket.proofs.Stretches.{host-happens}
+use Rattle.driver_law.specs.Calls.{GoesTo, IsRefilled}
+use Rattle.packet_socket.proofs.Stretches.{host-happens, interval-of}
 use Rattle.packet_socket.specs.HostCalls.{HostGoesTo, HostReady, LeavesQueue, Receives, Returns, ReturnsBy, did, given_first, host_at, in_world}
 use Rattle.packet_socket.specs.HostCalls.{waiting_frames}
 use Rattle.packet_socket.specs.HostState.{HostState, queue_at}
@@ -42,7 +42,7 @@ recv-runs composes a m b h h' socket size bytes zero ready long receives refille
     let ran = receives.ran.ran in
     let given = given_by socket (Ok bytes) in
     let goes : HostGoesTo true (in_world h (world_here a)) (in_world h' (world_here m)) (did [] given []) ran.past =
-    record { sizes = receives.ran.sizes; driver = ran.goes; accounts = receives.ran.accounts } in
+    interval-of lent (GoesTo true) (host_at a h) (host_at m h') (did [] given []) ran.past ran.goes receives.ran.sockets in
     let counts = ran.goes.flows.layout in
     let driver = ran.goes.flows.ready.driver_is in
     let below : next_receive h'.driver < h'.driver.layout.rx =

@@ -29,13 +29,14 @@ use Rattle.driver.specs.SendSteps.{HasWrongLength, IsTransmitAnswer, SendAnswer,
 use Rattle.driver.specs.SendSteps.{loads_to_free, with_transmit_slots}
 use Rattle.driver.specs.declared.transmit.SendError.{SendError}
 use Rattle.driver.specs.declared.transmit.SendError.TheVariants.{RingFull, TooLong, TooShort}
-use Rattle.packet_socket.specs.HostCalls.{Accounts, HostGoesTo, HostReady, HostSends, did, driver_at, driver_of, host_at, in_world}
+use Rattle.packet_socket.specs.HostCalls.{HostGoesTo, HostReady, HostSends, KeepsAccount, did, driver_at, driver_of, host_at, in_world}
 use Rattle.packet_socket.specs.HostState.{HostState}
+use Rattle.packet_socket.proofs.Stretches.{interval-of}
 use Rattle.host_calls.specs.LentCalls.{lent}
 use Rattle.host_calls.specs.CallAnswers.{AnswersSend, AreLeft, FreesBy, FreesFirstBy, LeavesSend, MakesSend}
 use Rattle.host_calls.specs.CallsOfHosts.{CallRuns, IsOfDriver, OnlyLastWrites}
 use Rattle.host_calls.specs.ConnectedHosts.{connected}
-use Rattle.host_calls.proofs.Calling.{call-runs_by, lent_call, whole-accesses, work-goes}
+use Rattle.host_calls.proofs.Calling.{call-runs_by, flows-of, lent_call, whole-accesses, work-goes}
 use Rattle.host_calls.proofs.DriversAccesses.{sends-last, sends-of_driver}
 use Rattle.host_calls.proofs.HostTrails.{none-alone}
 use Rattle.host_calls.proofs.Retellings.{retelling-ends, retellings-join}
@@ -61,16 +62,17 @@ send-runs : {O : Type 0} {g : OfObserver O} → ComposesTold g.heard
     → ((runs : CallRuns (lent_call a b) (did [] [] (accepted_by result frame)) (MakesSend result frame h h') (connected h a.stations.now)
     (connected h' b.stations.now)) × (runs.steps ≡ retells.steps ++ finished.plays.steps))
 send-runs composes a m b h h' frame result past zero ready others sent retells only driver_goes finished =
-    let ran = sent.ran.ran in
+    let ran = sent.sends.ran in
     let held = frames_held h.driver.oldest_receive (world_here a) in
     let stored : ran.past.stored ≡ past.stored =
     append_cancel_left held ran.past.stored past.stored (sym ran.goes.flows.holds ∙ driver_goes.flows.holds) in
-    let accounts = subst (Accounts h (world_here a) h' (world_here m) []) stored sent.ran.accounts in
-    let goes : HostGoesTo true (in_world h (world_here a)) (in_world h' (world_here m)) (did [] [] (accepted_by result frame)) past =
-    record { sizes = sent.ran.sizes; driver = driver_goes; accounts = accounts } in
+    let done = did [] [] (accepted_by result frame) in
+    let sockets = subst (λ (frames : List (List ℕ)). KeepsAccount lent [] frames (host_at a h) (host_at m h')) stored sent.sockets in
+    let goes : HostGoesTo true (in_world h (world_here a)) (in_world h' (world_here m)) done past =
+    interval-of lent (GoesTo true) (host_at a h) (host_at m h') done past driver_goes sockets in
     let some : 0 < h.driver.layout.tx = omega (arith, ready.ready.transmit.oldest_slot) in
     call-runs_by composes a m b past h h' [] [] (accepted_by result frame) (MakesSend result frame h h') zero retells
-    (record { sizes = sent.ran.sizes; driver = driver_goes.flows; accounts = accounts })
+    (flows-of h (world_here a) h' (world_here m) [] [] (accepted_by result frame) past goes)
     (subst (λ (accesses : List Access). All (IsOfDriver h.driver.layout) accesses) (sym only)
     (sends-of_driver h.driver.layout result h.driver h'.driver frame refl some))
     (subst OnlyLastWrites (sym only) (sends-last result h.driver h'.driver frame))
@@ -95,7 +97,7 @@ refused-call : {O : Type 0} {g : OfObserver O} → ComposesTold g.heard
     → CallRuns (lent_call a b) (did [] [] []) (MakesSend (Err error) frame h h') (connected h a.stations.now)
     (connected h' b.stations.now)
 refused-call composes a m b h h' frame error zero ready others sent finished =
-    let ran = sent.ran.ran in
+    let ran = sent.sends.ran in
     (send-runs composes a m b h h' frame (Err error) ran.past zero ready others sent ran.reports
     (ran.only ∙ sends-as (Err error) h h' (world_here a) (world_here m) frame) ran.goes finished).0
 
@@ -113,7 +115,7 @@ full-call : {O : Type 0} {g : OfObserver O} → ComposesTold g.heard → (a m b 
     → HostSends lent frame (Err RingFull) (host_at a h) (host_at m h') → Finished m b
     → SentCall a b h h' frame (Err RingFull)
 full-call composes a m b h h' frame zero ready others sent finished =
-    let ran = sent.frees_first.ran in
+    let ran = sent.sends.frees_first.ran in
     let reports = ran.reports in
     let made = send-runs composes a m b h h' frame (Err RingFull) ran.past zero ready others sent reports ran.only ran.goes finished in (
       made.0,
@@ -129,7 +131,7 @@ full-call composes a m b h h' frame zero ready others sent finished =
         };
         others = none-alone a.host finished.plays.steps finished.plays.are;
         are_left = subst (λ (k : ℕ). AreLeft h'.driver.oldest_transmit h'.driver.sending (world_at m.stations.now k)) reports.lent.host
-            (left-over (driver_of h' (world_here m)) (world_here m) ran.goes.flows.ready sent.frees_first.none);
+            (left-over (driver_of h' (world_here m)) (world_here m) ran.goes.flows.ready sent.sends.frees_first.none);
       },
     )
 
@@ -149,7 +151,7 @@ accepted-call : {O : Type 0} {g : OfObserver O} → ComposesTold g.heard
     → HostSends lent frame (Ok u) (host_at a h) (host_at m h') → Finished m b
     → SentCall a b h h' frame (Ok u)
 accepted-call composes a m b h h' frame u zero ready others sent finished =
-    let parts = sent.frees_first in
+    let parts = sent.sends.frees_first in
     let freed = parts.freed.driver in
     let between = parts.freed.bus in
     let frees = parts.reclaims.ran in

@@ -11,16 +11,14 @@ use Rattle.dma_memory.specs.Layout.{Counts}
 use Rattle.adapter.specs.World.{World}
 use Rattle.bus.proofs.Lists.{all-head, all-none, all-right, all-without}
 use Rattle.driver_law.proofs.Owners.{all-copies}
-use Rattle.driver_law.specs.Calls.{with_missed}
 use Rattle.driver_law.specs.DriverState.{DriverState, HandedOut, holding, owners}
 use Rattle.driver_law.specs.ReadyDrivers.{ReadyWith}
-use Rattle.driver.specs.HandlerSteps.{GrowsBy, IfHandled, IfNotMine, Serves, bad_runs}
+use Rattle.driver.specs.HandlerSteps.{IfHandled, IfNotMine, Serves}
 use Rattle.driver.specs.Parts.{AreFrames, IsWholeFrame, buffers_in, buffers_of}
 use Rattle.driver.specs.declared.interrupt.Handled.{Handled}
 use Rattle.driver.specs.declared.interrupt.Handled.TheVariants.{NotMine}
 use Rattle.driver.specs.declared.interrupt.Handled.TheVariants as answers
 use Rattle.driver.specs.declared.receiver.Received.{Received}
-use Rattle.driver.proofs.ShownRuns.{slots-owners}
 use Rattle.packet_socket.specs.HostCalls.{HostReadyWith, HostServes, Queues, driver_of, waiting_pieces}
 use Rattle.packet_socket.specs.HostState.{SocketsState, all_of, host_owners, queue_at}
 use Rattle.packet_socket.specs.InsideHost.{IsHost, host_with}
@@ -154,71 +152,45 @@ has-room driver driver' before kept host sizes numbers =
       host.room,
     )
 
--- What was shown to the sockets, and where each buffer is then.
-pub record WasShown (driver driver' : DriverState) (before after : SocketsState) : Type 0 where
-  pub received : List Received
-  pub kept : List Received
-  pub shown : Sorts before after received kept
-  pub sizes : AreFrames received
-  pub buffers : HaveSameNumbers (owners driver) (owners driver' ++ buffers_of kept)
+-- In an interrupt.
 
-pub shown-queues : (driver driver' : DriverState) (before after : SocketsState) → IsHost driver before
-    → (shows : WasShown driver driver' before after)
-    → Queues before.kinds before.queues after.queues shows.kept
-shown-queues driver driver' before after host shows =
+pub served-queues : (n : ℕ) (driver driver' : DriverState) (before after : SocketsState) → IsHost driver before
+    → (serves : Serves (record { took = Sorts }) before after driver driver' n)
+    → Queues before.kinds before.queues after.queues serves.receiver.kept
+served-queues n driver driver' before after host serves =
+    let shows = serves.receiver in
     shows.shown.queues (has-room driver driver' before shows.kept host
-    (kept-are-frames before after shows.received shows.kept shows.shown shows.sizes) shows.buffers)
+    (kept-are-frames before after shows.received shows.kept shows.shown shows.frames.sizes) serves.owners)
 
 -- No buffer has another number of owners then.
-pub shown-owners : (driver driver' : DriverState) (before after : SocketsState) → IsHost driver before
-    → WasShown driver driver' before after
+served-owners : (n : ℕ) (driver driver' : DriverState) (before after : SocketsState) → IsHost driver before
+    → Serves (record { took = Sorts }) before after driver driver' n
     → HaveSameNumbers (host_owners (host_with driver before)) (host_owners (host_with driver' after))
-shown-owners driver driver' before after host shows = λ k.
+served-owners n driver driver' before after host serves = λ k.
     omega (
       arith,
-      shows.buffers k,
+      serves.owners k,
       copies-append k (owners driver) (buffers_of (all_of before.queues)),
-      copies-append k (owners driver') (buffers_of shows.kept),
+      copies-append k (owners driver') (buffers_of serves.receiver.kept),
       copies-append k (owners driver') (buffers_of (all_of after.queues)),
-      kept-copies k before.kinds before.queues after.queues shows.kept (shown-queues driver driver' before after host shows),
+      kept-copies k before.kinds before.queues after.queues serves.receiver.kept (served-queues n driver driver' before after host serves),
     )
 
-pub shown-host : (driver driver' : DriverState) (before after : SocketsState) → IsHost driver before
-    → WasShown driver driver' before after → driver'.layout ≡ driver.layout
+served-host : (n : ℕ) (driver driver' : DriverState) (before after : SocketsState) → IsHost driver before
+    → Serves (record { took = Sorts }) before after driver driver' n → driver'.layout ≡ driver.layout
     → IsHost driver' after
-shown-host driver driver' before after host shows counts =
-    let queues = shown-queues driver driver' before after host shows in
+served-host n driver driver' before after host serves counts =
+    let shows = serves.receiver in
+    let queues = served-queues n driver driver' before after host serves in
     record {
       room = shows.shown.room ∙ host.room ∙ ap (λ (c : Counts). c.buffers) (sym counts);
       count = shows.shown.count ∙ host.count ∙ ap (λ (kinds : List SocketKind). length kinds) (sym shows.shown.kinds);
       owners = subst (λ (c : Counts). HasNoSecondOwner c.buffers (owners driver' ++ buffers_of (all_of after.queues))) (sym counts) (λ k.
-          omega (arith, host.owners k, shown-owners driver driver' before after host shows k));
+          omega (arith, host.owners k, served-owners n driver driver' before after host serves k));
       sizes =
           All-permutation IsWholeFrame (all_of before.queues ++ shows.kept) (all_of after.queues) queues.all
           (All-append IsWholeFrame (all_of before.queues) shows.kept host.sizes
-          (kept-are-frames before after shows.received shows.kept shows.shown shows.sizes));
-    }
-
--- MPC is read before frames are taken, and then the ring is refilled: neither changes what was shown.
-pub served-shows : (n : ℕ) (driver driver' : DriverState) (before after : SocketsState)
-    → Serves (record { took = Sorts }) before after driver driver' n → WasShown driver driver' before after
-served-shows n driver driver' before after serves =
-    let shows = serves.takes.shows in
-    record {
-      received = shows.received;
-      kept = shows.kept;
-      shown = shows.shown;
-      sizes = shows.sizes;
-      buffers = λ k.
-          let numbers : copies k (owners driver) ≡ copies k (owners serves.between ++ buffers_of shows.kept) =
-          slots-owners (record { took = Sorts }) n before after (with_missed serves.misses driver) serves.between serves.takes k in
-          omega (
-            arith,
-            numbers,
-            serves.owners k,
-            copies-append k (owners serves.between) (buffers_of shows.kept),
-            copies-append k (owners driver') (buffers_of shows.kept),
-          );
+          (kept-are-frames before after shows.received shows.kept shows.shown shows.frames.sizes));
     }
 
 pub handled-host : (result : Handled) (driver driver' : DriverState) (before after : SocketsState) → IsHost driver before
@@ -227,8 +199,29 @@ pub handled-host : (result : Handled) (driver driver' : DriverState) (before aft
     → IsHost driver' after
 handled-host NotMine driver driver' before after host stays serves counts = subst (λ (s : SocketsState). IsHost driver' s)
     (sym stays.1) (subst (λ (d : DriverState). IsHost d before) (sym stays.0) host)
-handled-host (answers.Handled taken) driver driver' before after host stays serves counts = shown-host driver driver' before after host
-    (served-shows taken driver driver' before after serves) counts
+handled-host (answers.Handled taken) driver driver' before after host stays serves counts =
+    served-host taken driver driver' before after host serves counts
+
+-- What the handler does to sockets.
+pub sorts-all : (result : Handled) (driver driver' : DriverState) (before after : SocketsState) → IsHost driver before
+    → IfHandled result (Serves (record { took = Sorts }) before after driver driver')
+    → IfHandled result (HostServes (host_with driver before) (host_with driver' after))
+sorts-all NotMine driver driver' before after host serves = tt
+sorts-all (answers.Handled taken) driver driver' before after host serves =
+    let shows = serves.receiver in
+    record {
+      runs = serves.runs;
+      ring = serves.ring;
+      shown = shows.received;
+      frames = shows.frames;
+      sorted = record {
+        kinds = shows.shown.kinds;
+        queues = subst (Queues before.kinds before.queues after.queues) shows.shown.claimed
+            (served-queues taken driver driver' before after host serves);
+        unclaimed = shows.shown.unclaimed;
+      };
+      owners = served-owners taken driver driver' before after host serves;
+    }
 
 -- At first nothing waits.
 pub new-host : (driver : DriverState) (sockets : SocketsState) (kinds : List SocketKind) (room : ℕ)
@@ -249,49 +242,6 @@ new-host driver sockets kinds room is size owns =
             (λ (list : List Received). copies k (buffers_of list)) none,
       );
       sizes = subst AreFrames (sym none) (all-none IsWholeFrame);
-    }
-
--- What the handler does to sockets.
-pub sorts-all : (result : Handled) (driver driver' : DriverState) (before after : SocketsState) → IsHost driver before
-    → IfHandled result (Serves (record { took = Sorts }) before after driver driver')
-    → IfHandled result (HostServes (host_with driver before) (host_with driver' after))
-unfolding served-shows
-sorts-all NotMine driver driver' before after host serves = tt
-sorts-all (answers.Handled taken) driver driver' before after host serves =
-    let shows = served-shows taken driver driver' before after serves in
-    let last : driver'.bad ≡ serves.between.bad = ap (λ (d : DriverState). d.bad) serves.offers.others in
-    record {
-      misses = record {
-        misses = serves.misses;
-        missed = ap (λ (d : DriverState). d.missed) serves.offers.others ∙ ap (λ (d : DriverState). d.missed) serves.takes.others;
-        exact = ap (λ (d : DriverState). d.exact) serves.offers.others ∙ ap (λ (d : DriverState). d.exact) serves.takes.others;
-      };
-      runs = serves.takes.runs;
-      count = serves.takes.count;
-      leave = record {
-        are_runs = serves.takes.are_runs;
-        rest = serves.between.buffers;
-        offered = serves.order.offered;
-        oldest = serves.takes.oldest;
-        newest = serves.order.newest
-            ∙ ap (λ (d : DriverState). serves.between.buffers ++ (d.staged ++ serves.order.offered)) serves.takes.others;
-        next = ap (λ (d : DriverState). d.oldest_receive) serves.offers.others ∙ serves.takes.next;
-      };
-      sorts = record {
-        shown = shows.received;
-        frames = serves.takes.shows.frames;
-        sizes = shows.sizes;
-        sorted = record {
-          kinds = shows.shown.kinds;
-          queues = subst (Queues before.kinds before.queues after.queues) shows.shown.claimed
-              (shown-queues driver driver' before after host shows);
-          unclaimed = shows.shown.unclaimed;
-        };
-        bad = subst (λ (k : ℕ). GrowsBy driver.bad k (bad_runs serves.takes.runs)) (sym last) serves.takes.bad;
-      };
-      owners = shown-owners driver driver' before after host shows;
-      refilled = serves.offers.refilled;
-      offered = ap (λ (d : DriverState). d.staged) serves.offers.others;
     }
 
 pub new-ready : {up : Bool} (driver : DriverState) (sockets : SocketsState) (kinds : List SocketKind) (room : ℕ) (world : World)

@@ -144,17 +144,18 @@ host-receives {up} bus joins old new b socket size received bytes is parts leave
       offered = refills.numbers;
       newest = refills.offered;
       ran = record {
-        sizes = subst AreFrames (sym all)
-            (all-without IsWholeFrame parts.first received parts.last (subst AreFrames parts.before host.sizes));
         ran = ran-as bus (loads ++ stores) (receive_accesses h.driver h'.driver received.parts refills.numbers)
             a c d e (driver_of h' (bus.world c)) [] [] refl end from;
-        accounts =
-            accounts h (bus.world a) h' (bus.world c) given [] from.past.stored leaves.kinds from.goes.flows.holds moved
-            (record {
-              least = omega (arith, leaves.unclaimed);
-              most = omega (arith, leaves.unclaimed);
-              exactly = λ below. omega
-                  (arith, leaves.unclaimed);
-            });
+        sockets = record {
+          sizes = subst AreFrames (sym all)
+              (all-without IsWholeFrame parts.first received parts.last (subst AreFrames parts.before host.sizes));
+          accounts =
+              accounts h (bus.world a) h' (bus.world c) given [] from.past.stored leaves.kinds from.goes.flows.holds moved
+              (record {
+                least = omega (arith, leaves.unclaimed);
+                most = omega (arith, leaves.unclaimed);
+                exactly = λ below. omega (arith, leaves.unclaimed);
+              });
+        };
       };
     }

@@ -13,7 +13,7 @@ use Rattle.bus.proofs.Lists.{all-left, all-right}
 use Rattle.bus.specs.PastOfStretch.{joined}
 use Rattle.driver_law.proofs.TakenSlots.{buffers_can_come_back}
 use Rattle.bus.specs.declared.bus.Bus.{Ghosts}
-use Rattle.driver_law.specs.Calls.{FlowsTo, at, driver_did, driver_in, with_missed}
+use Rattle.driver_law.specs.Calls.{at}
 use Rattle.driver_law.specs.DriverState.{DriverState, HandedOut, frame_of, holding, numbers_of, owners}
 use Rattle.driver_law.specs.ReadyDrivers.{ReadyWith, Stands}
 use Rattle.driver.specs.HandlerSteps.{Asked, DoesNothing, GrowsBy, Handles, HandlesIt, IfHandled, IfNotMine, IsPart, Scene, Serves}
@@ -23,7 +23,7 @@ use Rattle.driver.specs.declared.interrupt.Handled.{Handled}
 use Rattle.driver.specs.declared.interrupt.Handled.TheVariants.{NotMine}
 use Rattle.driver.specs.declared.interrupt.Handled.TheVariants as answers
 use Rattle.driver.specs.declared.receiver.Received.{Received}
-use Rattle.driver.proofs.ShownRuns.{slots-few}
+use Rattle.driver.proofs.ShownRuns.{served-few}
 use Rattle.packet_socket.specs.HostCalls.{HostDoesNothing, HostHandles, HostHandlesIt, HostMoment, HostReadyWith, IsReadyHost, Queues}
 use Rattle.packet_socket.specs.HostCalls.{driver_at, driver_of, socket_entries, host_at, socket_frames, waiting_frame, waiting_frames}
 use Rattle.packet_socket.specs.HostCalls.{waiting_pieces, without_socket}
@@ -46,27 +46,16 @@ host_in now = record { bus = now.bus; host = host_with now.driver now.receiver }
 leaves : {up : Bool} {B : Type 0} (bus : Ghosts B) (old : HostMoment B) (new : B) (asked : Asked bus up (driver_at bus old))
     → IsReadyHost bus up old → DoesNothing bus (driver_at bus old) (at new (driver_at bus old).driver) asked
     → HostDoesNothing bus old (host_at new old.host) asked
-leaves {up} {B} bus old new asked is it =
+leaves {up} bus old new asked is it =
     let h = old.host in
-    let past = asked.reads.past in
-    let d = (driver_at bus old).driver in
-    let flows : FlowsTo up (driver_in d (bus.world old.bus)) (driver_in d (bus.world new)) (driver_did [] []) past = subst
-    (λ (b : B). FlowsTo up (driver_in d (bus.world old.bus)) (driver_in d (bus.world b)) (driver_did [] []) past) (sym it.still)
-    asked.reads.flows in
-    let stand = flows.ready.stand in
+    let stand = it.flows.ready.stand in
     record {
       stays = refl;
-      leaves = record {
-        none = it.none;
-        still = it.still;
-        work = λ before. let behind = it.work before in record { enabled = behind.enabled; asked = behind.asked };
-      };
-      flows = record {
+      driver = subst (λ (end : DriverState). DoesNothing bus (driver_at bus old) (at new end) asked)
+          (sym (driver-stays h h.driver (bus.world old.bus) (bus.world new) is.ready refl stand)) it;
+      sockets = record {
         sizes = is.ready.sizes;
-        driver = subst
-            (λ (end : DriverState). FlowsTo up (driver_in d (bus.world old.bus)) (driver_in end (bus.world new)) (driver_did [] []) past)
-            (sym (driver-stays h h.driver (bus.world old.bus) (bus.world new) is.ready refl stand)) flows;
-        accounts = accounts-stay h h.driver (bus.world old.bus) (bus.world new) past.stored is.ready refl stand flows.holds;
+        accounts = accounts-stay h h.driver (bus.world old.bus) (bus.world new) asked.reads.past.stored is.ready refl stand it.flows.holds;
       };
     }
 
@@ -178,66 +167,69 @@ works {up} bus old new n sound sound' is asked it serves =
     let b = bus.world new.bus in
     let d = driver_of h a in
     let e = holding d.handed_out driver' in
-    let w = it.works in
-    let last = holding (d.handed_out ++ pieces_of w.frames.kept) e in
-    let frames = joined_frames w.frames.taken in
+    let frames = it.frames in
+    let handles = it.driver in
+    let w = handles.works in
+    let last = holding (d.handed_out ++ pieces_of frames.kept) e in
+    let joined_taken = joined_frames frames.taken in
     let past = joined asked.reads.past w.ran.past in
-    let slots : n + length serves.between.buffers ≤ length old.driver.buffers =
-    slots-few (record { took = Sorts }) n before after (with_missed serves.misses old.driver) serves.between serves.takes in
-    let few : length w.frames.taken ≤ length old.driver.buffers = omega (arith, w.frames.count, slots) in
-    let all = sorted old.driver driver' before after a b w.frames.taken w.frames.kept sound sound' is.ready it.flows.layout
-    w.ran.goes.flows.ready w.frames.part few w.frames.shown in
+    let few : length frames.taken ≤ length old.driver.buffers =
+    omega (arith, frames.count, served-few n old.driver driver' serves.runs serves.ring) in
+    let all = sorted old.driver driver' before after a b frames.taken frames.kept sound sound' is.ready handles.flows.layout
+    w.ran.goes.flows.ready frames.part few frames.shown in
     let list = (driver_of h' b).handed_out in
-    let grows : GrowsBy before.unclaimed after.unclaimed (without_socket before.kinds frames) = subst
-    (GrowsBy before.unclaimed after.unclaimed) (unclaimed-frames before.kinds w.frames.taken) w.frames.shown.unclaimed in
+    let grows : GrowsBy before.unclaimed after.unclaimed (without_socket before.kinds joined_taken) = subst
+    (GrowsBy before.unclaimed after.unclaimed) (unclaimed-frames before.kinds frames.taken) frames.shown.unclaimed in
     record {
-      some = it.some;
-      works = record {
-        taken = w.frames.taken;
-        frames = record {
-          count = w.frames.count;
-          groups = w.frames.groups;
-          each = w.frames.each;
-          sorted = record {
-            kinds = w.frames.shown.kinds;
-            queues = subst (Queues before.kinds before.queues after.queues) w.frames.shown.claimed all.queues;
-            unclaimed = w.frames.shown.unclaimed;
-          };
+      taken = frames.taken;
+      sorted = record {
+        count = frames.count;
+        groups = frames.groups;
+        each = frames.each;
+        sorted = record {
+          kinds = frames.shown.kinds;
+          queues = subst (Queues before.kinds before.queues after.queues) frames.shown.claimed all.queues;
+          unclaimed = frames.shown.unclaimed;
         };
-        misses = record { misses = w.misses.misses; missed = w.misses.missed; exact = w.misses.exact };
-        served = record {
-          rest = w.served.rest;
-          offered = w.served.offered;
-          oldest = w.served.oldest;
-          newest = w.served.newest;
-          no_bad = w.served.no_bad;
-        };
-        loads = w.loads;
-        ran = record {
-          past = w.ran.past;
-          reports = w.ran.reports;
-          only = w.ran.only;
-          goes = goes-hold d (bus.world asked.after_read) last b frames [] w.ran.past list w.ran.goes all.ready;
-          follows = w.ran.follows;
-        };
-        split = record {
-          middle = w.split.middle;
-          before = w.split.before;
-          behind = w.split.behind;
-          reaches = w.split.reaches;
-          leaves = w.split.leaves;
-          whole = w.split.whole;
-          first_made = w.split.first_made;
-          later_made = w.split.later_made;
-        };
-        look = record { none_left = w.look.none_left; short = w.look.short; loads_are = w.look.loads_are };
       };
-      least = it.least;
-      work = λ enabled. let behind = it.work enabled in record { enabled = behind.enabled; asked = behind.asked };
-      flows = record {
+      driver = record {
+        some = handles.some;
+        works = record {
+          misses = record { misses = w.misses.misses; missed = w.misses.missed; exact = w.misses.exact };
+          served = record {
+            rest = w.served.rest;
+            offered = w.served.offered;
+            oldest = w.served.oldest;
+            newest = w.served.newest;
+            no_bad = w.served.no_bad;
+          };
+          loads = w.loads;
+          ran = record {
+            past = w.ran.past;
+            reports = w.ran.reports;
+            only = w.ran.only;
+            goes = goes-hold d (bus.world asked.after_read) last b joined_taken [] w.ran.past list w.ran.goes all.ready;
+            follows = w.ran.follows;
+          };
+          split = record {
+            middle = w.split.middle;
+            before = w.split.before;
+            behind = w.split.behind;
+            reaches = w.split.reaches;
+            leaves = w.split.leaves;
+            whole = w.split.whole;
+            first_made = w.split.first_made;
+            later_made = w.split.later_made;
+          };
+          look = record { none_left = w.look.none_left; short = w.look.short; loads_are = w.look.loads_are };
+        };
+        least = handles.least;
+        work = λ enabled. let behind = handles.work enabled in record { enabled = behind.enabled; asked = behind.asked };
+        flows = flows-hold d a last b joined_taken [] past list handles.flows all.ready;
+      };
+      sockets = record {
         sizes = sound'.sizes;
-        driver = flows-hold d a last b frames [] past list it.flows all.ready;
-        accounts = accounts h a h' b [] frames past.stored w.frames.shown.kinds it.flows.holds all.frames grows;
+        accounts = accounts h a h' b [] joined_taken past.stored frames.shown.kinds handles.flows.holds all.frames grows;
       };
     }
 

@@ -11,12 +11,13 @@ use Rattle.bus.specs.declared.event.Access.{Access}
 use Rattle.driver_law.proofs.Steps.{goes-happens}
 use Rattle.bus.specs.declared.bus.Bus.{Ghosts}
 use Rattle.driver_law.specs.Calls.{DriverDid, DriverInWorld, FlowsTo, GoesTo, Moment, Ran, at, call_did, driver_did, driver_in, held_at}
+use Rattle.driver_law.specs.Calls.{in_world_of}
 use Rattle.driver_law.specs.DriverState.{DriverState, HandedOut, holding}
 use Rattle.driver_law.specs.ReadyDrivers.{ReadyWith, Stands}
 use Rattle.driver.specs.SendSteps.{FreesFirst, IsTransmitAnswer, SendAnswer, Sends, accepted_by, accesses_by}
 use Rattle.packet_socket.specs.HostCalls.{Accounts, HostDid, HostGoesTo, HostInWorld, HostInterval, HostMoment, HostReadyWith, HostSends}
 use Rattle.packet_socket.specs.HostCalls.{IsReadyHost, did_both, did_nothing, driver_at, driver_of, host_at, in_world, waiting_frame}
-use Rattle.packet_socket.specs.HostCalls.{waiting_frames}
+use Rattle.packet_socket.specs.HostCalls.{KeepsAccount, waiting_frames}
 use Rattle.packet_socket.specs.HostState.{HostState, all_of, queue_at}
 use Rattle.packet_socket.proofs.Accounts.{accounts, accounts-join}
 use Rattle.packet_socket.proofs.WaitingFrames.{AreSame, all-long, all-same, ends-as, queue-frames-same}
@@ -111,17 +112,27 @@ host-transmits bus old new frame result is sends =
     let flows = sends.ran.goes.flows in
     let end : e ≡ e' = sym (driver-stays h new.driver (bus.world old.bus) (bus.world new.bus) is.ready flows.layout flows.ready.stand) in
     record {
-      ran = record {
-        sizes = is.ready.sizes;
+      sends = record {
         ran = ran-as bus (accesses_by result d e frame) (accesses_by result d e' frame) old.bus new.bus d e e' []
             (accepted_by result frame)
             (ap (λ (s : DriverState). accesses_by result d s frame) end) end sends.ran;
+        answer = subst (λ (s : DriverState). IsTransmitAnswer bus result (driver_at bus old) (at new.bus s)) end sends.answer;
+        frees_first = subst (λ (s : DriverState). FreesFirst bus frame result (driver_at bus old) (at new.bus s)) end sends.frees_first;
+      };
+      sockets = record {
+        sizes = is.ready.sizes;
         accounts = accounts-stay h new.driver (bus.world old.bus) (bus.world new.bus) sends.ran.past.stored is.ready flows.layout
             flows.ready.stand flows.holds;
       };
-      answer = subst (λ (s : DriverState). IsTransmitAnswer bus result (driver_at bus old) (at new.bus s)) end sends.answer;
-      frees_first = subst (λ (s : DriverState). FreesFirst bus frame result (driver_at bus old) (at new.bus s)) end sends.frees_first;
     }
+
+-- An interval of a host's run: the driver's, with the sockets' part.
+abbrev pub interval-of : {B : Type 0} (bus : Ghosts B) (Holds : DriverInWorld → DriverInWorld → DriverDid → Past → Type 0)
+    (old new : HostMoment B) (done : HostDid) (past : Past)
+    → Holds (in_world_of bus (driver_at bus old)) (in_world_of bus (driver_at bus new)) done.driver past
+    → KeepsAccount bus done.given past.stored old new
+    → HostInterval Holds (in_world old.host (bus.world old.bus)) (in_world new.host (bus.world new.bus)) done past
+interval-of bus Holds old new done past driver sockets = record { sizes = sockets.sizes; driver = driver; accounts = sockets.accounts }
 
 -- Whatever happens between two calls.
 pub host-happens : {up : Bool} (h : HostState) (a b : World) (past : Past) → HostReadyWith up h a → Happens a b past
@@ -153,7 +164,7 @@ pub host-join : (First Later : DriverInWorld → DriverInWorld → DriverDid →
 host-join First Later joins h1 h2 h3 one two first later before behind = record {
   sizes = behind.sizes;
   driver = joins (driver_of h1.host h1.world) (driver_of h2.host h2.world) (driver_of h3.host h3.world) h1.world h2.world h3.world
-      one.taken two.taken one.accepted two.accepted first later before.driver behind.driver;
+      one.driver.taken two.driver.taken one.driver.accepted two.driver.accepted first later before.driver behind.driver;
   accounts = accounts-join h1.host h2.host h3.host h1.world h2.world h3.world one.given two.given first.stored later.stored before.accounts
       behind.accounts;
 }

@@ -3,28 +3,24 @@ use Rattle.std.specs.Prelude.{⊤, ◌≡◌, ◌==◌, ◌≤◌, ◌<◌, ◌+
 use Rattle.std.specs.Prelude.{ℕ, Bool, true, List, Result, Ok, Err, count_by}
 use Rattle.std.specs.Prelude.{All, drop, filter, flat_map, length, map, slice_set, take}
 use Rattle.std.specs.List.Sorted.{IsPermutation}
-use Rattle.registers.specs.Bits.{HasBit, Meet}
-use Rattle.registers.specs.Places.{rxt0}
 use Rattle.dma_memory.specs.HostMemory.{bytes_at}
 use Rattle.dma_memory.specs.Layout.{Counts}
 use Rattle.dma_memory.specs.Owners.{HaveSameNumbers}
-use Rattle.descriptors.specs.RingLaws.{place}
 use Rattle.rx_engine.specs.Addresses.{ether_type}
 use Rattle.adapter.specs.HostFrames.{frames_held}
 use Rattle.adapter.specs.World.{World}
 use Rattle.bus.specs.declared.bus.Bus.{Ghosts}
 use Rattle.bus.specs.PastOfStretch.{Past, joined}
 use Rattle.bus.specs.declared.event.Access.{Access}
-use Rattle.driver_law.specs.Calls.{Did, DriverDid, DriverInWorld, FlowsTo, GoesTo, HasNoForgottenWork, IsRefilled, Moment, Ran, at}
-use Rattle.driver_law.specs.Calls.{call_did, driver_did, driver_in, frames_ended, only, stores_from, tail_write}
+use Rattle.driver_law.specs.Calls.{Did, DriverDid, DriverInWorld, FlowsTo, GoesTo, IsRefilled, Moment, Ran, driver_did, driver_in, only}
+use Rattle.driver_law.specs.Calls.{stores_from, tail_write}
 use Rattle.driver_law.specs.DriverState.{DriverState, HandedOut, buffer_at, frame_of, holding, next_receive, numbers_of, with_owners}
 use Rattle.driver_law.specs.ReadyDrivers.{ReadyWith}
-use Rattle.bring_up.specs.WrittenRegisters.{handled_causes}
-use Rattle.driver.specs.HandlerSteps.{IsTaken, AreOfOneFrame, Asked, DoesNothing, GrowsBy, IsLook, IsRun, IsSplit, ReadsMisses}
-use Rattle.driver.specs.HandlerSteps.{RunOfSlots, TakesAndOffers, bad_runs, offering_accesses, run_buffers, taking_accesses, whole_frames}
-use Rattle.driver.specs.Parts.{AreFrames, IsFrameSize, joined_frames, part_loads, pieces_of, received_of}
+use Rattle.driver.specs.HandlerSteps.{AreFramesOf, AreOfOneFrame, Asked, DoesNothing, GrowsBy, HandlesCauses, IsTaken, RunOfSlots}
+use Rattle.driver.specs.HandlerSteps.{ServesRing}
+use Rattle.driver.specs.Parts.{AreFrames, IsFrameSize, part_loads, received_of}
 use Rattle.driver.specs.declared.parts.Part.{Part}
-use Rattle.driver.specs.SendSteps.{FreesFirst, IsTransmitAnswer, SendAnswer, sent_by}
+use Rattle.driver.specs.SendSteps.{SendAnswer, Sends}
 use Rattle.driver.specs.declared.interrupt.Handled.{Handled}
 use Rattle.driver.specs.declared.interrupt.Handled.TheVariants.{NotMine}
 use Rattle.driver.specs.declared.interrupt.Handled.TheVariants as answers
@@ -116,28 +112,28 @@ in_world host world = record { host = host; world = world }
 abbrev pub host_driver_in : HostInWorld → DriverInWorld
 host_driver_in now = driver_in (driver_of now.host now.world) now.world
 
--- What a host did with frames: those it took off its receive ring, those its sockets returned, and those it accepted for sending.
+-- What a host did with frames: what its driver did, and the frames that its sockets returned.
 pub record HostDid : Type 0 where
-  pub taken : List (List ℕ)
+  pub driver : DriverDid
   pub given : List Given
-  pub accepted : List (List ℕ)
 
 abbrev pub did : (taken : List (List ℕ)) → (given : List Given) → (accepted : List (List ℕ)) → HostDid
-did taken given accepted = record { taken = taken; given = given; accepted = accepted }
+did taken given accepted = record { driver = driver_did taken accepted; given = given }
 
 abbrev pub did_nothing : HostDid
 did_nothing = did [] [] []
 
 -- one interval after the other
 abbrev pub did_both : (first later : HostDid) → HostDid
-did_both first later = did (first.taken ++ later.taken) (first.given ++ later.given) (first.accepted ++ later.accepted)
+did_both first later =
+    did (first.driver.taken ++ later.driver.taken) (first.given ++ later.given) (first.driver.accepted ++ later.driver.accepted)
 
 -- An interval in which the host did this with frames. `Holds` relates its driver at the beginning and at the end. The host is ready at the
 -- end: `sizes`, and what `Holds` says of the driver at the end.
 pub record HostInterval (Holds : DriverInWorld → DriverInWorld → DriverDid → Past → Type 0) (old new : HostInWorld) (done : HostDid)
     (past : Past) : Type 0 where
   pub sizes : AreFrames (all_of new.host.queues)
-  pub driver : Holds (host_driver_in old) (host_driver_in new) (driver_did done.taken done.accepted) past
+  pub driver : Holds (host_driver_in old) (host_driver_in new) done.driver past
   pub accounts : Accounts old.host old.world new.host new.world done.given past.stored
 
 -- Any register may have been read.
@@ -176,24 +172,26 @@ WhereReadyHost bus old new Holds = (up : Bool) → IsReadyHost bus up old → Ho
 abbrev pub WhereUpHost : {B : Type 0} → Ghosts B → (old new : HostMoment B) → (HostMoment B → HostMoment B → Type 0) → Type 0
 WhereUpHost bus old new Holds = IsReadyHost bus true old → Holds old new
 
--- From one moment to another the driver did exactly this, and the sockets returned these frames. So the host is ready at the end: `sizes`,
--- and `ready` of `ran.goes.flows`.
-pub record HostRan {B : Type 0} (bus : Ghosts B) (up : Bool) (done : Did) (given : List Given) (old new : HostMoment B) : Type 0 where
+-- The sockets' part of an interval over a bus: they returned these frames, while these were stored. Each queued frame has 60 to 1,518
+-- bytes at the end, and the account of frames holds.
+pub record KeepsAccount {B : Type 0} (bus : Ghosts B) (given : List Given) (stored : List (List ℕ)) (old new : HostMoment B) : Type 0 where
   pub sizes : AreFrames (all_of new.host.queues)
+  pub accounts : Accounts old.host (bus.world old.bus) new.host (bus.world new.bus) given stored
+
+-- From one moment to another the driver did exactly this, and the sockets returned these frames. So the host is ready at the end: `sizes`
+-- of `sockets`, and `ready` of `ran.goes.flows`.
+pub record HostRan {B : Type 0} (bus : Ghosts B) (up : Bool) (done : Did) (given : List Given) (old new : HostMoment B) : Type 0 where
   pub ran : Ran bus up done (driver_at bus old) (driver_at bus new)
-  pub accounts : Accounts old.host (bus.world old.bus) new.host (bus.world new.bus) given ran.past.stored
+  pub sockets : KeepsAccount bus given ran.past.stored old new
 
 -- Sending.
 
 -- The driver's transmit, over the whole host. No socket returns a frame. The accesses don't depend on the frames that others hold, so they
--- are those of `old.host.driver` and `new.host.driver`, too.
+-- are those of `old.host.driver` and `new.host.driver`, too. In `sends` the queued frames are held (`driver_at`). So for Ok, `slots` and
+-- `more` of `frees_first` also state that the bytes of the queued frames don't change. For RingFull, `same` of `answer` states this.
 pub record HostSends {B : Type 0} (bus : Ghosts B) (frame : List ℕ) (result : SendAnswer) (old new : HostMoment B) : Type 0 where
-  pub ran : HostRan bus true (sent_by result (driver_at bus old).driver (driver_at bus new).driver frame) [] old new
-  pub answer : IsTransmitAnswer bus result (driver_at bus old) (driver_at bus new)
-  -- For Ok and RingFull, slots are freed first, up to one that isn't written back, or until none is left. For Ok, the frame is sent then.
-  -- The drivers here hold the queued frames (`driver_at`). So for Ok, `slots` and `more` also state that the bytes of the queued frames
-  -- don't change. For RingFull, `same` of `answer` states this.
-  pub frees_first : FreesFirst bus frame result (driver_at bus old) (driver_at bus new)
+  pub sends : Sends bus frame result (driver_at bus old) (driver_at bus new)
+  pub sockets : KeepsAccount bus [] sends.ran.past.stored old new
 
 abbrev pub HostTransmits : {B : Type 0} → Ghosts B → List ℕ → SendAnswer → (old new : HostMoment B) → Type 0
 HostTransmits bus frame result old new = WhereUpHost bus old new (HostSends bus frame result)
@@ -274,84 +272,37 @@ pub record SortsFrames (h h' : HostState) (shown : List Received) : Type 0 where
   pub queues : Queues h.kinds h.queues h'.queues (claimed_of h.kinds shown)
   pub unclaimed : GrowsBy h.unclaimed h'.unclaimed (unclaimed_of h.kinds shown)
 
--- The whole frames of these runs of slots were sorted, each with the buffers and lengths of its run. The other runs were counted as bad.
-pub record SortsAll (h h' : HostState) (runs : List RunOfSlots) : Type 0 where
-  pub shown : List Received
-  pub frames : map (λ (one : Received). one.parts) shown ≡ whole_frames runs
-  pub sizes : AreFrames shown
-  pub sorted : SortsFrames h h' shown
-  pub bad : GrowsBy h.driver.bad h'.driver.bad (bad_runs runs)
-
--- These runs left the ring, the oldest first, each with one to six slots. Then slots were offered after the others: those that were staged,
--- and new ones with the buffers `offered`.
-pub record LeaveRing (d d' : DriverState) (runs : List RunOfSlots) : Type 0 where
-  pub are_runs : All IsRun runs
-  pub rest : List ℕ
-  pub offered : List ℕ
-  pub oldest : d.buffers ≡ run_buffers runs ++ rest
-  pub newest : d'.buffers ≡ rest ++ (d.staged ++ offered)
-  pub next : d'.oldest_receive ≡ place d.layout.rx d.oldest_receive (length (run_buffers runs))
-
--- A value was added to the driver's sum of missed frames, runs of slots left the ring, of which n were taken as whole frames, and then
--- slots were offered. Which runs are bad, and where a bad run ends, is open here, as in `TakesSlots`.
+-- Over any bus: the driver's ring was served, and the whole frames of the runs that left it were sorted.
 pub record HostServes (h h' : HostState) (n : ℕ) : Type 0 where
-  pub misses : ReadsMisses h.driver h'.driver
   pub runs : List RunOfSlots
-  pub count : length (whole_frames runs) ≡ n
-  pub leave : LeaveRing h.driver h'.driver runs
-  pub sorts : SortsAll h h' runs
+  pub ring : ServesRing h.driver h'.driver runs n
+  pub shown : List Received
+  pub frames : AreFramesOf runs shown
+  pub sorted : SortsFrames h h' shown
   -- No buffer is lost or has another number of owners.
   pub owners : HaveSameNumbers (host_owners h) (host_owners h')
-  -- No buffer is free, or all slots but one are outstanding; and each slot whose descriptor is stored is offered.
-  pub refilled : IsRefilled h'.driver
-  pub offered : h'.driver.staged ≡ []
 
--- n frames were taken, each with its pieces, and sorted.
+-- n frames were taken, each in the pieces of one list, and sorted.
 pub record AreSorted (n : ℕ) (h h' : HostState) (taken : List (List HandedOut)) : Type 0 where
   pub count : length taken ≡ n
   pub groups : All AreOfOneFrame (map numbers_of taken)
   pub each : All IsTaken taken
   pub sorted : SortsFrames h h' (map received_of taken)
 
--- The work after the read of ICR: n frames are taken and sorted. Then slots are offered. `ran` has the accesses, in order, and is split at
--- a moment after the last load of a descriptor and before the next access.
-pub record HostWorks {B : Type 0} (bus : Ghosts B) (n : ℕ) {up : Bool} (old new : HostMoment B) (asked : Asked bus up (driver_at bus old))
-    : Type 0 where
-  pub taken : List (List HandedOut)
-  pub frames : AreSorted n old.host new.host taken
-  pub misses : ReadsMisses old.host.driver new.host.driver
-  pub served : TakesAndOffers old.host.driver new.host.driver (numbers_of (pieces_of taken))
-  pub loads : ℕ
-  pub ran :
-      Ran bus up (call_did
-      (taking_accesses old.host.driver misses.misses (map numbers_of taken) loads
-      ++ offering_accesses old.host.driver served.offered (next_receive new.host.driver))
-      (joined_frames taken) []) (at asked.after_read (driver_at bus old).driver) (driver_at bus new)
-  pub split : IsSplit ran (taking_accesses old.host.driver misses.misses (map numbers_of taken) loads)
-      (offering_accesses old.host.driver served.offered (next_receive new.host.driver))
-  pub look : IsLook new.host.driver.oldest_receive served.rest (bus.world split.middle) loads
-
--- It handles the interrupt: ICR had one of its causes.
+-- It handles the interrupt: its driver does its work, and the frames are sorted. The frames of the queues are those that others hold.
 pub record HostHandlesIt {B : Type 0} (bus : Ghosts B) (n : ℕ) {up : Bool} (old new : HostMoment B)
     (asked : Asked bus up (driver_at bus old)) : Type 0 where
-  pub some : Meet asked.causes handled_causes
-  pub works : HostWorks bus n old new asked
-  -- It takes at least the frames that ended in finished slots at the beginning.
-  pub least : length (frames_ended (driver_in old.host.driver (bus.world old.bus))) ≤ n
-  -- If RXT0 is in the mask at the beginning, no work is forgotten at the end.
-  pub work : HasBit (bus.world old.bus).adapter.causes.mask rxt0 → HasNoForgottenWork new.host.driver (bus.world new.bus)
-  -- the read of ICR and the work together
-  pub flows :
-      HostFlowsTo up (in_world old.host (bus.world old.bus)) (in_world new.host (bus.world new.bus))
-      (did (joined_frames works.taken) [] []) (joined asked.reads.past works.ran.past)
+  pub taken : List (List HandedOut)
+  pub sorted : AreSorted n old.host new.host taken
+  pub driver : HandlesCauses bus taken n (driver_at bus old) (driver_at bus new) asked
+  pub sockets : KeepsAccount bus [] (joined asked.reads.past driver.works.ran.past).stored old new
 
 -- It does nothing more: ICR had none of its causes.
 pub record HostDoesNothing {B : Type 0} (bus : Ghosts B) {up : Bool} (old new : HostMoment B) (asked : Asked bus up (driver_at bus old))
     : Type 0 where
   pub stays : new.host ≡ old.host
-  pub leaves : DoesNothing bus (driver_at bus old) (driver_at bus new) asked
-  pub flows :
-      HostFlowsTo up (in_world old.host (bus.world old.bus)) (in_world new.host (bus.world new.bus)) did_nothing asked.reads.past
+  pub driver : DoesNothing bus (driver_at bus old) (driver_at bus new) asked
+  pub sockets : KeepsAccount bus [] asked.reads.past.stored old new
 
 -- by the answer
 abbrev pub HostHandlesBy : {B : Type 0} (bus : Ghosts B) → Handled → {up : Bool} → (old new : HostMoment B)

@@ -3,7 +3,7 @@ use Rattle.dma_memory.specs.Owners.{copies}
 use Rattle.driver_law.specs.Calls.{Ran, at, ether_type_load, only}
 use Rattle.driver_law.specs.DriverState.{DriverState, holding, numbers_of, owners}
 use Rattle.driver.specs.HandlerSteps.{Shows}
-use Rattle.driver.specs.Parts.{FitIntoBuffers, buffers_in}
+use Rattle.driver.specs.Parts.{buffers_in}
 use Rattle.driver.specs.declared.receiver.Received.{Received}
 use Rattle.driver.proofs.ShownRuns.{hands-bad, hands-shown, known-all}
 use Rattle.driver.proofs.TakenRuns.{buffers-pieces, received-same}
@@ -30,14 +30,16 @@ pub ether_type-ether_type-requires-clause-known : goal.ether_type-ether_type-req
 ether_type-ether_type-requires-clause-known g c =
     known-all c.args.self.now.layout.buffers (buffers_in c.args.parts) (owners c.args.self.now) c.requires.one_owner
 
+-- The run is whole: the frame that is shown has all of the run's parts, and its length.
+-- They are those of a frame, by what is required of the run and its parts.
 pub returns-clause-hands : goal.returns-clause-hands
 returns-clause-hands g c =
     let whole = c.if-not-run.false in
     hands-shown g.R.Receiver.took c.args.receiver.now c.show.new.receiver _ c.args.self.now c.show.new.self
     (record {
-      size = c.requires.size whole;
-      sum = c.requires.sum;
-      fits = subst FitIntoBuffers (sym c.requires.lengths) (c.requires.fits whole);
+      size = c.requires.parts.size whole;
+      sum = c.requires.parts.length_is;
+      fits = c.requires.parts.fits whole;
     }) c.show.ensures.shows (ap (λ (s : DriverState). s.bad) c.show.ensures.others)
 
 pub returns-clause-over : goal.returns-clause-over
@@ -46,10 +48,11 @@ returns-clause-over g c up held (first ∷ later) whole same long is =
     let d = holding (held ++ first ∷ later) c.args.self.now in
     let new = c.ether_type-ether_type.new.bus in
     let read = c.ether_type-ether_type.ensures.shows up held later first is same long in
+    let received = received-same first later c.args.parts _ _ same c.requires.parts.length_is read long in
     let numbers : buffers_in c.args.parts ≡ numbers_of (first ∷ later) = ap buffers_in (sym same) ∙ buffers-pieces (first ∷ later) in
     record {
-      shows = subst (λ (received : Received). Shows g.R.Receiver.took c.args.receiver.now c.show.new.receiver received d.pool
-          c.show.new.self.pool) (sym (received-same first later c.args.parts _ _ same c.requires.sum read long)) c.show.ensures.shows;
+      shows = subst (λ (one : Received). Shows g.R.Receiver.took c.args.receiver.now c.show.new.receiver one d.pool
+          c.show.new.self.pool) (sym received) c.show.ensures.shows;
       bad = ap (λ (s : DriverState). s.bad) c.show.ensures.others;
       ran = subst (λ (list : List ℕ). Ran g.B.Bus up (only (ether_type_load d.layout list)) (at c.args.bus.now d) (at new d)) numbers
           (c.ether_type-ether_type.ensures.ran up (held ++ first ∷ later) is);

@@ -6,6 +6,7 @@ use Rattle.bring_up.specs.WrittenRegisters.{handled_causes}
 use Rattle.driver.specs.HandlerSteps.{TakesSlots, run_buffers, scene}
 use Rattle.driver.specs.Parts.{pieces_of}
 use Rattle.driver.proofs.HandlerSteps.{Follows, handled-timer, handles-it}
+use Rattle.driver.proofs.ShownRuns.{served}
 use Rattle.driver.proofs.driver.Driver.interrupt.Goals as goal
 
 pub returns-then-not-is_mine-clause-handles : goal.returns-then-not-is_mine-clause-handles
@@ -22,21 +23,18 @@ returns-then-not-is_mine-clause-handles g c up held is =
         none = none;
         still = refl;
         work = reads.work (λ bit. none (handled-timer c.read.result c.read.type_inv bit));
+        flows = reads.flows;
       };
     }
 
 pub returns-clause-serves : goal.returns-clause-serves
-returns-clause-serves g c = record {
-  misses = c.count_missed.result;
-  between = c.take_finished-taken.new.self;
-  takes = subst (λ (d : DriverState).
-      TakesSlots g.R.Receiver c.take_finished-taken.result c.args.receiver.now c.take_finished-taken.new.receiver d
-      c.take_finished-taken.new.self) c.count_missed.ensures.others
-      c.take_finished-taken.ensures.slots;
-  offers = c.refill.ensures.offers;
-  order = c.refill.ensures.order;
-  owners = c.refill.ensures.owners;
-}
+returns-clause-serves g c =
+    let between = c.take_finished-taken.new in
+    served g.R.Receiver c.take_finished-taken.result c.count_missed.result c.args.receiver.now between.receiver c.args.self.now between.self
+    c.refill.new.self
+    (subst (λ (d : DriverState). TakesSlots g.R.Receiver c.take_finished-taken.result c.args.receiver.now between.receiver d between.self)
+    c.count_missed.ensures.others c.take_finished-taken.ensures.slots)
+    c.refill.ensures.offers c.refill.ensures.order c.refill.ensures.owners
 
 pub returns-clause-handles : goal.returns-clause-handles
 returns-clause-handles g c up held is =

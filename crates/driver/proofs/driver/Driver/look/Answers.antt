@@ -1,4 +1,4 @@
-use Rattle.std.proofs.Common.{ℕ, ◌≡◌, Bool, List, length, length-set, refl, sym, ap, take, ◌-◌}
+use Rattle.std.proofs.Common.{ℕ, ◌≡◌, Bool, List, length, length-set, refl, sym, ap, ◌-◌, ◌≤◌}
 use Rattle.std.proofs.Common.{◌∙◌, arith}
 use Rattle.std.specs.Prelude.{IsTrue}
 use Rattle.bus.proofs.Keeping.{keeps-here, keeps-on}
@@ -9,7 +9,7 @@ use Rattle.driver.specs.declared.look.Run.{Run}
 use Rattle.driver.specs.InsideDriver.{state_of}
 use Rattle.driver.specs.declared.driver.Driver.TheInside.{Inside}
 use Rattle.driver.proofs.BufferQueue.{Receives, queue-split}
-use Rattle.driver.proofs.SeenSlots.{IsAdded, LoadsNext, NextSeen, fills-added, fills-fit, finds-all_seen, finds-frame, finds-unfinished}
+use Rattle.driver.proofs.SeenSlots.{IsAdded, LoadsNext, NextSeen, fills-added, finds-all_seen, finds-frame, finds-unfinished}
 use Rattle.driver.proofs.SeenSlots.{full-added, full-none, is-added, loads-next, never-six, next-shown, sees_slots-more}
 use Rattle.driver.proofs.SeenSlots.{sees_slots-none, sum-added}
 use Rattle.driver.proofs.driver.Driver.look.Given.{Over}
@@ -87,17 +87,44 @@ whole : (g : Over) (c : After-add g) (up : Bool) (held : List HandedOut)
     → IsReady g.B.Bus up (held_at held (at c.args.bus.now c.args.self.now)) → IsTrue c.add.new.self.whole
 whole g c up held is = c.add.ensures.whole.1 ((shown g c up held is).sound, (next g (loaded g c) up held is).sees.whole)
 
--- A whole frame ends in it: the slots before it are full.
-pub returns-then-is_ended-clause-full : goal.returns-then-is_ended-clause-full
-returns-then-is_ended-clause-full g c frame =
-    let there = c.before.before.before.before.before in
-    let both = c.add.ensures.whole.0 (c.is_frame.ensures.0 frame).0 in
-    fills-added c.loop-run.run c.add.new.self c.descriptor_after-descriptor.result (added g there) (sym c.if-is_ended.ensures) both.0
-    (c.loop-run.invariant.full both.1)
+-- What holds of the run with it, whether a frame ends in it or not.
+room : (g : Over) (c : After-add g) → length c.add.new.self.lengths ≡ 6
+room g c =
+    let run = c.loop-run.run in
+    ap length c.add.ensures.lengths ∙ length-set run.lengths run.count c.descriptor_after-descriptor.result.length
+    ∙ c.loop-run.invariant.size
 
-pub returns-then-is_ended-clause-fits : goal.returns-then-is_ended-clause-fits
-returns-then-is_ended-clause-fits g c frame =
-    fills-fit (take c.add.new.self.count c.add.new.self.lengths) (returns-then-is_ended-clause-full g c frame)
+few : (g : Over) (c : After-add g) → c.add.new.self.count ≤ 6
+few g c = omega (arith, c.add.ensures.count, c.loop-run-test.true)
+
+inside : (g : Over) (c : After-add g) → c.add.new.self.count ≤ length c.args.self.now.buffers
+inside g c =
+    omega (
+      arith,
+      c.add.ensures.count,
+      c.if-run-outstanding.true,
+      outstanding c.self.inside c.args.self.now c.len.result c.from.result c.self.invariant.receives c.self.view_is c.len.ensures.len
+          c.from.ensures,
+    )
+
+-- A frame ends in it: if the run is whole, the slots before it are full.
+pub returns-then-is_ended-clause-finds : goal.returns-then-is_ended-clause-finds
+returns-then-is_ended-clause-finds g c =
+    let there = c.before.before.before.before.before in
+    let i = c.loop-run.invariant in
+    let run = c.loop-run.run in
+    let desc = c.descriptor_after-descriptor.result in
+    record {
+      room = room g there;
+      least = omega (arith, c.add.ensures.count);
+      most = few g there;
+      inside = inside g there;
+      length_is = sum-added run c.add.new.self desc (added g there) i.sum_is;
+      size = λ frame. (c.is_frame.ensures.0 frame).1;
+      full = λ frame.
+          let both = c.add.ensures.whole.0 (c.is_frame.ensures.0 frame).0 in
+          fills-added run c.add.new.self desc (added g there) (sym c.if-is_ended.ensures) both.0 (i.full both.1);
+    }
 
 pub returns-then-is_ended-clause-looks : goal.returns-then-is_ended-clause-looks
 returns-then-is_ended-clause-looks g c up held is =
@@ -119,15 +146,9 @@ loop-run-preserved g c =
     let run' = c.add.new.self in
     let desc = c.descriptor_after-descriptor.result in
     record {
-      few = omega (arith, a.count, c.loop-run-test.true);
-      size = ap length a.lengths ∙ length-set run.lengths run.count desc.length ∙ i.size;
-      outstanding = omega (
-        arith,
-        a.count,
-        c.if-run-outstanding.true,
-        outstanding c.self.inside c.args.self.now c.len.result c.from.result
-            c.self.invariant.receives c.self.view_is c.len.ensures.len c.from.ensures,
-      );
+      few = few g there;
+      size = room g there;
+      outstanding = inside g there;
       short = omega (arith, a.count, a.length, i.short);
       sum_is = sum-added run run' desc (added g there) i.sum_is;
       full = λ whole.
@@ -152,6 +173,19 @@ returns-then-run-lt-MOST_PARTS-clause-looks g c up held is =
     ])
 
 -- Six slots without an end were seen.
+pub returns-clause-finds : goal.returns-clause-finds
+returns-clause-finds g c =
+    let i = c.loop-run.invariant in
+    record {
+      room = i.size;
+      least = omega (arith, c.if-run-lt-MOST_PARTS.false);
+      most = i.few;
+      inside = i.outstanding;
+      length_is = i.sum_is;
+      size = λ whole. absurd (cc whole);
+      full = λ whole. absurd (cc whole);
+    }
+
 pub returns-clause-looks : goal.returns-clause-looks
 returns-clause-looks g c up held is =
     let i = c.loop-run.invariant in

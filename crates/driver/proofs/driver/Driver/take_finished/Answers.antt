@@ -1,7 +1,8 @@
-use Rattle.std.proofs.Common.{Bool, ◌≡◌, ◌+◌, ◌++◌, ◌∷◌, [], length, ap, ◌∙◌, arith}
+use Rattle.std.proofs.Common.{Bool, ◌≡◌, ◌+◌, ◌++◌, ◌∷◌, [], length, sum, ap, sym, subst, ◌∙◌, arith}
 use Rattle.bus.proofs.Keeping.{keeps-here, keeps-on}
 use Rattle.driver.specs.HandlerSteps.{run_of, whole_frames}
-use Rattle.driver.specs.Parts.{pieces_of}
+use Rattle.driver.specs.Parts.{FitIntoBuffers, pieces_of}
+use Rattle.driver.proofs.SeenSlots.{fills-fit}
 use Rattle.driver.proofs.ShownRuns.{slots-few, slots-one_owner}
 use Rattle.driver.proofs.TakenFrames.{walks-next, walks-none}
 use Rattle.driver.proofs.driver.Driver.take_finished.Goals as goal
@@ -12,6 +13,18 @@ loop-run-init g c = record {
   walks = walks-none g.B.Bus g.R.Receiver g.met.B.Bus.composes.stays g.met.R.Receiver.stays
       c.args.bus.now c.args.receiver.now c.args.self.now;
 }
+
+-- The run that was found, in parts.
+pub hand_on-requires-clause-parts : goal.hand_on-requires-clause-parts
+hand_on-requires-clause-parts g c =
+    let found = c.in-Some.ensures.finds in
+    let lengths = c.take_run-parts.ensures.leaves.lengths in
+    record {
+      lengths = lengths;
+      length_is = found.length_is ∙ ap sum (sym lengths);
+      size = found.size;
+      fits = λ whole. subst FitIntoBuffers (sym lengths) (fills-fit _ (found.full whole));
+    }
 
 -- A run was shown, or it was bad.
 
@@ -28,8 +41,8 @@ loop-run-preserved-then-hand_on g c =
       walks = walks-next g.B.Bus g.R.Receiver g.met.B.Bus.composes.stays g.met.B.Bus.composes.joins
           g.met.R.Receiver.joins c.args.bus.now c.loop-run.bus c.look.new.bus c.hand_on.new.bus
           c.args.receiver.now c.loop-run.receiver c.hand_on.new.receiver c.args.self.now c.loop-run.self c.take_run-parts.new.self
-          c.hand_on.new.self c.loop-run.taken (c.loop-run.taken + 1) c.in-Some.run' c.take_run-parts.result c.hand_on.result same
-          l.keeps look.keeps l.walks look.some look.most look.lengths look.full look.looks c.take_run-parts.ensures.leaves h.others h.hands
+          c.hand_on.new.self c.loop-run.taken (c.loop-run.taken + 1) _ c.in-Some.run' c.take_run-parts.result c.hand_on.result same
+          l.keeps look.keeps l.walks look.finds look.looks c.take_run-parts.ensures.leaves h.others h.hands
           h.whole h.over;
     }
 
@@ -47,8 +60,8 @@ loop-run-preserved g c =
       walks = walks-next g.B.Bus g.R.Receiver g.met.B.Bus.composes.stays g.met.B.Bus.composes.joins
           g.met.R.Receiver.joins c.args.bus.now c.loop-run.bus c.look.new.bus c.hand_on.new.bus
           c.args.receiver.now c.loop-run.receiver c.hand_on.new.receiver c.args.self.now c.loop-run.self c.take_run-parts.new.self
-          c.hand_on.new.self c.loop-run.taken c.loop-run.taken c.in-Some.run' c.take_run-parts.result c.hand_on.result same
-          l.keeps look.keeps l.walks look.some look.most look.lengths look.full look.looks c.take_run-parts.ensures.leaves h.others h.hands
+          c.hand_on.new.self c.loop-run.taken c.loop-run.taken _ c.in-Some.run' c.take_run-parts.result c.hand_on.result same
+          l.keeps look.keeps l.walks look.finds look.looks c.take_run-parts.ensures.leaves h.others h.hands
           h.whole h.over;
     }
 
@@ -59,8 +72,8 @@ overflow_add-taken g c =
       arith,
       slots-few g.R.Receiver c.loop-run.taken c.args.receiver.now c.loop-run.receiver c.args.self.now c.loop-run.self
           c.loop-run.invariant.walks.slots,
-      c.in-Some.ensures.some,
-      c.in-Some.ensures.outstanding,
+      c.in-Some.ensures.finds.least,
+      c.in-Some.ensures.finds.inside,
       c.receiving.ensures.count,
       c.receiving.type_inv,
     )

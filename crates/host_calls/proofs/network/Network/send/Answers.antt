@@ -55,7 +55,7 @@ returns-clause-sends g c =
       runs = call.0;
       states = record {
         answers = send-answers _ c.send-answer.new.bus h h' frame result ready c.send-answer.ensures.too_short
-            c.send-answer.ensures.too_long (ap (λ (host : HostState). host.driver.layout) others) sent.answer;
+            c.send-answer.ensures.too_long (ap (λ (host : HostState). host.driver.layout) others) sent.sends.answer;
         leaves = subst (LeavesSend result h h') call.0.of_call.counted
             (send-leaves _ c.send-answer.new.bus ends h h' result refl others c.send-answer.ensures.nothing c.finish.ensures);
         frees_first = call.1;
