@@ -4,14 +4,16 @@ use Rattle.dma_memory.specs.Layout.{Counts, IsAllowed, size_of}
 use Rattle.rx_engine.specs.Addresses.{IsGroup}
 use Rattle.adapter.specs.PacketBuffer.{IsAllocation}
 use Rattle.arrayvec.specs.declared.array_vec.ArrayVec.{ArrayVec}
+use Rattle.bring_up.specs.FilterTables.{table_numbers}
 use Rattle.bring_up.specs.declared.config.Config.{Config}
+use Rattle.bring_up.specs.declared.config.TheConstants.{MOST_VLANS}
 
 -- the sizes of rings, and the number of receive buffers
 abbrev pub counts_of : Config → Counts
 counts_of config = record { rx = config.rx; tx = config.tx; buffers = config.buffers }
 
 -- the VLANs that are named, if any
-abbrev pub vlans_of : Option (ArrayVec ℕ 32 (Unit {0})) → List ℕ
+abbrev pub vlans_of : Option (ArrayVec ℕ MOST_VLANS (Unit {0})) → List ℕ
 vlans_of None = []
 vlans_of (Some vlans) = vlans.items
 
@@ -19,7 +21,7 @@ vlans_of (Some vlans) = vlans.items
 pub record HasRightNumbers (config : Config) : Type 0 where
   pub allocation : IsAllocation config.rxa
   pub groups : All IsGroup config.groups.items
-  pub vlans : All (λ vlan. vlan < 4096) (vlans_of config.vlans)
+  pub vlans : All (λ vlan. vlan < table_numbers) (vlans_of config.vlans)
 
 -- It is valid in a memory of this size, in bytes.
 pub record CanBeHad (config : Config) (size : ℕ) : Type 0 where

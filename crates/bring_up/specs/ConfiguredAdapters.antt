@@ -1,7 +1,8 @@
 -- What an adapter is set to after initialization, by its configuration and its Ethernet address, whatever else happened meanwhile.
-use Rattle.std.specs.Prelude.{◌≡◌, ◌<◌, ◌+◌, ◌-◌, ◌*◌, ◌^◌, ◌++◌, ℕ, Bool, true, false, List, ◌∷◌, [], All, Option, None, Some, length}
+use Rattle.std.specs.Prelude.{◌≡◌, ◌<◌, ◌+◌, ◌-◌, ◌*◌, ◌++◌, ℕ, Bool, true, false, List, ◌∷◌, [], All, Option, None, Some, length}
 use Rattle.std.specs.Prelude.{replicate}
 use Rattle.adapter.specs.declared.offsets.TheConstants.{MTA, RDBAL, RDT, TDBAL, VFTA}
+use Rattle.dma_memory.specs.Layout.{descriptor_bytes}
 use Rattle.arrayvec.specs.declared.array_vec.ArrayVec.{ArrayVec}
 use Rattle.registers.specs.Places.{alone, rah_av}
 use Rattle.rx_engine.specs.Addresses.{IsAddress, high_word, low_word}
@@ -16,18 +17,19 @@ use Rattle.bring_up.specs.FilterTables.{HasNumbers, address_writes, numbers_of_g
 use Rattle.bring_up.specs.RingRegisters.{receive_control, receive_writes, ring_writes, transmit_control, transmit_writes}
 use Rattle.bring_up.specs.SettingSteps.{IsAside}
 use Rattle.bring_up.specs.WrittenRegisters.{allocation_writes, handled_causes, link_control, link_writes, mask_writes, reset_writes}
-use Rattle.bring_up.specs.WrittenRegisters.{write_at}
+use Rattle.bring_up.specs.WrittenRegisters.{register_limit, write_at}
 use Rattle.bring_up.specs.declared.config.Config.{Config}
-use Rattle.rx_engine.specs.declared.filter.TheConstants.{VLAN_TYPE}
+use Rattle.bring_up.specs.declared.config.TheConstants.{MOST_VLANS}
+use Rattle.rx_engine.specs.declared.filter.TheConstants.{EXACT_ADDRESSES, TABLE_WORDS, VLAN_TYPE}
 
 -- whether VLANs are named, an empty list among them
-abbrev pub names_vlans : Option (ArrayVec ℕ 32 (Unit {0})) → Bool
+abbrev pub names_vlans : Option (ArrayVec ℕ MOST_VLANS (Unit {0})) → Bool
 names_vlans None = false
 names_vlans (Some vlans) = true
 
 -- each is a word of 32 bits
 abbrev pub AreWords : List ℕ → Type 0
-AreWords words = All (λ word. word < 2 ^ 32) words
+AreWords words = All (λ word. word < register_limit) words
 
 -- All writes of registers in order, except those of EERD and MDIC, which set nothing. The tables are those of the configured groups and
 -- VLANs.
@@ -45,10 +47,10 @@ writes_before_rings config address groups vlans =
 -- the writes from those of the rings on
 abbrev pub writes_from_rings : Config → List Write
 writes_from_rings config =
-    ring_writes RDBAL 0 (16 * config.rx)
+    ring_writes RDBAL 0 (descriptor_bytes * config.rx)
     ++ (write_at RDT (config.rx - 1) ∷ []
     ++ (receive_writes config.promiscuous (names_vlans config.vlans)
-    ++ (ring_writes TDBAL (16 * config.rx) (16 * config.tx)
+    ++ (ring_writes TDBAL (descriptor_bytes * config.rx) (descriptor_bytes * config.tx)
     ++ (transmit_writes
     ++ mask_writes))))
 
@@ -64,8 +66,8 @@ pub record FilterIsConfigured (config : Config) (address : List ℕ) (filter : F
   pub groups : HasNumbers filter.mta (numbers_of_groups config.groups.items)
   pub vlans : HasNumbers filter.vfta (vlans_of config.vlans)
   -- The first exact address is this one, and valid; the other 15 entries are 0.
-  pub address_low : filter.ral ≡ low_word address ∷ replicate 15 0
-  pub address_high : filter.rah ≡ (high_word address + alone rah_av) ∷ replicate 15 0
+  pub address_low : filter.ral ≡ low_word address ∷ replicate (EXACT_ADDRESSES - 1) 0
+  pub address_high : filter.rah ≡ (high_word address + alone rah_av) ∷ replicate (EXACT_ADDRESSES - 1) 0
   -- VET
   pub vlan_type : filter.vet ≡ VLAN_TYPE
 
@@ -89,7 +91,7 @@ pub record IsConfigured (config : Config) (address : List ℕ) (settings : Setti
   pub mask : settings.mask ≡ handled_causes
   -- All receive slots but one are offered, and no transmit slot.
   pub receive_ring : RingIsConfigured 0 config.rx (config.rx - 1) settings.receive_ring
-  pub transmit_ring : RingIsConfigured (16 * config.rx) config.tx 0 settings.transmit_ring
+  pub transmit_ring : RingIsConfigured (descriptor_bytes * config.rx) config.tx 0 settings.transmit_ring
 
 -- The writes of initialization configure an adapter, whatever it was set to, and leave its EEPROM.
 abbrev pub WritesConfigure : Type 0
@@ -103,12 +105,12 @@ WritesConfigure =
 -- If the tables have 128 words, no write before those of the rings is of RCTL or of a ring's register.
 abbrev pub RingsComeLast : Type 0
 RingsComeLast =
-    (config : Config) (address groups vlans : List ℕ) → length groups ≡ 128 → length vlans ≡ 128
+    (config : Config) (address groups vlans : List ℕ) → length groups ≡ TABLE_WORDS → length vlans ≡ TABLE_WORDS
     → All IsAside (writes_before_rings config address groups vlans)
 
 -- If the tables have 128 words, no write of the filter, and none from those of the rings on, is of CTRL or MDIC.
 abbrev pub LinkComesFirst : Type 0
 LinkComesFirst =
-    (config : Config) (address groups vlans : List ℕ) → length groups ≡ 128 → length vlans ≡ 128
+    (config : Config) (address groups vlans : List ℕ) → length groups ≡ TABLE_WORDS → length vlans ≡ TABLE_WORDS
     → All LeavesPhy (table_writes MTA groups ++ (table_writes VFTA vlans ++ address_writes address))
     × All LeavesPhy (writes_from_rings config)

@@ -2,7 +2,7 @@
 use Rattle.std.specs.Prelude.{◌≡◌, ◌⊎◌, ◌*◌, ◌++◌, ℕ, Bool, true, false, List, [], ◌∷◌, map}
 use Rattle.registers.specs.Bits.{HasBit}
 use Rattle.registers.specs.Places.{rxt0}
-use Rattle.dma_memory.specs.Layout.{IsRingSize}
+use Rattle.dma_memory.specs.Layout.{IsRingSize, descriptor_bytes}
 use Rattle.adapter.specs.HostFrames.{frames_held}
 use Rattle.adapter.specs.KnownRing.{KnowsRing}
 use Rattle.adapter.specs.Rings.{new_ring}
@@ -42,13 +42,13 @@ pub record CanSetTransmitRing (base bytes : ℕ) (d : DriverState) (world : Worl
   pub new : world.adapter.transmit_ring ≡ new_ring
   pub receive_size : IsRingSize d.layout.rx
   pub transmit_size : IsRingSize d.layout.tx
-  pub begins : base ≡ 16 * d.layout.rx
-  pub long : bytes ≡ 16 * d.layout.tx
+  pub begins : base ≡ descriptor_bytes * d.layout.rx
+  pub long : bytes ≡ descriptor_bytes * d.layout.tx
 
 -- These writes set up the transmit ring, with no slot offered: the driver knows it.
 pub record SetsTransmitRing {B : Type 0} (bus : Ghosts B) (writes : List Write) (d : DriverState) (old new : B) : Type 0 where
   pub ran : LeavesDriver bus writes false d old new
-  pub knows : KnowsRing (transmit_ring (bus.world new)) (16 * d.layout.rx) d.layout.tx 0
+  pub knows : KnowsRing (transmit_ring (bus.world new)) (descriptor_bytes * d.layout.rx) d.layout.tx 0
 
 -- The accesses are exactly these. Settings, arrivals of frames and the link follow from the writes among them.
 pub record Accessed {B : Type 0} (bus : Ghosts B) (accesses : List Access) (old new : B) : Type 0 where

@@ -2,6 +2,7 @@
 use Rattle.std.specs.Prelude.{◌≡◌, ◌≤◌, ℕ, List, Result, IfOk, OnErr, length}
 use Rattle.adapter.specs.declared.offsets.TheConstants.{EERD}
 use Rattle.eeprom.specs.Image.{word_at}
+use Rattle.eeprom.specs.declared.image.TheConstants.{WORDS}
 use Rattle.bus.specs.declared.bus.Bus.{Ghosts}
 use Rattle.bring_up.specs.SettingSteps.{Asks}
 use Rattle.bring_up.specs.declared.init_error.InitError.{InitError}
@@ -18,7 +19,7 @@ pub record ReadsWord {B : Type 0} (bus : Ghosts B) (address : ℕ) (result : Res
   -- Before an error there were at least 1,000 accesses.
   pub in_vain : OnErr result (most_reads ≤ length asks.past.accesses)
   -- The adapter's EEPROM has 64 words.
-  pub size : length (bus.world old).adapter.image ≡ 64
+  pub size : length (bus.world old).adapter.image ≡ WORDS
 
 -- All words are asked for through EERD.
 pub record ReadsImage {B : Type 0} (bus : Ghosts B) (result : Result (List ℕ) InitError) (old new : B) : Type 0 where

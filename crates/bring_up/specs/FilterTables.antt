@@ -1,31 +1,40 @@
 -- What initialization writes into the tables of the receive filter ("13.5.1 Multicast Table Array", "13.5.2 Receive Address Low", "13.5.3
 -- Receive Address High", "13.5.4 VLAN Filter Table Array").
-use Rattle.std.specs.Prelude.{◌≡◌, ◌<◌, ◌↔◌, ◌+◌, ◌*◌, ◌++◌, ℕ, zero, suc, List, [], ◌∷◌, length, map}
+use Rattle.std.specs.Prelude.{◌≡◌, ◌<◌, ◌↔◌, ◌+◌, ◌-◌, ◌*◌, ◌++◌, ℕ, zero, suc, List, [], ◌∷◌, length, map}
 use Rattle.std.specs.List.{Contains}
-use Rattle.adapter.specs.declared.offsets.TheConstants.{RAL}
+use Rattle.adapter.specs.declared.offsets.TheConstants.{ADDRESS_PAIR_BYTES, RAL, REGISTER_BYTES}
 use Rattle.registers.specs.Places.{alone, rah_av}
+use Rattle.registers.specs.ReceiveControl.{shift_of}
+use Rattle.registers.specs.declared.receive_control.GroupOffset.TheVariants.{Bits47To36}
 use Rattle.rx_engine.specs.Addresses.{group_number, high_word, low_word}
 use Rattle.rx_engine.specs.Registers.{HasTableBit}
+use Rattle.rx_engine.specs.declared.filter.TheConstants.{EXACT_ADDRESSES, TABLE_WORDS}
 use Rattle.bus.specs.Settings.{Write}
 use Rattle.bring_up.specs.WrittenRegisters.{write_at}
 
+-- The numbers of groups and VLANs have 12 bits, so they are below this number: a table has a bit for each ("13.5.1 Multicast Table Array",
+-- "13.5.4 VLAN Filter Table Array").
+abbrev pub table_numbers : ℕ
+table_numbers = 4096
+
 -- A table of 128 words has the bits of these numbers, and no other.
 pub record HasNumbers (table numbers : List ℕ) : Type 0 where
-  pub words : length table ≡ 128
-  pub bits : (number : ℕ) → number < 4096 → HasTableBit table number ↔ Contains numbers number
+  pub words : length table ≡ TABLE_WORDS
+  pub bits : (number : ℕ) → number < table_numbers → HasTableBit table number ↔ Contains numbers number
 
 -- the numbers of groups if RCTL.MO is 00
 abbrev pub numbers_of_groups : List (List ℕ) → List ℕ
-numbers_of_groups groups = map (group_number 4) groups
+numbers_of_groups groups = map (group_number (shift_of Bits47To36)) groups
 
 -- the writes of the words of a table, from an offset on
 abbrev pub table_writes : ℕ → List ℕ → List Write
 table_writes offset [] = []
-table_writes offset (word ∷ later) = write_at offset word ∷ table_writes (offset + 4) later
+table_writes offset (word ∷ later) = write_at offset word ∷ table_writes (offset + REGISTER_BYTES) later
 
 -- the two writes of an entry of the exact addresses
 abbrev pub entry_writes : ℕ → ℕ → ℕ → List Write
-entry_writes entry low high = write_at (RAL + 8 * entry) low ∷ write_at (RAL + 4 + 8 * entry) high ∷ []
+entry_writes entry low high =
+    write_at (RAL + ADDRESS_PAIR_BYTES * entry) low ∷ write_at (RAL + REGISTER_BYTES + ADDRESS_PAIR_BYTES * entry) high ∷ []
 
 -- the writes of `count` entries with 0, from an entry on
 abbrev pub empty_entries : (entry count : ℕ) → List Write
@@ -34,4 +43,5 @@ empty_entries entry (suc count) = entry_writes entry 0 0 ++ empty_entries (entry
 
 -- the first entry has the address and is valid; the other 15 are 0
 abbrev pub address_writes : List ℕ → List Write
-address_writes address = entry_writes 0 (low_word address) (high_word address + alone rah_av) ++ empty_entries 1 15
+address_writes address =
+    entry_writes 0 (low_word address) (high_word address + alone rah_av) ++ empty_entries 1 (EXACT_ADDRESSES - 1)

@@ -1,6 +1,6 @@
 -- An adapter at rest whose rings are set up, and the driver that begins there (our choice).
 use Rattle.std.specs.Prelude.{◌≡◌, ◌≤◌, ◌*◌, ℕ, false, List, length}
-use Rattle.dma_memory.specs.Layout.{Counts, IsAllowed, size_of}
+use Rattle.dma_memory.specs.Layout.{Counts, IsAllowed, descriptor_bytes, size_of}
 use Rattle.dma_memory.specs.Owners.{HasOneOwner}
 use Rattle.adapter.specs.KnownRing.{KnowsRing}
 use Rattle.adapter.specs.Rings.{new_ring}
@@ -18,7 +18,7 @@ pub record HasNewRings (rx : ℕ) (world : World) : Type 0 where
   pub rest : IsAtRest world
   pub receives : world.adapter.receive_ring ≡ new_ring
   pub transmits : world.adapter.transmit_ring ≡ new_ring
-  pub room : 16 * rx ≤ length world.memory
+  pub room : descriptor_bytes * rx ≤ length world.memory
 
 -- At rest, with a receive ring of `rx` slots at address 0, none of them offered, and a transmit ring as a reset leaves it.
 pub record HasReceiveRing (rx : ℕ) (world : World) : Type 0 where

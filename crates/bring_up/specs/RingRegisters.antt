@@ -1,18 +1,18 @@
 -- What initialization writes into the registers of the rings, and into RCTL and TCTL, which enable both sides.
-use Rattle.std.specs.Prelude.{◌+◌, ◌*◌, ◌%◌, ◌/◌, ◌^◌, ℕ, Bool, List, [], ◌∷◌, if◌then◌else◌}
+use Rattle.std.specs.Prelude.{◌+◌, ◌*◌, ◌%◌, ◌/◌, ℕ, Bool, List, [], ◌∷◌, if◌then◌else◌}
 use Rattle.adapter.specs.declared.offsets.TheConstants.{RCTL, TCTL}
 use Rattle.adapter.specs.Rings.{ring_distance}
 use Rattle.adapter.specs.declared.register.RingRegister.TheVariants.{BaseHigh, Length, Head, Tail}
 use Rattle.bus.specs.Settings.{Write}
-use Rattle.bring_up.specs.WrittenRegisters.{write_at}
+use Rattle.bring_up.specs.WrittenRegisters.{register_limit, write_at}
 use Rattle.registers.specs.Places.{alone, rctl_bam, rctl_bsize, rctl_en, rctl_mpe, rctl_secrc, rctl_upe, rctl_vfe}
 use Rattle.registers.specs.Places.{tctl_cold, tctl_ct, tctl_en, tctl_psp}
 
 -- a ring's base, its length in bytes, and head and tail 0; the first offset is that of the base's low word
 abbrev pub ring_writes : (offset base bytes : ℕ) → List Write
 ring_writes offset base bytes =
-    write_at offset (base % 2 ^ 32)
-    ∷ write_at (offset + ring_distance BaseHigh) (base / 2 ^ 32)
+    write_at offset (base % register_limit)
+    ∷ write_at (offset + ring_distance BaseHigh) (base / register_limit)
     ∷ write_at (offset + ring_distance Length) bytes
     ∷ write_at (offset + ring_distance Head) 0
     ∷ write_at (offset + ring_distance Tail) 0

@@ -1,9 +1,13 @@
 -- What initialization writes, register by register ("14.3 General Initialization", "14.4 Receive Initialization", "14.5 Transmit
 -- Initialization"). The order is our choice.
-use Rattle.std.specs.Prelude.{◌+◌, ℕ, List, [], ◌∷◌}
+use Rattle.std.specs.Prelude.{◌+◌, ◌^◌, ℕ, List, [], ◌∷◌}
 use Rattle.adapter.specs.declared.offsets.TheConstants.{CTRL, IMC, IMS, PBA}
 use Rattle.bus.specs.Settings.{Write}
 use Rattle.registers.specs.Places.{alone, ctrl_asde, ctrl_rst, ctrl_slu, rxdmt0, rxo, rxt0, txdw}
+
+-- A register has 32 bits, so its value is below this number ("13.2 Register Conventions").
+abbrev pub register_limit : ℕ
+register_limit = 2 ^ 32
 
 abbrev pub write_at : ℕ → ℕ → Write
 write_at offset value = record { offset = offset; value = value }

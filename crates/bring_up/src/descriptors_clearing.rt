@@ -1,9 +1,10 @@
 //! Descriptors that a driver clears, so that none has DD set by what was in memory before.
 
-ghost use Rattle.std.specs.Prelude.{◌≡◌, ◌+◌, ◌-◌, ◌*◌, ◌^◌, ◌<◌, ◌≤◌, ◌∷◌, ℕ, Bool, [], false};
+ghost use Rattle.std.specs.Prelude.{◌≡◌, ◌+◌, ◌-◌, ◌*◌, ◌<◌, ◌≤◌, ◌∷◌, ℕ, Bool, [], false};
+ghost use Rattle.dma_memory.specs.Layout.{descriptor_bytes};
 ghost use Rattle.bus.specs.Keeping.{Keeps};
 ghost use Rattle.driver_law.specs.Calls.{IsReady, Ran, at, only};
-ghost use Rattle.driver_law.specs.DriverState.{DriverState, receive_slot, transmit_slot};
+ghost use Rattle.driver_law.specs.DriverState.{DriverState, address_limit, receive_slot, transmit_slot};
 ghost use Rattle.bring_up.specs.ClearedDescriptors.{clears, clears_from};
 
 use bus::Bus;
@@ -16,7 +17,7 @@ const CLEAR: [u8; 16] = [0; 16];
 /// - `sent`: the descriptor is of the transmit ring, and the transmit side is off.
 /// - `received`: it is the last receive slot, and the first one is the oldest.
 pub fn clear_descriptor<B: Bus>(bus: &mut B, address: u64)
-    requires { address + 16 ≤ B.extent bus.old }
+    requires { address + descriptor_bytes ≤ B.extent bus.old }
     ensures keeps { Keeps B.Bus bus.old bus.new }
     ensures sent { (d : DriverState) (slot : ℕ) → IsReady B.Bus false (at bus.old d)
         → slot < d.layout.tx → address ≡ transmit_slot d.layout slot
@@ -31,8 +32,8 @@ pub fn clear_descriptor<B: Bus>(bus: &mut B, address: u64)
 /// Clears `count` descriptors from an address on, by one store each. A driver that is ready stays so if they are the
 /// first ones of the transmit ring, and the transmit side is off.
 pub fn clear_descriptors<B: Bus>(bus: &mut B, first: u64, count: u16)
-    requires memory { first + 16 * count ≤ B.extent bus.old }
-    requires addresses { first + 16 * count < 2 ^ 64 }
+    requires memory { first + descriptor_bytes * count ≤ B.extent bus.old }
+    requires addresses { first + descriptor_bytes * count < address_limit }
     ensures keeps { Keeps B.Bus bus.old bus.new }
     ensures ran { (d : DriverState) → IsReady B.Bus false (at bus.old d)
         → first ≡ transmit_slot d.layout 0 → count ≤ d.layout.tx

@@ -4,6 +4,7 @@ ghost use Rattle.std.specs.Prelude.{◌≡◌, ◌<◌, All};
 ghost use Rattle.bus.specs.Keeping.{Keeps};
 ghost use Rattle.bring_up.specs.Configuration.{vlans_of};
 ghost use Rattle.bring_up.specs.FilterSetting.{SetsFilter};
+ghost use Rattle.bring_up.specs.FilterTables.{table_numbers};
 
 use crate::config::Config;
 use crate::filter_tables::{group_table, vlan_table, write_addresses, write_groups, write_vlans};
@@ -12,7 +13,7 @@ use bus::Bus;
 /// Sets up the receive filter: the group table and the VLAN table get the bits of the configured groups and VLANs,
 /// and the exact addresses this one only.
 pub fn set_filter<B: Bus>(bus: &mut B, config: &Config, address: &[u8; 6])
-    requires { All (λ vlan. vlan < 4096) (vlans_of config.now.vlans) }
+    requires { All (λ vlan. vlan < table_numbers) (vlans_of config.now.vlans) }
     ensures keeps { Keeps B.Bus bus.old bus.new }
     ensures sets { B.honest bus.old → SetsFilter B.Bus config.now address.now bus.old bus.new }
 {

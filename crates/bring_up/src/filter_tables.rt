@@ -6,7 +6,7 @@ ghost use Rattle.rx_engine.specs.Writing.{with_number};
 ghost use Rattle.bus.specs.Keeping.{Keeps};
 ghost use Rattle.bring_up.specs.ConfiguredAdapters.{AreWords};
 ghost use Rattle.bring_up.specs.FilterTables.{HasNumbers, address_writes, entry_writes, numbers_of_groups};
-ghost use Rattle.bring_up.specs.FilterTables.{table_writes};
+ghost use Rattle.bring_up.specs.FilterTables.{table_numbers, table_writes};
 ghost use Rattle.bring_up.specs.SettingSteps.{Sets};
 
 use adapter::offsets::{ADDRESS_PAIR_BYTES, MTA, RAL, REGISTER_BYTES, VFTA};
@@ -27,7 +27,7 @@ pub fn group_table(groups: &[[u8; 6]]) -> [u32; TABLE_WORDS]
 
 /// The VLAN table with the bits of these VLANs, whose numbers must be below 4,096. All other bits are 0.
 pub fn vlan_table(vlans: &[u16]) -> [u32; TABLE_WORDS]
-    requires { All (λ vlan. vlan < 4096) vlans.now }
+    requires { All (λ vlan. vlan < table_numbers) vlans.now }
     ensures { HasNumbers result vlans.now }
 {
     let mut table = empty_table();
@@ -39,14 +39,14 @@ pub fn vlan_table(vlans: &[u16]) -> [u32; TABLE_WORDS]
 
 /// A table with no bit set.
 fn empty_table() -> [u32; TABLE_WORDS]
-    ensures { result ≡ replicate 128 0 }
+    ensures { result ≡ replicate TABLE_WORDS 0 }
 {
     [0; TABLE_WORDS]
 }
 
 /// Sets the bit of a number below 4,096.
 fn add_number(table: &mut [u32; TABLE_WORDS], number: u16)
-    requires { number < 4096 }
+    requires { number < table_numbers }
     ensures { table.new ≡ with_number table.old number }
 {
     let bit = TableBit::of(number);
@@ -85,7 +85,7 @@ pub fn write_addresses<B: Bus>(bus: &mut B, address: &[u8; 6])
 
 /// Writes an entry of the exact addresses.
 fn write_address<B: Bus>(bus: &mut B, entry: u32, words: AddressWords)
-    requires { entry < 16 }
+    requires { entry < EXACT_ADDRESSES }
     ensures keeps { Keeps B.Bus bus.old bus.new }
     ensures sets { B.honest bus.old → Sets B.Bus (entry_writes entry words.low words.high) bus.old bus.new }
 {

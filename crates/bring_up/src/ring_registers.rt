@@ -1,8 +1,8 @@
 //! The registers of both rings, and RCTL and TCTL, which enable receiver and transmitter ("14.4 Receive
 //! Initialization", "14.5 Transmit Initialization").
 
-ghost use Rattle.std.specs.Prelude.{◌≡◌, ◌%◌, ◌/◌, ◌^◌, ◌*◌, ◌<◌, ℕ, [], true, false};
-ghost use Rattle.dma_memory.specs.Layout.{IsRingSize};
+ghost use Rattle.std.specs.Prelude.{◌≡◌, ◌%◌, ◌/◌, ◌*◌, ◌<◌, ℕ, [], true, false};
+ghost use Rattle.dma_memory.specs.Layout.{IsRingSize, descriptor_bytes};
 ghost use Rattle.adapter.specs.HostFrames.{frames_held};
 ghost use Rattle.adapter.specs.KnownRing.{KnowsRing};
 ghost use Rattle.adapter.specs.World.{transmit_ring};
@@ -15,6 +15,7 @@ ghost use Rattle.bring_up.specs.RestingRings.{HasNewRings, HasReceiveRing, SetsA
 ghost use Rattle.bring_up.specs.RingRegisters.{receive_control, receive_writes, ring_writes, transmit_control};
 ghost use Rattle.bring_up.specs.RingRegisters.{transmit_writes};
 ghost use Rattle.bring_up.specs.SettingSteps.{Sets};
+ghost use Rattle.bring_up.specs.WrittenRegisters.{register_limit};
 
 use adapter::offsets::{RCTL, RDBAH, RDBAL, RDH, RDLEN, RDT, TCTL, TDBAH, TDBAL, TDH, TDLEN, TDT};
 use bitflags::Flags;
@@ -44,7 +45,8 @@ pub struct RingPlace {
 pub fn set_receive_ring<B: Bus>(bus: &mut B, ring: RingPlace)
     ensures keeps { Keeps B.Bus bus.old bus.new }
     ensures sets { B.honest bus.old → Sets B.Bus (ring_writes RDBAL ring.base ring.bytes) bus.old bus.new }
-    ensures rests { (rx : ℕ) → B.honest bus.old → IsRingSize rx → ring.base ≡ 0 → ring.bytes ≡ 16 * rx
+    ensures rests { (rx : ℕ) → B.honest bus.old → IsRingSize rx → ring.base ≡ 0
+        → ring.bytes ≡ descriptor_bytes * rx
         → SetsAtRest B.Bus (ring_writes RDBAL ring.base ring.bytes) (HasNewRings rx) (HasReceiveRing rx)
         bus.old bus.new }
 {
@@ -107,7 +109,7 @@ pub fn enable_transmitter<B: Bus>(bus: &mut B)
     ensures keeps { Keeps B.Bus bus.old bus.new }
     ensures sets { B.honest bus.old → Sets B.Bus transmit_writes bus.old bus.new }
     ensures ran { (d : DriverState) → IsReady B.Bus false (at bus.old d) → d.oldest_transmit < d.layout.tx
-        → KnowsRing (transmit_ring (B.world bus.old)) (16 * d.layout.rx) d.layout.tx (transmit_tail d)
+        → KnowsRing (transmit_ring (B.world bus.old)) (descriptor_bytes * d.layout.rx) d.layout.tx (transmit_tail d)
         → LeavesDriver B.Bus transmit_writes true d bus.old bus.new }
 {
     bus.write(TCTL, transmit_control());
@@ -122,14 +124,14 @@ fn transmit_control() -> u32
 
 /// The low 32 bits of an address.
 fn low_word(address: u64) -> u32
-    ensures { result ≡ address % 2 ^ 32 }
+    ensures { result ≡ address % register_limit }
 {
     (address % WORD) as u32
 }
 
 /// The high 32 bits of an address.
 fn high_word(address: u64) -> u32
-    ensures { result ≡ address / 2 ^ 32 }
+    ensures { result ≡ address / register_limit }
 {
     (address / WORD) as u32
 }

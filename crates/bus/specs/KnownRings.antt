@@ -13,15 +13,20 @@ KnownRingStays ring =
     (a b : World) (past : Past) (base count tail : ℕ) → Steady a b past → KnowsRing (ring a) base count tail
     → KnowsRing (ring b) base count tail
 
+-- The indices in RDT and TDT have 16 bits, so they are below this number ("13.4.29 Receive Descriptor Tail", "13.4.40 Transmit
+-- Descriptor Tail").
+abbrev pub index_limit : ℕ
+index_limit = 65536
+
 -- A write of RDT, or of TDT, of an index that fits the register leaves all but the tail.
 abbrev pub ReceiveTailMoves : Type 0
 ReceiveTailMoves =
-    (index : ℕ) (world : World) → index < 65536
+    (index : ℕ) (world : World) → index < index_limit
     → world_after_write RDT index world
     ≡ record world { adapter = record world.adapter { receive_ring = record world.adapter.receive_ring { tail = index } } }
 
 abbrev pub TransmitTailMoves : Type 0
 TransmitTailMoves =
-    (index : ℕ) (world : World) → index < 65536
+    (index : ℕ) (world : World) → index < index_limit
     → world_after_write TDT index world
     ≡ record world { adapter = record world.adapter { transmit_ring = record world.adapter.transmit_ring { tail = index } } }

@@ -2,6 +2,7 @@
 use Rattle.std.specs.Prelude.{◌≤◌, ◌<◌, ℕ}
 use Rattle.dma_memory.specs.Areas.{descriptor_area}
 use Rattle.dma_memory.specs.HostMemory.{LiesIn}
+use Rattle.dma_memory.specs.Layout.{descriptor_bytes}
 use Rattle.descriptors.specs.declared.ring.Ring.{Ring}
 use Rattle.descriptors.specs.Ring.{address_of, count_of, distance_of}
 use Rattle.adapter.specs.HostAreas.{IsForeign}
@@ -12,7 +13,7 @@ use Rattle.bus.specs.DriversStores.{IsDriversArea}
 
 -- A descriptor that a driver can write: it lies in memory, a store to it leaves what the law speaks of, and it isn't the adapter's.
 pub record CanBeWritten (oldest_receive oldest_transmit : ℕ) (world : World) (descriptor : ℕ) : Type 0 where
-  pub lies : LiesIn world.memory descriptor 16
+  pub lies : LiesIn world.memory descriptor descriptor_bytes
   pub own : IsDriversArea oldest_receive oldest_transmit world (descriptor_area descriptor)
   pub foreign : IsForeign world (descriptor_area descriptor)
 

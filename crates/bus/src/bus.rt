@@ -1,6 +1,6 @@
 // The bus, by what it shows and by what may happen between two accesses.
 
-ghost use Rattle.std.specs.Prelude.{◌≡◌, ◌+◌, ◌-◌, ◌^◌, ◌≤◌, ℕ, length, min};
+ghost use Rattle.std.specs.Prelude.{◌≡◌, ◌+◌, ◌≤◌, ℕ, length, min};
 ghost use Rattle.adapter.specs.Registers.{answer_at};
 ghost use Rattle.bus.specs.BusMembers.{Composes, StaysWhole};
 ghost use Rattle.bus.specs.Law.{Acts, view};
@@ -76,6 +76,8 @@ pub trait Bus {
 
 /// A bus that obeys the law, and counts its accesses.
 pub trait HonestBus: Bus {
+    ghost use Rattle.bus.specs.LivelyBuses.{most_accesses};
+
     /// How many accesses there were, up to the greatest `u64`.
     ghost counted: { Self → ℕ };
 
@@ -88,5 +90,5 @@ pub trait HonestBus: Bus {
 
     /// Each access raises the count by one, and nothing else does.
     ghost counts: { (a b : Self) (past : Past) → Self.happened a b past
-        → counted b ≡ min (counted a + length past.accesses) (2 ^ 64 - 1) };
+        → counted b ≡ min (counted a + length past.accesses) most_accesses };
 }

@@ -4,7 +4,7 @@ use Rattle.adapter.specs.declared.offsets.TheConstants.{IMS}
 use Rattle.registers.specs.Bits.{HasBit, union}
 use Rattle.registers.specs.Kept.{causes_of}
 use Rattle.dma_memory.specs.Areas.{IsInside, area_at}
-use Rattle.dma_memory.specs.Layout.{Counts, TransmitRing, area_of, receive_buffer_bytes, size_of}
+use Rattle.dma_memory.specs.Layout.{Counts, TransmitRing, area_of, descriptor_bytes, receive_buffer_bytes, size_of}
 use Rattle.adapter.specs.HostAreas.{buffer_size, ring_area}
 use Rattle.adapter.specs.HostFrames.{finished_pieces, frames_held, frames_to_send}
 use Rattle.adapter.specs.Rings.{ring_of}
@@ -72,7 +72,8 @@ TransmitRingIsWritten =
 abbrev pub TransmitterIsEnabled : Type 0
 TransmitterIsEnabled =
     (driver : DriverState) (control : ℕ) (world : World) → ReadyWith false driver world → driver.oldest_transmit < driver.layout.tx
-    → KnowsRing (transmit_ring world) (16 * driver.layout.rx) driver.layout.tx (transmit_tail driver) → HasBit control tctl_psp
+    → KnowsRing (transmit_ring world) (descriptor_bytes * driver.layout.rx) driver.layout.tx (transmit_tail driver)
+    → HasBit control tctl_psp
     → Goes (driver_in driver world) (driver_in driver (with_transmit_control control world)) (driver_did [] []) nothing
 
 -- RCTL is written, with EN or without it, while no receive slot is finished or in progress and the transmit side is off. BSEX is 0, and
@@ -118,7 +119,7 @@ EnabledForgetsNoWork =
 -- The descriptor of the slot after all staged ones is stored. That slot stays the driver's.
 abbrev pub LastSlotIsStored : Type 0
 LastSlotIsStored =
-    (up : Bool) (driver : DriverState) (bytes : List ℕ) (world : World) → ReadyWith up driver world → length bytes ≡ 16
+    (up : Bool) (driver : DriverState) (bytes : List ℕ) (world : World) → ReadyWith up driver world → length bytes ≡ descriptor_bytes
     → GoesTo up (driver_in driver world) (driver_in driver (world_after_store (receive_slot (next_receive driver)) bytes world))
     (driver_did [] []) nothing
 

@@ -6,7 +6,7 @@ use Rattle.std.specs.Prelude.{min, nat_lt}
 use Rattle.registers.specs.Bits.{HasBit, union}
 use Rattle.registers.specs.Counting.{greatest_count}
 use Rattle.registers.specs.Places.{alone, rxt0}
-use Rattle.dma_memory.specs.Layout.{Counts, TransmitBuffer, start_of}
+use Rattle.dma_memory.specs.Layout.{Counts, TransmitBuffer, descriptor_bytes, start_of}
 use Rattle.dma_memory.specs.Owners.{HasNoSecondOwner}
 use Rattle.descriptors.specs.Ring.{slots_from}
 use Rattle.descriptors.specs.RingLaws.{place}
@@ -80,6 +80,10 @@ only accesses = call_did accesses [] []
 
 -- How the driver counts the frames that the adapter missed.
 
+-- The driver's sum of missed frames has 64 bits, so it is below this number (our choice).
+abbrev pub sum_limit : ℕ
+sum_limit = 2 ^ 64
+
 -- the number of frames missed up to a moment, as far as the driver knows: its sum plus MPC
 abbrev pub misses_known : DriverInWorld → ℕ
 misses_known now = now.driver.missed + now.world.adapter.missed_packets
@@ -95,12 +99,12 @@ pub record SumsMisses (old new : DriverInWorld) (past : Past) : Type 0 where
   pub sum : old.driver.missed ≤ new.driver.missed
   -- The sum plus MPC grows by the frames missed, if neither would pass its greatest value.
   pub counted :
-      old.world.adapter.missed_packets + past.missed ≤ greatest_count → misses_known old + past.missed < 2 ^ 64
+      old.world.adapter.missed_packets + past.missed ≤ greatest_count → misses_known old + past.missed < sum_limit
       → misses_known new ≡ misses_known old + past.missed
   -- If MPC wouldn't pass its greatest value, and the sum plus MPC would reach the greatest u64, it is at least that at the end.
   pub sticks :
-      old.world.adapter.missed_packets + past.missed ≤ greatest_count → 2 ^ 64 - 1 ≤ misses_known old + past.missed
-      → 2 ^ 64 - 1 ≤ misses_known new
+      old.world.adapter.missed_packets + past.missed ≤ greatest_count → sum_limit - 1 ≤ misses_known old + past.missed
+      → sum_limit - 1 ≤ misses_known new
   -- It never counts too many.
   pub at_most : misses_known new ≤ misses_known old + past.missed
   -- If the sum is exact and MPC is below its greatest value at the end, this was so at the beginning, and each frame missed was counted.
@@ -108,19 +112,19 @@ pub record SumsMisses (old new : DriverInWorld) (past : Past) : Type 0 where
   -- An exact sum stays exact if MPC would stay below its greatest value, and the sum plus MPC would fit into a u64.
   pub stays_exact :
       IsTrue old.driver.exact → old.world.adapter.missed_packets + past.missed < greatest_count
-      → misses_known old + past.missed < 2 ^ 64 → IsTrue new.driver.exact
+      → misses_known old + past.missed < sum_limit → IsTrue new.driver.exact
   -- A sum below MPC's greatest value is exact at the end, if that was so at the beginning.
   pub small :
       (old.driver.missed < greatest_count → IsTrue old.driver.exact) → new.driver.missed < greatest_count → IsTrue new.driver.exact
 
 -- whether a value read from MPC can be added without a loss: it isn't MPC's greatest value, and the sum doesn't saturate
 abbrev pub adds_exactly : (missed value : ℕ) → Bool
-adds_exactly missed value = nat_lt value greatest_count && nat_lt (missed + value) (2 ^ 64)
+adds_exactly missed value = nat_lt value greatest_count && nat_lt (missed + value) sum_limit
 
 -- the driver after a value read from MPC was added to its sum, which saturates at the greatest u64
 abbrev pub with_missed : ℕ → DriverState → DriverState
 with_missed value driver = record driver
-    { missed = min (driver.missed + value) (2 ^ 64 - 1); exact = driver.exact && adds_exactly driver.missed value }
+    { missed = min (driver.missed + value) (sum_limit - 1); exact = driver.exact && adds_exactly driver.missed value }
 
 -- What an interval changes.
 
@@ -179,7 +183,7 @@ tail_write slot (number ∷ later) = Writes RDT slot ∷ []
 
 -- the descriptors of n receive slots are loaded, from a place on
 abbrev pub receive_loads : Counts → (slot n : ℕ) → List Access
-receive_loads counts slot n = map (λ place. Loads (receive_slot place) 16) (slots_from counts.rx slot n)
+receive_loads counts slot n = map (λ place. Loads (receive_slot place) descriptor_bytes) (slots_from counts.rx slot n)
 
 -- bytes 12 and 13 of a frame in these buffers are loaded
 abbrev pub ether_type_load : Counts → (numbers : List ℕ) → List Access
@@ -225,7 +229,7 @@ whole_descriptor address size = tx_desc_bytes (record {
 
 -- the descriptors of k slots are loaded, from a place on
 abbrev pub transmit_loads : Counts → (oldest : ℕ) → ℕ → List Access
-transmit_loads counts oldest k = map (λ slot. Loads (transmit_slot counts slot) 16) (slots_from counts.tx oldest k)
+transmit_loads counts oldest k = map (λ slot. Loads (transmit_slot counts slot) descriptor_bytes) (slots_from counts.tx oldest k)
 
 -- a frame is sent in the slot at the tail: its bytes are stored, then the descriptor, and then TDT is written
 abbrev pub send_accesses : DriverState → List ℕ → List Access

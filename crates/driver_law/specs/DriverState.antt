@@ -1,6 +1,6 @@
 -- The state of a driver as plain data, and where its rings and buffers are (our choice).
-use Rattle.std.specs.Prelude.{◌+◌, ◌*◌, ◌++◌, ℕ, Bool, List, length, map}
-use Rattle.dma_memory.specs.Layout.{Counts, ReceiveBuffer, start_of}
+use Rattle.std.specs.Prelude.{◌+◌, ◌*◌, ◌^◌, ◌++◌, ℕ, Bool, List, length, map}
+use Rattle.dma_memory.specs.Layout.{Counts, ReceiveBuffer, descriptor_bytes, start_of}
 use Rattle.descriptors.specs.RingLaws.{place}
 use Rattle.std.specs.List.{concat}
 
@@ -52,17 +52,22 @@ owners driver = driver.pool ++ (driver.buffers ++ (driver.staged ++ numbers_of d
 
 -- Places of rings, slots and buffers.
 
+-- Addresses in memory have 64 bits, so they are below this number ("3.2.3 Receive Descriptor Format", "3.3.3 Legacy Transmit Descriptor
+-- Format").
+abbrev pub address_limit : ℕ
+address_limit = 2 ^ 64
+
 -- the receive buffer of a number
 abbrev pub buffer_at : Counts → ℕ → ℕ
 buffer_at counts number = start_of counts (ReceiveBuffer number)
 
 -- the descriptor of a receive slot, by its place
 abbrev pub receive_slot : ℕ → ℕ
-receive_slot slot = 16 * slot
+receive_slot slot = descriptor_bytes * slot
 
 -- the descriptor of a transmit slot
 abbrev pub transmit_slot : Counts → ℕ → ℕ
-transmit_slot counts slot = 16 * counts.rx + 16 * slot
+transmit_slot counts slot = descriptor_bytes * counts.rx + descriptor_bytes * slot
 
 -- the place that RDT names: after the last outstanding receive slot
 abbrev pub receive_tail : DriverState → ℕ

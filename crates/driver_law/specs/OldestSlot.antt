@@ -1,6 +1,7 @@
 -- A driver looks at one of its outstanding receive slots, by one load of its descriptor.
 use Rattle.std.specs.Prelude.{◌≡◌, ◌≤◌, ◌++◌, ◌∷◌, ℕ, Bool, true, false, List, [], length}
 use Rattle.registers.specs.Bits.{is_set}
+use Rattle.dma_memory.specs.Layout.{descriptor_bytes}
 use Rattle.descriptors.specs.RingLaws.{place}
 use Rattle.descriptors.specs.RxStatus.{dd, eop, status_bits}
 use Rattle.descriptors.specs.declared.rx_desc.RxDesc.{RxDesc}
@@ -34,7 +35,7 @@ ShowsSlot false k pieces descriptor = length pieces ≤ k
 
 -- The descriptor of the k-th outstanding slot after the oldest was loaded.
 pub record LooksAtSlot {B : Type 0} (bus : Ghosts B) (up : Bool) (k : ℕ) (descriptor : RxDesc) (old : Moment B) (new : B) : Type 0 where
-  pub ran : Ran bus up (only (Loads (receive_slot (slot_after_oldest old.driver k)) 16 ∷ [])) old (at new old.driver)
+  pub ran : Ran bus up (only (Loads (receive_slot (slot_after_oldest old.driver k)) descriptor_bytes ∷ [])) old (at new old.driver)
   -- The pieces in finished slots are those from before, and then these.
   pub more : List Piece
   pub grows : finished_pieces old.driver.oldest_receive (bus.world new)

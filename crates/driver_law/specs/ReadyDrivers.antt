@@ -1,9 +1,9 @@
 -- What a driver knows of its adapter and its memory between its actions, and what it relies on (our choice).
-use Rattle.std.specs.Prelude.{⊤, ◌≡◌, ◌≤◌, ◌<◌, ◌+◌, ◌*◌, ◌%◌, ◌^◌, ℕ, Bool, true, false, List, [], ◌∷◌, All, map, length}
+use Rattle.std.specs.Prelude.{⊤, ◌≡◌, ◌≤◌, ◌<◌, ◌+◌, ◌*◌, ◌%◌, ℕ, Bool, true, false, List, [], ◌∷◌, All, map, length}
 use Rattle.registers.specs.Bits.{HasBit}
 use Rattle.dma_memory.specs.Areas.{IsInside}
 use Rattle.dma_memory.specs.HostMemory.{bytes_at}
-use Rattle.dma_memory.specs.Layout.{Counts, TransmitBuffer, area_of, receive_buffer_bytes, size_of}
+use Rattle.dma_memory.specs.Layout.{Counts, TransmitBuffer, area_of, descriptor_bytes, receive_buffer_bytes, size_of}
 use Rattle.dma_memory.specs.Owners.{HasOneOwner}
 use Rattle.descriptors.specs.declared.ring.Ring.{Ring}
 use Rattle.descriptors.specs.Ring.{count_of, slots_from}
@@ -19,7 +19,8 @@ use Rattle.adapter.specs.KnownRing.{KnowsRing}
 use Rattle.adapter.specs.Running.{CanRun}
 use Rattle.adapter.specs.Slots.{outstanding}
 use Rattle.adapter.specs.World.{World, receive_ring, transmit_ring}
-use Rattle.driver_law.specs.DriverState.{DriverState, HandedOut, buffer_at, owners, receive_slot, receive_tail, transmit_slot}
+use Rattle.driver_law.specs.DriverState.{DriverState, HandedOut, address_limit, buffer_at, owners, receive_slot, receive_tail}
+use Rattle.driver_law.specs.DriverState.{transmit_slot}
 
 -- What always holds of the driver's own state.
 pub record IsDriver (driver : DriverState) : Type 0 where
@@ -29,7 +30,7 @@ pub record IsDriver (driver : DriverState) : Type 0 where
   -- Each buffer has one owner.
   pub one_owner : HasOneOwner driver.layout.buffers (owners driver)
   -- Each address of the layout fits into 64 bits.
-  pub addresses : size_of driver.layout < 2 ^ 64
+  pub addresses : size_of driver.layout < address_limit
 
 -- The receive side.
 
@@ -42,7 +43,7 @@ empty_descriptor buffer = rx_desc_bytes
 abbrev pub AreStored : List ℕ → Counts → ℕ → List ℕ → Type 0
 AreStored memory counts slot [] = ⊤
 AreStored memory counts slot (number ∷ later) =
-    (bytes_at memory (receive_slot slot) 16 ≡ empty_descriptor (buffer_at counts number))
+    (bytes_at memory (receive_slot slot) descriptor_bytes ≡ empty_descriptor (buffer_at counts number))
     × AreStored memory counts ((slot + 1) % counts.rx) later
 
 -- A piece of a frame that others hold is in its buffer.
@@ -56,14 +57,14 @@ pub record TransmitIsUp (counts : Counts) (oldest sending : ℕ) (memory : List 
   pub room : sending < counts.tx
   -- TCTL.PSP
   pub pads : HasBit control tctl_psp
-  pub knows : KnowsRing ring (16 * counts.rx) counts.tx (place counts.tx oldest sending)
+  pub knows : KnowsRing ring (descriptor_bytes * counts.rx) counts.tx (place counts.tx oldest sending)
   pub sources : All (λ slot. IsInside (data_of memory (transmit_slot counts slot)) (area_of counts (TransmitBuffer slot)))
       (slots_from counts.tx oldest sending)
 
 -- The transmit side isn't set up yet, as during initialization: its ring ends before the buffers, none of its slots is outstanding, and no
 -- frame is in the packet buffer.
 pub record TransmitIsOff (counts : Counts) (oldest sending : ℕ) (ring : Ring) (buffer : List Queued) : Type 0 where
-  pub ends : ring.base + 16 * count_of ring ≤ 16 * counts.rx + 16 * counts.tx
+  pub ends : ring.base + descriptor_bytes * count_of ring ≤ descriptor_bytes * counts.rx + descriptor_bytes * counts.tx
   pub idle : ring.head ≡ ring.tail
   pub last : ring.tail ≡ oldest
   pub nothing : sending ≡ 0

@@ -1,17 +1,17 @@
 -- What a driver knows after a read of a register (our choice).
-use Rattle.std.specs.Prelude.{◌≡◌, ◌≢◌, ◌<◌, ◌^◌, ℕ, Bool, []}
+use Rattle.std.specs.Prelude.{◌≡◌, ◌≢◌, ◌<◌, ℕ, Bool, []}
 use Rattle.adapter.specs.declared.offsets.TheConstants.{ICR, MPC}
 use Rattle.adapter.specs.Registers.{answer_at}
 use Rattle.adapter.specs.World.{World, world_after_read}
 use Rattle.bus.specs.PastOfStretch.{nothing}
-use Rattle.driver_law.specs.Calls.{FlowsTo, GoesTo, driver_did, driver_in, with_missed}
+use Rattle.driver_law.specs.Calls.{FlowsTo, GoesTo, driver_did, driver_in, sum_limit, with_missed}
 use Rattle.driver_law.specs.DriverState.{DriverState}
 use Rattle.driver_law.specs.ReadyDrivers.{ReadyWith}
 
 -- MPC is read, and its value is added to the driver's sum.
 abbrev pub MissesAreRead : Type 0
 MissesAreRead =
-    (up : Bool) (driver : DriverState) (world : World) → driver.missed < 2 ^ 64 → ReadyWith up driver world
+    (up : Bool) (driver : DriverState) (world : World) → driver.missed < sum_limit → ReadyWith up driver world
     → GoesTo up (driver_in driver world) (driver_in (with_missed (answer_at MPC world.adapter) driver) (world_after_read MPC world))
     (driver_did [] []) nothing
 

@@ -52,7 +52,8 @@ DescriptorIsStored =
 -- Its buffer and its descriptor have the same bytes in both worlds.
 pub record SameSlot (counts : Counts) (slot : ℕ) (a b : World) : Type 0 where
   pub data_same : bytes_in b.memory (area_of counts (TransmitBuffer slot)) ≡ bytes_in a.memory (area_of counts (TransmitBuffer slot))
-  pub descriptor_same : bytes_at b.memory (transmit_slot counts slot) 16 ≡ bytes_at a.memory (transmit_slot counts slot) 16
+  pub descriptor_same : bytes_at b.memory (transmit_slot counts slot) descriptor_bytes
+      ≡ bytes_at a.memory (transmit_slot counts slot) descriptor_bytes
 
 -- They stay the same whatever happens.
 abbrev pub SlotsKeepBytes : Type 0
@@ -65,7 +66,7 @@ SlotsKeepBytes =
 -- The slot at the tail has the frame: it is in the slot's buffer, which the slot's descriptor names.
 pub record FrameStands (driver : DriverState) (frame : List ℕ) (world : World) : Type 0 where
   pub bytes : bytes_at world.memory (tail_buffer driver) (length frame) ≡ frame
-  pub descriptor : bytes_at world.memory (tail_slot driver) 16 ≡ whole_descriptor (tail_buffer driver) (length frame)
+  pub descriptor : bytes_at world.memory (tail_slot driver) descriptor_bytes ≡ whole_descriptor (tail_buffer driver) (length frame)
 
 -- A write of TDT with the place after the tail advances the tail by one.
 abbrev pub TailIsMoved : Type 0

@@ -16,7 +16,8 @@ use Rattle.eeprom.specs.Eerd.{is_pending}
 use Rattle.mdic_phy.specs.Mdic.{has_work}
 use Rattle.bus.specs.TickGroups.{behind_group, group_of, without_go}
 use Rattle.bus.specs.PastOfStretch.{Past}
-use Rattle.solo_bus.specs.SoloBuses.{Plays, Prepared, SoloState, has_room, is_go, most_accesses, lively_ticks, solo_after_arrival}
+use Rattle.bus.specs.LivelyBuses.{most_accesses}
+use Rattle.solo_bus.specs.SoloBuses.{Plays, Prepared, SoloState, has_room, is_go, lively_ticks, solo_after_arrival}
 use Rattle.solo_bus.specs.SoloBuses.{solo_after_step}
 use Rattle.solo_bus.specs.SoloBuses.{tick_of}
 use Rattle.solo_bus.specs.SoloLaws.{are_free_joins}

@@ -1,5 +1,5 @@
 -- What a solo bus is, and what its calls leave.
-use Rattle.std.specs.Prelude.{⊤, ◌≡◌, ◌+◌, ◌-◌, ◌^◌, ◌++◌, ℕ, Bool, true, false, List, [], ◌∷◌, All, length, map, min, nat_lt, sum_by}
+use Rattle.std.specs.Prelude.{⊤, ◌≡◌, ◌+◌, ◌++◌, ℕ, Bool, true, false, List, [], ◌∷◌, All, length, map, min, nat_lt, sum_by}
 use Rattle.std.specs.Prelude.{if◌then◌else◌}
 use Rattle.rx_engine.specs.declared.arrival.Fate.{Fate}
 use Rattle.adapter.specs.Outcomes.{put_by, framed}
@@ -9,6 +9,7 @@ use Rattle.adapter.specs.declared.step.StepKind.{StepKind}
 use Rattle.adapter.specs.declared.step.StepKind.TheVariants.{EepromTick, PhyTick}
 use Rattle.adapter.specs.declared.outcome.Outcome.{Outcome}
 use Rattle.adapter.specs.Outcomes.{FrameOutcome}
+use Rattle.bus.specs.LivelyBuses.{most_accesses}
 use Rattle.bus.specs.TickGroups.{behind_group, group_of, groups_of, played_in, waiting_after}
 use Rattle.bus.specs.PastOfStretch.{Past}
 use Rattle.bus.specs.declared.event.Access.{Access}
@@ -81,10 +82,6 @@ AreFree (Steps kind wire_free answer ∷ later) frames =
     (wire_free ≡ nat_lt frames wire_frames) × AreFree later (frames + length (past_of_step kind answer).put)
 AreFree (Arrives frame fate ∷ later) frames = AreFree later frames
 AreFree (Accesses access ∷ later) frames = AreFree later frames
-
--- the greatest count of accesses
-abbrev pub most_accesses : ℕ
-most_accesses = 2 ^ 64 - 1
 
 -- What events put on the wire.
 pub record PutOnWire (a b : SoloState) (events : List Event) (put : List (List ℕ)) : Type 0 where

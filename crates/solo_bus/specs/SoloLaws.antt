@@ -7,7 +7,8 @@ use Rattle.bus.specs.PastOfStretch.{Past, joined, nothing}
 use Rattle.adapter.specs.declared.step.StepKind.TheVariants.{TxTake, TxPut, RxData, RxDone, EepromTick, PhyTick}
 use Rattle.bus.specs.TickGroupLaws.{played_counts, played_joins, waiting_joins}
 use Rattle.bus.specs.TickGroups.{played_in, waiting_after}
-use Rattle.solo_bus.specs.SoloBuses.{AreFree, PlaysLively, Recounts, SoloState, eeprom_tick, is_go, most_accesses, lively_ticks, phy_tick}
+use Rattle.bus.specs.LivelyBuses.{most_accesses}
+use Rattle.solo_bus.specs.SoloBuses.{AreFree, PlaysLively, Recounts, SoloState, eeprom_tick, is_go, lively_ticks, phy_tick}
 use Rattle.solo_bus.specs.SoloBuses.{tick_of}
 use Rattle.bus.specs.TrailLaws.{past_of-append, trail_joins}
 use Rattle.bus.specs.StepsAndArrivals.{past_of_step}

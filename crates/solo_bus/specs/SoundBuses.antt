@@ -1,6 +1,7 @@
 -- The worlds of the buses of `src/sound_buses.rt` (our choice), by the size of their memory and the words of their EEPROM. The memory is
 -- all zeros, so each receive descriptor names the buffer at address 0. Both rings, of eight slots each, are after this buffer.
 use Rattle.std.specs.Prelude.{◌+◌, ℕ, List, [], ◌∷◌, replicate}
+use Rattle.descriptors.specs.Frames.{shortest_frame}
 use Rattle.mdic_phy.specs.declared.phy.Link.TheVariants.{Never}
 use Rattle.registers.specs.Places.{alone, rctl_bam, rctl_en, tctl_en, tctl_psp}
 use Rattle.rx_engine.specs.declared.arrival.Fate.TheVariants.{Stored}
@@ -10,6 +11,7 @@ use Rattle.adapter.specs.declared.outcome.Outcome.TheVariants.{Done, Moved, Took
 use Rattle.bus.specs.SlotOffers.{offering, offering_frame}
 use Rattle.bus.specs.StepsAndArrivals.{world_after_arrival, world_after_step}
 use Rattle.adapter.specs.World.{World, world_after_store}
+use Rattle.solo_bus.specs.declared.sound_buses.TheConstants.{RECEIVE_RING, RING_BYTES, TRANSMIT_RING}
 
 -- both rings set up and nothing offered: RCTL.EN and BAM, with buffers of 2,048 bytes, and TCTL.EN and PSP
 abbrev pub resting : ℕ → List ℕ → World
@@ -18,8 +20,8 @@ resting size words = record {
   adapter = record (new_adapter words Never) {
     filter = record (filter_at_reset words) { rctl = alone rctl_en + alone rctl_bam };
     transmit_control = alone tctl_en + alone tctl_psp;
-    receive_ring = record { base_low = 2048; base_high = 0; length_bytes = 128; head = 0; tail = 0 };
-    transmit_ring = record { base_low = 2176; base_high = 0; length_bytes = 128; head = 0; tail = 0 };
+    receive_ring = record { base_low = RECEIVE_RING; base_high = 0; length_bytes = RING_BYTES; head = 0; tail = 0 };
+    transmit_ring = record { base_low = TRANSMIT_RING; base_high = 0; length_bytes = RING_BYTES; head = 0; tail = 0 };
   };
 }
 
@@ -29,7 +31,7 @@ ready size words = offering (resting size words)
 
 -- a frame to all
 abbrev pub call : List ℕ
-call = replicate 60 255
+call = replicate shortest_frame 255
 
 -- it has arrived,
 abbrev pub called : ℕ → List ℕ → World
@@ -49,7 +51,7 @@ request = 0 ∷ 9 ∷ 0 ∷ 0 ∷ 0 ∷ 0 ∷ 0 ∷ 0 ∷ 60 ∷ 0 ∷ 0 ∷ 11 
 
 -- it stands in the first transmit slot,
 abbrev pub requested : ℕ → List ℕ → World
-requested size words = world_after_store 2176 request (resting size words)
+requested size words = world_after_store TRANSMIT_RING request (resting size words)
 
 -- the slot is offered,
 abbrev pub sending : ℕ → List ℕ → World

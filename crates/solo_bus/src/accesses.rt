@@ -59,7 +59,7 @@ impl Bus for SoloBus {
 
 impl HonestBus for SoloBus {
     ghost use Rattle.std.specs.Prelude.{min};
-    ghost use Rattle.solo_bus.specs.SoloBuses.{most_accesses};
+    ghost use Rattle.bus.specs.LivelyBuses.{most_accesses};
     ghost use Rattle.solo_bus.specs.SoloLaws.{recounts_count};
 
     ghost counted = { λ bus. min bus.accesses most_accesses };

@@ -60,7 +60,8 @@ impl SoloBus {
     ghost use Rattle.adapter.specs.Registers.{answer_at};
     ghost use Rattle.adapter.specs.Steps.{Answers};
     ghost use Rattle.bus.specs.TickGroups.{behind_group, group_of, without_go};
-    ghost use Rattle.solo_bus.specs.SoloBuses.{Plays, Prepared, has_room, is_go, most_accesses, lively_ticks};
+    ghost use Rattle.bus.specs.LivelyBuses.{most_accesses};
+    ghost use Rattle.solo_bus.specs.SoloBuses.{Plays, Prepared, has_room, is_go, lively_ticks};
     ghost use Rattle.solo_bus.specs.SoloBuses.{next_frames, solo_after_arrival, solo_after_step, solo_framed};
     ghost use Rattle.adapter.specs.State.{IsAdapter};
     ghost use Rattle.adapter.specs.World.{world_after_read, world_after_store, world_after_write};

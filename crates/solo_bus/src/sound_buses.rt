@@ -47,7 +47,7 @@ const REQUEST: [u8; 16] = [0, 9, 0, 0, 0, 0, 0, 0, 60, 0, 0, 0x0B, 0, 0, 0, 0];
 ///
 /// Want of memory alone.
 pub fn with_rings(alloc: Global, image: &Image) -> Result<SoloBus, AllocError>
-    ensures world { IfOk result (λ bus. bus.world ≡ ready 4096 image.now) }
+    ensures world { IfOk result (λ bus. bus.world ≡ ready MEMORY_BYTES image.now) }
     ensures sound { IfOk result (λ bus. Sound 0 0 bus.world) }
     ensures rings { IfOk result (λ bus. HasRings bus.world) }
 {
@@ -62,7 +62,7 @@ pub fn with_rings(alloc: Global, image: &Image) -> Result<SoloBus, AllocError>
 ///
 /// Want of memory alone.
 pub fn with_work(alloc: Global, image: &Image) -> Result<SoloBus, AllocError>
-    ensures world { IfOk result (λ bus. bus.world ≡ working 4096 image.now) }
+    ensures world { IfOk result (λ bus. bus.world ≡ working MEMORY_BYTES image.now) }
     ensures sound { IfOk result (λ bus. Sound 0 0 bus.world) }
     ensures work { IfOk result (λ bus. HasWork bus.world) }
 {
@@ -78,7 +78,7 @@ pub fn with_work(alloc: Global, image: &Image) -> Result<SoloBus, AllocError>
 ///
 /// Want of memory alone.
 pub fn with_finished_slot(alloc: Global, image: &Image) -> Result<SoloBus, AllocError>
-    ensures world { IfOk result (λ bus. bus.world ≡ finished_slot 4096 image.now) }
+    ensures world { IfOk result (λ bus. bus.world ≡ finished_slot MEMORY_BYTES image.now) }
     ensures sound { IfOk result (λ bus. Sound 0 0 bus.world) }
     ensures finished { IfOk result (λ bus. HasFinished bus.world) }
 {
@@ -93,7 +93,7 @@ pub fn with_finished_slot(alloc: Global, image: &Image) -> Result<SoloBus, Alloc
 ///
 /// Want of memory alone.
 pub fn with_frame_to_send(alloc: Global, image: &Image) -> Result<SoloBus, AllocError>
-    ensures world { IfOk result (λ bus. bus.world ≡ sending 4096 image.now) }
+    ensures world { IfOk result (λ bus. bus.world ≡ sending MEMORY_BYTES image.now) }
     ensures sound { IfOk result (λ bus. Sound 0 0 bus.world) }
     ensures in_ring { IfOk result (λ bus. HasFramesInRing bus.world) }
 {
@@ -109,7 +109,7 @@ pub fn with_frame_to_send(alloc: Global, image: &Image) -> Result<SoloBus, Alloc
 ///
 /// Want of memory alone.
 pub fn with_buffered_frame(alloc: Global, image: &Image) -> Result<SoloBus, AllocError>
-    ensures world { IfOk result (λ bus. bus.world ≡ taken 4096 image.now) }
+    ensures world { IfOk result (λ bus. bus.world ≡ taken MEMORY_BYTES image.now) }
     ensures sound { IfOk result (λ bus. Sound 0 0 bus.world) }
     ensures in_buffer { IfOk result (λ bus. HasFramesInBuffer bus.world) }
 {
@@ -120,7 +120,7 @@ pub fn with_buffered_frame(alloc: Global, image: &Image) -> Result<SoloBus, Allo
 
 /// A bus on which both rings are set up, and nothing is offered.
 fn at_rest(alloc: Global, image: &Image) -> Result<SoloBus, AllocError>
-    ensures { IfOk result (λ bus. bus.world ≡ resting 4096 image.now) }
+    ensures { IfOk result (λ bus. bus.world ≡ resting MEMORY_BYTES image.now) }
 {
     let adapter = Adapter::new(alloc, image, Link::Never)?;
     let memory = HostMemory::new(alloc, MEMORY_BYTES)?;
