@@ -173,8 +173,8 @@ pub handled-steps : (result : Handled) (number : ℕ) (a b : List StationState) 
     → StepsOn 1 number [] (connected h a) (connected h' b)
 handled-steps result number a b heard accesses h h' ready runs free meets =
     let of_call = runs.runs.of_call in
-    let recorded = clears number runs.runs.steps runs.tells.early a b h.driver.layout runs.causes of_call.leads of_call.played
-    runs.runs.runs.accesses runs.tells.first in
+    let recorded = clears number runs.runs.steps runs.states.reads.tells.early a b h.driver.layout runs.states.reads.causes of_call.leads of_call.played
+    runs.runs.runs.accesses runs.states.reads.tells.first in
     let causes = (world_at b number).adapter.causes in
     let none : bit_and causes.recorded causes.mask ≡ 0 =
     ap (λ (r : ℕ). bit_and r causes.mask) recorded ∙ and_zero_l causes.mask in

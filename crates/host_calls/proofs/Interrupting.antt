@@ -95,11 +95,15 @@ leaves-runs {O} {g} composes a m b h h' zero ready handles finished =
     record {
       taken = [];
       runs = made.0;
-      causes = handles.asked.causes;
-      tells = tells-on a.host retells.steps finished.plays.steps made.0.steps handles.asked.causes (world_here a).adapter
-          NotMine (calls-tell_causes a m m h h' NotMine past [] ready handles retells only) made.1;
-      looks = tt;
-      answer = record { stays = leaves.stays; none = refl };
+      states = record {
+        reads = record {
+          causes = handles.asked.causes;
+          tells = tells-on a.host retells.steps finished.plays.steps made.0.steps handles.asked.causes (world_here a).adapter
+              NotMine (calls-tell_causes a m m h h' NotMine past [] ready handles retells only) made.1;
+        };
+        answers = record { stays = leaves.stays; none = refl };
+        looks = tt;
+      };
     }
 
 -- The buffers of frames, one frame after the other, are those of their pieces.
@@ -181,43 +185,47 @@ works-runs composes a m b h h' n zero ready refilled offered only_receives handl
     record {
       taken = it.taken;
       runs = made.0;
-      causes = handles.asked.causes;
-      tells = tells-on a.host whole.0.steps last steps handles.asked.causes (world_here a).adapter
-          (answers.Handled n)
-          (calls-tell_causes a m m h h' (answers.Handled n) (joined past both) both.accesses ready handles whole.0
-          (ap (λ (list : List Access). list ++ both.accesses) only)) made.1;
-      looks = record {
-        makes = makes (past_at a.host steps).accesses played;
-        loads = record {
-          first = first.0.steps;
-          later = split.leaves.steps ++ last;
-          split =
-              made.1
-              ∙ ap (λ (list : List AtomicStep). list ++ last)
-              (whole.1 ∙ ap (λ (list : List AtomicStep). handles.asked.reads.reports.steps ++ list) work.1
-              ∙ sym (append_assoc handles.asked.reads.reports.steps split.reaches.steps split.leaves.steps)
-              ∙ ap (λ (list : List AtomicStep). list ++ split.leaves.steps) (sym first.1))
-              ∙ append_assoc first.0.steps split.leaves.steps last;
-          made =
-              ap (λ (p : Past). p.accesses) (sym first.0.past_is)
-              ∙ ap (λ (list : List Access). list ++ split.before.accesses) only
-              ∙ ap (λ (list : List Access). Reads ICR handles.asked.causes ∷ list) split.first_made;
-          ends = retelling-ends a split.middle (joined past split.before) first.0;
-          middle = split.middle.stations.now;
-          leads = first.0.leads;
+      states = record {
+        reads = record {
+          causes = handles.asked.causes;
+          tells = tells-on a.host whole.0.steps last steps handles.asked.causes (world_here a).adapter
+              (answers.Handled n)
+              (calls-tell_causes a m m h h' (answers.Handled n) (joined past both) both.accesses ready handles whole.0
+              (ap (λ (list : List Access). list ++ both.accesses) only)) made.1;
         };
-        others =
-            whole-accesses a.host split.leaves.steps last (none-alone a.host last finished.plays.are)
-            ∙ ap (λ (k : ℕ). (past_at k split.leaves.steps).accesses) (sym first.0.lent.host)
-            ∙ ap (λ (p : Past). p.accesses) (sym split.leaves.past_is) ∙ split.later_made;
-        look = subst (λ (k : ℕ). IsLook h'.driver.oldest_receive served.rest (world_at split.middle.stations.now k) works.loads)
-            first.0.lent.host works.look;
-      };
-      answer = record {
-        frames = it.sorted;
-        least = it.driver.least;
-        unclaimed = taken-unclaimed h.kinds it.taken h.unclaimed h'.unclaimed it.sorted.sorted.unclaimed;
-        only_receives = only_receives;
+        answers = record {
+          frames = it.sorted;
+          least = it.driver.least;
+          unclaimed = taken-unclaimed h.kinds it.taken h.unclaimed h'.unclaimed it.sorted.sorted.unclaimed;
+          only_receives = only_receives;
+        };
+        looks = record {
+          makes = makes (past_at a.host steps).accesses played;
+          loads = record {
+            first = first.0.steps;
+            later = split.leaves.steps ++ last;
+            split =
+                made.1
+                ∙ ap (λ (list : List AtomicStep). list ++ last)
+                (whole.1 ∙ ap (λ (list : List AtomicStep). handles.asked.reads.reports.steps ++ list) work.1
+                ∙ sym (append_assoc handles.asked.reads.reports.steps split.reaches.steps split.leaves.steps)
+                ∙ ap (λ (list : List AtomicStep). list ++ split.leaves.steps) (sym first.1))
+                ∙ append_assoc first.0.steps split.leaves.steps last;
+            made =
+                ap (λ (p : Past). p.accesses) (sym first.0.past_is)
+                ∙ ap (λ (list : List Access). list ++ split.before.accesses) only
+                ∙ ap (λ (list : List Access). Reads ICR handles.asked.causes ∷ list) split.first_made;
+            ends = retelling-ends a split.middle (joined past split.before) first.0;
+            middle = split.middle.stations.now;
+            leads = first.0.leads;
+          };
+          others =
+              whole-accesses a.host split.leaves.steps last (none-alone a.host last finished.plays.are)
+              ∙ ap (λ (k : ℕ). (past_at k split.leaves.steps).accesses) (sym first.0.lent.host)
+              ∙ ap (λ (p : Past). p.accesses) (sym split.leaves.past_is) ∙ split.later_made;
+          look = subst (λ (k : ℕ). IsLook h'.driver.oldest_receive served.rest (world_at split.middle.stations.now k) works.loads)
+              first.0.lent.host works.look;
+        };
       };
     }
 

@@ -5,6 +5,7 @@ use Rattle.descriptors.specs.Frames.{longest_frame, shortest_sent}
 use Rattle.adapter.specs.HostFrames.{frames_to_send}
 use Rattle.std.specs.List.{concat}
 use Rattle.adapter.specs.Slots.{written_back}
+use Rattle.adapter.specs.State.{AdapterState}
 use Rattle.adapter.specs.World.{World}
 use Rattle.adapter.specs.declared.offsets.TheConstants.{ICR}
 use Rattle.bus.specs.declared.event.Access.{Access}
@@ -213,13 +214,23 @@ pub record RecvRuns (call : PlayedCall) (socket : ℕ) (result : Result (List �
   pub states : RecvResult call.caller socket result runs.steps old new
 
 -- An interrupt is handled.
+
+-- ICR was read first, and showed these causes. The result follows from them: that is, from the adapter when the call began, and from the
+-- ticks played before that read.
+pub record ReadsIcr (k : ℕ) (steps : List AtomicStep) (adapter : AdapterState) (result : Handled) : Type 0 where
+  pub causes : ℕ
+  pub tells : TellsCauses k steps causes adapter result
+
+-- What the result of an interrupt of host k states, over the call's atomic steps. These frames were taken off the receive ring, each in its
+-- pieces: none if the result is NotMine.
+pub record InterruptResult (k : ℕ) (taken : List (List HandedOut)) (result : Handled) (steps : List AtomicStep) (old new : ConnectedHost)
+    : Type 0 where
+  pub reads : ReadsIcr k steps (world_at old.stations k).adapter result
+  pub answers : AnswersInterrupt result old.host new.host (world_at old.stations k) taken
+  -- Right after its last load of a descriptor, before any further tick, no frame ends in finished slots.
+  pub looks : LooksBy result (map numbers_of taken) k steps old new
+
 pub record InterruptRuns (call : PlayedCall) (result : Handled) (old new : ConnectedHost) : Type 0 where
-  -- the frames that were taken off the receive ring, each in its pieces
   pub taken : List (List HandedOut)
   pub runs : CallRuns call (did (joined_frames taken) [] []) (MakesInterrupt result (map numbers_of taken) old.host new.host) old new
-  -- ICR was read first, and showed these causes
-  pub causes : ℕ
-  -- the answer follows from the adapter when the call began, and from the ticks played before that read
-  pub tells : TellsCauses call.caller runs.steps causes (world_at old.stations call.caller).adapter result
-  pub looks : LooksBy result (map numbers_of taken) call.caller runs.steps old new
-  pub answer : AnswersInterrupt result old.host new.host (world_at old.stations call.caller) taken
+  pub states : InterruptResult call.caller taken result runs.steps old new

@@ -27,7 +27,7 @@ use Rattle.network_plan.specs.declared.reply.Reply.{Reply}
 use Rattle.packet_socket.specs.HostCalls.{socket_frames, waiting_frames}
 use Rattle.host_calls.specs.InterruptCauses.{TellsCauses}
 use Rattle.host_calls.specs.CallsOfHosts.{IsOfDriver, OnlyLastWrites}
-use Rattle.host_calls.specs.CallAnswers.{AnswersInterrupt, LooksBy, MakesInterrupt, MakesRecv, MakesSend, RecvResult, SendResult}
+use Rattle.host_calls.specs.CallAnswers.{InterruptResult, MakesInterrupt, MakesRecv, MakesSend, RecvResult, SendResult}
 use Rattle.delivery.specs.Counts.{counts_of}
 use Rattle.delivery.specs.StepAnswers.{AreAnswered, OfEachTick, counts_at}
 use Rattle.host_calls.specs.ConnectedHosts.{ConnectedHost, connected}
@@ -80,23 +80,15 @@ pub record TakesFrames (host : ℕ) (steps : List AtomicStep) (taken : List (Lis
   pub queues : (socket : ℕ) → waiting_frames new.host socket (world_at new.stations host)
       ≡ waiting_frames old.host socket (world_at old.stations host) ++ socket_frames old.host.kinds socket taken
 
--- ICR was read first, and showed these causes. By them the answer is NotMine or Handled.
-pub record ReadsIcr (host : ℕ) (steps : List AtomicStep) (adapter : AdapterState) (result : Handled) : Type 0 where
-  pub causes : ℕ
-  pub tells : TellsCauses host steps causes adapter result
-
 pub record IsInterruptAnswer (host : ℕ) (answer : FrameAnswer) (steps : List AtomicStep) (old new : ConnectedHost) : Type 0 where
   pub result : Handled
   pub is : answer ≡ Interrupted result
-  pub reads : ReadsIcr host steps (world_at old.stations host).adapter result
   -- the frames that were taken off the receive ring, each in its pieces: none if the answer is NotMine
   pub taken : List (List HandedOut)
-  pub answers : AnswersInterrupt result old.host new.host (world_at old.stations host) taken
+  pub states : InterruptResult host taken result steps old new
   pub takes : TakesFrames host steps (joined_frames taken) old new
   -- the accesses of its driver are exactly these, in order
   pub makes : MakesInterrupt result (map numbers_of taken) old.host new.host (past_at host steps).accesses
-  -- Right after its last load of a descriptor, before any further tick, no frame ends in finished slots.
-  pub looks : LooksBy result (map numbers_of taken) host steps old new
 
 -- A call, and its reply.
 

@@ -65,11 +65,9 @@ returns g c =
           (record {
             result = result;
             is = refl;
-            reads = record { causes = handles.causes; tells = handles.tells };
             taken = handles.taken;
-            answers = handles.answer;
+            states = handles.states;
             takes = takes-frames k runs.steps old.stations new.stations h h' (joined_frames handles.taken) runs.runs;
             makes = runs.makes;
-            looks = handles.looks;
           });
     }
