@@ -9,8 +9,8 @@ use Rattle.bring_up.specs.declared.config.Config.{Config}
 use Rattle.bring_up.specs.declared.config.TheConstants.{MOST_VLANS}
 
 -- the sizes of rings, and the number of receive buffers
-abbrev pub counts_of : Config → Counts
-counts_of config = record { rx = config.rx; tx = config.tx; buffers = config.buffers }
+abbrev pub configured_counts : Config → Counts
+configured_counts config = record { rx = config.rx; tx = config.tx; buffers = config.buffers }
 
 -- the VLANs that are named, if any
 abbrev pub vlans_of : Option (ArrayVec ℕ MOST_VLANS (Unit {0})) → List ℕ
@@ -25,6 +25,6 @@ pub record HasRightNumbers (config : Config) : Type 0 where
 
 -- It is valid in a memory of this size, in bytes.
 pub record CanBeHad (config : Config) (size : ℕ) : Type 0 where
-  pub counts : IsAllowed (counts_of config)
+  pub counts : IsAllowed (configured_counts config)
   pub numbers : HasRightNumbers config
-  pub room : size_of (counts_of config) ≤ size
+  pub room : size_of (configured_counts config) ≤ size

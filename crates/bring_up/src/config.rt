@@ -39,7 +39,7 @@ pub struct Config {
 }
 
 impl Config {
-    ghost use Rattle.bring_up.specs.Configuration.{CanBeHad, HasRightNumbers, counts_of};
+    ghost use Rattle.bring_up.specs.Configuration.{CanBeHad, HasRightNumbers, configured_counts};
     ghost use Rattle.bring_up.specs.declared.init_error.InitError.TheVariants as InitError;
 
     /// The places of rings and buffers in a memory of `size` bytes.
@@ -49,7 +49,7 @@ impl Config {
     /// [`Config`](InitError::Config) exactly if the configuration isn't valid in such a memory.
     pub fn layout(&self, size: u64) -> Result<Layout, InitError>
         ensures ok { IsOk result ↔ CanBeHad self.now size }
-        ensures counts { IfOk result (λ layout. layout ≡ counts_of self.now) }
+        ensures counts { IfOk result (λ layout. layout ≡ configured_counts self.now) }
         ensures err { IfErr result (λ error. error ≡ InitError.Config) }
     {
         if !self.has_right_numbers() {

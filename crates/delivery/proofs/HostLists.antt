@@ -25,7 +25,7 @@ use Rattle.stations.specs.Stations.{StationState, world_at}
 use Rattle.stations.proofs.HostTrails.{trail-of}
 use Rattle.stations.specs.AtomicRuns.{LeadsTo, events_at, past_at}
 use Rattle.delivery.specs.Fates.{Came, Left, Mark, mark_by, marks}
-use Rattle.delivery.specs.Happenings.{Happening, Moved, Put, Reached, accepted, accepted_by, given, given_by, happened_in}
+use Rattle.delivery.specs.Happenings.{Happening, Moved, Put, Reached, accepted, accepted_in_one, given, given_in_one, happened_in}
 use Rattle.delivery.specs.Happenings.{missed, missed_of, of_host, put, put_by, reached, reached_by, stored, stored_by, told_of}
 
 -- What a step tells: the frame that it put, or that it moved one.
@@ -273,20 +273,20 @@ none-happens {X} f (At host event ∷ later) none =
     ∙ none-happens f later none
 none-happens f (Idles tick ∷ later) none = none-happens f later none
 
-accepts-none : (k host : ℕ) (outcome : FrameOutcome) → flat_map (accepted_by k) (told_of host outcome) ≡ []
+accepts-none : (k host : ℕ) (outcome : FrameOutcome) → flat_map (accepted_in_one k) (told_of host outcome) ≡ []
 accepts-none k host (outcome.Put frame) = refl
 accepts-none k host (outcome.Delivered frame fate) = refl
 accepts-none k host outcome.Moved = refl
 accepts-none k host _ = refl
 
-gives-none : (k socket host : ℕ) (outcome : FrameOutcome) → flat_map (given_by k socket) (told_of host outcome) ≡ []
+gives-none : (k socket host : ℕ) (outcome : FrameOutcome) → flat_map (given_in_one k socket) (told_of host outcome) ≡ []
 gives-none k socket host (outcome.Put frame) = refl
 gives-none k socket host (outcome.Delivered frame fate) = refl
 gives-none k socket host outcome.Moved = refl
 gives-none k socket host _ = refl
 
 pub accepted-none : (k : ℕ) (steps : List AtomicStep) → accepted k (happened_in steps) ≡ []
-accepted-none k steps = none-happens (accepted_by k) steps (accepts-none k)
+accepted-none k steps = none-happens (accepted_in_one k) steps (accepts-none k)
 
 pub given-none : (k socket : ℕ) (steps : List AtomicStep) → given k socket (happened_in steps) ≡ []
-given-none k socket steps = none-happens (given_by k socket) steps (gives-none k socket)
+given-none k socket steps = none-happens (given_in_one k socket) steps (gives-none k socket)

@@ -6,11 +6,11 @@ use Rattle.std.proofs.lemmas.List.Sums.{sum_by-append}
 use Rattle.rx_engine.specs.Arriving.{kept}
 use Rattle.rx_engine.specs.Registers.{FilterRegisters}
 use Rattle.delivery.specs.Fates.{AreRightByCounting, AreRightFates, Came, Left, Mark, left_in, mark_by, marks, stored_in}
-use Rattle.delivery.specs.Happenings.{Accepted, Given, Happening, Moved, Put, Reached, accepted, accepted_by, given, given_by, missed}
+use Rattle.delivery.specs.Happenings.{Accepted, Given, Happening, Moved, Put, Reached, accepted, accepted_in_one, given, given_in_one, missed}
 use Rattle.delivery.specs.Happenings.{missed_of, put, put_by, reached, reached_by, share_wire, stored, stored_by, toward, toward_by}
 
 pub accepted-append : (k : ℕ) (first later : List Happening) → accepted k (first ++ later) ≡ accepted k first ++ accepted k later
-accepted-append k first later = flat_map-append (accepted_by k) first later
+accepted-append k first later = flat_map-append (accepted_in_one k) first later
 
 pub put-append : (k : ℕ) (first later : List Happening) → put k (first ++ later) ≡ put k first ++ put k later
 put-append k first later = flat_map-append (put_by k) first later
@@ -23,7 +23,7 @@ stored-append k first later = flat_map-append (stored_by k) first later
 
 pub given-append : (k socket : ℕ) (first later : List Happening)
     → given k socket (first ++ later) ≡ given k socket first ++ given k socket later
-given-append k socket first later = flat_map-append (given_by k socket) first later
+given-append k socket first later = flat_map-append (given_in_one k socket) first later
 
 pub toward-append : (wires : ℕ → Option ℕ) (k : ℕ) (first later : List Happening)
     → toward wires k (first ++ later) ≡ toward wires k first ++ toward wires k later

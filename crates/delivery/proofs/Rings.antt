@@ -5,7 +5,7 @@ use Rattle.std.proofs.Math.Nat.{mod-eq_of_lt, add-mod_left}
 use Rattle.descriptors.specs.declared.ring.Ring.{Ring}
 use Rattle.descriptors.specs.Ring.{HasValidIndices, count_of, distance_of, next_of}
 use Rattle.descriptors.specs.RingLaws.{distance-around, distance-forward, distance-step}
-use Rattle.delivery.specs.Counts.{RingCounts, one_fewer, ring_counts, with_tail}
+use Rattle.delivery.specs.Counts.{RingCounts, one_fewer, ring_counts, counts_with_tail}
 use Rattle.delivery.specs.AnswersLaws.{TailsOfferSlots}
 
 with-offered : (slots tail n n' : ℕ) → n ≡ n' → (let c : RingCounts = record { slots = slots; tail = tail; offered = n } in c)
@@ -43,7 +43,7 @@ distance-joins n h t v slot_h slot_t slot_v = ⊎_elim
 
 -- Where the tail is moved, so many more are.
 pub tail-counts : (ring : Ring) (tail : ℕ) → HasValidIndices ring → tail < count_of ring
-    → ring_counts (record ring { tail = tail }) ≡ with_tail tail (ring_counts ring)
+    → ring_counts (record ring { tail = tail }) ≡ counts_with_tail tail (ring_counts ring)
 tail-counts ring tail valid slot =
     with-offered (count_of ring) tail _ _ (distance-joins (count_of ring) ring.head ring.tail tail valid.head valid.tail slot)
 

@@ -9,7 +9,7 @@ use Rattle.adapter.specs.declared.register.RingRegister.TheVariants.{Tail}
 use Rattle.adapter.specs.TableLaws.{register_at-there}
 use Rattle.adapter.specs.World.{receive_ring, transmit_ring}
 use Rattle.delivery.specs.CountedHosts.{IsCountedWrite}
-use Rattle.delivery.specs.Counts.{HostCounts, after_write, tail_of, with_tail}
+use Rattle.delivery.specs.Counts.{HostCounts, after_write, tail_of, counts_with_tail}
 use Rattle.delivery.specs.AnswersLaws.{ReceiveTailWritesAreCounted, TransmitTailWritesAreCounted}
 
 -- an index of a ring fits the register
@@ -17,10 +17,10 @@ tail-is : (value : ℕ) → value < 65536 → tail_of value ≡ value
 tail-is value below = and_mask value 16 ∙ omega (arith, below)
 
 abbrev with-receive-tail : HostCounts → ℕ → HostCounts
-with-receive-tail counts tail = record counts { receive = record counts.receive { ring = with_tail tail counts.receive.ring } }
+with-receive-tail counts tail = record counts { receive = record counts.receive { ring = counts_with_tail tail counts.receive.ring } }
 
 abbrev with-transmit-tail : HostCounts → ℕ → HostCounts
-with-transmit-tail counts tail = record counts { transmit = record counts.transmit { ring = with_tail tail counts.transmit.ring } }
+with-transmit-tail counts tail = record counts { transmit = record counts.transmit { ring = counts_with_tail tail counts.transmit.ring } }
 
 pub receive-tail-counted : ReceiveTailWritesAreCounted
 receive-tail-counted world value counts slot =

@@ -15,7 +15,7 @@ use Rattle.stations.specs.Ends.{end_frames}
 use Rattle.stations.specs.Stations.{HasRoomFrom, StationState, WireHasRoom, backlog_after, backlog_at, backlog_of, each_after}
 use Rattle.stations.specs.Stations.{station_after, stations_after, wire_at, wire_of}
 use Rattle.stations.specs.AtomicRuns.{LeadsTo}
-use Rattle.delivery.specs.WaitingFrames.{WireIsFull, come_to, is_same_wire, waiting_after, waiting_at, waiting_behind}
+use Rattle.delivery.specs.WaitingFrames.{WireIsFull, come_to, is_same_wire, waiting_after_step, waiting_at, waiting_behind}
 
 -- What an event leaves of a place.
 
@@ -100,7 +100,7 @@ run-wires caller (step ∷ later) a b k leads = run-wires caller later (after st
 
 step-waiting : (start stations : List StationState) (host : ℕ) (step : AtomicStep)
     → ((k : ℕ) → wire_at stations k ≡ wire_at start k) → CanHappen step stations
-    → backlog_at (after step stations) host ≡ waiting_after start host step (backlog_at stations host)
+    → backlog_at (after step stations) host ≡ waiting_after_step start host step (backlog_at stations host)
 step-waiting start stations host (At other event) wires occurs =
     let put = (past_of_event event).put in
     let left = λ (one two : Option ℕ). if host == other then backlog_after event (backlog_at stations host)

@@ -12,7 +12,7 @@ use Rattle.adapter.specs.declared.outcome.Outcome.TheVariants.{Fault, Nothing}
 use Rattle.stations.specs.declared.tick.Tick.TheVariants.{Go}
 use Rattle.stations.specs.AtomicRuns.{LeadsTo, past_at}
 use Rattle.delivery.specs.CountedHosts.{CanBeCounted, IsCounted}
-use Rattle.delivery.specs.Counts.{HostCounts, RingCounts, after_access, counts_of, with_tail}
+use Rattle.delivery.specs.Counts.{HostCounts, RingCounts, after_access, counts_of, counts_with_tail}
 use Rattle.delivery.specs.StepAnswers.{AreAnswered, OfEachTick, counts_at}
 use Rattle.delivery.specs.WaitingFrames.{waiting_at}
 
@@ -56,7 +56,7 @@ GoAnswersNothing = (step : AtomicStep) → tick_of step ≡ Go → outcome_of st
 abbrev pub TailsOfferSlots : Type 0
 TailsOfferSlots =
     (ring : RingCounts) (places : ℕ) → ring.tail < ring.slots → ring.offered + places < ring.slots
-    → (with_tail ((ring.tail + places) % ring.slots) ring).offered ≡ ring.offered + places
+    → (counts_with_tail ((ring.tail + places) % ring.slots) ring).offered ≡ ring.offered + places
 
 -- A write of RDT of a slot of its ring can be counted, and the tail is there then;
 abbrev pub ReceiveTailWritesAreCounted : Type 0
@@ -64,7 +64,7 @@ ReceiveTailWritesAreCounted =
     (world : World) (value : ℕ) (counts : HostCounts) → value < count_of (receive_ring world)
     → IsCounted (count_of (receive_ring world)) (count_of (transmit_ring world)) (Writes RDT value)
     × (after_access (Writes RDT value) counts
-    ≡ record counts { receive = record counts.receive { ring = with_tail value counts.receive.ring } })
+    ≡ record counts { receive = record counts.receive { ring = counts_with_tail value counts.receive.ring } })
 
 -- and so it is with TDT.
 abbrev pub TransmitTailWritesAreCounted : Type 0
@@ -72,4 +72,4 @@ TransmitTailWritesAreCounted =
     (world : World) (value : ℕ) (counts : HostCounts) → value < count_of (transmit_ring world)
     → IsCounted (count_of (receive_ring world)) (count_of (transmit_ring world)) (Writes TDT value)
     × (after_access (Writes TDT value) counts
-    ≡ record counts { transmit = record counts.transmit { ring = with_tail value counts.transmit.ring } })
+    ≡ record counts { transmit = record counts.transmit { ring = counts_with_tail value counts.transmit.ring } })

@@ -102,8 +102,8 @@ abbrev pub moved_on_by : RingCounts → ℕ → ℕ
 moved_on_by ring tail = (tail + ring.slots - ring.tail) % ring.slots
 
 -- the driver moved the tail on to a slot: so many more are offered, round the ring
-abbrev pub with_tail : ℕ → RingCounts → RingCounts
-with_tail tail ring = record ring { tail = tail; offered = (ring.offered + moved_on_by ring tail) % ring.slots }
+abbrev pub counts_with_tail : ℕ → RingCounts → RingCounts
+counts_with_tail tail ring = record ring { tail = tail; offered = (ring.offered + moved_on_by ring tail) % ring.slots }
 
 -- of the oldest frame so many bytes were moved
 abbrev pub after_piece : (size : ℕ) → List ℕ → List ℕ
@@ -139,9 +139,9 @@ tail_of value = bit_and value (ring_kept Tail)
 -- what a write leaves: RDT and TDT move their tails
 abbrev pub after_write : Option Register → ℕ → HostCounts → HostCounts
 after_write (Some (Receive Tail)) value counts =
-    record counts { receive = record counts.receive { ring = with_tail (tail_of value) counts.receive.ring } }
+    record counts { receive = record counts.receive { ring = counts_with_tail (tail_of value) counts.receive.ring } }
 after_write (Some (Transmit Tail)) value counts =
-    record counts { transmit = record counts.transmit { ring = with_tail (tail_of value) counts.transmit.ring } }
+    record counts { transmit = record counts.transmit { ring = counts_with_tail (tail_of value) counts.transmit.ring } }
 after_write _ value counts = counts
 
 abbrev pub after_access : Access → HostCounts → HostCounts

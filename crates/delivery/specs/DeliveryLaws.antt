@@ -26,7 +26,7 @@ use Rattle.delivery.specs.TickNumbers.{numbers, noted_numbers}
 -- Outcomes.
 
 -- what a call of a host plays
-pub record StepsOfCall : Type 0 where
+pub record CallWithSteps : Type 0 where
   pub caller : ℕ
   -- the ticks that wait before it
   pub ticks : List Tick
@@ -36,7 +36,7 @@ pub record StepsOfCall : Type 0 where
   pub last : List AtomicStep
 
 -- A call has played these ticks: with its accesses the first steps, and behind the last access all that waited.
-pub record PlaysCall (call : StepsOfCall) (a m b : List StationState) : Type 0 where
+pub record PlaysCall (call : CallWithSteps) (a m b : List StationState) : Type 0 where
   pub leads : LeadsTo call.caller call.first a m
   pub are_ticks : All IsTick call.last
   pub ends : LeadsTo call.caller call.last m b
@@ -53,7 +53,7 @@ pub record IsToldByOutcomes (ticks : List Tick) (first last : List AtomicStep) :
 
 abbrev pub OutcomesTellSteps : Type 0
 OutcomesTellSteps =
-    (call : StepsOfCall) (a m b : List StationState) → PlaysCall call a m b → IsToldByOutcomes call.ticks call.first call.last
+    (call : CallWithSteps) (a m b : List StationState) → PlaysCall call a m b → IsToldByOutcomes call.ticks call.first call.last
 
 -- A call over a lent bus whose ticks are played to the end is such a call, and its observer was told what came of each tick.
 pub record IsToldCall {O : Type 0} {g : OfObserver O} (a m b : LentBus O g) (past : Past) (first last : List AtomicStep) : Type 0 where

@@ -26,10 +26,10 @@ pub data Happening : Type 0 where
 -- What ticks and their outcomes tell.
 
 -- the host that a tick names
-abbrev pub host_of : Tick → ℕ
-host_of Go = 0
-host_of (Step host kind) = host
-host_of (Deliver host) = host
+abbrev pub tick_host : Tick → ℕ
+tick_host Go = 0
+tick_host (Step host kind) = host
+tick_host (Deliver host) = host
 
 -- the outcome of a tick at a host, as a happening
 abbrev pub told_of : (host : ℕ) → FrameOutcome → List Happening
@@ -50,7 +50,7 @@ told (Deliver host ∷ ticks) (one ∷ outcomes) = told_of host one.outcome ++ t
 -- a tick by itself has one outcome
 abbrev pub told_alone : Tick → List Numbered → List Happening
 told_alone tick [] = []
-told_alone tick (one ∷ outcomes) = told_of (host_of tick) one.outcome
+told_alone tick (one ∷ outcomes) = told_of (tick_host tick) one.outcome
 
 -- What atomic steps do.
 
@@ -67,12 +67,12 @@ happened_in steps = flat_map happened_by steps
 abbrev pub of_host : {T : Type 0} → (k host : ℕ) → List T → List T
 of_host k host some = if k == host then some else []
 
-abbrev pub accepted_by : ℕ → Happening → List (List ℕ)
-accepted_by k (Accepted host frame) = of_host k host (frame ∷ [])
-accepted_by k (Put host frame) = []
-accepted_by k (Reached host frame fate) = []
-accepted_by k (Moved host) = []
-accepted_by k (Given host socket frame) = []
+abbrev pub accepted_in_one : ℕ → Happening → List (List ℕ)
+accepted_in_one k (Accepted host frame) = of_host k host (frame ∷ [])
+accepted_in_one k (Put host frame) = []
+accepted_in_one k (Reached host frame fate) = []
+accepted_in_one k (Moved host) = []
+accepted_in_one k (Given host socket frame) = []
 
 abbrev pub put_by : ℕ → Happening → List (List ℕ)
 put_by k (Accepted host frame) = []
@@ -96,12 +96,12 @@ stored_by k (Reached host frame fate) = of_host k host (kept fate frame)
 stored_by k (Moved host) = []
 stored_by k (Given host socket frame) = []
 
-abbrev pub given_by : (k socket : ℕ) → Happening → List (List ℕ)
-given_by k s (Accepted host frame) = []
-given_by k s (Put host frame) = []
-given_by k s (Reached host frame fate) = []
-given_by k s (Moved host) = []
-given_by k s (Given host socket frame) = if (k == host) && (s == socket) then frame ∷ [] else []
+abbrev pub given_in_one : (k socket : ℕ) → Happening → List (List ℕ)
+given_in_one k s (Accepted host frame) = []
+given_in_one k s (Put host frame) = []
+given_in_one k s (Reached host frame fate) = []
+given_in_one k s (Moved host) = []
+given_in_one k s (Given host socket frame) = if (k == host) && (s == socket) then frame ∷ [] else []
 
 -- 1 where a frame was missed
 abbrev pub missed_of : ℕ → Happening → ℕ
@@ -126,7 +126,7 @@ toward_by wires k (Moved host) = []
 toward_by wires k (Given host socket frame) = []
 
 abbrev pub accepted : ℕ → List Happening → List (List ℕ)
-accepted k happened = flat_map (accepted_by k) happened
+accepted k happened = flat_map (accepted_in_one k) happened
 
 abbrev pub put : ℕ → List Happening → List (List ℕ)
 put k happened = flat_map (put_by k) happened
@@ -138,7 +138,7 @@ abbrev pub stored : ℕ → List Happening → List (List ℕ)
 stored k happened = flat_map (stored_by k) happened
 
 abbrev pub given : (k socket : ℕ) → List Happening → List (List ℕ)
-given k socket happened = flat_map (given_by k socket) happened
+given k socket happened = flat_map (given_in_one k socket) happened
 
 abbrev pub missed : ℕ → List Happening → ℕ
 missed k happened = sum_by (missed_of k) happened

@@ -18,15 +18,15 @@ come_to is_same frames = if is_same then frames else []
 
 -- What a step leaves of the frames that wait at a host's end: a delivery takes the oldest, and a frame that another host puts onto the
 -- wire is behind the others.
-abbrev pub waiting_after : (start : List StationState) (host : ℕ) → AtomicStep → List (List ℕ) → List (List ℕ)
-waiting_after start host (At other event) waiting =
+abbrev pub waiting_after_step : (start : List StationState) (host : ℕ) → AtomicStep → List (List ℕ) → List (List ℕ)
+waiting_after_step start host (At other event) waiting =
     if host == other then backlog_after event waiting
     else waiting ++ come_to (is_same_wire (wire_at start host) (wire_at start other)) (past_of_event event).put
-waiting_after start host (Idles tick) waiting = waiting
+waiting_after_step start host (Idles tick) waiting = waiting
 
 abbrev pub waiting_behind : (start : List StationState) (host : ℕ) → List AtomicStep → List (List ℕ) → List (List ℕ)
 waiting_behind start host [] waiting = waiting
-waiting_behind start host (step ∷ later) waiting = waiting_behind start host later (waiting_after start host step waiting)
+waiting_behind start host (step ∷ later) waiting = waiting_behind start host later (waiting_after_step start host step waiting)
 
 -- the frames that wait at a host's end behind these steps
 abbrev pub waiting_at : (start : List StationState) → List AtomicStep → (host : ℕ) → List (List ℕ)

@@ -36,7 +36,7 @@ use Rattle.driver_law.specs.Beginnings.{new_driver}
 use Rattle.driver_law.specs.DriverState.{DriverState, transmit_tail}
 use Rattle.driver_law.specs.ReadyDrivers.{ReadyWith}
 use Rattle.bring_up.specs.ClearedDescriptors.{clears_from}
-use Rattle.bring_up.specs.Configuration.{CanBeHad, counts_of}
+use Rattle.bring_up.specs.Configuration.{CanBeHad, configured_counts}
 use Rattle.bring_up.specs.ConfiguredAdapters.{IsConfigured, all_writes, names_vlans, writes_before_rings}
 use Rattle.bring_up.specs.DriverSteps.{LeavesDriver, LetsFramesIn, SetsTransmitRing, EnablesCauses, accesses_of}
 use Rattle.bring_up.specs.NoFrames.{IsNotTransmitRing, HasNoFrames, LeavesTransmitRing}
@@ -317,15 +317,15 @@ link-up config address groups vlans groups_whole vlans_whole w1 w2 w3 w4 w5 p2 p
 pub initialises : {B : Type 0} (bus : Ghosts B) → StretchesJoin bus
     → (b0 b1 b2 b3 b4 b5 : B) (config : Config) (size : ℕ) (pool numbers : List ℕ) (d : DriverState) (past : Past) → CanBeHad config size
     → bus.happened b0 b1 past → HasFoundRing bus config b0 b1 → length numbers + 1 ≡ config.rx
-    → d ≡ offering (counts_of config) pool numbers d.pool
-    → (first : Ran bus false (only (first_accesses (counts_of config) numbers)) (at b1 (new_driver (counts_of config) pool)) (at b2 d))
+    → d ≡ offering (configured_counts config) pool numbers d.pool
+    → (first : Ran bus false (only (first_accesses (configured_counts config) numbers)) (at b1 (new_driver (configured_counts config) pool)) (at b2 d))
     → HasNoFrames d (bus.world b2) → NoFrame first.past
     → LetsFramesIn bus (receive_writes config.promiscuous (names_vlans config.vlans)) d b2 b3
-    → Ran bus true (only (transmit_accesses (counts_of config))) (at b3 d) (at b4 d) → EnablesCauses bus 0xD1 d b4 b5
+    → Ran bus true (only (transmit_accesses (configured_counts config))) (at b3 d) (at b4 d) → EnablesCauses bus 0xD1 d b4 b5
     → Initialises bus config b0 b5 d
 initialises bus joins b0 b1 b2 b3 b4 b5 config size pool numbers d past had told found count is first quiet no_frame lets sends
     masks =
-    let counts = counts_of config in
+    let counts = configured_counts config in
     let device = bus.world b0 in
     let words = address_bytes device.adapter.image in
     let later = joined sends.past masks.accessed.past in

@@ -17,7 +17,7 @@ use Rattle.bus.specs.declared.bus.Bus.{Ghosts}
 use Rattle.bus.specs.declared.event.Access.{Access}
 use Rattle.bus.specs.declared.event.Access.TheVariants.{Writes}
 use Rattle.bring_up.specs.ClearedDescriptors.{clears, clears_from}
-use Rattle.bring_up.specs.Configuration.{counts_of, vlans_of}
+use Rattle.bring_up.specs.Configuration.{configured_counts, vlans_of}
 use Rattle.bring_up.specs.ConfiguredAdapters.{AreWords, IsConfigured, names_vlans, writes_before_rings}
 use Rattle.bring_up.specs.Device.{IsErrorOf, IsErrorOfLively}
 use Rattle.bring_up.specs.DriverSteps.{accesses_of}
@@ -152,8 +152,8 @@ pub record Initialises {B : Type 0} (bus : Ghosts B) (config : Config) (old new 
 
 -- The driver of an adapter that was initialized, over any bus.
 pub record IsFresh (config : Config) (driver : DriverState) : Type 0 where
-  pub layout : driver.layout ≡ counts_of config
-  pub new : driver ≡ with_owners (new_driver (counts_of config) []) driver.buffers [] driver.pool []
+  pub layout : driver.layout ≡ configured_counts config
+  pub new : driver ≡ with_owners (new_driver (configured_counts config) []) driver.buffers [] driver.pool []
   pub one_owner : HasOneOwner driver.layout.buffers (owners driver)
   pub none_out : driver.handed_out ≡ []
   pub refilled : IsRefilled driver

@@ -46,7 +46,7 @@ pub record IsSending (counts : Counts) (oldest next sending : ℕ) : Type 0 wher
   pub room : sending < counts.tx
   pub next_slot : next ≡ place counts.tx oldest sending
 
-pub record IsConsistent (driver : Inside) : Type 0 where
+pub record IsConsistentDriver (driver : Inside) : Type 0 where
   pub receives : IsReceiving driver.layout driver.oldest_receive driver.next_receive driver.staged driver.buffers driver.pool
   pub sends : IsSending driver.layout driver.oldest_transmit driver.next_transmit driver.sending
   -- the sum of misses is exact if it is below the greatest value of MPC

@@ -44,11 +44,11 @@ impl Model for Driver {
 
     ghost Value = { DriverState };
 
-    ghost use Rattle.driver.specs.InsideDriver.{IsConsistent, state_of};
+    ghost use Rattle.driver.specs.InsideDriver.{IsConsistentDriver, state_of};
 
     ghost view = { state_of };
 
-    ghost invariant = { IsConsistent };
+    ghost invariant = { IsConsistentDriver };
 }
 
 impl Driver {

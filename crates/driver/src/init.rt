@@ -4,7 +4,7 @@ ghost use Rattle.std.specs.Prelude.{◌≡◌, ◌↔◌, ◌*◌, ◌≤◌, Er
 ghost use Rattle.dma_memory.specs.Layout.{IsAllowed, size_of};
 ghost use Rattle.dma_memory.specs.Owners.{HasOneOwner};
 ghost use Rattle.adapter.specs.Rings.{new_ring};
-ghost use Rattle.bring_up.specs.Configuration.{CanBeHad, counts_of};
+ghost use Rattle.bring_up.specs.Configuration.{CanBeHad, configured_counts};
 ghost use Rattle.bring_up.specs.Device.{IsBeforeAccess};
 ghost use Rattle.bring_up.specs.declared.init_error.InitError.TheVariants as InitError;
 ghost use Rattle.bus.specs.Keeping.{Keeps};
@@ -32,7 +32,7 @@ use std::alloc::{AllocError, Global};
 ///
 /// Those of [`find_device`].
 fn find_ring<B: Bus>(bus: &mut B, config: &Config, layout: Layout) -> Result<(), InitError>
-    requires counts { layout ≡ counts_of config.now }
+    requires counts { layout ≡ configured_counts config.now }
     requires had { CanBeHad config.now (B.extent bus.old) }
     ensures keeps { Keeps B.Bus bus.old bus.new }
     ensures errors { IfErr result (λ error. ¬ (IsBeforeAccess error)) }

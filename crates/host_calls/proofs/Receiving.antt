@@ -26,7 +26,7 @@ use Rattle.packet_socket.specs.declared.receive.RecvError.TheVariants.{Empty, No
 use Rattle.driver.specs.Parts.{IsFrameSize}
 use Rattle.driver.specs.declared.receiver.Received.{Received}
 use Rattle.host_calls.specs.LentCalls.{lent}
-use Rattle.host_calls.specs.CallAnswers.{AnswersRecv, LeavesRecv, MakesRecv, frame_in, given_by}
+use Rattle.host_calls.specs.CallAnswers.{AnswersRecv, LeavesRecv, MakesRecv, frame_answer, given_by}
 use Rattle.host_calls.specs.CallsOfHosts.{CallRuns, IsOfDriver, OnlyLastWrites}
 use Rattle.host_calls.specs.ConnectedHosts.{connected}
 use Rattle.host_calls.proofs.Calling.{call-runs, flows-of, lent_call, work-goes}
@@ -160,7 +160,7 @@ pub any-runs : {O : Type 0} {g : OfObserver O} → ComposesTold g.heard
     → (a m b : LentBus O g) (h h' : HostState) (socket : ℕ) (result : Result ℕ RecvError) (before into : List ℕ) → a.accesses ≡ 0
     → length into ≡ 1518 → HostReady h (world_here a) → ReturnsBy lent (given_first socket into) result true (host_at a h) (host_at m h')
     → IfOk result (Returns h h' socket before into) → IfErr result (λ error. (m ≡ a) × (h' ≡ h) × (into ≡ before)) → Finished m b
-    → CallRuns (lent_call a b) (did [] (given_by socket (frame_in into result)) []) (MakesRecv (frame_in into result) socket h h')
+    → CallRuns (lent_call a b) (did [] (given_by socket (frame_answer into result)) []) (MakesRecv (frame_answer into result) socket h h')
     (connected h a.stations.now) (connected h' b.stations.now)
 any-runs composes a m b h h' socket (Ok size) before into zero long ready receives ok err finished =
     recv-runs composes a m b h h' socket size (take size into) zero ready
@@ -174,7 +174,7 @@ pub any-answers : {O : Type 0} {g : OfObserver O} (a m : LentBus O g) (h h' : Ho
     → ReturnsBy lent (given_first socket into) result true (host_at a h) (host_at m h')
     → ((result ≡ Err NoSocket) ↔ (length h.kinds ≤ socket))
     → ((result ≡ Err Empty) ↔ ((socket < length h.kinds) × (queue_at h.queues socket ≡ [])))
-    → AnswersRecv (frame_in into result) socket h (world_here a)
+    → AnswersRecv (frame_answer into result) socket h (world_here a)
 any-answers a m h h' socket (Ok size) into receives none empty =
     ok-answers a m h h' socket size (take size into) receives (there-given (Ok size) size socket (length h.kinds) refl none)
 any-answers a m h h' socket (Err error) into receives none empty =
@@ -184,7 +184,7 @@ pub any-leaves : {O : Type 0} {g : OfObserver O} (a m b : LentBus O g) (h h' : H
     (before into : List ℕ) → a.accesses ≡ 0
     → length into ≡ 1518 → IfOk result (Returns h h' socket before into)
     → IfErr result (λ error. (m ≡ a) × (h' ≡ h) × (into ≡ before))
-    → Finished m b → LeavesRecv (frame_in into result) socket h h' b.accesses
+    → Finished m b → LeavesRecv (frame_answer into result) socket h h' b.accesses
 any-leaves a m b h h' socket (Ok size) before into zero long ok err finished =
     ok-leaves h h' socket size b.accesses into ok.received (let most = ok.legal.most in omega (arith, long, most)) ok.leaves
     ok.others

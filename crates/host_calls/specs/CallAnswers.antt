@@ -56,9 +56,9 @@ given_by socket (Ok frame) = record { socket = socket; frame = frame } ∷ []
 given_by socket (Err error) = []
 
 -- the answer with its frame, the first `size` of these bytes, in place of its size
-abbrev pub frame_in : List ℕ → Result ℕ RecvError → Result (List ℕ) RecvError
-frame_in bytes (Ok size) = Ok (take size bytes)
-frame_in bytes (Err error) = Err error
+abbrev pub frame_answer : List ℕ → Result ℕ RecvError → Result (List ℕ) RecvError
+frame_answer bytes (Ok size) = Ok (take size bytes)
+frame_answer bytes (Err error) = Err error
 
 -- A frame that is returned is the oldest that waited.
 abbrev pub IsOldest : Result (List ℕ) RecvError → List (List ℕ) → Type 0

@@ -39,7 +39,7 @@ abbrev pub steps_of : Bool → ℕ
 steps_of stepped = if stepped then 1 else 0
 
 -- Some frames were moved out of the packet buffer, and nothing else happened, at this host only.
-pub record MovesFrames (number : ℕ) (played : List AtomicStep) (old new : List StationState) : Type 0 where
+pub record DrainMovesFrames (number : ℕ) (played : List AtomicStep) (old new : List StationState) : Type 0 where
   pub count : ℕ
   pub moved : happened_in played ≡ replicate count (Moved number)
   pub buffered : length (world_at old number).adapter.receiver.buffer ≡ count + length (world_at new number).adapter.receiver.buffer
@@ -61,7 +61,7 @@ pub record StepsOn (steps number : ℕ) (given : List Given) (old new : Connecte
   pub only : All (IsDrainStep number) played
   pub taken : List (List ℕ)
   pub runs : HostRuns number played (did taken given []) old new
-  pub moves : MovesFrames number played old.stations new.stations
+  pub moves : DrainMovesFrames number played old.stations new.stations
   pub counts : CountsSteps steps number (length given) old new
 
 -- An outlet: the frames that it has, and for how many more it has room.

@@ -5,7 +5,7 @@ ghost use Rattle.driver.specs.Parts.{IsFrameSize};
 ghost use Rattle.stations.specs.Stations.{world_at};
 ghost use Rattle.packet_socket.specs.HostCalls.{HostReady};
 ghost use Rattle.host_calls.specs.ConnectedHosts.{played_call};
-ghost use Rattle.host_calls.specs.CallAnswers.{InterruptRuns, RecvRuns, SendRuns, frame_in};
+ghost use Rattle.host_calls.specs.CallAnswers.{InterruptRuns, RecvRuns, SendRuns, frame_answer};
 ghost use Rattle.host_calls.specs.Networks.{OnlyHostChanges, connected_at, nth_host};
 
 use crate::network::Network;
@@ -26,7 +26,7 @@ pub struct Called<T> {
 /// The answer with its frame, which is at the front of these bytes.
 fn frame_of(bytes: &[u8; 1518], answer: Result<usize, RecvError>) -> Result<Frame, RecvError>
     requires { IfOk answer IsFrameSize }
-    ensures { result ≡ frame_in bytes.now answer }
+    ensures { result ≡ frame_answer bytes.now answer }
 {
     match answer {
         Ok(size) => Ok(Frame::from_slice(&bytes[..size])),
@@ -89,7 +89,7 @@ impl Network {
         requires room { length ticks.now ≤ O.room_left observer.old }
         ensures gives { RecvRuns
             (played_call number ticks.now (O.heard observer.old observer.new) result.accesses) socket
-            (frame_in into.new result.answer) (connected_at self.old number) (connected_at self.new number) }
+            (frame_answer into.new result.answer) (connected_at self.old number) (connected_at self.new number) }
         ensures size { IfOk result.answer IsFrameSize }
         ensures others { OnlyHostChanges number self.old self.new }
     {

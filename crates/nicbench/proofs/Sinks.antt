@@ -5,7 +5,7 @@ use Rattle.std.proofs.lemmas.List.FromFn.{length-range_with_len}
 use Rattle.std.specs.List.{range_with_len}
 use Rattle.network_plan.specs.declared.plan.HostPlan.{HostPlan}
 use Rattle.scenario.specs.SoFar.{hosts_of}
-use Rattle.scenario_bench.specs.Given.{sockets_from, sockets_of}
+use Rattle.scenario_bench.specs.Given.{sockets_from, sockets_of_host}
 use Rattle.scenario_bench.proofs.EmptySockets.{sockets_more}
 use Rattle.nicbench.specs.Sinks.{sockets_in}
 
@@ -14,7 +14,7 @@ pub host_more : (plans : List HostPlan) (number : ℕ) (plan d : HostPlan) (sink
     → more ≡ sockets_in (take (number + 1) plans)
 host_more plans number plan d sinks more below there is grown =
     let before = sockets_from 0 (hosts_of (take number plans)) in
-    let own = sockets_of number (length plan.sockets.items) in
+    let own = sockets_of_host number (length plan.sockets.items) in
     let count : length own ≡ length plan.sockets.items =
     length-map (range_with_len 0 (length plan.sockets.items)) (λ (socket : ℕ). (number, socket))
     ∙ length-range_with_len 0 (length plan.sockets.items) in

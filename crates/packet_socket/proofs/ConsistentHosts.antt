@@ -21,7 +21,7 @@ use Rattle.driver.specs.declared.interrupt.Handled.TheVariants as answers
 use Rattle.driver.specs.declared.receiver.Received.{Received}
 use Rattle.packet_socket.specs.HostCalls.{HostReadyWith, HostServes, Queues, driver_of, waiting_pieces}
 use Rattle.packet_socket.specs.HostState.{SocketsState, all_of, host_owners, queue_at}
-use Rattle.packet_socket.specs.InsideHost.{IsHost, host_with}
+use Rattle.packet_socket.specs.InsideHost.{AreOfHost, host_with}
 use Rattle.packet_socket.specs.SocketKinds.{has_socket}
 use Rattle.packet_socket.specs.Sorting.{Sorts}
 use Rattle.packet_socket.specs.declared.socket_kind.SocketKind.{SocketKind}
@@ -29,7 +29,7 @@ use Rattle.packet_socket.proofs.QueueParts.{Splits, none-wait, splits}
 use Rattle.packet_socket.proofs.QueuedPieces.{buffers-append, buffers-first, copies-joined, entries-fit}
 
 -- The oldest entry of a queue that was there.
-pub entry-splits : (driver : DriverState) (before after : SocketsState) (socket count : ℕ) (received : Received) → IsHost driver before
+pub entry-splits : (driver : DriverState) (before after : SocketsState) (socket count : ℕ) (received : Received) → AreOfHost driver before
     → socket < count → count ≡ length before.kinds
     → queue_at before.queues socket ≡ received ∷ queue_at after.queues socket
     → Splits before.queues socket received (queue_at after.queues socket)
@@ -50,7 +50,7 @@ middle-copies k first last received =
     omega (arith, buffers-append k first (received ∷ last), buffers-first k received last, buffers-append k first last)
 
 pub can-come-back : (driver : DriverState) (sockets : SocketsState) (socket : ℕ) (received : Received) (later : List Received)
-    → IsHost driver sockets
+    → AreOfHost driver sockets
     → Splits sockets.queues socket received later → CanComeBack driver received
 can-come-back driver sockets socket received later host parts =
     let all = owners driver ++ buffers_of (all_of sockets.queues) in
@@ -91,10 +91,10 @@ stays-owners driver driver' before after socket received parts others numbers =
       middle-copies k parts.first parts.last received,
     )
 
-pub stays-host : (driver driver' : DriverState) (before after : SocketsState) (socket : ℕ) (received : Received) → IsHost driver before
+pub stays-host : (driver driver' : DriverState) (before after : SocketsState) (socket : ℕ) (received : Received) → AreOfHost driver before
     → (parts : Splits before.queues socket received (queue_at after.queues socket))
     → after ≡ record before { queues = slice_set before.queues socket (queue_at after.queues socket) }
-    → driver'.layout ≡ driver.layout → HaveSameNumbers (buffers_in received.parts ++ owners driver) (owners driver') → IsHost driver' after
+    → driver'.layout ≡ driver.layout → HaveSameNumbers (buffers_in received.parts ++ owners driver) (owners driver') → AreOfHost driver' after
 stays-host driver driver' before after socket received host parts others counts numbers =
     let left : all_of after.queues ≡ parts.first ++ parts.last = ap (λ (s : SocketsState). all_of s.queues) others ∙ parts.behind in
     record {
@@ -130,7 +130,7 @@ kept-copies k kinds before after kept queues =
     ∙ buffers-append k (all_of before) kept
 
 -- There is room for all that was kept.
-pub has-room : (driver driver' : DriverState) (before : SocketsState) (kept : List Received) → IsHost driver before → AreFrames kept
+pub has-room : (driver driver' : DriverState) (before : SocketsState) (kept : List Received) → AreOfHost driver before → AreFrames kept
     → HaveSameNumbers (owners driver) (owners driver' ++ buffers_of kept) → length (all_of before.queues) + length kept ≤ before.room
 has-room driver driver' before kept host sizes numbers =
     let waiting = buffers_of (all_of before.queues) in
@@ -154,7 +154,7 @@ has-room driver driver' before kept host sizes numbers =
 
 -- In an interrupt.
 
-pub served-queues : (n : ℕ) (driver driver' : DriverState) (before after : SocketsState) → IsHost driver before
+pub served-queues : (n : ℕ) (driver driver' : DriverState) (before after : SocketsState) → AreOfHost driver before
     → (serves : Serves (record { took = Sorts }) before after driver driver' n)
     → Queues before.kinds before.queues after.queues serves.receiver.kept
 served-queues n driver driver' before after host serves =
@@ -163,7 +163,7 @@ served-queues n driver driver' before after host serves =
     (kept-are-frames before after shows.received shows.kept shows.shown shows.frames.sizes) serves.owners)
 
 -- No buffer has another number of owners then.
-served-owners : (n : ℕ) (driver driver' : DriverState) (before after : SocketsState) → IsHost driver before
+served-owners : (n : ℕ) (driver driver' : DriverState) (before after : SocketsState) → AreOfHost driver before
     → Serves (record { took = Sorts }) before after driver driver' n
     → HaveSameNumbers (host_owners (host_with driver before)) (host_owners (host_with driver' after))
 served-owners n driver driver' before after host serves = λ k.
@@ -176,9 +176,9 @@ served-owners n driver driver' before after host serves = λ k.
       kept-copies k before.kinds before.queues after.queues serves.receiver.kept (served-queues n driver driver' before after host serves),
     )
 
-served-host : (n : ℕ) (driver driver' : DriverState) (before after : SocketsState) → IsHost driver before
+served-host : (n : ℕ) (driver driver' : DriverState) (before after : SocketsState) → AreOfHost driver before
     → Serves (record { took = Sorts }) before after driver driver' n → driver'.layout ≡ driver.layout
-    → IsHost driver' after
+    → AreOfHost driver' after
 served-host n driver driver' before after host serves counts =
     let shows = serves.receiver in
     let queues = served-queues n driver driver' before after host serves in
@@ -193,17 +193,17 @@ served-host n driver driver' before after host serves counts =
           (kept-are-frames before after shows.received shows.kept shows.shown shows.frames.sizes));
     }
 
-pub handled-host : (result : Handled) (driver driver' : DriverState) (before after : SocketsState) → IsHost driver before
+pub handled-host : (result : Handled) (driver driver' : DriverState) (before after : SocketsState) → AreOfHost driver before
     → IfNotMine result ((driver' ≡ driver) × (after ≡ before))
     → IfHandled result (Serves (record { took = Sorts }) before after driver driver') → driver'.layout ≡ driver.layout
-    → IsHost driver' after
-handled-host NotMine driver driver' before after host stays serves counts = subst (λ (s : SocketsState). IsHost driver' s)
-    (sym stays.1) (subst (λ (d : DriverState). IsHost d before) (sym stays.0) host)
+    → AreOfHost driver' after
+handled-host NotMine driver driver' before after host stays serves counts = subst (λ (s : SocketsState). AreOfHost driver' s)
+    (sym stays.1) (subst (λ (d : DriverState). AreOfHost d before) (sym stays.0) host)
 handled-host (answers.Handled taken) driver driver' before after host stays serves counts =
     served-host taken driver driver' before after host serves counts
 
 -- What the handler does to sockets.
-pub sorts-all : (result : Handled) (driver driver' : DriverState) (before after : SocketsState) → IsHost driver before
+pub sorts-all : (result : Handled) (driver driver' : DriverState) (before after : SocketsState) → AreOfHost driver before
     → IfHandled result (Serves (record { took = Sorts }) before after driver driver')
     → IfHandled result (HostServes (host_with driver before) (host_with driver' after))
 sorts-all NotMine driver driver' before after host serves = tt
@@ -227,7 +227,7 @@ sorts-all (answers.Handled taken) driver driver' before after host serves =
 pub new-host : (driver : DriverState) (sockets : SocketsState) (kinds : List SocketKind) (room : ℕ)
     → sockets ≡ record { kinds = kinds; queues = replicate (length kinds) []; room = room; unclaimed = 0 } → room ≡ driver.layout.buffers
     → HasNoSecondOwner driver.layout.buffers (owners driver)
-    → IsHost driver sockets
+    → AreOfHost driver sockets
 new-host driver sockets kinds room is size owns =
     let none : all_of sockets.queues ≡ [] = ap (λ (s : SocketsState). all_of s.queues) is ∙ none-wait (length kinds) in
     record {

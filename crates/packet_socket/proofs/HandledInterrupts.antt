@@ -28,7 +28,7 @@ use Rattle.packet_socket.specs.HostCalls.{HostDoesNothing, HostHandles, HostHand
 use Rattle.packet_socket.specs.HostCalls.{driver_at, driver_of, socket_entries, host_at, socket_frames, waiting_frame, waiting_frames}
 use Rattle.packet_socket.specs.HostCalls.{waiting_pieces, without_socket}
 use Rattle.packet_socket.specs.HostState.{HostState, SocketsState, all_of, queue_at}
-use Rattle.packet_socket.specs.InsideHost.{IsHost, host_with}
+use Rattle.packet_socket.specs.InsideHost.{AreOfHost, host_with}
 use Rattle.packet_socket.specs.Sorting.{Sorts}
 use Rattle.packet_socket.proofs.Accounts.{accounts}
 use Rattle.packet_socket.proofs.ShownFrames.{part-length, queue-frames, unclaimed-frames}
@@ -60,7 +60,7 @@ leaves {up} bus old new asked is it =
     }
 
 -- There is room for as many frames as there were outstanding slots.
-has-room : (driver : DriverState) (before : SocketsState) (n : ℕ) → IsHost driver before → n ≤ length driver.buffers
+has-room : (driver : DriverState) (before : SocketsState) (n : ℕ) → AreOfHost driver before → n ≤ length driver.buffers
     → length (all_of before.queues) + n ≤ before.room
 has-room driver before n host few =
     let waiting = buffers_of (all_of before.queues) in
@@ -86,7 +86,7 @@ pub record Sorted (up : Bool) (driver driver' : DriverState) (before after : Soc
       ++ socket_frames before.kinds socket (joined_frames taken)
 
 pub sorted : {up : Bool} (driver driver' : DriverState) (before after : SocketsState) (a b : World) (taken kept : List (List HandedOut))
-    → IsHost driver before → IsHost driver' after
+    → AreOfHost driver before → AreOfHost driver' after
     → HostReadyWith up (host_with driver before) a → driver'.layout ≡ driver.layout
     → ReadyWith up (holding ((driver_of (host_with driver before) a).handed_out ++ pieces_of kept) driver') b → IsPart kept taken
     → length taken ≤ length driver.buffers
@@ -151,7 +151,7 @@ sorted {up} driver driver' before after a b taken kept sound sound' host counts 
 
 -- It does its work.
 works : {up : Bool} {B : Type 0} (bus : Ghosts B) (old new : Scene B SocketsState) (n : ℕ)
-    → IsHost old.driver old.receiver → IsHost new.driver new.receiver → IsReadyHost bus up (host_in old)
+    → AreOfHost old.driver old.receiver → AreOfHost new.driver new.receiver → IsReadyHost bus up (host_in old)
     → (asked : Asked bus up (driver_at bus (host_in old)))
     → HandlesIt bus (record { took = Sorts }) n (held_in (driver_at bus (host_in old)).driver.handed_out old)
     (held_in (driver_at bus (host_in old)).driver.handed_out new) asked
@@ -234,7 +234,7 @@ works {up} bus old new n sound sound' is asked it serves =
     }
 
 pub host-handles : {up : Bool} {B : Type 0} (bus : Ghosts B) (old new : Scene B SocketsState) (result : Handled)
-    → IsHost old.driver old.receiver → IsHost new.driver new.receiver → IsReadyHost bus up (host_in old)
+    → AreOfHost old.driver old.receiver → AreOfHost new.driver new.receiver → IsReadyHost bus up (host_in old)
     → IfNotMine result ((new.driver ≡ old.driver) × (new.receiver ≡ old.receiver))
     → IfHandled result (Serves (record { took = Sorts }) old.receiver new.receiver old.driver new.driver)
     → Handles bus (record { took = Sorts }) result up (held_in (driver_at bus (host_in old)).driver.handed_out old)

@@ -10,15 +10,15 @@ use Rattle.packet_socket.specs.declared.host.Host.TheInside.{Inside}
 abbrev pub host_with : DriverState → SocketsState → HostState
 host_with driver sockets = record { driver = driver; kinds = sockets.kinds; queues = sockets.queues; unclaimed = sockets.unclaimed }
 
-abbrev pub host_of : Inside → HostState
-host_of host = host_with host.driver host.sockets
+abbrev pub host_inside : Inside → HostState
+host_inside host = host_with host.driver host.sockets
 
 -- Each queue has room for all buffers. No buffer has two owners; the queues count as owners.
-pub record IsHost (driver : DriverState) (sockets : SocketsState) : Type 0 where
+pub record AreOfHost (driver : DriverState) (sockets : SocketsState) : Type 0 where
   pub room : sockets.room ≡ driver.layout.buffers
   pub count : length sockets.queues ≡ length sockets.kinds
   pub owners : HasNoSecondOwner driver.layout.buffers (owners driver ++ buffers_of (all_of sockets.queues))
   pub sizes : AreFrames (all_of sockets.queues)
 
-abbrev pub IsConsistent : Inside → Type 0
-IsConsistent host = IsHost host.driver host.sockets
+abbrev pub IsConsistentHost : Inside → Type 0
+IsConsistentHost host = AreOfHost host.driver host.sockets

@@ -39,11 +39,11 @@ impl Model for Host {
 
     ghost Value = { HostState };
 
-    ghost use Rattle.packet_socket.specs.InsideHost.{IsConsistent, host_of};
+    ghost use Rattle.packet_socket.specs.InsideHost.{IsConsistentHost, host_inside};
 
-    ghost view = { host_of };
+    ghost view = { host_inside };
 
-    ghost invariant = { IsConsistent };
+    ghost invariant = { IsConsistentHost };
 }
 
 impl Host {

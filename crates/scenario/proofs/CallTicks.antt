@@ -10,7 +10,7 @@ use Rattle.scenario.specs.Answers.{AreTicks, IsFaultyCall}
 use Rattle.scenario.specs.Meanings.{are_ticks, are_ticks_of, ticks_in}
 use Rattle.scenario.specs.SoFar.{Host}
 use Rattle.scenario.specs.Stops.{IfFault}
-use Rattle.scenario.specs.TickWords.{tick_of}
+use Rattle.scenario.specs.TickWords.{tick_named}
 use Rattle.scenario.specs.Words.{Text, texts}
 use Rattle.scenario.specs.declared.refusal.Fault.{Fault}
 use Rattle.scenario.specs.declared.refusal.Fault.TheVariants as fault
@@ -22,15 +22,15 @@ module _ (hosts : List Host) where
   no_ticks = record { known = refl; spelled = refl }
 
   pub one_more : (words : List (Bor Text)) (i : ℕ) (d : Bor Text) (tick : Tick) (read : List Tick) → i < length words
-      → tick_of hosts (get_or words i d).now ≡ Some tick → AreTicks hosts (texts (take i words)) read
+      → tick_named hosts (get_or words i d).now ≡ Some tick → AreTicks hosts (texts (take i words)) read
       → AreTicks hosts (texts (take (i + 1) words)) (read ++ tick ∷ [])
   one_more words i d tick read below found before =
       let word = get_or words i d in
       let front = texts (take i words) in
       let next : texts (take (i + 1) words) ≡ front ++ word.now ∷ [] =
       ap texts (take_more words i d below) ∙ map-append (λ (w : Bor Text). w.now) (take i words) (word ∷ []) in
-      let is_known = λ (one : Text). is_some (tick_of hosts one) in
-      let read_as = λ (one : Text). unwrap_or (tick_of hosts one) ticks.Go in
+      let is_known = λ (one : Text). is_some (tick_named hosts one) in
+      let read_as = λ (one : Text). unwrap_or (tick_named hosts one) ticks.Go in
       let known : is_known word.now ≡ true = ap is_some found in
       let spelled : read_as word.now ≡ tick = ap (λ o. unwrap_or o ticks.Go) found in
       subst (λ (all : List Text). AreTicks hosts all (read ++ tick ∷ [])) (sym next) (record {
@@ -44,10 +44,10 @@ module _ (hosts : List Host) where
       → AreTicks hosts (texts words) read
   all_read words i read end before = subst (λ (all : List (Bor Text)). AreTicks hosts (texts all) read) (take_all i words end) before
 
-  pub one_unknown : (words : List (Bor Text)) (i : ℕ) (d : Bor Text) → i < length words → tick_of hosts (get_or words i d).now ≡ None
+  pub one_unknown : (words : List (Bor Text)) (i : ℕ) (d : Bor Text) → i < length words → tick_named hosts (get_or words i d).now ≡ None
       → ¬ (are_ticks_of hosts (texts words) ≡ true)
   one_unknown words i d below missing all =
-      let is_known = λ (one : Text). is_some (tick_of hosts one) in
+      let is_known = λ (one : Text). is_some (tick_named hosts one) in
       let text = get_or-map (λ (w : Bor Text). w.now) words i d [] below in
       let count = length-map words (λ (w : Bor Text). w.now) in
       false≢true (sym (list_all_at is_known (texts words) i [] (omega (arith, count)) (ap is_known text ∙ ap is_some missing)) ∙ all)

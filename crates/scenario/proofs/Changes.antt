@@ -8,7 +8,7 @@ use Rattle.std.specs.Option.{IsSomeAnd}
 use Rattle.network_plan.specs.declared.plan.HostPlan.{HostPlan}
 use Rattle.scenario.specs.Answers.{IsChange, IsGrowth}
 use Rattle.scenario.specs.Meanings.{IsRoomAt, changed_first}
-use Rattle.scenario.specs.SoFar.{Host, has_name, host_of, hosts_of, place_of}
+use Rattle.scenario.specs.SoFar.{Host, has_name, host_of_plan, hosts_of, place_of}
 use Rattle.scenario.specs.Words.{Text}
 use Rattle.scenario.specs.declared.refusal.Fault.{Fault}
 use Rattle.scenario.proofs.Places.{place-missing}
@@ -31,30 +31,30 @@ found-set p f (a ∷ xs) (suc k) d below passes none =
 
 pub change-host : (name : Text) (held : Host → ℕ) (most : ℕ) (change : Host → Host) (plans : List HostPlan) (place : ℕ)
     (plan new : HostPlan) (result : Result (Unit {0}) Fault) → place_of name (hosts_of plans) ≡ Some place
-    → IsGrowth held most change (host_of (get_or plans place plan)) result (host_of new)
+    → IsGrowth held most change (host_of_plan (get_or plans place plan)) result (host_of_plan new)
     → IsChange name held most change (hosts_of plans) result (hosts_of (set plans place new))
 change-host name held most change plans place plan new (Ok u) found growth =
     let hosts = hosts_of plans in
-    let first = position-Some (has_name name) hosts place (host_of plan) found in
-    let count = length-map plans host_of in
+    let first = position-Some (has_name name) hosts place (host_of_plan plan) found in
+    let count = length-map plans host_of_plan in
     let below : place < length plans = omega (arith, first.0) in
-    let here : get_or hosts place (host_of plan) ≡ host_of (get_or plans place plan) =
-    get_or-map host_of plans place plan (host_of plan) below in
-    let one : find (has_name name) hosts ≡ Some (host_of (get_or plans place plan)) =
-    found-find (has_name name) hosts place (host_of plan) first.0 first.1 first.2 ∙ ap Some here in (
+    let here : get_or hosts place (host_of_plan plan) ≡ host_of_plan (get_or plans place plan) =
+    get_or-map host_of_plan plans place plan (host_of_plan plan) below in
+    let one : find (has_name name) hosts ≡ Some (host_of_plan (get_or plans place plan)) =
+    found-find (has_name name) hosts place (host_of_plan plan) first.0 first.1 first.2 ∙ ap Some here in (
       subst (λ (o : Option Host). IsSomeAnd o (λ host. held host < most)) (sym one) growth.0,
-      map-set host_of plans place new ∙ ap (λ (h : Host). set hosts place h) (growth.1 ∙ ap change (sym here))
-          ∙ found-set (has_name name) change hosts place (host_of plan) first.0 first.1 first.2,
+      map-set host_of_plan plans place new ∙ ap (λ (h : Host). set hosts place h) (growth.1 ∙ ap change (sym here))
+          ∙ found-set (has_name name) change hosts place (host_of_plan plan) first.0 first.1 first.2,
     )
 change-host name held most change plans place plan new (Err stopped) found growth =
     let hosts = hosts_of plans in
-    let first = position-Some (has_name name) hosts place (host_of plan) found in
-    let count = length-map plans host_of in
+    let first = position-Some (has_name name) hosts place (host_of_plan plan) found in
+    let count = length-map plans host_of_plan in
     let below : place < length plans = omega (arith, first.0) in
-    let here : get_or hosts place (host_of plan) ≡ host_of (get_or plans place plan) =
-    get_or-map host_of plans place plan (host_of plan) below in
-    let one : find (has_name name) hosts ≡ Some (host_of (get_or plans place plan)) =
-    found-find (has_name name) hosts place (host_of plan) first.0 first.1 first.2 ∙ ap Some here in
+    let here : get_or hosts place (host_of_plan plan) ≡ host_of_plan (get_or plans place plan) =
+    get_or-map host_of_plan plans place plan (host_of_plan plan) below in
+    let one : find (has_name name) hosts ≡ Some (host_of_plan (get_or plans place plan)) =
+    found-find (has_name name) hosts place (host_of_plan plan) first.0 first.1 first.2 ∙ ap Some here in
     (growth.0, λ room. growth.1 (subst (λ (o : Option Host). IsSomeAnd o (λ host. held host < most)) one room))
 
 find-none : (p : Host → Bool) (xs : List Host) → length xs ≤ position_or_len p xs → find p xs ≡ None

@@ -6,7 +6,7 @@ use Rattle.std.proofs.lemmas.List.{drop-drop, drop_all, take_all}
 use Rattle.std.proofs.lemmas.List.Sums.{fold_more}
 use Rattle.std.specs.Str.Lines.{lines}
 use Rattle.scenario.specs.Answers.{AreGood, IsFaultyLine, IsGoodLine, IsRead, IsRefused, IsRefusedAt, after_words, said_by}
-use Rattle.scenario.specs.SoFar.{SoFar, nothing}
+use Rattle.scenario.specs.SoFar.{SoFar, nothing_read}
 use Rattle.scenario.specs.Words.{Text, word, words_of}
 use Rattle.scenario.specs.Stops.{IfFault, refusal_at}
 use Rattle.scenario.specs.declared.refusal.Fault.{Fault}
@@ -31,7 +31,7 @@ module _ (all : List Text) (n : ℕ) (one : Text) (rest : List Text) (left : dro
   behind : drop (n + 1) all ≡ rest
   behind = sym (drop-drop 1 n all) ∙ ap (drop 1) left
 
-pub read_none : (text : Text) (said : SoFar) → said ≡ nothing → IsReadUpTo text 0 0 said
+pub read_none : (text : Text) (said : SoFar) → said ≡ nothing_read → IsReadUpTo text 0 0 said
 read_none text said same =
     record { within = omega arith; number = omega arith; left = refl; good = λ k below. absurd (omega arith); same = same }
 
@@ -53,7 +53,7 @@ read_more text start count taken said after bytes rest before same first some mo
           (subst (λ (front : SoFar). IsGoodLine front bytes) before.same good));
       same = new ∙ ap (λ (front : SoFar). after_words front (words_of bytes)) before.same
           ∙ ap (λ (one : Text). after_words (said_by (take count all)) (words_of one)) (sym found)
-          ∙ sym (fold_more (λ front line. after_words front (words_of line)) nothing all count [] place);
+          ∙ sym (fold_more (λ front line. after_words front (words_of line)) nothing_read all count [] place);
     }
 
 pub read_all : (text : Text) (start count : ℕ) (said : SoFar) → IsReadUpTo text start count said → length text ≤ start → IsRead text said

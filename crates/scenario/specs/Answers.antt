@@ -7,9 +7,9 @@ use Rattle.stations.specs.declared.tick.Tick.{Tick}
 use Rattle.std.specs.Str.{IsUtf8}
 use Rattle.scenario.specs.HostOptions.{options_asked, uses_in}
 use Rattle.scenario.specs.Kinds.{kind_named}
-use Rattle.scenario.specs.Meanings.{AreKnown, HasCount, HasNames, HasOrder, HasValues}
+use Rattle.scenario.specs.Meanings.{AreKnown, HasCount, HasHostNames, HasOrder, HasValues}
 use Rattle.scenario.specs.Meanings.{IsRoomAt, after_line, are_ticks, are_ticks_of, changed_first, number_of, option_words, ticks_in}
-use Rattle.scenario.specs.SoFar.{Host, SoFar, has_name, nothing}
+use Rattle.scenario.specs.SoFar.{Host, SoFar, has_name, nothing_read}
 use Rattle.scenario.specs.Spellings.{address_in}
 use Rattle.scenario.specs.Stops.{IfFault}
 use Rattle.scenario.specs.Words.{Text, word, words_of}
@@ -30,16 +30,16 @@ most_line_bytes = 8192
 pub record IsGood (kind : LineKind) (before : SoFar) (words : List Text) : Type 0 where
   pub count : HasCount kind words
   pub values : HasValues kind words
-  pub names : HasNames kind before.hosts words
+  pub names : HasHostNames kind before.hosts words
   pub order : HasOrder kind before.commands
 
 -- the fault of a line of this kind: the first that applies
 abbrev pub IsFaulty : LineKind → SoFar → List Text → Fault → Type 0
 IsFaulty kind before words fault.Count = ¬ HasCount kind words
 IsFaulty kind before words fault.Value = HasCount kind words × (¬ HasValues kind words)
-IsFaulty kind before words fault.Name = HasCount kind words × HasValues kind words × (¬ HasNames kind before.hosts words)
+IsFaulty kind before words fault.Name = HasCount kind words × HasValues kind words × (¬ HasHostNames kind before.hosts words)
 IsFaulty kind before words fault.Order =
-    HasCount kind words × HasValues kind words × HasNames kind before.hosts words × (¬ HasOrder kind before.commands)
+    HasCount kind words × HasValues kind words × HasHostNames kind before.hosts words × (¬ HasOrder kind before.commands)
 IsFaulty kind before words _ = ⊥
 
 -- the result of reading a line of this kind
@@ -132,7 +132,7 @@ IsLineAnswer before line (Err stop) after = IfFault stop (IsFaultyLine before li
 
 -- what good lines say
 abbrev pub said_by : List Text → SoFar
-said_by lines = fold (λ before line. after_words before (words_of line)) nothing lines
+said_by lines = fold (λ before line. after_words before (words_of line)) nothing_read lines
 
 -- the first lines, this many, are good, each after those before it
 abbrev pub AreGood : ℕ → List Text → Type 0

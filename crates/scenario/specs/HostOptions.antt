@@ -100,8 +100,8 @@ is_some_of kind (Some own) = is_same own kind
 is_some_of kind None = false
 
 -- this option is used
-abbrev pub is_of : OptionKind → HostUse → Bool
-is_of kind one = is_some_of kind (kind_of_use one)
+abbrev pub is_use_of : OptionKind → HostUse → Bool
+is_use_of kind one = is_some_of kind (kind_of_use one)
 
 abbrev pub is_whole : HostUse → Bool
 is_whole (uses.Lone kind) = false
@@ -114,12 +114,12 @@ is_read _ = true
 
 -- Each option is used at most once.
 pub record AreOnce (given : List HostUse) : Type 0 where
-  pub rx : count_by (is_of option.Rx) given ≤ 1
-  pub tx : count_by (is_of option.Tx) given ≤ 1
-  pub buffers : count_by (is_of option.Buffers) given ≤ 1
-  pub rxa : count_by (is_of option.Rxa) given ≤ 1
-  pub link : count_by (is_of option.Link) given ≤ 1
-  pub promiscuous : count_by (is_of option.Promiscuous) given ≤ 1
+  pub rx : count_by (is_use_of option.Rx) given ≤ 1
+  pub tx : count_by (is_use_of option.Tx) given ≤ 1
+  pub buffers : count_by (is_use_of option.Buffers) given ≤ 1
+  pub rxa : count_by (is_use_of option.Rxa) given ≤ 1
+  pub link : count_by (is_use_of option.Link) given ≤ 1
+  pub promiscuous : count_by (is_use_of option.Promiscuous) given ≤ 1
 
 -- Each option has its value, and is used at most once.
 pub record AreCounted (given : List HostUse) : Type 0 where

@@ -13,7 +13,7 @@ use Rattle.stations.specs.declared.tick.Tick.TheVariants as tick
 use Rattle.scenario.specs.HostOptions.{AreCounted, AreRead, options_asked, uses_in}
 use Rattle.scenario.specs.SoFar.{Host, Said, SoFar, Sends, Receives, Interrupts, Ticks, Feeds, Draws, Drains, has_name, place_of}
 use Rattle.scenario.specs.Spellings.{IsAddress, IsFrame, address_in, frame_in, is_number, socket_in}
-use Rattle.scenario.specs.TickWords.{is_tick, tick_of}
+use Rattle.scenario.specs.TickWords.{is_tick, tick_named}
 use Rattle.scenario.specs.Words.{Text, word}
 use Rattle.scenario.specs.declared.host_use.HostOptions.{HostOptions}
 use Rattle.scenario.specs.declared.line_kind.LineKind.{LineKind}
@@ -60,11 +60,11 @@ are_ticks words = list_all is_tick words
 
 -- each word spells a tick at a known host
 abbrev pub are_ticks_of : List Host → List Text → Bool
-are_ticks_of hosts words = list_all (λ one. is_some (tick_of hosts one)) words
+are_ticks_of hosts words = list_all (λ one. is_some (tick_named hosts one)) words
 
 -- the ticks that words spell
 abbrev pub ticks_in : List Host → List Text → List Tick
-ticks_in hosts words = map (λ one. unwrap_or (tick_of hosts one) tick.Go) words
+ticks_in hosts words = map (λ one. unwrap_or (tick_named hosts one) tick.Go) words
 
 -- A host line has enough words, each option has its value, and none occurs twice.
 pub record HasHostWords (words : List Text) : Type 0 where
@@ -112,27 +112,27 @@ vlans_held host = length (vlans_of host.config.vlans)
 abbrev pub sockets_held : Host → ℕ
 sockets_held host = length host.sockets
 
-abbrev pub IsHost : Text → List Host → Type 0
-IsHost name hosts = IsSome (place_of name hosts)
+abbrev pub NamesHost : Text → List Host → Type 0
+NamesHost name hosts = IsSome (place_of name hosts)
 
 -- There is a host of this name, and the host of each tick.
 pub record AreKnown (hosts : List Host) (name : Text) (ticks : List Text) : Type 0 where
-  pub host : IsHost name hosts
+  pub host : NamesHost name hosts
   pub inside : are_ticks_of hosts ticks ≡ true
 
 -- The names of hosts are known, the name of a new host isn't, and a host has room for a new item.
-abbrev pub HasNames : LineKind → List Host → List Text → Type 0
-HasNames line.Host hosts words = place_of (word 1 words) hosts ≡ None
-HasNames line.Group hosts words = IsRoomAt (word 1 words) groups_held most_groups hosts
-HasNames line.Vlan hosts words = IsRoomAt (word 1 words) vlans_held most_vlans hosts
-HasNames line.Socket hosts words = IsRoomAt (word 1 words) sockets_held most_sockets hosts
-HasNames line.Send hosts words = AreKnown hosts (word 1 (call_words words)) (tick_words words)
-HasNames line.Recv hosts words = AreKnown hosts (word 1 (call_words words)) (tick_words words)
-HasNames line.Interrupt hosts words = AreKnown hosts (word 1 (call_words words)) (tick_words words)
-HasNames line.Tick hosts words = IsSome (tick_of hosts (word 1 words))
-HasNames line.Feed hosts words = IsHost (word 1 words) hosts
-HasNames line.Auto hosts words = Unit {0}
-HasNames line.Drain hosts words = IsHost (word 1 words) hosts
+abbrev pub HasHostNames : LineKind → List Host → List Text → Type 0
+HasHostNames line.Host hosts words = place_of (word 1 words) hosts ≡ None
+HasHostNames line.Group hosts words = IsRoomAt (word 1 words) groups_held most_groups hosts
+HasHostNames line.Vlan hosts words = IsRoomAt (word 1 words) vlans_held most_vlans hosts
+HasHostNames line.Socket hosts words = IsRoomAt (word 1 words) sockets_held most_sockets hosts
+HasHostNames line.Send hosts words = AreKnown hosts (word 1 (call_words words)) (tick_words words)
+HasHostNames line.Recv hosts words = AreKnown hosts (word 1 (call_words words)) (tick_words words)
+HasHostNames line.Interrupt hosts words = AreKnown hosts (word 1 (call_words words)) (tick_words words)
+HasHostNames line.Tick hosts words = IsSome (tick_named hosts (word 1 words))
+HasHostNames line.Feed hosts words = NamesHost (word 1 words) hosts
+HasHostNames line.Auto hosts words = Unit {0}
+HasHostNames line.Drain hosts words = NamesHost (word 1 words) hosts
 
 -- Lines that set up come before the first event.
 abbrev pub sets_up : LineKind → Bool
@@ -146,8 +146,8 @@ abbrev pub HasOrder : LineKind → List Said → Type 0
 HasOrder kind commands = sets_up kind ≡ true → length commands ≡ 0
 
 -- a host with these options, no groups, all VLANs and no sockets
-abbrev pub host_with : (name : Text) (address : List ℕ) (wire : Text) (options : HostOptions) → Host
-host_with name address wire options = record {
+abbrev pub host_described : (name : Text) (address : List ℕ) (wire : Text) (options : HostOptions) → Host
+host_described name address wire options = record {
   name = name;
   wire = wire;
   image = image_with address;
@@ -165,8 +165,8 @@ host_with name address wire options = record {
 }
 
 -- the host that a line makes
-abbrev pub new_host : List Text → Host
-new_host words = host_with (word 1 words) (address_in (word 2 words)) (word 3 words) (options_asked (uses_in (option_words words)))
+abbrev pub host_of_words : List Text → Host
+host_of_words words = host_described (word 1 words) (address_in (word 2 words)) (word 3 words) (options_asked (uses_in (option_words words)))
 
 abbrev pub with_group : List ℕ → Host → Host
 with_group group host = record host { config = record host.config { groups = record { items = host.config.groups.items ++ group ∷ [] } } }
@@ -203,7 +203,7 @@ number_read text = digits_value 10 text
 
 -- the hosts, commands and traces after a good line
 abbrev pub after_line : LineKind → SoFar → List Text → SoFar
-after_line line.Host before words = with_hosts (before.hosts ++ new_host words ∷ []) before
+after_line line.Host before words = with_hosts (before.hosts ++ host_of_words words ∷ []) before
 after_line line.Group before words = changing (word 1 words) (with_group (address_in (word 2 words))) before
 after_line line.Vlan before words = changing (word 1 words) (with_vlan (number_read (word 2 words))) before
 after_line line.Socket before words =
@@ -220,7 +220,7 @@ after_line line.Recv before words =
     before
 after_line line.Interrupt before words =
     saying (Interrupts (number_of (word 1 (call_words words)) before.hosts) (ticks_in before.hosts (tick_words words))) before
-after_line line.Tick before words = saying (Ticks (unwrap_or (tick_of before.hosts (word 1 words)) tick.Go)) before
+after_line line.Tick before words = saying (Ticks (unwrap_or (tick_named before.hosts (word 1 words)) tick.Go)) before
 after_line line.Feed before words =
     let fed = saying (Feeds (number_of (word 1 words) before.hosts) (length before.traces)) before in
     record fed { traces = before.traces ++ word 2 words ∷ [] }

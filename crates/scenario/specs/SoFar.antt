@@ -23,8 +23,8 @@ pub record Host : Type 0 where
   pub config : Config
   pub sockets : List SocketKind
 
-abbrev pub host_of : HostPlan → Host
-host_of plan = record {
+abbrev pub host_of_plan : HostPlan → Host
+host_of_plan plan = record {
   name = string_bytes plan.name;
   wire = string_bytes plan.wire;
   image = plan.image;
@@ -62,7 +62,7 @@ pub record SoFar : Type 0 where
   pub traces : List Text
 
 abbrev pub hosts_of : List HostPlan → List Host
-hosts_of plans = map host_of plans
+hosts_of plans = map host_of_plan plans
 
 abbrev pub so_far : Scenario → SoFar
 so_far scenario = record {
@@ -72,8 +72,8 @@ so_far scenario = record {
 }
 
 -- Before the first line there is nothing.
-abbrev pub nothing : SoFar
-nothing = record { hosts = []; commands = []; traces = [] }
+abbrev pub nothing_read : SoFar
+nothing_read = record { hosts = []; commands = []; traces = [] }
 
 abbrev pub has_name : Text → Host → Bool
 has_name name host = bytes_eq host.name name

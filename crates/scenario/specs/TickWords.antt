@@ -55,8 +55,8 @@ tick_if (Some kind) None = None
 tick_if None host = None
 
 -- the tick that a word spells, if its kind and its host are known
-abbrev pub tick_of : List Host → Text → Option Tick
-tick_of hosts word =
+abbrev pub tick_named : List Host → Text → Option Tick
+tick_named hosts word =
     if bytes_eq word (codes "go") then Some tick.Go
     else if has_colon word then tick_if (tick_kind_named (kind_word word)) (place_of (host_word word) hosts)
     else None

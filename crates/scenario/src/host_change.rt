@@ -3,7 +3,7 @@
 ghost use Rattle.std.specs.Prelude.{◌≡◌, IfOk};
 ghost use Rattle.scenario.specs.Answers.{IsChange, IsGrowth};
 ghost use Rattle.scenario.specs.Meanings as meanings;
-ghost use Rattle.scenario.specs.SoFar.{host_of, hosts_of};
+ghost use Rattle.scenario.specs.SoFar.{host_of_plan, hosts_of};
 
 use crate::host_use::HostOptions;
 use crate::refusal::Fault;
@@ -23,7 +23,7 @@ pub(crate) fn new_host(
     wire: &str,
     options: HostOptions,
 ) -> Result<HostPlan, AllocError>
-    ensures { IfOk result (λ host. host_of host ≡ meanings.host_with name.now address wire.now options) }
+    ensures { IfOk result (λ host. host_of_plan host ≡ meanings.host_described name.now address wire.now options) }
 {
     Ok(HostPlan {
         name: String::from_str(alloc, name)?,
@@ -46,7 +46,7 @@ pub(crate) fn new_host(
 /// Adds a group to a host.
 fn push_group(host: &mut HostPlan, group: [u8; 6]) -> Result<(), Fault>
     ensures { IsGrowth meanings.groups_held meanings.most_groups (meanings.with_group group)
-        (host_of host.old) result (host_of host.new) }
+        (host_of_plan host.old) result (host_of_plan host.new) }
 {
     if host.config.groups.is_full() {
         return Err(Fault::Name);
@@ -58,7 +58,7 @@ fn push_group(host: &mut HostPlan, group: [u8; 6]) -> Result<(), Fault>
 /// Adds a VLAN to a host.
 fn push_vlan(host: &mut HostPlan, vlan: u16) -> Result<(), Fault>
     ensures { IsGrowth meanings.vlans_held meanings.most_vlans (meanings.with_vlan vlan)
-        (host_of host.old) result (host_of host.new) }
+        (host_of_plan host.old) result (host_of_plan host.new) }
 {
     let mut vlans = host.config.vlans.take().unwrap_or(ArrayVec::new());
     if vlans.is_full() {
@@ -72,7 +72,7 @@ fn push_vlan(host: &mut HostPlan, vlan: u16) -> Result<(), Fault>
 /// Adds a socket to a host.
 fn push_socket(host: &mut HostPlan, kind: SocketKind) -> Result<(), Fault>
     ensures { IsGrowth meanings.sockets_held meanings.most_sockets (meanings.with_socket kind)
-        (host_of host.old) result (host_of host.new) }
+        (host_of_plan host.old) result (host_of_plan host.new) }
 {
     if host.sockets.is_full() {
         return Err(Fault::Name);

@@ -134,7 +134,7 @@ impl HostUse {
 
     /// Whether this option is used.
     fn is_of(&self, kind: OptionKind) -> bool
-        ensures { result ≡ options.is_of kind self.now }
+        ensures { result ≡ options.is_use_of kind self.now }
     {
         match self.kind() {
             Some(own) => own.is(kind),
@@ -239,7 +239,7 @@ pub(crate) fn uses_of(alloc: Global, words: &[&str]) -> Result<Vec<HostUse>, All
 
 /// Whether an option is used at most once.
 fn is_once(uses: &[HostUse], kind: OptionKind) -> bool
-    ensures { IsTrue result ↔ (count_by (options.is_of kind) uses.now ≤ 1) }
+    ensures { IsTrue result ↔ (count_by (options.is_use_of kind) uses.now ≤ 1) }
 {
     uses.iter().filter(|one| one.is_of(kind)).count() <= 1
 }

@@ -4,7 +4,7 @@ ghost use Rattle.std.specs.Prelude.{◌≡◌, ◌∷◌, ◌<◌, ◌≤◌, If
 ghost use Rattle.std.specs.List.{position_or_len};
 ghost use Rattle.std.specs.Str.Lines.{lines, strip_carriage_return};
 ghost use Rattle.scenario.specs.Answers.{IsRead, IsRefused};
-ghost use Rattle.scenario.specs.SoFar.{nothing, so_far};
+ghost use Rattle.scenario.specs.SoFar.{nothing_read, so_far};
 ghost use Rattle.scenario.specs.Words.{is_feed};
 
 use crate::command::Scenario;
@@ -62,7 +62,7 @@ fn first_line(text: &[u8]) -> (&[u8], usize)
 
 /// A scenario without hosts and commands.
 fn empty_scenario(alloc: Global) -> Scenario
-    ensures { so_far result ≡ nothing }
+    ensures { so_far result ≡ nothing_read }
 {
     Scenario {
         plan: Plan {

@@ -2,8 +2,8 @@
 
 ghost use Rattle.std.specs.Prelude.{◌≡◌, IfErr, IfOk, OnOk, length};
 ghost use Rattle.scenario.specs.Answers.{IsAnswer, IsFaulty, IsGood, IsHostRead};
-ghost use Rattle.scenario.specs.Meanings.{HasCount, HasValues, new_host};
-ghost use Rattle.scenario.specs.SoFar.{SoFar, host_of, so_far};
+ghost use Rattle.scenario.specs.Meanings.{HasCount, HasValues, host_of_words};
+ghost use Rattle.scenario.specs.SoFar.{SoFar, host_of_plan, so_far};
 ghost use Rattle.scenario.specs.Stops.{IfFault};
 ghost use Rattle.scenario.specs.Words.{texts};
 ghost use Rattle.scenario.specs.declared.line_kind.LineKind.TheVariants as line;
@@ -77,7 +77,7 @@ fn check_host(scenario: &Scenario, words: &[&str]) -> Result<(), Fault>
 /// The host of a line `host NAME ADDRESS WIRE`, and options.
 fn host_in(alloc: Global, scenario: &Scenario, words: &[&str]) -> Result<HostPlan, Stop>
     ensures good { OnOk result (IsGood line.Host (so_far scenario.now) (texts words.now)) }
-    ensures host { IfOk result (λ host. host_of host ≡ new_host (texts words.now)) }
+    ensures host { IfOk result (λ host. host_of_plan host ≡ host_of_words (texts words.now)) }
     ensures err { IfErr result (λ stop. IfFault stop (IsFaulty line.Host (so_far scenario.now) (texts words.now))) }
 {
     let (address, options) = host_values(alloc, words)?;

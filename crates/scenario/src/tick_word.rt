@@ -1,7 +1,7 @@
 // The words that spell ticks.
 
 ghost use Rattle.std.specs.Prelude.{◌≡◌, ◌<◌, IfSome, length};
-ghost use Rattle.scenario.specs.SoFar.{has_name, host_of, hosts_of, place_of};
+ghost use Rattle.scenario.specs.SoFar.{has_name, host_of_plan, hosts_of, place_of};
 ghost use Rattle.scenario.specs.TickWords as words;
 
 use crate::table::value_of;
@@ -51,7 +51,7 @@ fn tick_kind_of(word: &str) -> Option<TickKind>
 
 /// Whether a host has this name.
 fn is_named(host: &HostPlan, name: &str) -> bool
-    ensures { result ≡ has_name name.now (host_of host.now) }
+    ensures { result ≡ has_name name.now (host_of_plan host.now) }
 {
     host.name.as_str() == name
 }
@@ -79,7 +79,7 @@ pub(crate) fn is_tick(word: &str) -> bool
 
 /// The tick that a word spells, if its kind and its host are known.
 pub(crate) fn tick_of(hosts: &[HostPlan], word: &str) -> Option<Tick>
-    ensures { result ≡ words.tick_of (hosts_of hosts.now) word.now }
+    ensures { result ≡ words.tick_named (hosts_of hosts.now) word.now }
 {
     if word == "go" {
         return Some(Tick::Go);

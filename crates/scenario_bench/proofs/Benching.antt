@@ -9,10 +9,10 @@ use Rattle.pcap_trace.specs.Format.{Timed}
 use Rattle.stations.specs.Stations.{world_at}
 use Rattle.network_plan.specs.declared.plan.HostPlan.{HostPlan}
 use Rattle.host_calls.specs.Networks.{IsHost}
-use Rattle.scenario.specs.SoFar.{Host, Said, host_of, hosts_of, said_of}
+use Rattle.scenario.specs.SoFar.{Host, Said, host_of_plan, hosts_of, said_of}
 use Rattle.scenario_bench.specs.Acts.{Act, history}
 use Rattle.scenario.specs.declared.command.Scenario.{Scenario}
-use Rattle.scenario_bench.specs.Benches.{AreWritten, AreWrittenUpTo, Benches, Plays, SinkState, Stops, texts_of}
+use Rattle.scenario_bench.specs.Benches.{AreWritten, AreWrittenUpTo, Benches, PlaysScenario, SinkState, Stops, texts_of}
 use Rattle.scenario_bench.specs.EventLists.{all_events}
 use Rattle.scenario_bench.specs.Given.{given_from, sockets_from}
 use Rattle.scenario_bench.specs.PlayedEvents.{Begins, HasPlayed, TellTallies, TellsTally}
@@ -132,7 +132,7 @@ sockets_count plans said a b begun played =
 -- The call.
 
 abbrev pub plays_of : (scenario : Scenario) (traces : List (List (List ℕ))) (a b : Play) → Begins scenario.plan.hosts.items a
-    → HasPlayed (all_events (hosts_of scenario.plan.hosts.items) traces (map said_of scenario.commands.items)) a b → Plays scenario traces
+    → HasPlayed (all_events (hosts_of scenario.plan.hosts.items) traces (map said_of scenario.commands.items)) a b → PlaysScenario scenario traces
 plays_of scenario traces a b begun played = record {
   made = a.lan;
   by_plan = begun.made;
@@ -143,19 +143,19 @@ plays_of scenario traces a b begun played = record {
 }
 
 plan-at : (plans : List HostPlan) (k : ℕ) (plan : Host) (found : Option HostPlan) → slice_get plans k ≡ found
-    → slice_get (hosts_of plans) k ≡ Some plan → (one : HostPlan) × (slice_get plans k ≡ Some one) × (host_of one ≡ plan)
-plan-at plans k plan None is there = absurd (none (sym (ap (option_map host_of) is) ∙ sym (slice_get-map host_of plans k) ∙ there))
+    → slice_get (hosts_of plans) k ≡ Some plan → (one : HostPlan) × (slice_get plans k ≡ Some one) × (host_of_plan one ≡ plan)
+plan-at plans k plan None is there = absurd (none (sym (ap (option_map host_of_plan) is) ∙ sym (slice_get-map host_of_plan plans k) ∙ there))
   where
     none : None ≡ Some plan → ⊥
     none e = cc
 plan-at plans k plan (Some one) is there =
-    (one, is, some-same (host_of one) plan (sym (ap (option_map host_of) is) ∙ sym (slice_get-map host_of plans k) ∙ there))
+    (one, is, some-same (host_of_plan one) plan (sym (ap (option_map host_of_plan) is) ∙ sym (slice_get-map host_of_plan plans k) ∙ there))
 
 pub hosts_tell : (plans : List HostPlan) (said : List Said) (a b : Play) (told : List HostSummary) (begun : Begins plans a)
     (played : HasPlayed said a b) → TellTallies (length plans) plans b told
     → TellsHosts (hosts_of plans) (history played.acts) b.lan told
 hosts_tell plans said a b told begun played tells = record {
-  count = tells.count ∙ sym (length-map plans host_of);
+  count = tells.count ∙ sym (length-map plans host_of_plan);
   each = λ k plan host one plan_is host_is one_is.
       let found = plan-at plans k plan (slice_get plans k) refl plan_is in
       let below : k < length plans = slice_get_within plans k found.0 found.1 in

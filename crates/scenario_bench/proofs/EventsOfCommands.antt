@@ -11,7 +11,7 @@ use Rattle.eeprom.specs.Image.{address_bytes}
 use Rattle.network_plan.specs.declared.event.Event.{Event}
 use Rattle.network_plan.specs.declared.plan.HostPlan.{HostPlan}
 use Rattle.stations.specs.declared.tick.Tick.TheVariants.{Deliver, Step}
-use Rattle.scenario.specs.SoFar.{Host, Said, Interrupts, Receives, Ticks, event_of, host_of, hosts_of}
+use Rattle.scenario.specs.SoFar.{Host, Said, Interrupts, Receives, Ticks, event_of, host_of_plan, hosts_of}
 use Rattle.scenario_bench.specs.EventLists.{address_of, arrival_at, event_drawn, event_of_kind, moves_at}
 
 -- one piece more is moved
@@ -61,12 +61,12 @@ address_of-there : (plans : List HostPlan) (host : ℕ) (plan : HostPlan) → ho
     → address_of (hosts_of plans) host ≡ address_bytes (get_or plans host plan).image
 address_of-there plans host plan below =
     ap (λ (found : Option Host). unwrap_or (option_map (λ (one : Host). address_bytes one.image) found) [])
-    (slice_get-map host_of plans host ∙ ap (option_map host_of) (slice_get-get_or plans host plan below))
+    (slice_get-map host_of_plan plans host ∙ ap (option_map host_of_plan) (slice_get-get_or plans host plan below))
 
 pub event_drawn-there : (plans : List HostPlan) (word : ℕ) (plan : HostPlan) → 0 < length plans
     → event_drawn (hosts_of plans) word
     ≡ event_of_kind (word % 8) (word / 8 % length plans) (address_bytes (get_or plans (word / 8 % length plans) plan).image)
 event_drawn-there plans word plan some =
     let host = word / 8 % length plans in
-    ap (λ (n : ℕ). event_of_kind (word % 8) (word / 8 % n) (address_of (hosts_of plans) (word / 8 % n))) (length-map plans host_of)
+    ap (λ (n : ℕ). event_of_kind (word % 8) (word / 8 % n) (address_of (hosts_of plans) (word / 8 % n))) (length-map plans host_of_plan)
     ∙ ap (event_of_kind (word % 8) host) (address_of-there plans host plan (omega arith))

@@ -8,13 +8,13 @@ use Rattle.pcap_trace.specs.Devices.{AppendsFront, Grows}
 use Rattle.pcap_trace.specs.Format.{Timed, file_header, packet_of, timed, written}
 use Rattle.pcap_trace.proofs.Flushed.{GoesOut, goes-ends, goes-header, goes-more, goes-stops}
 use Rattle.pcap_trace.proofs.Packets.{written-append, written-push}
-use Rattle.scenario_bench.specs.Given.{numbered}
+use Rattle.scenario_bench.specs.Given.{numbered_frame}
 use Rattle.scenario_bench.specs.GivenView.{HasFrameSize}
 use Rattle.scenario_bench.specs.SocketLists.{SocketFrames, with_given}
 
 -- one more of each follows the others, if there are equally many
 pub zip-more : (numbers : List ℕ) (frames : List (List ℕ)) (number : ℕ) (frame : List ℕ) → length numbers ≡ length frames
-    → map timed (zip (numbers ++ number ∷ []) (frames ++ frame ∷ [])) ≡ map timed (zip numbers frames) ++ numbered number frame ∷ []
+    → map timed (zip (numbers ++ number ∷ []) (frames ++ frame ∷ [])) ≡ map timed (zip numbers frames) ++ numbered_frame number frame ∷ []
 zip-more [] [] number frame same = refl
 zip-more [] (f ∷ frames) number frame same = cc
 zip-more (n ∷ numbers) [] number frame same = cc
@@ -38,13 +38,13 @@ pub gives : (host socket number : ℕ) (frame : List ℕ) (one : SocketFrames) (
     → one.host ≡ host → one.socket ≡ socket → one.frames ≡ map timed (zip numbers frames) → length numbers ≡ length frames
     → more ≡ numbers ++ number ∷ [] → others ≡ frames ++ frame ∷ []
     → record { host = one.host; socket = one.socket; frames = map timed (zip more others) }
-    ≡ with_given host socket (numbered number frame ∷ []) one
+    ≡ with_given host socket (numbered_frame number frame ∷ []) one
 gives host socket number frame one numbers more frames others there asked is same grown longer =
-    let more_is : map timed (zip more others) ≡ one.frames ++ numbered number frame ∷ [] =
+    let more_is : map timed (zip more others) ≡ one.frames ++ numbered_frame number frame ∷ [] =
     ap (λ (ns : List ℕ). map timed (zip ns others)) grown ∙ ap (λ (fs : List (List ℕ)). map timed (zip (numbers ++ number ∷ []) fs)) longer
-    ∙ zip-more numbers frames number frame same ∙ ap (λ (ts : List Timed). ts ++ numbered number frame ∷ []) (sym is) in
-    let here : (if (one.host == host) && (one.socket == socket) then numbered number frame ∷ [] else []) ≡ numbered number frame ∷ [] =
-    chosen ((one.host == host) && (one.socket == socket)) (numbered number frame ∷ []) (both one.host host one.socket socket there asked) in
+    ∙ zip-more numbers frames number frame same ∙ ap (λ (ts : List Timed). ts ++ numbered_frame number frame ∷ []) (sym is) in
+    let here : (if (one.host == host) && (one.socket == socket) then numbered_frame number frame ∷ [] else []) ≡ numbered_frame number frame ∷ [] =
+    chosen ((one.host == host) && (one.socket == socket)) (numbered_frame number frame ∷ []) (both one.host host one.socket socket there asked) in
     ap (λ (ts : List Timed). record { host = one.host; socket = one.socket; frames = ts })
     (more_is ∙ sym (ap (λ (ts : List Timed). one.frames ++ ts) here))
 
@@ -73,7 +73,7 @@ writes-first all numbers ns frames fs before waiting ns_are fs_are is same short
 pub writes-more : (all : List Timed) (number : ℕ) (numbers ns : List ℕ) (frame : List ℕ) (frames fs : List (List ℕ))
     (before now later : Option (List ℕ)) (waiting more : List ℕ)
     → ns ≡ number ∷ numbers → fs ≡ frame ∷ frames → HasWritten all ns fs before now waiting
-    → Appends (append_known now waiting) (append_known later more) (packet_of (numbered number frame)) → Grows now later
+    → Appends (append_known now waiting) (append_known later more) (packet_of (numbered_frame number frame)) → Grows now later
     → HasWritten all numbers frames before later more
 writes-more all number numbers ns frame frames fs before now later waiting more ns_are fs_are has went grown =
     let parts : all ≡ has.front ++ map timed (zip (number ∷ numbers) (frame ∷ frames)) = has.parts
@@ -81,12 +81,12 @@ writes-more all number numbers ns frame frames fs before now later waiting more 
     ∙ ap (λ (xs : List (List ℕ)). has.front ++ map timed (zip (number ∷ numbers) xs)) fs_are in
     let counts : length (number ∷ numbers) ≡ length (frame ∷ frames) = sym (ap length ns_are) ∙ has.same ∙ ap length fs_are in
     record {
-      front = has.front ++ numbered number frame ∷ [];
-      parts = parts ∙ sym (append_assoc has.front (numbered number frame ∷ []) (map timed (zip numbers frames)));
+      front = has.front ++ numbered_frame number frame ∷ [];
+      parts = parts ∙ sym (append_assoc has.front (numbered_frame number frame ∷ []) (map timed (zip numbers frames)));
       same = omega (arith, counts);
       short = (subst (AllByRecursion HasFrameSize) fs_are has.short).1;
-      goes = subst (GoesOut before later more) (sym (written-push has.front (numbered number frame)))
-          (goes-more before now later waiting more (written has.front) (packet_of (numbered number frame)) has.goes went grown);
+      goes = subst (GoesOut before later more) (sym (written-push has.front (numbered_frame number frame)))
+          (goes-more before now later waiting more (written has.front) (packet_of (numbered_frame number frame)) has.goes went grown);
     }
 
 pub writes-stops : (all : List Timed) (numbers : List ℕ) (frames : List (List ℕ)) (before now later : Option (List ℕ)) (waiting : List ℕ)

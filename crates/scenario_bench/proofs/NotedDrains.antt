@@ -8,13 +8,13 @@ use Rattle.std.proofs.lemmas.List.Sums.{fold-append}
 use Rattle.std.specs.List.{fold}
 use Rattle.packet_socket.specs.HostCalls.{Given as GivenFrame}
 use Rattle.pcap_trace.specs.Format.{Timed}
-use Rattle.delivery.specs.Happenings.{Given, Happening, Moved, given, given_by}
+use Rattle.delivery.specs.Happenings.{Given, Happening, Moved, given, given_in_one}
 use Rattle.wire.specs.DrainedNetworks.{said_of_drain}
 use Rattle.scenario_bench.specs.Acts.{Drained, history}
-use Rattle.scenario_bench.specs.Given.{numbered}
+use Rattle.scenario_bench.specs.Given.{numbered_frame}
 use Rattle.scenario_bench.specs.DrainedView.{drained_frame}
-use Rattle.scenario_bench.specs.SocketLists.{SocketFrames, with_frames}
-use Rattle.scenario_bench.specs.Tallies.{AreNoted, GetsGiven, GetsSaid, TalliesGrow, TallyCounts, counted_by, socket_behind, tally_behind}
+use Rattle.scenario_bench.specs.SocketLists.{SocketFrames, with_socket_frames}
+use Rattle.scenario_bench.specs.Tallies.{AreNoted, GetsGiven, GetsSaid, TalliesGrow, TallyCounts, tallied_by, socket_behind, tally_behind}
 use Rattle.scenario_bench.specs.Tallies.{with_said}
 use Rattle.scenario_bench.specs.declared.record.Record.{Record}
 use Rattle.scenario_bench.specs.declared.drained.DrainedFrame.{DrainedFrame}
@@ -28,7 +28,7 @@ given-at host one = Given host one.socket one.frame
 
 -- Moved frames aren't counted, and no socket returns them.
 
-moved-counts : (moves host k : ℕ) (tally : Tally) → fold (counted_by k) tally (replicate moves (Moved host)) ≡ tally
+moved-counts : (moves host k : ℕ) (tally : Tally) → fold (tallied_by k) tally (replicate moves (Moved host)) ≡ tally
 moved-counts zero host k tally = refl
 moved-counts (suc moves) host k tally = moved-counts moves host k tally
 
@@ -41,15 +41,15 @@ moves-count : (host buffered k : ℕ) (frames : List GivenFrame) (tally : Tally)
 moves-count host buffered k frames tally =
     let moved = replicate buffered (Moved host) in
     let said = map (given-at host) frames in
-    sym (ap (fold (counted_by k) tally) (append_assoc moved said []) ∙ fold-append (counted_by k) tally moved (said ++ [])
-    ∙ ap (λ (t : Tally). fold (counted_by k) t (said ++ [])) (moved-counts buffered host k tally))
+    sym (ap (fold (tallied_by k) tally) (append_assoc moved said []) ∙ fold-append (tallied_by k) tally moved (said ++ [])
+    ∙ ap (λ (t : Tally). fold (tallied_by k) t (said ++ [])) (moved-counts buffered host k tally))
 
 moves-give : (host buffered number : ℕ) (frames : List GivenFrame) (socket : SocketFrames)
     → socket_behind number (Drained host 0 frames ∷ []) socket ≡ socket_behind number (Drained host buffered frames ∷ []) socket
 moves-give host buffered number frames socket =
     let said = map (given-at host) frames in
-    ap (λ (gs : List (List ℕ)). with_frames (map (numbered number) gs ++ []) socket)
-    (sym (flat_map-append (given_by socket.host socket.socket) (replicate buffered (Moved host)) said
+    ap (λ (gs : List (List ℕ)). with_socket_frames (map (numbered_frame number) gs ++ []) socket)
+    (sym (flat_map-append (given_in_one socket.host socket.socket) (replicate buffered (Moved host)) said
     ∙ ap (λ (gs : List (List ℕ)). gs ++ given socket.host socket.socket said) (moved-gives buffered host socket.host socket.socket)))
 
 same-tally : (host buffered k : ℕ) (frames : List GivenFrame) (found : Option Tally)
@@ -82,10 +82,10 @@ gets-further number xs ys None = refl
 gets-further number xs ys (Some socket) =
     let of : List Happening → List (List ℕ) = given socket.host socket.socket in
     ap (λ (frames : List Timed). Some (record socket { frames = frames }))
-    (append_assoc socket.frames (map (numbered number) (of xs)) (map (numbered number) (of ys))
+    (append_assoc socket.frames (map (numbered_frame number) (of xs)) (map (numbered_frame number) (of ys))
     ∙ ap (λ (frames : List Timed). socket.frames ++ frames)
-    (sym (ap (map (numbered number)) (flat_map-append (given_by socket.host socket.socket) xs ys)
-    ∙ map-append (numbered number) (of xs) (of ys))))
+    (sym (ap (map (numbered_frame number)) (flat_map-append (given_in_one socket.host socket.socket) xs ys)
+    ∙ map-append (numbered_frame number) (of xs) (of ys))))
 
 gets-join : (number : ℕ) (xs ys : List Happening) (a b c : List SocketFrames) → GetsSaid number xs a b → GetsSaid number ys b c
     → GetsSaid number (xs ++ ys) a c
@@ -111,7 +111,7 @@ none_drained host number all hosts sockets = record {
 
 pub one_drained : (host number : ℕ) (all rest later : List DrainedFrame) (one : DrainedFrame) (frame : List ℕ) (a b c : List Tally)
     (d e f : List SocketFrames) → HasDrained host number all rest a b d e → rest ≡ one ∷ later → frame ≡ one.frame
-    → TallyCounts host passage.Given b c → GetsGiven host one.socket (numbered number frame) e f
+    → TallyCounts host passage.Given b c → GetsGiven host one.socket (numbered_frame number frame) e f
     → HasDrained host number all later a c d f
 one_drained host number all rest later one frame a b c d e f has is frame_is counts gets =
     let said : List GivenFrame → List Happening = map (given-at host) in
@@ -127,7 +127,7 @@ one_drained host number all rest later one frame a b c d e f has is frame_is cou
       gets = subst (λ (l : List Happening). GetsSaid number l d f) more
           (gets-join number (said has.done) (given-at host this ∷ []) d e f has.gets
           (gets_given host one.socket number one.frame e f
-          (subst (λ (fr : List ℕ). GetsGiven host one.socket (numbered number fr) e f) frame_is gets)));
+          (subst (λ (fr : List ℕ). GetsGiven host one.socket (numbered_frame number fr) e f) frame_is gets)));
     }
 
 all-done : (host number : ℕ) (all rest : List DrainedFrame) (a b : List Tally) (d e : List SocketFrames)

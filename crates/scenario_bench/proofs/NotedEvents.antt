@@ -4,7 +4,7 @@ use Rattle.std.proofs.Common.{map}
 use Rattle.std.proofs.Common.{slice_get, option_map, if◌then◌else◌, refl, sym, ap, subst, ◌∙◌, append-nil}
 use Rattle.std.proofs.lemmas.Grind.{flat_map-append}
 use Rattle.pcap_trace.specs.Format.{Timed}
-use Rattle.delivery.specs.Happenings.{Given, Happening, given, given_by, told, told_alone, told_of}
+use Rattle.delivery.specs.Happenings.{Given, Happening, given, given_in_one, told, told_alone, told_of}
 use Rattle.network_plan.specs.declared.event.Event.{Event}
 use Rattle.network_plan.specs.declared.event.Event.TheVariants as event
 use Rattle.network_plan.specs.Answers.{FrameAnswer}
@@ -19,8 +19,8 @@ use Rattle.packet_socket.specs.HostCalls.{Given as GivenFrame}
 use Rattle.wire.specs.DrainedNetworks.{said_of_drain}
 use Rattle.wire.specs.Runs.{accepted_of, given_of, said}
 use Rattle.scenario_bench.specs.Acts.{Act, Drained, Ran, said_in}
-use Rattle.scenario_bench.specs.Given.{next_number, numbered}
-use Rattle.scenario_bench.specs.SocketLists.{SocketFrames, with_frames, with_given}
+use Rattle.scenario_bench.specs.Given.{next_number, numbered_frame}
+use Rattle.scenario_bench.specs.SocketLists.{SocketFrames, with_socket_frames, with_given}
 use Rattle.scenario_bench.specs.Tallies.{AreNoted, GetsGiven, GetsSaid, TalliesGrow, socket_behind}
 use Rattle.scenario_bench.specs.Tallies.{with_said}
 use Rattle.scenario_bench.specs.declared.record.Record.{Record}
@@ -34,7 +34,7 @@ given-of k s host outcome.Moved = refl
 given-of k s host _ = refl
 
 both-none : (k s : ℕ) (xs ys : List Happening) → given k s xs ≡ [] → given k s ys ≡ [] → given k s (xs ++ ys) ≡ []
-both-none k s xs ys one two = flat_map-append (given_by k s) xs ys ∙ ap (λ (l : List (List ℕ)). l ++ given k s ys) one ∙ two
+both-none k s xs ys one two = flat_map-append (given_in_one k s) xs ys ∙ ap (λ (l : List (List ℕ)). l ++ given k s ys) one ∙ two
 
 given-told : (k s : ℕ) (ticks : List Tick) (outcomes : List Numbered) → given k s (told ticks outcomes) ≡ []
 given-told k s [] outcomes = refl
@@ -72,7 +72,7 @@ given-said k s (event.Send host frame ticks) reply =
     both-none k s (accepted_of host frame.items reply.answer) (told ticks.items reply.outcomes.list)
     (given-accepted k s host frame.items reply.answer) (given-told k s ticks.items reply.outcomes.list)
 given-said k s (event.Recv host socket ticks) reply =
-    flat_map-append (given_by k s) (told ticks.items reply.outcomes.list) (given_of host socket reply.answer)
+    flat_map-append (given_in_one k s) (told ticks.items reply.outcomes.list) (given_of host socket reply.answer)
     ∙ ap (λ (l : List (List ℕ)). l ++ given k s (given_of host socket reply.answer)) (given-told k s ticks.items reply.outcomes.list)
 given-said k s (event.Interrupt host ticks) reply = given-told k s ticks.items reply.outcomes.list
 given-said k s (event.Tick one) reply = given-alone k s one reply.outcomes.list
@@ -82,7 +82,7 @@ given-said k s (event.Tick one) reply = given-alone k s one reply.outcomes.list
 said-as : (number : ℕ) (one : Event) (reply : Reply) (socket : SocketFrames)
     → with_said number (said one reply) socket ≡ with_said number (answer_of one reply.answer) socket
 said-as number one reply socket =
-    ap (λ (frames : List (List ℕ)). with_frames (map (numbered number) frames) socket) (given-said socket.host socket.socket one reply)
+    ap (λ (frames : List (List ℕ)). with_socket_frames (map (numbered_frame number) frames) socket) (given-said socket.host socket.socket one reply)
 
 all-as : (number : ℕ) (one : Event) (reply : Reply) (found : Option SocketFrames)
     → option_map (with_said number (said one reply)) found ≡ option_map (with_said number (answer_of one reply.answer)) found
@@ -102,20 +102,20 @@ empty-more number (Some socket) =
 pub gets_none : (number : ℕ) (sockets : List SocketFrames) → GetsSaid number [] sockets sockets
 gets_none number sockets k = empty-more number (slice_get sockets k)
 
-chosen-as : (b : Bool) (number : ℕ) (frame : List ℕ) → (if b then numbered number frame ∷ [] else [])
-    ≡ map (numbered number) ((if b then frame ∷ [] else []) ++ [])
+chosen-as : (b : Bool) (number : ℕ) (frame : List ℕ) → (if b then numbered_frame number frame ∷ [] else [])
+    ≡ map (numbered_frame number) ((if b then frame ∷ [] else []) ++ [])
 chosen-as true number frame = refl
 chosen-as false number frame = refl
 
 given-as : (host socket number : ℕ) (frame : List ℕ) (found : Option SocketFrames)
-    → option_map (with_given host socket (numbered number frame ∷ [])) found
+    → option_map (with_given host socket (numbered_frame number frame ∷ [])) found
     ≡ option_map (with_said number (Given host socket frame ∷ [])) found
 given-as host socket number frame None = refl
 given-as host socket number frame (Some one) =
-    ap (λ (frames : List Timed). Some (with_frames frames one)) (chosen-as ((one.host == host) && (one.socket == socket)) number frame)
+    ap (λ (frames : List Timed). Some (with_socket_frames frames one)) (chosen-as ((one.host == host) && (one.socket == socket)) number frame)
 
 pub gets_given : (host socket number : ℕ) (frame : List ℕ) (old new : List SocketFrames)
-    → GetsGiven host socket (numbered number frame) old new → GetsSaid number (Given host socket frame ∷ []) old new
+    → GetsGiven host socket (numbered_frame number frame) old new → GetsSaid number (Given host socket frame ∷ []) old new
 gets_given host socket number frame old new gets k = gets k ∙ given-as host socket number frame (slice_get old k)
 
 -- One act.
@@ -123,8 +123,8 @@ gets_given host socket number frame old new gets k = gets k ∙ given-as host so
 single : (number : ℕ) (act : Act) (found : Option SocketFrames)
     → option_map (with_said number (said_in act)) found ≡ option_map (socket_behind number (act ∷ [])) found
 single number act None = refl
-single number act (Some socket) = ap (λ (frames : List Timed). Some (with_frames frames socket))
-    (sym (append-nil (map (numbered number) (given socket.host socket.socket (said_in act)))))
+single number act (Some socket) = ap (λ (frames : List Timed). Some (with_socket_frames frames socket))
+    (sym (append-nil (map (numbered_frame number) (given socket.host socket.socket (said_in act)))))
 
 act-noted : (act : Act) (old new : Record) → new.number ≡ next_number old.number
     → TalliesGrow (said_in act) old.hosts.items new.hosts.items

@@ -13,7 +13,7 @@ use Rattle.pcap_trace.specs.declared.trace.Trace.{Trace}
 use Rattle.network_plan.specs.declared.event.Event.TheVariants as event
 use Rattle.scenario.specs.declared.command.Command.{Command}
 use Rattle.scenario.specs.declared.command.Command.TheVariants as command
-use Rattle.scenario_bench.specs.EventLists.{all_events, behind_send, event_drawn, events_of, fed, pieces_of, words_drawn, words_from}
+use Rattle.scenario_bench.specs.EventLists.{all_events, behind_send, event_drawn, events_of, fed, pieces_for, words_drawn, words_from}
 use Rattle.network_plan.specs.declared.event.Event.{Event}
 use Rattle.network_plan.specs.declared.reply.Reply.{Reply}
 use Rattle.stations.specs.Stations.{world_at}
@@ -29,7 +29,7 @@ use Rattle.scenario_bench.specs.Tallies.{AreNoted}
 use Rattle.scenario_bench.specs.declared.play.Play.{Play}
 use Rattle.scenario_bench.proofs.JoinedActs.{acts-ran, leads-drained, leads-join, leads-none, leads-ran}
 use Rattle.scenario_bench.proofs.NotedDrains.{noted_moves}
-use Rattle.scenario_bench.specs.RecordingLaws.{noted_join, noted_none}
+use Rattle.scenario_bench.specs.RecordingLaws.{notes_join, noted_none}
 
 pub played_none : (a : Play) → HasPlayed [] a a
 played_none a = record {
@@ -45,7 +45,7 @@ played_join said later a b c one two = record {
   are = map-append act_of one.acts two.acts ∙ ap (λ (l : List Said). l ++ map act_of two.acts) one.are
       ∙ ap (λ (l : List Said). said ++ l) two.are;
   leads = leads-join a.lan b.lan c.lan one.acts two.acts one.leads two.leads;
-  noted = noted_join one.acts two.acts a.record b.record c.record one.noted two.noted;
+  noted = notes_join one.acts two.acts a.record b.record c.record one.noted two.noted;
 }
 
 -- events that were run are recorded
@@ -144,7 +144,7 @@ all_drawn event words left generator a b has none =
 pub one_sent : (hosts : List Host) (sender : ℕ) (frame : List ℕ) (event : Event) (behind played : List Event)
     (all rest later : List (List ℕ)) (a b m c : Play)
     → HasFed (List ℕ) (fed hosts sender) all rest a b → rest ≡ frame ∷ later → event_of event ≡ Sends sender frame []
-    → HasPlayed (map event_of (event ∷ [])) b m → map event_of behind ≡ behind_send hosts sender (pieces_of (length frame))
+    → HasPlayed (map event_of (event ∷ [])) b m → map event_of behind ≡ behind_send hosts sender (pieces_for (length frame))
     → played ≡ behind
     → HasPlayed (map event_of played) m c → HasFed (List ℕ) (fed hosts sender) all later a c
 one_sent hosts sender frame event behind played all rest later a b m c has is sent first follows same second =

@@ -5,7 +5,7 @@ use Rattle.std.specs.List.{flat_map, fold}
 use Rattle.stations.specs.Outcomes.{note_of}
 use Rattle.stations.specs.ToldTicks.{TickTold}
 use Rattle.stations.specs.declared.tick.Tick.{Tick}
-use Rattle.delivery.specs.Happenings.{Accepted, Given, Happening, Moved, Put, Reached, given, host_of, told, told_alone, told_of}
+use Rattle.delivery.specs.Happenings.{Accepted, Given, Happening, Moved, Put, Reached, given, tick_host, told, told_alone, told_of}
 use Rattle.network_plan.specs.Answers.{FrameAnswer}
 use Rattle.network_plan.specs.declared.event.Event.{Event}
 use Rattle.network_plan.specs.declared.event.Event.TheVariants as event
@@ -14,10 +14,10 @@ use Rattle.network_plan.specs.declared.reply.Reply.{Reply}
 use Rattle.wire.specs.RunObservers.{AreOfTicks, TellsReply, ending, happened_of, tick_in}
 use Rattle.wire.specs.RunObserverLaws.{told_happened}
 use Rattle.wire.specs.Runs.{accepted_of, given_of, said}
-use Rattle.scenario_bench.specs.Given.{next_number, numbered}
-use Rattle.scenario_bench.specs.Recording.{Answers, HearsTicks, RecordsReplies, answered}
-use Rattle.scenario_bench.specs.SocketLists.{SocketFrames, with_frames}
-use Rattle.scenario_bench.specs.Tallies.{TalliesGrow, counted_by, counted_once, passage_by, tally_behind, with_said}
+use Rattle.scenario_bench.specs.Given.{next_number, numbered_frame}
+use Rattle.scenario_bench.specs.Recording.{NotesAnswer, HearsTicks, RecordsReplies, answered}
+use Rattle.scenario_bench.specs.SocketLists.{SocketFrames, with_socket_frames}
+use Rattle.scenario_bench.specs.Tallies.{TalliesGrow, tallied_by, counted_once, passage_by, tally_behind, with_said}
 use Rattle.scenario_bench.specs.declared.record.Record.{Record}
 use Rattle.scenario_bench.specs.declared.tally.Passage.{Passage}
 use Rattle.scenario_bench.specs.declared.tally.Passage.TheVariants as passage
@@ -48,7 +48,7 @@ counts-commute false true one tally = refl
 counts-commute false false one tally = refl
 
 accepted-commutes : (k host : ℕ) (frame : List ℕ) (one : Happening) (tally : Tally)
-    → counted_by k (counted_by k tally one) (Accepted host frame) ≡ counted_by k (counted_by k tally (Accepted host frame)) one
+    → tallied_by k (tallied_by k tally one) (Accepted host frame) ≡ tallied_by k (tallied_by k tally (Accepted host frame)) one
 accepted-commutes k host frame (Accepted at other) tally = counts-commute (k == host) (k == at) passage.Accepted tally
 accepted-commutes k host frame (Put at other) tally = counts-commute (k == host) (k == at) passage.Put tally
 accepted-commutes k host frame (Reached at other fate) tally = counts-commute (k == host) (k == at) (passage_by fate) tally
@@ -56,12 +56,12 @@ accepted-commutes k host frame (Moved at) tally = refl
 accepted-commutes k host frame (Given at socket other) tally = counts-commute (k == host) (k == at) passage.Given tally
 
 accepted-first : (k host : ℕ) (frame : List ℕ) (list : List Happening) (tally : Tally)
-    → counted_by k (fold (counted_by k) tally list) (Accepted host frame)
-    ≡ fold (counted_by k) (counted_by k tally (Accepted host frame)) list
+    → tallied_by k (fold (tallied_by k) tally list) (Accepted host frame)
+    ≡ fold (tallied_by k) (tallied_by k tally (Accepted host frame)) list
 accepted-first k host frame [] tally = refl
 accepted-first k host frame (one ∷ list) tally =
-    accepted-first k host frame list (counted_by k tally one)
-    ∙ ap (λ (t : Tally). fold (counted_by k) t list) (accepted-commutes k host frame one tally)
+    accepted-first k host frame list (tallied_by k tally one)
+    ∙ ap (λ (t : Tally). fold (tallied_by k) t list) (accepted-commutes k host frame one tally)
 
 grows-as : (list : List Happening) (host : ℕ) (frame : List ℕ) (k : ℕ) (found : Option Tally)
     → option_map (tally_behind (Accepted host frame ∷ []) k) (option_map (tally_behind list k) found)
@@ -89,8 +89,8 @@ alone : (one : Tick) (ticks : List TickTold) → map tick_in ticks ≡ one ∷ [
     → told_alone one (map note_of ticks) ≡ flat_map happened_of ticks
 alone one [] same = absurd (cc)
 alone one (told ∷ []) same =
-    ap (λ (t : Tick). told_of (host_of t) told.outcome) (sym (first one told.tick [] [] same))
-    ∙ sym (append-nil (told_of (host_of told.tick) told.outcome))
+    ap (λ (t : Tick). told_of (tick_host t) told.outcome) (sym (first one told.tick [] [] same))
+    ∙ sym (append-nil (told_of (tick_host told.tick) told.outcome))
 alone one (told ∷ next ∷ later) same =
     let none : next.tick ∷ map tick_in later ≡ [] = rest one told.tick [] (next.tick ∷ map tick_in later) same in
     absurd (cc)
@@ -128,14 +128,14 @@ with-as : (number : ℕ) (xs ys : List Happening) → ((k s : ℕ) → given k s
     → option_map (with_said number xs) found ≡ option_map (with_said number ys) found
 with-as number xs ys same None = refl
 with-as number xs ys same (Some socket) =
-    ap (λ (frames : List (List ℕ)). Some (with_frames (map (numbered number) frames) socket)) (same socket.host socket.socket)
+    ap (λ (frames : List (List ℕ)). Some (with_socket_frames (map (numbered_frame number) frames) socket)) (same socket.host socket.socket)
 
 -- A send's answer has no frame for a socket.
 pub sent-answers : (one : Event) (host : ℕ) (frame : Vec ℕ Global) (list : Vec Tick Global) (given : FrameAnswer) (old new : Record)
     → one ≡ event.Send host frame list → new.number ≡ old.number → new.failed ≡ old.failed → new.sockets.items ≡ old.sockets.items
-    → TalliesGrow (accepted_of host frame.items given) old.hosts.items new.hosts.items → Answers (answered one given) old new
+    → TalliesGrow (accepted_of host frame.items given) old.hosts.items new.hosts.items → NotesAnswer (answered one given) old new
 sent-answers one host frame list given old new is number failed sockets hosts =
-    subst (λ (e : Event). Answers (answered e given) old new) (sym is)
+    subst (λ (e : Event). NotesAnswer (answered e given) old new) (sym is)
     (record {
       number = number;
       before = λ sound. sym failed ∙ sound;
@@ -150,7 +150,7 @@ sent-answers one host frame list given old new is number failed sockets hosts =
 -- The answer of an event ends what is recorded of it.
 pub records-reply : (one : Event) (given : FrameAnswer) (accesses : ℕ) (ticks : List TickTold) (begin ticked after : Record) (number : ℕ)
     → HearsTicks begin ticked ticks → AreOfTicks one ticks → number ≡ next_number ticked.number
-    → Answers (answered one given) ticked after
+    → NotesAnswer (answered one given) ticked after
     → TellsReply RecordsReplies one (ending accesses given ticks) begin (record after { number = number })
 records-reply one given accesses ticks begin ticked after number heard of_ticks next answers =
     let reply : Reply = record { answer = given; accesses = accesses; outcomes = record { list = map note_of ticks; room = 0 } } in

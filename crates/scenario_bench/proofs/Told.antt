@@ -6,11 +6,11 @@ use Rattle.std.proofs.lemmas.List.{length-append}
 use Rattle.std.proofs.lemmas.List.Sums.{sum_by_push}
 use Rattle.std.specs.List.{flat_map, fold}
 use Rattle.rx_engine.specs.declared.arrival.Fate.TheVariants as fate
-use Rattle.delivery.specs.Happenings.{Accepted, Given, Happening, Moved, Put, Reached, accepted, accepted_by, put, put_by, reached}
+use Rattle.delivery.specs.Happenings.{Accepted, Given, Happening, Moved, Put, Reached, accepted, accepted_in_one, put, put_by, reached}
 use Rattle.delivery.specs.Happenings.{reached_by, stored, stored_by}
 use Rattle.scenario_bench.specs.Given.{next_number}
-use Rattle.scenario_bench.specs.Summaries.{all_given, as_told, given_of}
-use Rattle.scenario_bench.specs.Tallies.{counted_by, counted_once, no_tally}
+use Rattle.scenario_bench.specs.Summaries.{all_given, as_told, count_given}
+use Rattle.scenario_bench.specs.Tallies.{tallied_by, counted_once, no_tally}
 use Rattle.scenario_bench.specs.declared.tally.Passage.TheVariants as passage
 use Rattle.scenario_bench.specs.declared.tally.Tally.{Tally}
 
@@ -36,19 +36,19 @@ same-numbers a b c d e a' b' c' d' e' one two three four last =
 
 -- each list grows by what one happening adds to it
 abbrev behind_one : ℕ → List Happening → Happening → Tally
-behind_one k done one = numbers (length (accepted k done) + length (accepted_by k one)) (length (put k done) + length (put_by k one))
+behind_one k done one = numbers (length (accepted k done) + length (accepted_in_one k one)) (length (put k done) + length (put_by k one))
     (length (reached k done) + length (reached_by k one)) (length (stored k done) + length (stored_by k one))
-    (all_given k done + given_of k one)
+    (all_given k done + count_given k one)
 
 tally-behind : (k : ℕ) (done : List Happening) (one : Happening) → behind_one k done one ≡ tally_of k (done ++ one ∷ [])
 tally-behind k done one =
     let all = done ++ one ∷ [] in
-    same-numbers (length (accepted k done) + length (accepted_by k one)) (length (put k done) + length (put_by k one))
+    same-numbers (length (accepted k done) + length (accepted_in_one k one)) (length (put k done) + length (put_by k one))
     (length (reached k done) + length (reached_by k one)) (length (stored k done) + length (stored_by k one))
-    (all_given k done + given_of k one) (length (accepted k all)) (length (put k all)) (length (reached k all)) (length (stored k all))
+    (all_given k done + count_given k one) (length (accepted k all)) (length (put k all)) (length (reached k all)) (length (stored k all))
     (all_given k all)
-    (sym (grows-by (accepted_by k) done one)) (sym (grows-by (put_by k) done one)) (sym (grows-by (reached_by k) done one))
-    (sym (grows-by (stored_by k) done one)) (sym (sum_by_push (given_of k) done one))
+    (sym (grows-by (accepted_in_one k) done one)) (sym (grows-by (put_by k) done one)) (sym (grows-by (reached_by k) done one))
+    (sym (grows-by (stored_by k) done one)) (sym (sum_by_push (count_given k) done one))
 
 -- A number grows by one, or stays.
 
@@ -105,7 +105,7 @@ counts-given true a p r s g =
     ∙ same-numbers a p r s (g + 1) (a + 0) (p + 0) (r + 0) (s + 0) (g + 1) (omega arith) (omega arith) (omega arith) (omega arith) refl
 counts-given false a p r s g = as-is a p r s g
 
-one-counted : (k : ℕ) (done : List Happening) (one : Happening) → counted_by k (tally_of k done) one ≡ behind_one k done one
+one-counted : (k : ℕ) (done : List Happening) (one : Happening) → tallied_by k (tally_of k done) one ≡ behind_one k done one
 one-counted k done (Accepted host frame) = counts-accepted (k == host) frame (length (accepted k done)) (length (put k done))
     (length (reached k done)) (length (stored k done)) (all_given k done)
 one-counted k done (Put host frame) = counts-put (k == host) frame (length (accepted k done)) (length (put k done))
@@ -125,12 +125,12 @@ one-counted k done (Moved host) = as-is (length (accepted k done)) (length (put 
 one-counted k done (Given host socket frame) = counts-given (k == host) (length (accepted k done)) (length (put k done))
     (length (reached k done)) (length (stored k done)) (all_given k done)
 
-counted-all : (k : ℕ) (done rest : List Happening) → fold (counted_by k) (tally_of k done) rest ≡ tally_of k (done ++ rest)
+counted-all : (k : ℕ) (done rest : List Happening) → fold (tallied_by k) (tally_of k done) rest ≡ tally_of k (done ++ rest)
 counted-all k done [] = ap (tally_of k) (sym (append-nil done))
 counted-all k done (one ∷ rest) =
-    ap (λ (t : Tally). fold (counted_by k) t rest) (one-counted k done one ∙ tally-behind k done one)
+    ap (λ (t : Tally). fold (tallied_by k) t rest) (one-counted k done one ∙ tally-behind k done one)
     ∙ counted-all k (done ++ one ∷ []) rest ∙ ap (tally_of k) (append_assoc done (one ∷ []) rest)
 
 -- The record after a run that began with an empty one is that of the lists.
-pub noted-lists : (k : ℕ) (happened : List Happening) → fold (counted_by k) no_tally happened ≡ tally_of k happened
+pub noted-lists : (k : ℕ) (happened : List Happening) → fold (tallied_by k) no_tally happened ≡ tally_of k happened
 noted-lists k happened = counted-all k [] happened

@@ -17,7 +17,7 @@ use Rattle.scenario_bench.specs.Summaries.{TellsHosts}
 
 -- The network of the plan was made, and the events and drains of the commands were done on it, in order: the delivery theorem holds of
 -- them.
-pub record Plays (scenario : Scenario) (traces : List (List (List ℕ))) : Type 0 where
+pub record PlaysScenario (scenario : Scenario) (traces : List (List (List ℕ))) : Type 0 where
   pub made : NetworkState
   pub by_plan : IsLanAnswer scenario.plan.hosts.items (Ok made)
   pub acts : List Act
@@ -26,7 +26,7 @@ pub record Plays (scenario : Scenario) (traces : List (List (List ℕ))) : Type 
   pub leads : ActsLead made acts behind
 
 -- the frames of each socket, hosts in order and their sockets in order
-abbrev pub texts_of : {scenario : Scenario} → {traces : List (List (List ℕ))} → Plays scenario traces → List (List Timed)
+abbrev pub texts_of : {scenario : Scenario} → {traces : List (List (List ℕ))} → PlaysScenario scenario traces → List (List Timed)
 texts_of {scenario} played =
     map (λ (place : ℕ × ℕ). given_from place.0 place.1 0 played.acts)
     (sockets_from 0 (hosts_of scenario.plan.hosts.items))
@@ -69,7 +69,7 @@ pub record AreWrittenUpTo (failed : ℕ) (texts : List (List Timed)) (old new : 
 
 -- At Ok each sink has the frames of its socket, and the summary is that of the hosts.
 pub record Benches (scenario : Scenario) (traces : List (List (List ℕ))) (summary : Summary) (old new : List SinkState) : Type 0 where
-  pub plays : Plays scenario traces
+  pub plays : PlaysScenario scenario traces
   pub texts : AreWritten (length (texts_of plays)) (texts_of plays) old new
   pub tells : TellsHosts (hosts_of scenario.plan.hosts.items) (history plays.acts) plays.behind summary.hosts.items
 
@@ -79,4 +79,4 @@ Stops scenario traces (errors.Plan error) old new = IsLanAnswer scenario.plan.ho
 Stops scenario traces (errors.Run stopped) old new = new ≡ old
 Stops scenario traces errors.Memory old new = new ≡ old
 Stops scenario traces (errors.Write error) old new =
-    (plays : Plays scenario traces) × ((failed : ℕ) × AreWrittenUpTo failed (texts_of plays) old new)
+    (plays : PlaysScenario scenario traces) × ((failed : ℕ) × AreWrittenUpTo failed (texts_of plays) old new)

@@ -17,8 +17,8 @@ use Rattle.stations.specs.declared.tick.Tick.TheVariants.{Deliver, Go, Step}
 use Rattle.scenario.specs.SoFar.{Host, Said, Draws, Feeds, Interrupts, Receives, Sends, Ticks}
 
 -- how many receive buffers a frame of this size needs after it is padded; one if it is too long for `send`
-abbrev pub pieces_of : (size : ℕ) → ℕ
-pieces_of size = if nat_le size longest_frame then div_ceil (max size shortest_frame) receive_buffer_bytes else 1
+abbrev pub pieces_for : (size : ℕ) → ℕ
+pieces_for size = if nat_le size longest_frame then div_ceil (max size shortest_frame) receive_buffer_bytes else 1
 
 -- so many pieces of a frame are moved to a host's memory
 abbrev pub moves_at : (host pieces : ℕ) → List Said
@@ -40,17 +40,17 @@ arrivals_from pieces number sender wire (host ∷ hosts) =
     ++ arrivals_from pieces (number + 1) sender wire hosts
 
 -- the name of a host's wire
-abbrev pub wire_of : List Host → ℕ → List ℕ
-wire_of hosts host = unwrap_or (option_map (λ (one : Host). one.wire) (slice_get hosts host)) []
+abbrev pub wire_name_of : List Host → ℕ → List ℕ
+wire_name_of hosts host = unwrap_or (option_map (λ (one : Host). one.wire) (slice_get hosts host)) []
 
 -- After a send, the frame is put onto the wire, and arrives at each other host on it, in order.
 abbrev pub behind_send : List Host → (sender pieces : ℕ) → List Said
 behind_send hosts sender pieces =
-    Ticks (Step sender TxTake) ∷ Ticks (Step sender TxPut) ∷ arrivals_from pieces 0 sender (wire_of hosts sender) hosts
+    Ticks (Step sender TxTake) ∷ Ticks (Step sender TxPut) ∷ arrivals_from pieces 0 sender (wire_name_of hosts sender) hosts
 
 -- a frame is fed: sent, put and received
 abbrev pub fed : List Host → (sender : ℕ) (frame : List ℕ) → List Said
-fed hosts sender frame = Sends sender frame [] ∷ behind_send hosts sender (pieces_of (length frame))
+fed hosts sender frame = Sends sender frame [] ∷ behind_send hosts sender (pieces_for (length frame))
 
 -- Drawn events: each by a 32-bit word of PCG32 (XSH RR 64/32), seeded with the start of the line.
 abbrev pub words_from : (count : ℕ) → Lcg → List ℕ

@@ -14,19 +14,19 @@ greatest_number = 2 ^ 64 - 1
 abbrev pub next_number : ℕ → ℕ
 next_number number = min (number + 1) greatest_number
 
-abbrev pub numbered : (number : ℕ) → List ℕ → Timed
-numbered number frame = record { time = number; frame = frame }
+abbrev pub numbered_frame : (number : ℕ) → List ℕ → Timed
+numbered_frame number frame = record { time = number; frame = frame }
 
 -- The frames that a socket returns in these acts, the first of which has this number.
 abbrev pub given_from : (host socket number : ℕ) → List Act → List Timed
 given_from host socket number [] = []
 given_from host socket number (act ∷ acts) =
-    map (numbered number) (given host socket (said_in act)) ++ given_from host socket (next_number number) acts
+    map (numbered_frame number) (given host socket (said_in act)) ++ given_from host socket (next_number number) acts
 
 -- The sockets of a plan: hosts in order, and the sockets of each in order.
-abbrev pub sockets_of : (host sockets : ℕ) → List (ℕ × ℕ)
-sockets_of host sockets = map (λ socket. (host, socket)) (range_with_len 0 sockets)
+abbrev pub sockets_of_host : (host sockets : ℕ) → List (ℕ × ℕ)
+sockets_of_host host sockets = map (λ socket. (host, socket)) (range_with_len 0 sockets)
 
 abbrev pub sockets_from : (number : ℕ) → List Host → List (ℕ × ℕ)
 sockets_from number [] = []
-sockets_from number (host ∷ hosts) = sockets_of number (length host.sockets) ++ sockets_from (number + 1) hosts
+sockets_from number (host ∷ hosts) = sockets_of_host number (length host.sockets) ++ sockets_from (number + 1) hosts

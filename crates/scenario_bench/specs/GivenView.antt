@@ -6,13 +6,13 @@ use Rattle.pcap_trace.specs.Format.{timed}
 use Rattle.scenario_bench.specs.SocketLists.{SocketFrames}
 use Rattle.scenario_bench.specs.declared.given.GivenFrames.TheInside.{Inside}
 
-abbrev pub socket_frames : Inside → SocketFrames
-socket_frames inside = record { host = inside.host; socket = inside.socket; frames = map timed (zip inside.numbers.items inside.frames) }
+abbrev pub given_socket_frames : Inside → SocketFrames
+given_socket_frames inside = record { host = inside.host; socket = inside.socket; frames = map timed (zip inside.numbers.items inside.frames) }
 
 abbrev pub HasFrameSize : List ℕ → Type 0
 HasFrameSize frame = length frame ≤ longest_frame
 
 -- Each frame has its number, and at most the 1,518 bytes of a frame.
-pub record HasNumbers (inside : Inside) : Type 0 where
+pub record HasGivenNumbers (inside : Inside) : Type 0 where
   pub same : length inside.numbers.items ≡ length inside.frames
   pub short : AllByRecursion HasFrameSize inside.frames

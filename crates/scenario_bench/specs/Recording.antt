@@ -28,7 +28,7 @@ answered (event.Interrupt host ticks) answer = []
 answered (event.Tick tick) answer = []
 
 -- This is recorded, unless memory was refused.
-pub record Answers (happened : List Happening) (old new : Record) : Type 0 where
+pub record NotesAnswer (happened : List Happening) (old new : Record) : Type 0 where
   pub number : new.number ≡ old.number
   pub before : new.failed ≡ false → old.failed ≡ false
   pub hosts : TalliesGrow happened old.hosts.items new.hosts.items

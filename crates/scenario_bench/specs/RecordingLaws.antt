@@ -12,10 +12,10 @@ use Rattle.network_plan.specs.declared.reply.Reply.{Reply}
 use Rattle.stations.specs.ToldTicks.{ComposesTold}
 use Rattle.wire.specs.RunObservers.{ComposesRuns, happened_of}
 use Rattle.scenario_bench.specs.Acts.{Act, Ran, history, ran, said_in}
-use Rattle.scenario_bench.specs.Given.{given_from, next_number, numbered}
+use Rattle.scenario_bench.specs.Given.{given_from, next_number, numbered_frame}
 use Rattle.scenario_bench.specs.Recording.{HearsTicks, RecordsReplies}
 use Rattle.scenario_bench.specs.SocketLists.{SocketFrames}
-use Rattle.scenario_bench.specs.Tallies.{AreNoted, TalliesGrow, counted_by, number_behind, socket_behind, tally_behind}
+use Rattle.scenario_bench.specs.Tallies.{AreNoted, TalliesGrow, tallied_by, number_behind, socket_behind, tally_behind}
 use Rattle.scenario_bench.specs.declared.record.Record.{Record}
 use Rattle.scenario_bench.specs.declared.tally.Tally.{Tally}
 
@@ -31,7 +31,7 @@ grows_not hosts k = stays k (slice_get hosts k)
 further : (xs ys : List Happening) (k : ℕ) (found : Option Tally)
     → option_map (tally_behind ys k) (option_map (tally_behind xs k) found) ≡ option_map (tally_behind (xs ++ ys) k) found
 further xs ys k None = refl
-further xs ys k (Some tally) = ap (λ (t : Tally). Some t) (sym (fold-append (counted_by k) tally xs ys))
+further xs ys k (Some tally) = ap (λ (t : Tally). Some t) (sym (fold-append (tallied_by k) tally xs ys))
 
 pub grows_join : (xs ys : List Happening) (a b c : List Tally) → TalliesGrow xs a b → TalliesGrow ys b c → TalliesGrow (xs ++ ys) a c
 grows_join xs ys a b c one two k =
@@ -43,7 +43,7 @@ given-join : (host socket number : ℕ) (acts later : List Act) → given_from h
     ≡ given_from host socket number acts ++ given_from host socket (number_behind number acts) later
 given-join host socket number [] later = refl
 given-join host socket number (act ∷ acts) later =
-    let first = map (numbered number) (given host socket (said_in act)) in
+    let first = map (numbered_frame number) (given host socket (said_in act)) in
     let next = next_number number in
     ap (λ (rest : List Timed). first ++ rest) (given-join host socket next acts later)
     ∙ sym (append_assoc first (given_from host socket next acts) (given_from host socket (number_behind next acts) later))
@@ -59,8 +59,8 @@ behind-join number acts later (Some socket) =
     (append_assoc socket.frames first second
     ∙ ap (λ (frames : List Timed). socket.frames ++ frames) (sym (given-join socket.host socket.socket number acts later)))
 
-pub noted_join : (acts later : List Act) (a b c : Record) → AreNoted acts a b → AreNoted later b c → AreNoted (acts ++ later) a c
-noted_join acts later a b c one two = record {
+pub notes_join : (acts later : List Act) (a b c : Record) → AreNoted acts a b → AreNoted later b c → AreNoted (acts ++ later) a c
+notes_join acts later a b c one two = record {
   number = two.number ∙ ap (λ (n : ℕ). number_behind n later) one.number
       ∙ sym (fold-append (λ (n : ℕ) (act : Act). next_number n) a.number acts later);
   hosts = subst (λ (happened : List Happening). TalliesGrow happened a.hosts.items c.hosts.items)
@@ -110,8 +110,8 @@ ran-join (one ∷ events) later [] others same = absurd (omega (arith, same))
 ran-join (one ∷ events) later (reply ∷ replies) others same =
     ap (λ (acts : List Act). Ran one reply ∷ acts) (ran-join events later replies others (omega (arith, same)))
 
-pub replies_compose : ComposesRuns HearsTicks RecordsReplies (λ now one. ⊤)
-replies_compose = record {
+pub record_composes : ComposesRuns HearsTicks RecordsReplies (λ now one. ⊤)
+record_composes = record {
   quiet = λ a b heard sound. record {
     before = sym heard.failed ∙ sound;
     each = refl;
@@ -130,7 +130,7 @@ replies_compose = record {
         each = omega (arith, first.each, last.each, length-append events later, length-append replies others);
         noted =
             subst (λ (acts : List Act). AreNoted acts a c) (sym (ran-join events later replies others first.each))
-            (noted_join (ran events replies) (ran later others) a b c first.noted last.noted);
+            (notes_join (ran events replies) (ran later others) a b c first.noted last.noted);
       };
   keeps_room = λ a b event told heard room. tt;
 }

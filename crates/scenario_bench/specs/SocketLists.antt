@@ -11,12 +11,12 @@ abbrev pub no_frames : (host socket : ℕ) → SocketFrames
 no_frames host socket = record { host = host; socket = socket; frames = [] }
 
 -- with these frames appended
-abbrev pub with_frames : List Timed → SocketFrames → SocketFrames
-with_frames frames socket = record socket { frames = socket.frames ++ frames }
+abbrev pub with_socket_frames : List Timed → SocketFrames → SocketFrames
+with_socket_frames frames socket = record socket { frames = socket.frames ++ frames }
 
 -- with the frames that a socket returned appended, if it is this socket
 abbrev pub with_given : (host socket : ℕ) → List Timed → SocketFrames → SocketFrames
-with_given host socket frames one = with_frames (if (one.host == host) && (one.socket == socket) then frames else []) one
+with_given host socket frames one = with_socket_frames (if (one.host == host) && (one.socket == socket) then frames else []) one
 
 abbrev pub frames_given : SocketFrames → List Timed
 frames_given socket = socket.frames

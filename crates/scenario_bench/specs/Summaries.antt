@@ -16,15 +16,15 @@ abbrev pub as_told : ℕ → ℕ
 as_told number = min number greatest_number
 
 -- the number of frames that the sockets of a host returned
-abbrev pub given_of : ℕ → Happening → ℕ
-given_of k (Accepted host frame) = 0
-given_of k (Put host frame) = 0
-given_of k (Reached host frame fate) = 0
-given_of k (Moved host) = 0
-given_of k (Given host socket frame) = if k == host then 1 else 0
+abbrev pub count_given : ℕ → Happening → ℕ
+count_given k (Accepted host frame) = 0
+count_given k (Put host frame) = 0
+count_given k (Reached host frame fate) = 0
+count_given k (Moved host) = 0
+count_given k (Given host socket frame) = if k == host then 1 else 0
 
 abbrev pub all_given : ℕ → List Happening → ℕ
-all_given k happened = sum_by (given_of k) happened
+all_given k happened = sum_by (count_given k) happened
 
 -- The numbers of frames in the summary of the k-th host: that it accepted, put, that reached it, that it stored and returned.
 pub record TellsFrames (k : ℕ) (happened : List Happening) (told : HostSummary) : Type 0 where

@@ -8,8 +8,8 @@ use Rattle.delivery.specs.Happenings.{Happening, Accepted, Put, Reached, Moved, 
 use Rattle.adapter.specs.Outcomes.{FrameOutcome}
 use Rattle.adapter.specs.declared.outcome.Outcome.TheVariants as outcome
 use Rattle.scenario_bench.specs.Acts.{Act, history}
-use Rattle.scenario_bench.specs.SocketLists.{SocketFrames, no_frames, with_frames, with_given}
-use Rattle.scenario_bench.specs.Given.{given_from, next_number, numbered}
+use Rattle.scenario_bench.specs.SocketLists.{SocketFrames, no_frames, with_socket_frames, with_given}
+use Rattle.scenario_bench.specs.Given.{given_from, next_number, numbered_frame}
 use Rattle.scenario_bench.specs.declared.record.Record.{Record}
 use Rattle.scenario_bench.specs.declared.tally.Passage.{Passage}
 use Rattle.scenario_bench.specs.declared.tally.Passage.TheVariants as passage
@@ -33,12 +33,12 @@ passage_by fate.Stored = passage.Stored
 passage_by _ = passage.Reached
 
 -- what a happening adds to the k-th host's numbers
-abbrev pub counted_by : ℕ → Tally → Happening → Tally
-counted_by k tally (Accepted host frame) = counted_at k host passage.Accepted tally
-counted_by k tally (Put host frame) = counted_at k host passage.Put tally
-counted_by k tally (Reached host frame one) = counted_at k host (passage_by one) tally
-counted_by k tally (Moved host) = tally
-counted_by k tally (Given host socket frame) = counted_at k host passage.Given tally
+abbrev pub tallied_by : ℕ → Tally → Happening → Tally
+tallied_by k tally (Accepted host frame) = counted_at k host passage.Accepted tally
+tallied_by k tally (Put host frame) = counted_at k host passage.Put tally
+tallied_by k tally (Reached host frame one) = counted_at k host (passage_by one) tally
+tallied_by k tally (Moved host) = tally
+tallied_by k tally (Given host socket frame) = counted_at k host passage.Given tally
 
 abbrev pub no_tally : Tally
 no_tally = record { accepted = 0; put = 0; reached = 0; stored = 0; given = 0 }
@@ -47,14 +47,14 @@ no_tally = record { accepted = 0; put = 0; reached = 0; stored = 0; given = 0 }
 
 -- The host's numbers grow by what happened to its frames.
 abbrev pub tally_behind : List Happening → ℕ → Tally → Tally
-tally_behind happened k tally = fold (counted_by k) tally happened
+tally_behind happened k tally = fold (tallied_by k) tally happened
 
 abbrev pub TalliesGrow : List Happening → (old new : List Tally) → Type 0
 TalliesGrow happened old new = (k : ℕ) → slice_get new k ≡ option_map (tally_behind happened k) (slice_get old k)
 
 -- A socket's frames grow by those that it returned in these acts, the first of which has this number.
 abbrev pub socket_behind : (number : ℕ) → List Act → SocketFrames → SocketFrames
-socket_behind number acts socket = with_frames (given_from socket.host socket.socket number acts) socket
+socket_behind number acts socket = with_socket_frames (given_from socket.host socket.socket number acts) socket
 
 abbrev pub SocketsGrow : (number : ℕ) → List Act → (old new : List SocketFrames) → Type 0
 SocketsGrow number acts old new = (k : ℕ) → slice_get new k ≡ option_map (socket_behind number acts) (slice_get old k)
@@ -87,7 +87,7 @@ GetsGiven host socket frame old new = (k : ℕ) → slice_get new k ≡ option_m
 
 -- Each socket's frames grow by those that it returned in an act with this number.
 abbrev pub with_said : (number : ℕ) → List Happening → SocketFrames → SocketFrames
-with_said number happened socket = with_frames (map (numbered number) (given socket.host socket.socket happened)) socket
+with_said number happened socket = with_socket_frames (map (numbered_frame number) (given socket.host socket.socket happened)) socket
 
 abbrev pub GetsSaid : (number : ℕ) → List Happening → (old new : List SocketFrames) → Type 0
 GetsSaid number happened old new = (k : ℕ) → slice_get new k ≡ option_map (with_said number happened) (slice_get old k)

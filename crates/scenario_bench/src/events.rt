@@ -37,7 +37,7 @@ fn step_event(host: usize, kind: StepKind) -> Event
 /// How many receive buffers a frame of this size needs after it is padded; one if the frame is too short or too long
 /// for `send` (E20, E21).
 pub(crate) fn pieces_of(size: usize) -> usize
-    ensures { result ≡ lists.pieces_of size }
+    ensures { result ≡ lists.pieces_for size }
 {
     if size > LONGEST_LEGAL {
         return 1;
@@ -83,7 +83,7 @@ fn push_arrival(
 
 /// The name of a host's wire, or an empty name if there is no such host.
 fn wire_of(plans: &[HostPlan], host: usize) -> &str
-    ensures { result.now ≡ lists.wire_of (hosts_of plans.now) host }
+    ensures { result.now ≡ lists.wire_name_of (hosts_of plans.now) host }
 {
     match plans.get(host) {
         Some(plan) => plan.wire.as_str(),
@@ -100,7 +100,7 @@ fn push_arrivals(
     events: &mut Vec<Event>,
 ) -> Result<(), AllocError>
     ensures { OnOk result (map event_of events.new.items ≡ map event_of events.old.items
-        ++ lists.arrivals_from pieces 0 sender (lists.wire_of (hosts_of plans.now) sender) (hosts_of plans.now)) }
+        ++ lists.arrivals_from pieces 0 sender (lists.wire_name_of (hosts_of plans.now) sender) (hosts_of plans.now)) }
 {
     let wire = wire_of(plans, sender);
     for (number, plan) in plans.iter().enumerate() {

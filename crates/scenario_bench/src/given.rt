@@ -21,11 +21,11 @@ impl Model for GivenFrames {
 
     ghost Value = { SocketFrames };
 
-    ghost use Rattle.scenario_bench.specs.GivenView.{HasNumbers, socket_frames};
+    ghost use Rattle.scenario_bench.specs.GivenView.{HasGivenNumbers, given_socket_frames};
 
-    ghost view = { socket_frames };
+    ghost view = { given_socket_frames };
 
-    ghost invariant = { HasNumbers };
+    ghost invariant = { HasGivenNumbers };
 }
 
 impl GivenFrames {
@@ -33,7 +33,7 @@ impl GivenFrames {
     ghost use Rattle.std.specs.Io.KnownBytes.{Appends};
     ghost use Rattle.pcap_trace.specs.Devices.{AppendsFront, CountsFailures};
     ghost use Rattle.pcap_trace.specs.Format.{written};
-    ghost use Rattle.scenario_bench.specs.Given.{numbered};
+    ghost use Rattle.scenario_bench.specs.Given.{numbered_frame};
     ghost use Rattle.scenario_bench.specs.SocketLists.{no_frames, with_given};
 
     /// No frame of this socket.
@@ -74,7 +74,7 @@ impl GivenFrames {
     ) -> Result<(), AllocError>
         requires { length frame.now ≤ 1518 }
         ensures { OnOk result
-            (self.new ≡ with_given host socket (numbered number frame.now ∷ []) self.old) }
+            (self.new ≡ with_given host socket (numbered_frame number frame.now ∷ []) self.old) }
     {
         if self.host != host || self.socket != socket {
             return Ok(());

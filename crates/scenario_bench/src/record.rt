@@ -1,13 +1,13 @@
 //! The record of a run: counts for each host, and the frames that each socket returned.
 ghost use Rattle.std.specs.Prelude.{◌≡◌, ◌≤◌, ◌++◌, ◌∷◌, [], ℕ, List, IfOk, OnOk, length, map, replicate};
 ghost use Rattle.adapter.specs.Outcomes.{with_frame};
-ghost use Rattle.delivery.specs.Happenings.{host_of, told_of};
+ghost use Rattle.delivery.specs.Happenings.{tick_host, told_of};
 ghost use Rattle.network_plan.specs.Answers.{answer_with};
 ghost use Rattle.scenario.specs.SoFar.{hosts_of};
 ghost use Rattle.scenario_bench.specs.Acts.{Drained};
 ghost use Rattle.scenario_bench.specs.DrainedView.{drained_frame};
-ghost use Rattle.scenario_bench.specs.Given.{numbered, sockets_from, sockets_of};
-ghost use Rattle.scenario_bench.specs.Recording.{Answers, answered};
+ghost use Rattle.scenario_bench.specs.Given.{numbered_frame, sockets_from, sockets_of_host};
+ghost use Rattle.scenario_bench.specs.Recording.{NotesAnswer, answered};
 ghost use Rattle.scenario_bench.specs.Tallies.{AreNoted, GetsGiven, GetsSaid, IsPassage, TalliesGrow, TallyCounts};
 ghost use Rattle.scenario_bench.specs.Tallies.{empty_sockets, no_tally};
 ghost use Rattle.wire.specs.DrainedNetworks.{said_of_drain};
@@ -38,8 +38,8 @@ pub(crate) struct Record {
 
 /// The host that a tick names. A Go names none, and 0 stands for it: the outcome of a Go is `Nothing`, which is not
 /// counted.
-fn host_of(tick: Tick) -> usize
-    ensures { result ≡ host_of tick }
+fn tick_host(tick: Tick) -> usize
+    ensures { result ≡ tick_host tick }
 {
     match tick {
         Tick::Go => 0,
@@ -68,7 +68,7 @@ fn add_sockets(
     count: usize,
     sockets: &mut Vec<GivenFrames>,
 ) -> Result<(), AllocError>
-    ensures { OnOk result (sockets.new.items ≡ sockets.old.items ++ empty_sockets (sockets_of host count)) }
+    ensures { OnOk result (sockets.new.items ≡ sockets.old.items ++ empty_sockets (sockets_of_host host count)) }
 {
     for socket in 0..count {
         sockets.push(GivenFrames::new(alloc, host, socket))?;
@@ -128,7 +128,7 @@ fn note_frame(
     frame: &[u8],
 ) -> Result<(), AllocError>
     requires { length frame.now ≤ 1518 }
-    ensures { OnOk result (GetsGiven host socket (numbered number frame.now) sockets.old sockets.new) }
+    ensures { OnOk result (GetsGiven host socket (numbered_frame number frame.now) sockets.old sockets.new) }
 {
     for index in 0..sockets.len() {
         sockets[index].note(host, socket, number, frame)?;
@@ -201,7 +201,7 @@ impl Record {
     /// Records the answer of a socket, with its frame.
     fn note_received(&mut self, host: usize, socket: usize, answer: Answer<()>, frame: &[u8])
         requires fits { length frame.now ≤ 1518 }
-        ensures { Answers (given_of host socket (answer_with frame.now answer)) self.old self.new }
+        ensures { NotesAnswer (given_of host socket (answer_with frame.now answer)) self.old self.new }
     {
         if let Answer::Received(Ok(())) = answer {
             count(self.hosts.as_mut_slice(), host, Passage::Given);
@@ -215,7 +215,7 @@ impl Record {
     /// Records the answer of an event, with the frame that a socket returned.
     fn note_answer(&mut self, event: &Event, answer: Answer<()>, frame: &[u8])
         requires fits { length frame.now ≤ 1518 }
-        ensures { Answers (answered event.now (answer_with frame.now answer)) self.old self.new }
+        ensures { NotesAnswer (answered event.now (answer_with frame.now answer)) self.old self.new }
     {
         match event {
             Event::Send { host, .. } => note_sent(self.hosts.as_mut_slice(), *host, answer),
@@ -253,13 +253,13 @@ impl Observer for Record {
     ghost composes = { ticks_compose };
 
     fn note(&mut self, tick: Tick, _accesses: u64, outcome: Outcome<()>, _frame: &[u8]) {
-        note_outcome(self.hosts.as_mut_slice(), host_of(tick), &outcome);
+        note_outcome(self.hosts.as_mut_slice(), tick_host(tick), &outcome);
     }
 }
 
 impl RunObserver for Record {
     ghost use Rattle.std.specs.Prelude.{⊤};
-    ghost use Rattle.scenario_bench.specs.RecordingLaws.{replies_compose};
+    ghost use Rattle.scenario_bench.specs.RecordingLaws.{record_composes};
     ghost use Rattle.scenario_bench.specs.Recording.{RecordsReplies};
 
     ghost ran = { RecordsReplies };
@@ -268,7 +268,7 @@ impl RunObserver for Record {
 
     ghost refuses = { λ now event. ⊤ };
 
-    ghost composes_runs = { replies_compose };
+    ghost composes_runs = { record_composes };
 
     fn make_room(&mut self, event: &Event, _ticks: usize) -> bool {
         if self.failed {

@@ -1,7 +1,7 @@
 //! The sockets of a scenario.
 ghost use Rattle.std.specs.Prelude.{◌≡◌, ◌++◌, IfOk, OnOk};
 ghost use Rattle.scenario.specs.SoFar.{hosts_of};
-ghost use Rattle.scenario_bench.specs.Given.{sockets_from, sockets_of};
+ghost use Rattle.scenario_bench.specs.Given.{sockets_from, sockets_of_host};
 
 use network_plan::HostPlan;
 use std::alloc::{AllocError, Global};
@@ -13,7 +13,7 @@ fn push_sockets(
     count: usize,
     sockets: &mut Vec<(usize, usize)>,
 ) -> Result<(), AllocError>
-    ensures { OnOk result (sockets.new.items ≡ sockets.old.items ++ sockets_of host count) }
+    ensures { OnOk result (sockets.new.items ≡ sockets.old.items ++ sockets_of_host host count) }
 {
     for socket in 0..count {
         sockets.push((host, socket))?;

@@ -7,7 +7,7 @@ use Rattle.bus.specs.Law.{Acts, view}
 use Rattle.bus.specs.PastOfStretch.{Past}
 use Rattle.bus.specs.declared.event.Access.{Access}
 use Rattle.bus.specs.TickGroups.{group_of}
-use Rattle.solo_bus.specs.SoloBuses.{Prepared, Recounts, SoloState, is_go, lively_ticks, tick_of}
+use Rattle.solo_bus.specs.SoloBuses.{Prepared, Recounts, SoloState, is_go, lively_ticks, solo_tick_of}
 use Rattle.solo_bus.specs.SoloLaws.{are_free_joins, recounts_lively}
 use Rattle.bus.specs.TrailLaws.{trail_joins}
 use Rattle.bus.specs.Trails.{IsAnswered, past_of, world_after_access}
@@ -45,7 +45,7 @@ acts_on a p b access effect prepared after answered adapter does =
       events = events ++ Accesses access ∷ [];
       trail = trail_joins events (Accesses access ∷ []) a.world middle b.world plays.trail (answered, world_b);
       past_is = past-with_access events access plays.are;
-      played = map-append tick_of events (Accesses access ∷ []) ∙ ap (λ (ticks : List SoloTick). ticks ++ Go ∷ []) plays.played;
+      played = map-append solo_tick_of events (Accesses access ∷ []) ∙ ap (λ (ticks : List SoloTick). ticks ++ Go ∷ []) plays.played;
       waiting = waiting_b ∙ plays.waiting;
       wire = record {
         free = are_free_joins events (Accesses access ∷ []) (length a.wire) (length a.wire + length (past_of events).put) refl

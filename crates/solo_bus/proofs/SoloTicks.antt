@@ -17,9 +17,9 @@ use Rattle.mdic_phy.specs.Mdic.{has_work}
 use Rattle.bus.specs.TickGroups.{behind_group, group_of, without_go}
 use Rattle.bus.specs.PastOfStretch.{Past}
 use Rattle.bus.specs.LivelyBuses.{most_accesses}
-use Rattle.solo_bus.specs.SoloBuses.{Plays, Prepared, SoloState, has_room, is_go, lively_ticks, solo_after_arrival}
+use Rattle.solo_bus.specs.SoloBuses.{PlaysSoloTicks, Prepared, SoloState, has_room, is_go, lively_ticks, solo_after_arrival}
 use Rattle.solo_bus.specs.SoloBuses.{solo_after_step}
-use Rattle.solo_bus.specs.SoloBuses.{tick_of}
+use Rattle.solo_bus.specs.SoloBuses.{solo_tick_of}
 use Rattle.solo_bus.specs.SoloLaws.{are_free_joins}
 use Rattle.bus.specs.TrailLaws.{past_of-append, trail_joins}
 use Rattle.bus.specs.Trails.{IsStep, past_of}
@@ -29,14 +29,14 @@ use Rattle.solo_bus.specs.declared.solo_bus.SoloTick.TheVariants.{Arrive, Go, St
 use Rattle.bus.proofs.Lists.{all-none}
 
 pub plays_trans :
-    (first later left left' : List SoloTick) (a b c : SoloState) → Plays first left a b → Plays later left' b c
-    → Plays (first ++ later) left' a c
+    (first later left left' : List SoloTick) (a b c : SoloState) → PlaysSoloTicks first left a b → PlaysSoloTicks later left' b c
+    → PlaysSoloTicks (first ++ later) left' a c
 plays_trans first later left left' a b c one two = record {
   events = one.events ++ two.events;
   are = All-append IsStep one.events two.events one.are two.are;
   trail = trail_joins one.events two.events a.world b.world c.world one.trail two.trail;
-  played = map-append tick_of one.events two.events
-      ∙ ap (λ (ticks : List SoloTick). ticks ++ map tick_of two.events) one.played
+  played = map-append solo_tick_of one.events two.events
+      ∙ ap (λ (ticks : List SoloTick). ticks ++ map solo_tick_of two.events) one.played
       ∙ ap (λ (ticks : List SoloTick). first ++ ticks) two.played;
   waiting = two.waiting;
   wire = record {
@@ -81,7 +81,7 @@ put_alone PhyTick wire_free answer solo answers = ap put_by answers ∙ put_none
 pub plays_step :
     (a : SoloState) (kind : StepKind) (answer : FrameOutcome) (left : List SoloTick) → IsAdapter a.world.adapter
     → Answers kind (has_room a) a.world.memory a.world.adapter answer
-    → Plays (Step kind ∷ []) left a (solo_after_step kind answer (record a { waiting = left }))
+    → PlaysSoloTicks (Step kind ∷ []) left a (solo_after_step kind answer (record a { waiting = left }))
 plays_step a kind answer left running answers =
     let event = Steps kind (has_room a) answer in
     record {
@@ -101,7 +101,7 @@ plays_step a kind answer left running answers =
 -- A delivery.
 pub plays_arrival :
     (a : SoloState) (frame : List ℕ) (fate : Fate) (left : List SoloTick) → IsAdapter a.world.adapter
-    → IsFate a.world.adapter frame fate → Plays (Arrive frame ∷ []) left a (solo_after_arrival fate frame (record a { waiting = left }))
+    → IsFate a.world.adapter frame fate → PlaysSoloTicks (Arrive frame ∷ []) left a (solo_after_arrival fate frame (record a { waiting = left }))
 plays_arrival a frame fate left running is =
     let event = Arrives frame fate in
     record {
@@ -125,7 +125,7 @@ pub record GoesOn (plays waits : List SoloTick → List SoloTick) : Type 0 where
 -- Some ticks were played; what is to be played of all is these and what is to be played of those that wait still.
 pub record PlaysOn (plays waits : List SoloTick → List SoloTick) (a s : SoloState) : Type 0 where
   pub ticks : List SoloTick
-  pub far : Plays ticks s.waiting a s
+  pub far : PlaysSoloTicks ticks s.waiting a s
   pub to_play : plays a.waiting ≡ ticks ++ plays s.waiting
   pub to_wait : waits a.waiting ≡ waits s.waiting
 
@@ -158,7 +158,7 @@ all_go_on = record { played = played; left = λ tick later is. refl }
 -- One tick more, which was the next.
 on_more :
     (plays waits : List SoloTick → List SoloTick) (a s b : SoloState) (tick : SoloTick) (left : List SoloTick) → GoesOn plays waits
-    → PlaysOn plays waits a s → is_go tick ≡ false → s.waiting ≡ tick ∷ left → b.waiting ≡ left → Plays (tick ∷ []) b.waiting s b
+    → PlaysOn plays waits a s → is_go tick ≡ false → s.waiting ≡ tick ∷ left → b.waiting ≡ left → PlaysSoloTicks (tick ∷ []) b.waiting s b
     → PlaysOn plays waits a b
 on_more plays waits a s b tick left on before isnt front behind one = record {
   ticks = before.ticks ++ tick ∷ [];
@@ -208,9 +208,9 @@ arrive_on plays waits a s s' b frame bytes fate next tick on before is some take
 -- Steps of these kinds, one after the other.
 pub kinds_on :
     (kinds : List StepKind) (place : ℕ) (other : StepKind) (a s b : SoloState) (answer : FrameOutcome) → place < length kinds
-    → Plays (map Step (take place kinds)) a.waiting a s → IsAdapter s.world.adapter
+    → PlaysSoloTicks (map Step (take place kinds)) a.waiting a s → IsAdapter s.world.adapter
     → Answers (get_or kinds place other) (has_room s) s.world.memory s.world.adapter answer
-    → b ≡ solo_after_step (get_or kinds place other) answer s → Plays (map Step (take (place + 1) kinds)) a.waiting a b
+    → b ≡ solo_after_step (get_or kinds place other) answer s → PlaysSoloTicks (map Step (take (place + 1) kinds)) a.waiting a b
 kinds_on kinds place other a s b answer inside before running answers after =
     let kind = get_or kinds place other in
     let first = map Step (take place kinds) in
@@ -218,18 +218,18 @@ kinds_on kinds place other a s b answer inside before running answers after =
     let whole = plays_trans first (Step kind ∷ []) a.waiting s.waiting a s (solo_after_step kind answer s) before step in
     let more : first ++ Step kind ∷ [] ≡ map Step (take (place + 1) kinds) = sym (ap (map Step) (take_more kinds place other inside)
     ∙ map-append Step (take place kinds) (kind ∷ [])) in
-    subst (λ (x : SoloState). Plays (map Step (take (place + 1) kinds)) a.waiting a x) (sym after)
-    (subst (λ (ticks : List SoloTick). Plays ticks a.waiting a (solo_after_step kind answer s)) more
-    (subst (λ (left : List SoloTick). Plays (first ++ Step kind ∷ []) left a (solo_after_step kind answer s)) before.waiting whole))
+    subst (λ (x : SoloState). PlaysSoloTicks (map Step (take (place + 1) kinds)) a.waiting a x) (sym after)
+    (subst (λ (ticks : List SoloTick). PlaysSoloTicks ticks a.waiting a (solo_after_step kind answer s)) more
+    (subst (λ (left : List SoloTick). PlaysSoloTicks (first ++ Step kind ∷ []) left a (solo_after_step kind answer s)) before.waiting whole))
 
 -- All that comes before an access.
 pub prepared_on :
-    (a m g b : SoloState) → Plays (lively_ticks a.lively) a.waiting a m
-    → Plays (group_of is_go m.waiting) (behind_group is_go m.waiting) m g
+    (a m g b : SoloState) → PlaysSoloTicks (lively_ticks a.lively) a.waiting a m
+    → PlaysSoloTicks (group_of is_go m.waiting) (behind_group is_go m.waiting) m g
     → b ≡ record g { accesses = min (g.accesses + 1) most_accesses } → Prepared a b
 prepared_on a m g b own group is =
-    let group_a : Plays (group_of is_go a.waiting) (behind_group is_go a.waiting) m g = subst
-    (λ (ticks : List SoloTick). Plays (group_of is_go ticks) (behind_group is_go ticks) m g) own.waiting group in
+    let group_a : PlaysSoloTicks (group_of is_go a.waiting) (behind_group is_go a.waiting) m g = subst
+    (λ (ticks : List SoloTick). PlaysSoloTicks (group_of is_go ticks) (behind_group is_go ticks) m g) own.waiting group in
     let whole = plays_trans (lively_ticks a.lively) (group_of is_go a.waiting) a.waiting (behind_group is_go a.waiting) a m g own group_a in
     subst (λ (x : SoloState). Prepared a x) (sym is) (record {
       plays = record {

@@ -66,10 +66,10 @@ is_go (Step kind) = false
 is_go (Arrive frame) = false
 
 -- the tick that an event is of; an access stands where Go does
-abbrev pub tick_of : Event → SoloTick
-tick_of (Steps kind wire_free answer) = Step kind
-tick_of (Arrives frame fate) = Arrive frame
-tick_of (Accesses access) = Go
+abbrev pub solo_tick_of : Event → SoloTick
+solo_tick_of (Steps kind wire_free answer) = Step kind
+solo_tick_of (Arrives frame fate) = Arrive frame
+solo_tick_of (Accesses access) = Go
 
 -- what a bus plays by itself before each access: where it is lively, a tick of the EEPROM and then one of the PHY
 abbrev pub lively_ticks : Bool → List SoloTick
@@ -96,7 +96,7 @@ pub record Recounts (a b : SoloState) (past : Past) : Type 0 where
   pub trail : Trail events a.world b.world
   pub past_is : past ≡ past_of events
   -- before each access the bus's own ticks and those of the next group, one event for each in order; nothing behind the last access
-  pub played : map tick_of events ≡ played_in is_go Go (lively_ticks a.lively) past.accesses a.waiting
+  pub played : map solo_tick_of events ≡ played_in is_go Go (lively_ticks a.lively) past.accesses a.waiting
   -- a group for each access waits no longer, and all other ticks do
   pub waiting : b.waiting ≡ waiting_after is_go past.accesses a.waiting
   pub wire : PutOnWire a b events past.put
@@ -122,11 +122,11 @@ pub record PlaysLively (a : SoloState) (past : Past) : Type 0 where
   pub phy : past.phy_ticks ≡ lively_count a.lively past.accesses + sum_by phy_tick (groups_of is_go past.accesses a.waiting)
 
 -- From one state to another exactly these ticks are played, one event for each and no access, and then these wait.
-pub record Plays (ticks left : List SoloTick) (a b : SoloState) : Type 0 where
+pub record PlaysSoloTicks (ticks left : List SoloTick) (a b : SoloState) : Type 0 where
   pub events : List Event
   pub are : All IsStep events
   pub trail : Trail events a.world b.world
-  pub played : map tick_of events ≡ ticks
+  pub played : map solo_tick_of events ≡ ticks
   pub waiting : b.waiting ≡ left
   pub wire : PutOnWire a b events (past_of events).put
   pub lively : b.lively ≡ a.lively
@@ -134,6 +134,6 @@ pub record Plays (ticks left : List SoloTick) (a b : SoloState) : Type 0 where
 
 -- What comes before an access: the bus's own ticks and the next group are played, and the access is counted.
 pub record Prepared (a b : SoloState) : Type 0 where
-  pub plays : Plays (lively_ticks a.lively ++ group_of is_go a.waiting) (behind_group is_go a.waiting) a
+  pub plays : PlaysSoloTicks (lively_ticks a.lively ++ group_of is_go a.waiting) (behind_group is_go a.waiting) a
       (record b { accesses = a.accesses })
   pub count : b.accesses ≡ min (a.accesses + 1) most_accesses

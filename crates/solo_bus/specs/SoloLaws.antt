@@ -9,7 +9,7 @@ use Rattle.bus.specs.TickGroupLaws.{played_counts, played_joins, waiting_joins}
 use Rattle.bus.specs.TickGroups.{played_in, waiting_after}
 use Rattle.bus.specs.LivelyBuses.{most_accesses}
 use Rattle.solo_bus.specs.SoloBuses.{AreFree, PlaysLively, Recounts, SoloState, eeprom_tick, is_go, lively_ticks, phy_tick}
-use Rattle.solo_bus.specs.SoloBuses.{tick_of}
+use Rattle.solo_bus.specs.SoloBuses.{solo_tick_of}
 use Rattle.bus.specs.TrailLaws.{past_of-append, trail_joins}
 use Rattle.bus.specs.StepsAndArrivals.{past_of_step}
 use Rattle.bus.specs.Trails.{past_of, past_of_event}
@@ -45,8 +45,8 @@ recounts_join a b c first later one two = record {
   trail = trail_joins one.events two.events a.world b.world c.world one.trail two.trail;
   past_is = ap (λ (p : Past). joined p later) one.past_is ∙ ap (joined (past_of one.events)) two.past_is
       ∙ sym (past_of-append one.events two.events);
-  played = map-append tick_of one.events two.events
-      ∙ ap (λ (ticks : List SoloTick). ticks ++ map tick_of two.events) one.played
+  played = map-append solo_tick_of one.events two.events
+      ∙ ap (λ (ticks : List SoloTick). ticks ++ map solo_tick_of two.events) one.played
       ∙ ap (λ (ticks : List SoloTick). played_in is_go Go (lively_ticks a.lively) first.accesses a.waiting ++ ticks)
       (two.played
       ∙ ap (λ (lively : Bool). played_in is_go Go (lively_ticks lively) later.accesses b.waiting) one.lively
@@ -73,7 +73,7 @@ recounts_count a b past recounts = omega (arith, recounts.count)
 
 -- The ticks of each kind among some events are those that were played.
 
-is_eeprom_tick : (event : Event) → (past_of_event event).eeprom_ticks ≡ eeprom_tick (tick_of event)
+is_eeprom_tick : (event : Event) → (past_of_event event).eeprom_ticks ≡ eeprom_tick (solo_tick_of event)
 is_eeprom_tick (Steps TxTake wire_free answer) = refl
 is_eeprom_tick (Steps TxPut wire_free answer) = refl
 is_eeprom_tick (Steps RxData wire_free answer) = refl
@@ -83,7 +83,7 @@ is_eeprom_tick (Steps PhyTick wire_free answer) = refl
 is_eeprom_tick (Arrives frame fate) = refl
 is_eeprom_tick (Accesses access) = refl
 
-is_phy_tick : (event : Event) → (past_of_event event).phy_ticks ≡ phy_tick (tick_of event)
+is_phy_tick : (event : Event) → (past_of_event event).phy_ticks ≡ phy_tick (solo_tick_of event)
 is_phy_tick (Steps TxTake wire_free answer) = refl
 is_phy_tick (Steps TxPut wire_free answer) = refl
 is_phy_tick (Steps RxData wire_free answer) = refl
@@ -93,15 +93,15 @@ is_phy_tick (Steps PhyTick wire_free answer) = refl
 is_phy_tick (Arrives frame fate) = refl
 is_phy_tick (Accesses access) = refl
 
-eeprom_ticks_of : (events : List Event) → (past_of events).eeprom_ticks ≡ sum_by eeprom_tick (map tick_of events)
+eeprom_ticks_of : (events : List Event) → (past_of events).eeprom_ticks ≡ sum_by eeprom_tick (map solo_tick_of events)
 eeprom_ticks_of [] = refl
 eeprom_ticks_of (event ∷ later) =
-    omega (arith, is_eeprom_tick event, eeprom_ticks_of later, sum_by-cons eeprom_tick (tick_of event) (map tick_of later))
+    omega (arith, is_eeprom_tick event, eeprom_ticks_of later, sum_by-cons eeprom_tick (solo_tick_of event) (map solo_tick_of later))
 
-phy_ticks_of : (events : List Event) → (past_of events).phy_ticks ≡ sum_by phy_tick (map tick_of events)
+phy_ticks_of : (events : List Event) → (past_of events).phy_ticks ≡ sum_by phy_tick (map solo_tick_of events)
 phy_ticks_of [] = refl
 phy_ticks_of (event ∷ later) =
-    omega (arith, is_phy_tick event, phy_ticks_of later, sum_by-cons phy_tick (tick_of event) (map tick_of later))
+    omega (arith, is_phy_tick event, phy_ticks_of later, sum_by-cons phy_tick (solo_tick_of event) (map solo_tick_of later))
 
 lively_eeprom_tick : (lively : Bool) → sum_by eeprom_tick (lively_ticks lively) ≡ (if lively then 1 else 0)
 lively_eeprom_tick true = refl

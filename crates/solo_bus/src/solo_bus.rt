@@ -61,7 +61,7 @@ impl SoloBus {
     ghost use Rattle.adapter.specs.Steps.{Answers};
     ghost use Rattle.bus.specs.TickGroups.{behind_group, group_of, without_go};
     ghost use Rattle.bus.specs.LivelyBuses.{most_accesses};
-    ghost use Rattle.solo_bus.specs.SoloBuses.{Plays, Prepared, has_room, is_go, lively_ticks};
+    ghost use Rattle.solo_bus.specs.SoloBuses.{PlaysSoloTicks, Prepared, has_room, is_go, lively_ticks};
     ghost use Rattle.solo_bus.specs.SoloBuses.{next_frames, solo_after_arrival, solo_after_step, solo_framed};
     ghost use Rattle.adapter.specs.State.{IsAdapter};
     ghost use Rattle.adapter.specs.World.{world_after_read, world_after_store, world_after_write};
@@ -164,7 +164,7 @@ impl SoloBus {
 
     /// Plays all ticks that wait, with [`Go`](SoloTick::Go) skipped.
     pub fn finish(&mut self)
-        ensures { Plays (without_go is_go self.old.waiting) [] self.old self.new }
+        ensures { PlaysSoloTicks (without_go is_go self.old.waiting) [] self.old self.new }
     {
         while let Some(tick) = self.next_tick() {
             match tick {
@@ -181,7 +181,7 @@ impl SoloBus {
 
     /// Plays the ticks up to the next [`Go`](SoloTick::Go), which waits no longer.
     fn play_group(&mut self)
-        ensures { Plays (group_of is_go self.old.waiting) (behind_group is_go self.old.waiting) self.old self.new }
+        ensures { PlaysSoloTicks (group_of is_go self.old.waiting) (behind_group is_go self.old.waiting) self.old self.new }
     {
         while let Some(tick) = self.next_tick() {
             match tick {
@@ -198,7 +198,7 @@ impl SoloBus {
 
     /// A lively bus plays a tick of the EEPROM, and then one of the PHY.
     fn live(&mut self)
-        ensures { Plays (lively_ticks self.old.lively) self.old.waiting self.old self.new }
+        ensures { PlaysSoloTicks (lively_ticks self.old.lively) self.old.waiting self.old self.new }
     {
         if self.is_lively() {
             for kind in [StepKind::EepromTick, StepKind::PhyTick] {

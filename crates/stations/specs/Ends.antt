@@ -12,12 +12,12 @@ abbrev pub end_frames : ℕ
 end_frames = 64
 
 -- this end has room for a frame more, unless it is the sender's or of another wire
-abbrev pub HasRoomFor : (sender wire k : ℕ) → EndState → Type 0
-HasRoomFor sender wire k end = k ≢ sender → end.wire ≡ wire → length end.line < end_frames
+abbrev pub EndHasRoomFor : (sender wire k : ℕ) → EndState → Type 0
+EndHasRoomFor sender wire k end = k ≢ sender → end.wire ≡ wire → length end.line < end_frames
 
 -- Each other end of the wire has.
 abbrev pub HaveRoom : List EndState → (sender wire : ℕ) → Type 0
-HaveRoom ends sender wire = (k : ℕ) (end : EndState) → slice_get ends k ≡ Some end → HasRoomFor sender wire k end
+HaveRoom ends sender wire = (k : ℕ) (end : EndState) → slice_get ends k ≡ Some end → EndHasRoomFor sender wire k end
 
 -- frames that a sender puts onto a wire wait at this end, if it is another end of that wire
 abbrev pub with_line : (sender wire : ℕ) → List (List ℕ) → (k : ℕ) → EndState → EndState

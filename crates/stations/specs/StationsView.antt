@@ -17,5 +17,5 @@ abbrev pub stations_in : Inside → List StationState
 stations_in inside = stations_of inside.machines.items inside.wires
 
 -- each host has its end
-pub record HasEnds (inside : Inside) : Type 0 where
+pub record HasEndsOfWires (inside : Inside) : Type 0 where
   pub ends : length inside.wires ≡ length inside.machines.items

@@ -22,11 +22,11 @@ impl Model for Stations {
 
     ghost Value = { List StationState };
 
-    ghost use Rattle.stations.specs.StationsView.{stations_in, HasEnds};
+    ghost use Rattle.stations.specs.StationsView.{stations_in, HasEndsOfWires};
 
     ghost view = { stations_in };
 
-    ghost invariant = { HasEnds };
+    ghost invariant = { HasEndsOfWires };
 }
 
 impl Stations {

@@ -3,7 +3,7 @@
 ghost use Rattle.std.specs.Prelude.{◌≡◌, ◌<◌, ◌≤◌, ◌↔◌, ◌∷◌, ◌++◌, ℕ, [], IfOk, IfSome, IsNone, IsTrue, OnErr, Some};
 ghost use Rattle.std.specs.Prelude.{drop, length, option_map, slice_get, slice_set};
 ghost use Rattle.descriptors.specs.Frames.{longest_frame};
-ghost use Rattle.stations.specs.Ends.{EndState, HasRoomFor, HaveRoom, with_line};
+ghost use Rattle.stations.specs.Ends.{EndState, EndHasRoomFor, HaveRoom, with_line};
 
 use frame_queue::FrameQueue;
 use std::alloc::{AllocError, Global};
@@ -56,7 +56,7 @@ impl End {
 
     /// A frame that a sender puts onto a wire waits at this end, if it is another end of that wire.
     fn wait(&mut self, number: usize, sender: usize, wire: usize, frame: &[u8])
-        requires room { HasRoomFor sender wire number self.old }
+        requires room { EndHasRoomFor sender wire number self.old }
         requires fits { length frame.now ≤ longest_frame }
         ensures { self.new ≡ with_line sender wire (frame.now ∷ []) number self.old }
     {

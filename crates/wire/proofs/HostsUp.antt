@@ -20,7 +20,7 @@ use Rattle.bus.specs.PastOfStretch.{Past}
 use Rattle.bus.specs.Settings.{settings_of}
 use Rattle.bus.specs.declared.event.Access.{Access}
 use Rattle.bus.specs.declared.bus.Bus.{Ghosts}
-use Rattle.bring_up.specs.Configuration.{CanBeHad, counts_of}
+use Rattle.bring_up.specs.Configuration.{CanBeHad, configured_counts}
 use Rattle.bring_up.specs.ConfiguredAdapters.{IsConfigured, names_vlans}
 use Rattle.bring_up.specs.DriverSteps.{accesses_of}
 use Rattle.bring_up.specs.WrittenRegisters.{mask_writes}
@@ -37,7 +37,7 @@ use Rattle.bus.specs.declared.lively_bus.LivelyBus.{LivelyBus}
 use Rattle.stations.specs.Stations.{StationState}
 use Rattle.delivery.specs.CountedHosts.{CanAnswer}
 use Rattle.network_plan.specs.declared.plan.HostPlan.{HostPlan}
-use Rattle.wire.specs.HostsUp.{ComesUp, HasNoFrames}
+use Rattle.wire.specs.HostsUp.{ComesUp, HostHasNoFrames}
 use Rattle.wire.proofs.AdaptersStay.{adapter-ticked}
 use Rattle.wire.proofs.ArrivalsAlone.{alone-stays}
 use Rattle.wire.proofs.OwnTicks.{IsAdapterOf, IsPhyOf}
@@ -62,7 +62,7 @@ valid : (ring : Ring) (count tail : ℕ) → count_of ring ≡ count → ring.he
 valid ring count tail slots head is below = record { head = omega (arith, slots, head); tail = omega (arith, slots, is, below) }
 
 -- Both sides are enabled, and heads and tails are slots.
-can-answer : (plan : HostPlan) (size : ℕ) (d : DriverState) (world : World) → CanBeHad plan.config size → d.layout ≡ counts_of plan.config
+can-answer : (plan : HostPlan) (size : ℕ) (d : DriverState) (world : World) → CanBeHad plan.config size → d.layout ≡ configured_counts plan.config
     → Ready d world → IsConfigured plan.config (address_bytes plan.image) (settings_of world.adapter) → CanAnswer world.adapter
 can-answer plan size d world had counts ready configured =
     let control = subst (Controls plan.config.promiscuous (names_vlans plan.config.vlans)) (sym configured.filter.receive_control_is)
@@ -88,9 +88,9 @@ pub record IsBroughtUp (plan : HostPlan) (old new : LivelyBus) (host : HostState
   pub had : CanBeHad plan.config size
   pub address : IsAddress (address_bytes plan.image)
   pub adapter : (machine_world old).adapter ≡ new_adapter plan.image plan.link
-  pub memory : length (machine_world new).memory ≡ size_of (counts_of plan.config)
+  pub memory : length (machine_world new).memory ≡ size_of (configured_counts plan.config)
   pub host_is : host ≡ new_host host.driver plan.sockets.items
-  pub fresh : host.driver ≡ with_owners (new_driver (counts_of plan.config) []) host.driver.buffers [] host.driver.pool []
+  pub fresh : host.driver ≡ with_owners (new_driver (configured_counts plan.config) []) host.driver.buffers [] host.driver.pool []
   pub refilled : IsRefilled host.driver
   pub initialises : Initialises lively plan.config old new host.driver
   pub ready : HostReady host (machine_world new)
@@ -116,7 +116,7 @@ left-alone plan old new host is =
     )))
 
 no-frames : (plan : HostPlan) (old new : LivelyBus) (host : HostState) (wire : ℕ) → IsBroughtUp plan old new host
-    → HasNoFrames host (station_on wire (machine_world new))
+    → HostHasNoFrames host (station_on wire (machine_world new))
 no-frames plan old new host wire is =
     let init = is.initialises in
     let first = alone-stays old init.middle init.first init.reports_first in
@@ -158,7 +158,7 @@ pub comes-up : (plan : HostPlan) (old new : LivelyBus) (host : HostState) (wire 
     → ComesUp plan host (station_on wire (machine_world new))
 comes-up plan old new host wire is =
     let init = is.initialises in
-    let counts : host.driver.layout ≡ counts_of plan.config = ap (λ (d : DriverState). d.layout) is.fresh in
+    let counts : host.driver.layout ≡ configured_counts plan.config = ap (λ (d : DriverState). d.layout) is.fresh in
     let phy = (left-alone plan old new host is).0 in
     let image : (machine_world old).adapter.image ≡ plan.image = ap (λ (adapter : AdapterState). adapter.image) is.adapter in
     let configured : IsConfigured plan.config (address_bytes plan.image) (settings_of (machine_world new).adapter) =

@@ -32,8 +32,8 @@ CollectsReplies old new events replies = old.outcomes.list ≡ [] → AppendsRep
 abbrev pub room_in : Collector → ℕ
 room_in now = room_of now.outcomes
 
-abbrev pub IsReady : Collector → Event → Type 0
-IsReady now event = HasPlaceForReply now
+abbrev pub IsReadyToCollect : Collector → Event → Type 0
+IsReadyToCollect now event = HasPlaceForReply now
 
 pub ticks_composes : ComposesTold CollectsTicks
 ticks_composes = record {
@@ -45,7 +45,7 @@ ticks_composes = record {
   };
 }
 
-pub replies_compose : ComposesRuns CollectsTicks CollectsReplies IsReady
+pub replies_compose : ComposesRuns CollectsTicks CollectsReplies IsReadyToCollect
 replies_compose = record {
   quiet = λ a b heard empty. record {
     appended = heard.replies ∙ sym (append-nil a.replies.items);

@@ -9,7 +9,7 @@ use Rattle.adapter.specs.HostFrames.{frames_held, frames_to_send}
 use Rattle.adapter.specs.State.{IsAdapter}
 use Rattle.adapter.specs.World.{World}
 use Rattle.bus.specs.Link.{HasLink}
-use Rattle.bring_up.specs.Configuration.{counts_of}
+use Rattle.bring_up.specs.Configuration.{configured_counts}
 use Rattle.bring_up.specs.EepromReading.{most_reads}
 use Rattle.bring_up.specs.Link.{NeedsMoreThan}
 use Rattle.bring_up.specs.declared.init_error.InitError.{InitError}
@@ -36,7 +36,7 @@ pub record CountsNothing (host : HostState) (world : World) : Type 0 where
   pub unclaimed : host.unclaimed ≡ 0
 
 -- No frame is anywhere, and none was counted.
-pub record HasNoFrames (host : HostState) (station : StationState) : Type 0 where
+pub record HostHasNoFrames (host : HostState) (station : StationState) : Type 0 where
   pub to_send : frames_to_send station.world ≡ []
   pub held : frames_held host.driver.oldest_receive station.world ≡ []
   pub queues : host.queues ≡ replicate (length host.kinds) []
@@ -53,8 +53,8 @@ pub record IsReadyToRun (host : HostState) (world : World) : Type 0 where
 
 -- Its rings, buffers, sockets, packet buffer and filter are the plan's, and its memory ends with its last buffer.
 pub record HasPlansSizes (plan : HostPlan) (host : HostState) (world : World) : Type 0 where
-  pub layout : host.driver.layout ≡ counts_of plan.config
-  pub memory : length world.memory ≡ size_of (counts_of plan.config)
+  pub layout : host.driver.layout ≡ configured_counts plan.config
+  pub memory : length world.memory ≡ size_of (configured_counts plan.config)
   pub kinds : host.kinds ≡ plan.sockets.items
   pub allocation : world.adapter.receive_kilobytes ≡ plan.config.rxa
   pub filter : HasPlansFilter plan world.adapter.filter
@@ -72,7 +72,7 @@ pub record ComesUp (plan : HostPlan) (host : HostState) (station : StationState)
   pub ready : IsReadyToRun host station.world
   pub sizes : HasPlansSizes plan host station.world
   pub devices : HasPlansDevices plan station.world
-  pub no_frames : HasNoFrames host station
+  pub no_frames : HostHasNoFrames host station
   pub adapter : IsAdapter station.world.adapter
 
 -- Why a host isn't initialized, other than that memory is refused: its EEPROM's checksum is wrong; or it is right, and the link needs more

@@ -2,7 +2,7 @@
 use Rattle.std.proofs.Common.{◌≡◌, ◌++◌, ◌∷◌, [], List, map, refl, sym, ap, ◌∙◌}
 use Rattle.std.specs.List.{flat_map}
 use Rattle.bus.specs.TickGroups.{without_go}
-use Rattle.delivery.specs.Happenings.{Happening, host_of, told, told_of}
+use Rattle.delivery.specs.Happenings.{Happening, tick_host, told, told_of}
 use Rattle.stations.specs.AtomicRuns.{is_go}
 use Rattle.stations.specs.Outcomes.{note_of}
 use Rattle.stations.specs.ToldTicks.{TickTold}
@@ -27,12 +27,12 @@ told_happened (Step host kind ∷ ticks) (one ∷ later) same =
     let others = without_go is_go ticks in
     ap (λ (list : List Happening). told_of host one.outcome ++ list)
     (told_happened ticks later (rest (Step host kind) one.tick others (map tick_in later) same))
-    ∙ ap (λ (t : Tick). told_of (host_of t) one.outcome ++ flat_map happened_of later)
+    ∙ ap (λ (t : Tick). told_of (tick_host t) one.outcome ++ flat_map happened_of later)
     (sym (first (Step host kind) one.tick others (map tick_in later) same))
 told_happened (Deliver host ∷ ticks) [] same = absurd (cc)
 told_happened (Deliver host ∷ ticks) (one ∷ later) same =
     let others = without_go is_go ticks in
     ap (λ (list : List Happening). told_of host one.outcome ++ list)
     (told_happened ticks later (rest (Deliver host) one.tick others (map tick_in later) same))
-    ∙ ap (λ (t : Tick). told_of (host_of t) one.outcome ++ flat_map happened_of later)
+    ∙ ap (λ (t : Tick). told_of (tick_host t) one.outcome ++ flat_map happened_of later)
     (sym (first (Deliver host) one.tick others (map tick_in later) same))

@@ -1,7 +1,7 @@
 -- What an observer of a run is told (our choice).
 use Rattle.std.specs.Prelude.{◌≡◌, ◌≤◌, ◌++◌, ◌∷◌, [], ℕ, List, length, map}
 use Rattle.bus.specs.TickGroups.{without_go}
-use Rattle.delivery.specs.Happenings.{Happening, host_of, told_of}
+use Rattle.delivery.specs.Happenings.{Happening, tick_host, told_of}
 use Rattle.stations.specs.AtomicRuns.{is_go}
 use Rattle.stations.specs.Outcomes.{note_of}
 use Rattle.stations.specs.ToldTicks.{TickTold}
@@ -12,7 +12,7 @@ use Rattle.network_plan.specs.declared.event.Event.TheVariants.{Interrupt, Recv,
 use Rattle.network_plan.specs.declared.reply.Reply.{Reply}
 
 -- It has room for the answer of this event, and for as many outcomes as the event has ticks, each Go counted.
-pub record HasRoom {O : Type 0} (ready : O → Event → Type 0) (room_left : O → ℕ) (event : Event) (now : O) : Type 0 where
+pub record HasRoomForEvent {O : Type 0} (ready : O → Event → Type 0) (room_left : O → ℕ) (event : Event) (now : O) : Type 0 where
   pub answer : ready now event
   pub ticks : length (ticks_of event) ≤ room_left now
 
@@ -29,7 +29,7 @@ tick_in told = told.tick
 
 -- what is told of a tick, as a happening
 abbrev pub happened_of : TickTold → List Happening
-happened_of told = told_of (host_of told.tick) told.outcome
+happened_of told = told_of (tick_host told.tick) told.outcome
 
 -- It was told an outcome of each tick of this event that is played, in order.
 abbrev pub AreOfTicks : Event → List TickTold → Type 0

@@ -71,11 +71,11 @@ impl Observer for Collector {
 
 impl RunObserver for Collector {
     ghost use Rattle.std.specs.Prelude.{⊤};
-    ghost use Rattle.wire.specs.Collecting.{CollectsReplies, IsReady, replies_compose};
+    ghost use Rattle.wire.specs.Collecting.{CollectsReplies, IsReadyToCollect, replies_compose};
 
     ghost ran = { CollectsReplies };
 
-    ghost ready = { IsReady };
+    ghost ready = { IsReadyToCollect };
 
     ghost refuses = { λ now event. ⊤ };
 

@@ -4,7 +4,7 @@ ghost use Rattle.std.specs.Prelude.{◌≡◌, ◌≤◌, [], ℕ, IfErr, IfOk, 
 ghost use Rattle.adapter.specs.Registers.{new_adapter};
 ghost use Rattle.eeprom.specs.Image.{address_bytes};
 ghost use Rattle.rx_engine.specs.Addresses.{IsAddress};
-ghost use Rattle.bring_up.specs.Configuration.{counts_of};
+ghost use Rattle.bring_up.specs.Configuration.{configured_counts};
 ghost use Rattle.dma_memory.specs.Layout.{size_of};
 ghost use Rattle.network_plan.specs.Plans.{HasConfig};
 ghost use Rattle.wire.specs.HostsUp.{ComesUp, IsReason};
@@ -46,7 +46,7 @@ pub fn bring_up_host(alloc: Global, plan: &HostPlan) -> Result<(Host, Machine), 
 fn host_over(alloc: Global, plan: &HostPlan, machine: &mut Machine) -> Result<Host, InitError>
     requires config { HasConfig plan.now }
     requires adapter { machine.old.world.adapter ≡ new_adapter plan.now.image plan.now.link }
-    requires memory { length machine.old.world.memory ≡ size_of (counts_of plan.now.config) }
+    requires memory { length machine.old.world.memory ≡ size_of (configured_counts plan.now.config) }
     ensures comes_up { IfOk result (λ host. (wire : ℕ)
         → ComesUp plan.now host (record { world = machine.new.world; wire = wire; backlog = [] })) }
     ensures why { IfErr result (IsReason plan.now) }
@@ -71,7 +71,7 @@ fn machine_of(alloc: Global, plan: &HostPlan) -> Result<Machine, InitError>
     requires { HasConfig plan.now }
     ensures adapter { IfOk result (λ machine. machine.world.adapter ≡ new_adapter plan.now.image plan.now.link) }
     ensures memory { IfOk result
-        (λ machine. length machine.world.memory ≡ size_of (counts_of plan.now.config)) }
+        (λ machine. length machine.world.memory ≡ size_of (configured_counts plan.now.config)) }
     ensures error { IfErr result (λ error. error ≡ InitError.Memory) }
 {
     let layout = plan.config.layout(u64::MAX)?;

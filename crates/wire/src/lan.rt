@@ -32,12 +32,12 @@ impl Model for Lan {
 
 impl Lan {
     ghost use Rattle.std.specs.Prelude.{◌<◌, IfErr, OnOk, length, slice_get, take};
-    ghost use Rattle.wire.specs.RunObservers.{EventTold, HasRoom};
+    ghost use Rattle.wire.specs.RunObservers.{EventTold, HasRoomForEvent};
     ghost use Rattle.wire.specs.Runs.{EventRuns, RunTold, RunsTo, StopsAt};
 
     /// Runs one event. The observer has room for all that comes of it.
     fn event<O: RunObserver>(&mut self, event: &Event, observer: &mut O)
-        requires room { HasRoom O.ready O.room_left event.now observer.old }
+        requires room { HasRoomForEvent O.ready O.room_left event.now observer.old }
         ensures { EventTold O.ran event.now observer.old observer.new
             (λ reply. EventRuns self.old event.now reply self.new) }
     {

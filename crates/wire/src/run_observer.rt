@@ -7,7 +7,7 @@ ghost use Rattle.network_plan.specs.Answers.{answer_with, ticks_of};
 ghost use Rattle.network_plan.specs.declared.event.Event.{Event};
 ghost use Rattle.network_plan.specs.declared.reply.Reply.{Reply};
 ghost use Rattle.stations.specs.ToldTicks.{TickTold};
-ghost use Rattle.wire.specs.RunObservers.{AreOfTicks, ComposesRuns, HasRoom, TellsReply, ending};
+ghost use Rattle.wire.specs.RunObservers.{AreOfTicks, ComposesRuns, HasRoomForEvent, TellsReply, ending};
 
 use network_plan::{Answer, Event};
 use stations::Observer;
@@ -30,7 +30,7 @@ pub trait RunObserver: Observer {
     fn make_room(&mut self, event: &Event, ticks: usize) -> bool
         requires count { ticks ≡ length (ticks_of event.now) }
         ensures nothing { Self.heard self.old self.new [] }
-        ensures room { OnTrue result (HasRoom ready Self.room_left event.now self.new) }
+        ensures room { OnTrue result (HasRoomForEvent ready Self.room_left event.now self.new) }
         ensures refused { OnFalse result (refuses self.old event.now) };
 
     /// The answer that ends an event, and how many accesses its call made. The frame is the one that a socket gave, at

@@ -2,7 +2,7 @@ use Rattle.std.proofs.Common.{◌≡◌, ◌≤◌, ◌*◌, ℕ, List, length, 
 use Rattle.dma_memory.specs.Layout.{Counts, ReceiveRing}
 use Rattle.dma_memory.specs.LayoutLaws.{place-below_size}
 use Rattle.bus.specs.PastOfStretch.{joined}
-use Rattle.bring_up.specs.Configuration.{counts_of}
+use Rattle.bring_up.specs.Configuration.{configured_counts}
 use Rattle.bring_up.specs.RestingRings.{HasNewRings, HasReceiveRing, SetsAtRest}
 use Rattle.bring_up.specs.RingRegisters.{ring_writes}
 use Rattle.bring_up.specs.declared.ring_registers.RingPlace.{RingPlace}
@@ -34,7 +34,7 @@ returns-clause-finds g c honest =
     let room : 16 * config.rx ≤ length (g.B.Bus.world b2).memory =
     omega (
       arith,
-      place-below_size (counts_of config) ReceiveRing tt,
+      place-below_size (configured_counts config) ReceiveRing tt,
       c.requires.had.room,
       g.met.B.Bus.sized b2 h2,
       c.set_filter.ensures.keeps.extent,

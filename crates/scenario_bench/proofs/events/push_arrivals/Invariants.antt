@@ -1,11 +1,11 @@
 use Rattle.std.proofs.Common.{◌≡◌, ◌++◌, drop}
 use Rattle.std.specs.Prelude.{map}
 use Rattle.scenario.specs.SoFar.{event_of, hosts_of}
-use Rattle.scenario_bench.specs.EventLists.{arrivals_from, wire_of}
+use Rattle.scenario_bench.specs.EventLists.{arrivals_from, wire_name_of}
 use Rattle.scenario_bench.proofs.events.push_arrivals.Given as goal
 
 -- what is appended so far, and what the hosts that are left add
 abbrev pub invariant-loop-number : goal.invariant-loop-number
 invariant-loop-number l = map event_of l.events.items
-    ++ arrivals_from l.pieces l.number l.sender (wire_of (hosts_of l.plans) l.sender) (hosts_of (drop l.number l.plans))
-    ≡ map event_of l.fn.events.items ++ arrivals_from l.pieces 0 l.sender (wire_of (hosts_of l.plans) l.sender) (hosts_of l.plans)
+    ++ arrivals_from l.pieces l.number l.sender (wire_name_of (hosts_of l.plans) l.sender) (hosts_of (drop l.number l.plans))
+    ≡ map event_of l.fn.events.items ++ arrivals_from l.pieces 0 l.sender (wire_name_of (hosts_of l.plans) l.sender) (hosts_of l.plans)

@@ -1,5 +1,5 @@
 use Rattle.std.proofs.Common.{◌≡◌, ◌∷◌, [], ℕ, slice_get, nat_lt, option_map, if◌then◌else◌}
-use Rattle.scenario_bench.specs.Given.{numbered}
+use Rattle.scenario_bench.specs.Given.{numbered_frame}
 use Rattle.scenario_bench.specs.SocketLists.{with_given}
 use Rattle.scenario_bench.proofs.record.note_frame.Given as goal
 
@@ -9,5 +9,5 @@ invariant-loop-index l =
     (k : ℕ)
     → slice_get l.sockets k
     ≡ (if nat_lt k l.index
-    then option_map (with_given l.host l.socket (numbered l.number l.frame ∷ [])) (slice_get l.fn.sockets k)
+    then option_map (with_given l.host l.socket (numbered_frame l.number l.frame ∷ [])) (slice_get l.fn.sockets k)
     else slice_get l.fn.sockets k)

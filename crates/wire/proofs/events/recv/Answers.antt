@@ -3,7 +3,7 @@ use Rattle.std.proofs.lemmas.List.{append-nil}
 use Rattle.delivery.specs.Happenings.{told}
 use Rattle.packet_socket.specs.declared.receive.RecvError.{RecvError}
 use Rattle.stations.specs.AtomicRuns.{steps_told}
-use Rattle.host_calls.specs.CallAnswers.{RecvRuns, frame_in}
+use Rattle.host_calls.specs.CallAnswers.{RecvRuns, frame_answer}
 use Rattle.host_calls.specs.ConnectedHosts.{played_call}
 use Rattle.host_calls.specs.Networks.{connected_at, nth_host}
 use Rattle.host_calls.proofs.HostsOfNetworks.{host-there}
@@ -46,7 +46,7 @@ returns-in-Ok g c =
     let heard = g.O.Observer.heard c.args.observer.now called.new.observer in
     let call = played_call k c.args.call.now.ticks.now heard called.result.accesses in
     let answer : Result (List ℕ) RecvError = Ok (take c.in-Ok.size called.new.into) in
-    let is : frame_in called.new.into called.result.answer ≡ answer = ap (frame_in called.new.into) c.in-Ok.is in
+    let is : frame_answer called.new.into called.result.answer ≡ answer = ap (frame_answer called.new.into) c.in-Ok.is in
     let recv : RecvRuns call c.args.socket answer old new =
     subst (λ (a : Result (List ℕ) RecvError). RecvRuns call c.args.socket a old new) is called.ensures.gives in
     recv-told heard c.args.call.now.event.now k c.args.socket c.args.call.now.ticks.now c.args.network.now called.new.self
@@ -65,7 +65,7 @@ returns-in-Err g c =
     let heard = g.O.Observer.heard c.args.observer.now called.new.observer in
     let call = played_call k c.args.call.now.ticks.now heard called.result.accesses in
     let answer : Result (List ℕ) RecvError = Err c.in-Err.error in
-    let is : frame_in called.new.into called.result.answer ≡ answer = ap (frame_in called.new.into) c.in-Err.is in
+    let is : frame_answer called.new.into called.result.answer ≡ answer = ap (frame_answer called.new.into) c.in-Err.is in
     let recv : RecvRuns call c.args.socket answer old new =
     subst (λ (a : Result (List ℕ) RecvError). RecvRuns call c.args.socket a old new) is called.ensures.gives in
     recv-told heard c.args.call.now.event.now k c.args.socket c.args.call.now.ticks.now c.args.network.now called.new.self

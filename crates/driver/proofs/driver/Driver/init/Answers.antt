@@ -2,7 +2,7 @@ use Rattle.std.proofs.Common.{List, ℕ, ◌≡◌, ◌≤◌, [], Bool, true, E
 use Rattle.std.proofs.lemmas.Result.{err_from_is_err_and}
 use Rattle.dma_memory.specs.Layout.{Counts, size_of}
 use Rattle.dma_memory.specs.Owners.{HasOneOwner}
-use Rattle.bring_up.specs.Configuration.{CanBeHad, counts_of}
+use Rattle.bring_up.specs.Configuration.{CanBeHad, configured_counts}
 use Rattle.bring_up.specs.ConfiguredAdapters.{names_vlans}
 use Rattle.bring_up.specs.DriverSteps.{LetsFramesIn}
 use Rattle.bring_up.specs.RingRegisters.{receive_writes}
@@ -35,11 +35,11 @@ returns-in_err-driver-clause-refuses g c honest =
 
 -- The driver that is made.
 made : (g : Over) (c : goal.After-enable_interrupts g)
-    → c.in_ok-driver.driver ≡ new_driver (counts_of c.args.config.now) c.in_ok-driver.driver.pool
+    → c.in_ok-driver.driver ≡ new_driver (configured_counts c.args.config.now) c.in_ok-driver.driver.pool
 made g c = c.in_ok-driver.ensures.new ∙ ap (λ (layout : Counts). new_driver layout c.in_ok-driver.driver.pool) c.in_ok-layout.ensures.counts
 
 offered : (g : Over) (c : goal.After-enable_interrupts g)
-    → OffersFirst g.B.Bus (at c.find_ring.new.bus (new_driver (counts_of c.args.config.now) c.in_ok-driver.driver.pool))
+    → OffersFirst g.B.Bus (at c.find_ring.new.bus (new_driver (configured_counts c.args.config.now) c.in_ok-driver.driver.pool))
     (at c.offer_first.new.bus c.offer_first.new.self)
 offered g c =
     subst (λ (d : DriverState). OffersFirst g.B.Bus (at c.find_ring.new.bus d) (at c.offer_first.new.bus c.offer_first.new.self))
@@ -52,7 +52,7 @@ owner g c = subst (λ (layout : Counts). HasOneOwner layout.buffers c.in_ok-driv
 pub returns-clause-fresh : goal.returns-clause-fresh
 returns-clause-fresh g c =
     let o = offered g c in
-    let counts = counts_of c.args.config.now in
+    let counts = configured_counts c.args.config.now in
     let d = c.offer_first.new.self in
     record {
       layout = ap (λ (s : DriverState). s.layout) o.others;
@@ -74,7 +74,7 @@ returns-clause-initialises g c honest =
     let b3 = c.enable_receiver.new.bus in
     let b4 = c.set_up_transmitter.new.bus in
     let config = c.args.config.now in
-    let counts = counts_of config in
+    let counts = configured_counts config in
     let pool = c.in_ok-driver.driver.pool in
     let d = c.offer_first.new.self in
     let o = offered g c in

@@ -1,7 +1,7 @@
 use Rattle.std.proofs.Common.{rules, ◌≡◌, length, refl, slice_set, subst, sym, true, List}
 use Rattle.packet_socket.specs.HostCalls.{HostReady}
 use Rattle.stations.specs.Stations.{StationState, world_at}
-use Rattle.host_calls.specs.CallAnswers.{LeavesRecv, RecvRuns, frame_in}
+use Rattle.host_calls.specs.CallAnswers.{LeavesRecv, RecvRuns, frame_answer}
 use Rattle.host_calls.specs.ConnectedHosts.{ConnectedHost, connected, played_call}
 use Rattle.host_calls.proofs.Calling.{lent-back}
 use Rattle.host_calls.proofs.HostsOfNetworks.{after-call, before-call, others-stay, same-stations}
@@ -46,17 +46,17 @@ returns-clause-gives g c =
     ready receives ensures.ok ensures.err c.finish.ensures in
     after-call (RecvRuns
     (played_call k c.args.ticks.now (g.O.Observer.heard c.args.observer.now _) ends.accesses) c.args.socket
-    (frame_in into result))
+    (frame_answer into result))
     c.self.inside.hosts.items c.self.inside.stations c.args.self.now k h h' _ before c.self.view_is c.requires.there
     (lent-back (λ (stations : List StationState) told. RecvRuns
-    (played_call k c.args.ticks.now (g.O.Observer.heard c.args.observer.now told) ends.accesses) c.args.socket (frame_in into result)
+    (played_call k c.args.ticks.now (g.O.Observer.heard c.args.observer.now told) ends.accesses) c.args.socket (frame_answer into result)
     (connected h c.self.inside.stations) (connected h' stations))
     ends.stations.now _ ends.observer.now _ (search rules) (search rules)
     (record {
       runs = runs;
       states = record {
         answers = any-answers _ m h h' c.args.socket result into receives ensures.no_socket ensures.empty;
-        leaves = subst (LeavesRecv (frame_in into result) c.args.socket h h') runs.of_call.counted
+        leaves = subst (LeavesRecv (frame_answer into result) c.args.socket h h') runs.of_call.counted
             (any-leaves _ m ends h h' c.args.socket result c.args.into.now into refl (search rules) ensures.ok ensures.err
             c.finish.ensures);
       };

@@ -2,7 +2,7 @@ use Rattle.std.proofs.Common.{take, ap, sym, subst}
 use Rattle.driver_law.specs.DriverState.{DriverState}
 use Rattle.driver.specs.Parts.{IsFrameSize}
 use Rattle.packet_socket.specs.HostCalls.{driver_of, host_at}
-use Rattle.packet_socket.specs.InsideHost.{host_of, host_with}
+use Rattle.packet_socket.specs.InsideHost.{host_inside, host_with}
 use Rattle.packet_socket.specs.HostState.{SocketsState}
 use Rattle.packet_socket.proofs.GivenFrames.{gives-others, host-receives}
 use Rattle.packet_socket.proofs.ConsistentHosts.{can-come-back, entry-splits, stays-host, stays-owners}
@@ -71,7 +71,7 @@ returns-clause-receives g c = rw (← c.self.view_is) (λ up is.
     let d = c.self.inside.driver in
     let before = c.self.inside.sockets in
     let after = c.next.new.self in
-    let old = host_at c.args.bus.now (host_of c.self.inside) in
+    let old = host_at c.args.bus.now (host_inside c.self.inside) in
     let held = (driver_of old.host (g.B.Bus.world old.bus)).handed_out in
     let parts = entry-splits d before after c.args.socket c.len.result c.in-Some.received c.self.invariant c.if-socket-len.false
     c.len.ensures.count c.in-Some.ensures.oldest in
