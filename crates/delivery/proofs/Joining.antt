@@ -6,7 +6,19 @@ use Rattle.std.proofs.lemmas.List.Sums.{sum_by-append}
 use Rattle.rx_engine.specs.Arriving.{kept}
 use Rattle.rx_engine.specs.Registers.{FilterRegisters}
 use Rattle.delivery.specs.Fates.{AreRightByCounting, AreRightFates, Came, Left, Mark, left_in, mark_by, marks, stored_in}
-use Rattle.delivery.specs.Happenings.{Accepted, Given, Happening, Moved, Put, Reached, accepted, accepted_in_one, given, given_in_one, missed}
+use Rattle.delivery.specs.Happenings.{
+  Accepted,
+  Given,
+  Happening,
+  Moved,
+  Put,
+  Reached,
+  accepted,
+  accepted_in_one,
+  given,
+  given_in_one,
+  missed,
+}
 use Rattle.delivery.specs.Happenings.{missed_of, put, put_by, reached, reached_by, share_wire, stored, stored_by, toward, toward_by}
 
 pub accepted-append : (k : ℕ) (first later : List Happening) → accepted k (first ++ later) ≡ accepted k first ++ accepted k later

@@ -318,7 +318,8 @@ pub initialises : {B : Type 0} (bus : Ghosts B) → StretchesJoin bus
     → (b0 b1 b2 b3 b4 b5 : B) (config : Config) (size : ℕ) (pool numbers : List ℕ) (d : DriverState) (past : Past) → CanBeHad config size
     → bus.happened b0 b1 past → HasFoundRing bus config b0 b1 → length numbers + 1 ≡ config.rx
     → d ≡ offering (configured_counts config) pool numbers d.pool
-    → (first : Ran bus false (only (first_accesses (configured_counts config) numbers)) (at b1 (new_driver (configured_counts config) pool)) (at b2 d))
+    → (first : Ran bus false (only (first_accesses (configured_counts config) numbers)) (at b1 (new_driver
+    (configured_counts config) pool)) (at b2 d))
     → HasNoFrames d (bus.world b2) → NoFrame first.past
     → LetsFramesIn bus (receive_writes config.promiscuous (names_vlans config.vlans)) d b2 b3
     → Ran bus true (only (transmit_accesses (configured_counts config))) (at b3 d) (at b4 d) → EnablesCauses bus 0xD1 d b4 b5

@@ -1,5 +1,5 @@
--- A driver's calls: a driver in its world, what it did in an interval, and what changed (`Ran`). `WhereReady` states it for a bus that obeys
--- the law. The order of the accesses is our choice.
+-- A driver's calls: a driver in its world, what it did in an interval, and what changed (`Ran`). `WhereReady` states it for a bus that
+-- obeys the law. The order of the accesses is our choice.
 use Rattle.std.specs.Prelude.{◌≡◌, ◌≤◌, ◌<◌, ◌⊎◌, ◌^◌, ◌+◌, ◌-◌, ◌%◌, ◌++◌, ◌∷◌, ◌&&◌, []}
 use Rattle.std.specs.Prelude.{ℕ, Bool, true, List, IsTrue, length, map}
 use Rattle.std.specs.Prelude.{min, nat_lt}

@@ -59,7 +59,8 @@ quiet number played a b counts leads none own =
     let are = accesses-alone number played a b leads none in
     record {
       happened = nothing-happened number played are;
-      engine = trail-leaves counts (events_at number played) (world_at a number) (world_at b number) (events-here number number played are) own
+      engine = trail-leaves counts (events_at number played) (world_at a number) (world_at b number)
+          (events-here number number played are) own
           (trail-of number number played a b leads);
       alone = λ k other. events-elsewhere number k played other are;
       only = drain-steps number played are;
@@ -173,7 +174,8 @@ pub handled-steps : (result : Handled) (number : ℕ) (a b : List StationState) 
     → StepsOn 1 number [] (connected h a) (connected h' b)
 handled-steps result number a b heard accesses h h' ready runs free meets =
     let of_call = runs.runs.of_call in
-    let recorded = clears number runs.runs.steps runs.states.reads.tells.early a b h.driver.layout runs.states.reads.causes of_call.leads of_call.played
+    let recorded = clears number runs.runs.steps runs.states.reads.tells.early a b h.driver.layout runs.states.reads.causes of_call.leads
+    of_call.played
     runs.runs.runs.accesses runs.states.reads.tells.first in
     let causes = (world_at b number).adapter.causes in
     let none : bit_and causes.recorded causes.mask ≡ 0 =

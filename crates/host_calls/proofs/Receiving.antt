@@ -18,7 +18,18 @@ use Rattle.driver_law.proofs.Places.{place-below}
 use Rattle.driver_law.specs.DriverState.{next_receive, with_owners}
 use Rattle.driver_law.specs.Calls.{GoesTo, IsRefilled}
 use Rattle.packet_socket.proofs.Stretches.{host-happens, interval-of}
-use Rattle.packet_socket.specs.HostCalls.{HostGoesTo, HostReady, LeavesQueue, Receives, Returns, ReturnsBy, did, given_first, host_at, in_world}
+use Rattle.packet_socket.specs.HostCalls.{
+  HostGoesTo,
+  HostReady,
+  LeavesQueue,
+  Receives,
+  Returns,
+  ReturnsBy,
+  did,
+  given_first,
+  host_at,
+  in_world,
+}
 use Rattle.packet_socket.specs.HostCalls.{waiting_frames}
 use Rattle.packet_socket.specs.HostState.{HostState, queue_at}
 use Rattle.packet_socket.specs.declared.receive.RecvError.{RecvError}

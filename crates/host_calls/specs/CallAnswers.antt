@@ -42,7 +42,8 @@ FreesBy (Ok u) h h' world = FreesWrittenBack h h' world
 FreesBy (Err error) h h' world = ⊤
 
 -- Sending. A frame is too short exactly below 14 bytes, and too long exactly above 1,518. The ring is full only if, when the call began,
--- the number of frames to be sent was one less than the number of transmit slots. Then all slots but one are outstanding when the call ends.
+-- the number of frames to be sent was one less than the number of transmit slots. Then all slots but one are outstanding
+-- when the call ends.
 pub record AnswersSend (result : SendAnswer) (frame : List ℕ) (h h' : HostState) (world : World) : Type 0 where
   pub too_short : (result ≡ Err TooShort) ↔ (length frame < shortest_sent)
   pub too_long : (result ≡ Err TooLong) ↔ (longest_frame < length frame)

@@ -30,8 +30,8 @@ fn first_waiting(host: &Host) -> Option<usize>
 }
 
 impl Network {
-    /// Drains a host: gives each frame that it holds for its sockets to `sink`, and returns the number of steps. No tick
-    /// is played in its calls. `sink` keeps the room that it doesn't need.
+    /// Drains a host: gives each frame that it holds for its sockets to `sink`, and returns the number of steps. No
+    /// tick is played in its calls. `sink` keeps the room that it doesn't need.
     ///
     /// Each step is the first of these that applies. If a piece of a frame is in progress, the host's adapter writes
     /// back its descriptor. If the interrupt line is asserted, the host handles an interrupt. If a frame waits for a

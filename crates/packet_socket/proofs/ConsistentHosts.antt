@@ -94,7 +94,8 @@ stays-owners driver driver' before after socket received parts others numbers =
 pub stays-host : (driver driver' : DriverState) (before after : SocketsState) (socket : ℕ) (received : Received) → AreOfHost driver before
     → (parts : Splits before.queues socket received (queue_at after.queues socket))
     → after ≡ record before { queues = slice_set before.queues socket (queue_at after.queues socket) }
-    → driver'.layout ≡ driver.layout → HaveSameNumbers (buffers_in received.parts ++ owners driver) (owners driver') → AreOfHost driver' after
+    → driver'.layout ≡ driver.layout → HaveSameNumbers (buffers_in received.parts ++ owners driver) (owners driver')
+    → AreOfHost driver' after
 stays-host driver driver' before after socket received host parts others counts numbers =
     let left : all_of after.queues ≡ parts.first ++ parts.last = ap (λ (s : SocketsState). all_of s.queues) others ∙ parts.behind in
     record {

@@ -166,7 +166,8 @@ host_described name address wire options = record {
 
 -- the host that a line makes
 abbrev pub host_of_words : List Text → Host
-host_of_words words = host_described (word 1 words) (address_in (word 2 words)) (word 3 words) (options_asked (uses_in (option_words words)))
+host_of_words words = host_described (word 1 words) (address_in (word 2 words)) (word 3 words) (options_asked (uses_in
+    (option_words words)))
 
 abbrev pub with_group : List ℕ → Host → Host
 with_group group host = record host { config = record host.config { groups = record { items = host.config.groups.items ++ group ∷ [] } } }

@@ -132,7 +132,8 @@ sockets_count plans said a b begun played =
 -- The call.
 
 abbrev pub plays_of : (scenario : Scenario) (traces : List (List (List ℕ))) (a b : Play) → Begins scenario.plan.hosts.items a
-    → HasPlayed (all_events (hosts_of scenario.plan.hosts.items) traces (map said_of scenario.commands.items)) a b → PlaysScenario scenario traces
+    → HasPlayed (all_events (hosts_of scenario.plan.hosts.items) traces (map said_of scenario.commands.items)) a b
+    → PlaysScenario scenario traces
 plays_of scenario traces a b begun played = record {
   made = a.lan;
   by_plan = begun.made;
@@ -144,7 +145,8 @@ plays_of scenario traces a b begun played = record {
 
 plan-at : (plans : List HostPlan) (k : ℕ) (plan : Host) (found : Option HostPlan) → slice_get plans k ≡ found
     → slice_get (hosts_of plans) k ≡ Some plan → (one : HostPlan) × (slice_get plans k ≡ Some one) × (host_of_plan one ≡ plan)
-plan-at plans k plan None is there = absurd (none (sym (ap (option_map host_of_plan) is) ∙ sym (slice_get-map host_of_plan plans k) ∙ there))
+plan-at plans k plan None is there = absurd (none (sym (ap (option_map host_of_plan) is) ∙ sym
+    (slice_get-map host_of_plan plans k) ∙ there))
   where
     none : None ≡ Some plan → ⊥
     none e = cc

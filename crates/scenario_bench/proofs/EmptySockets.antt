@@ -30,7 +30,8 @@ socket_more host count old sockets new is more =
     more ∙ ap (λ (l : List SocketFrames). l ++ no_frames host count ∷ []) is
     ∙ append_assoc old (empty_sockets (sockets_of_host host count)) (no_frames host count ∷ [])
     ∙ ap (λ (l : List SocketFrames). old ++ l)
-    (sym (ap empty_sockets places ∙ map-append (λ (place : ℕ × ℕ). no_frames place.0 place.1) (sockets_of_host host count) ((host, count) ∷ [])))
+    (sym (ap empty_sockets places ∙ map-append (λ (place : ℕ × ℕ). no_frames place.0 place.1) (sockets_of_host host count)
+    ((host, count) ∷ [])))
 
 pub no_socket : (host : ℕ) (old : List SocketFrames) → old ≡ old ++ empty_sockets (sockets_of_host host 0)
 no_socket host old = sym (append-nil old)
@@ -49,7 +50,8 @@ from-more number (first ∷ hosts) host =
 pub host_more : (plans : List HostPlan) (number count : ℕ) (plan d : HostPlan) (sockets new : List SocketFrames) → number < length plans
     → plan ≡ slice_index_or plans number d → count ≡ length plan.sockets.items
     → sockets ≡ empty_sockets (sockets_from 0 (hosts_of (take number plans)))
-    → new ≡ sockets ++ empty_sockets (sockets_of_host number count) → new ≡ empty_sockets (sockets_from 0 (hosts_of (take (number + 1) plans)))
+    → new ≡ sockets ++ empty_sockets (sockets_of_host number count) → new ≡ empty_sockets (sockets_from 0 (hosts_of (take
+    (number + 1) plans)))
 host_more plans number count plan d sockets new below there counts is more =
     let first = take number plans in
     let taken : take (number + 1) plans ≡ first ++ plan ∷ [] = grind (arith, common_steps, below, there) in

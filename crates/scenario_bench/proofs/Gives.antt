@@ -43,8 +43,10 @@ gives host socket number frame one numbers more frames others there asked is sam
     let more_is : map timed (zip more others) ≡ one.frames ++ numbered_frame number frame ∷ [] =
     ap (λ (ns : List ℕ). map timed (zip ns others)) grown ∙ ap (λ (fs : List (List ℕ)). map timed (zip (numbers ++ number ∷ []) fs)) longer
     ∙ zip-more numbers frames number frame same ∙ ap (λ (ts : List Timed). ts ++ numbered_frame number frame ∷ []) (sym is) in
-    let here : (if (one.host == host) && (one.socket == socket) then numbered_frame number frame ∷ [] else []) ≡ numbered_frame number frame ∷ [] =
-    chosen ((one.host == host) && (one.socket == socket)) (numbered_frame number frame ∷ []) (both one.host host one.socket socket there asked) in
+    let here : (if (one.host == host) && (one.socket == socket) then numbered_frame number frame ∷ [] else []) ≡ numbered_frame number
+    frame ∷ [] =
+    chosen ((one.host == host) && (one.socket == socket)) (numbered_frame number frame ∷ [])
+    (both one.host host one.socket socket there asked) in
     ap (λ (ts : List Timed). record { host = one.host; socket = one.socket; frames = ts })
     (more_is ∙ sym (ap (λ (ts : List Timed). one.frames ++ ts) here))
 

@@ -82,7 +82,8 @@ given-said k s (event.Tick one) reply = given-alone k s one reply.outcomes.list
 said-as : (number : ℕ) (one : Event) (reply : Reply) (socket : SocketFrames)
     → with_said number (said one reply) socket ≡ with_said number (answer_of one reply.answer) socket
 said-as number one reply socket =
-    ap (λ (frames : List (List ℕ)). with_socket_frames (map (numbered_frame number) frames) socket) (given-said socket.host socket.socket one reply)
+    ap (λ (frames : List (List ℕ)). with_socket_frames (map (numbered_frame number) frames) socket)
+    (given-said socket.host socket.socket one reply)
 
 all-as : (number : ℕ) (one : Event) (reply : Reply) (found : Option SocketFrames)
     → option_map (with_said number (said one reply)) found ≡ option_map (with_said number (answer_of one reply.answer)) found
@@ -112,7 +113,8 @@ given-as : (host socket number : ℕ) (frame : List ℕ) (found : Option SocketF
     ≡ option_map (with_said number (Given host socket frame ∷ [])) found
 given-as host socket number frame None = refl
 given-as host socket number frame (Some one) =
-    ap (λ (frames : List Timed). Some (with_socket_frames frames one)) (chosen-as ((one.host == host) && (one.socket == socket)) number frame)
+    ap (λ (frames : List Timed). Some (with_socket_frames frames one)) (chosen-as ((one.host == host) &&
+    (one.socket == socket)) number frame)
 
 pub gets_given : (host socket number : ℕ) (frame : List ℕ) (old new : List SocketFrames)
     → GetsGiven host socket (numbered_frame number frame) old new → GetsSaid number (Given host socket frame ∷ []) old new

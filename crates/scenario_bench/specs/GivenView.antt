@@ -7,7 +7,12 @@ use Rattle.scenario_bench.specs.SocketLists.{SocketFrames}
 use Rattle.scenario_bench.specs.declared.given.GivenFrames.TheInside.{Inside}
 
 abbrev pub given_socket_frames : Inside → SocketFrames
-given_socket_frames inside = record { host = inside.host; socket = inside.socket; frames = map timed (zip inside.numbers.items inside.frames) }
+given_socket_frames inside = record {
+  host = inside.host;
+  socket = inside.socket;
+  frames = map timed
+      (zip inside.numbers.items inside.frames);
+}
 
 abbrev pub HasFrameSize : List ℕ → Type 0
 HasFrameSize frame = length frame ≤ longest_frame

@@ -101,7 +101,8 @@ plays_step a kind answer left running answers =
 -- A delivery.
 pub plays_arrival :
     (a : SoloState) (frame : List ℕ) (fate : Fate) (left : List SoloTick) → IsAdapter a.world.adapter
-    → IsFate a.world.adapter frame fate → PlaysSoloTicks (Arrive frame ∷ []) left a (solo_after_arrival fate frame (record a { waiting = left }))
+    → IsFate a.world.adapter frame fate → PlaysSoloTicks (Arrive frame ∷ []) left a (solo_after_arrival fate frame
+    (record a { waiting = left }))
 plays_arrival a frame fate left running is =
     let event = Arrives frame fate in
     record {
@@ -220,7 +221,8 @@ kinds_on kinds place other a s b answer inside before running answers after =
     ∙ map-append Step (take place kinds) (kind ∷ [])) in
     subst (λ (x : SoloState). PlaysSoloTicks (map Step (take (place + 1) kinds)) a.waiting a x) (sym after)
     (subst (λ (ticks : List SoloTick). PlaysSoloTicks ticks a.waiting a (solo_after_step kind answer s)) more
-    (subst (λ (left : List SoloTick). PlaysSoloTicks (first ++ Step kind ∷ []) left a (solo_after_step kind answer s)) before.waiting whole))
+    (subst (λ (left : List SoloTick). PlaysSoloTicks (first ++ Step kind ∷ []) left a
+    (solo_after_step kind answer s)) before.waiting whole))
 
 -- All that comes before an access.
 pub prepared_on :

@@ -181,7 +181,8 @@ impl SoloBus {
 
     /// Plays the ticks up to the next [`Go`](SoloTick::Go), which waits no longer.
     fn play_group(&mut self)
-        ensures { PlaysSoloTicks (group_of is_go self.old.waiting) (behind_group is_go self.old.waiting) self.old self.new }
+        ensures { PlaysSoloTicks (group_of is_go self.old.waiting) (behind_group is_go self.old.waiting) self.old
+            self.new }
     {
         while let Some(tick) = self.next_tick() {
             match tick {

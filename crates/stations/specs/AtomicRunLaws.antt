@@ -10,7 +10,19 @@ use Rattle.stations.specs.Stations.{StationState}
 use Rattle.stations.specs.Outcomes.{note_of}
 use Rattle.stations.specs.ToldTicks.{TickTold}
 use Rattle.stations.specs.declared.outcomes.Numbered.{Numbered}
-use Rattle.stations.specs.AtomicRuns.{LeadsTo, counted_by, counted_of, events_at, events_by, noted_by, noted_of, numbered, past_at, step_told, steps_told}
+use Rattle.stations.specs.AtomicRuns.{
+  LeadsTo,
+  counted_by,
+  counted_of,
+  events_at,
+  events_by,
+  noted_by,
+  noted_of,
+  numbered,
+  past_at,
+  step_told,
+  steps_told,
+}
 
 pub leads_join : (caller : ℕ) (first later : List AtomicStep) (a b c : List StationState) → LeadsTo caller first a b
     → LeadsTo caller later b c

@@ -6,8 +6,8 @@ use bus::Machine;
 use std::alloc::{AllocError, Global};
 use std::marker::Model;
 
-/// The stations of a network. Each host has one: its adapter with the host's memory, and its end of a wire. Stations have
-/// numbers, in the order in which they were connected.
+/// The stations of a network. Each host has one: its adapter with the host's memory, and its end of a wire. Stations
+/// have numbers, in the order in which they were connected.
 ///
 /// In contracts it is a list of `StationState`, plain data that `specs/Stations.antt` lists.
 #[derive(Drop)]

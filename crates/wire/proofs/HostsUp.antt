@@ -62,7 +62,8 @@ valid : (ring : Ring) (count tail : ℕ) → count_of ring ≡ count → ring.he
 valid ring count tail slots head is below = record { head = omega (arith, slots, head); tail = omega (arith, slots, is, below) }
 
 -- Both sides are enabled, and heads and tails are slots.
-can-answer : (plan : HostPlan) (size : ℕ) (d : DriverState) (world : World) → CanBeHad plan.config size → d.layout ≡ configured_counts plan.config
+can-answer : (plan : HostPlan) (size : ℕ) (d : DriverState) (world : World) → CanBeHad plan.config size
+    → d.layout ≡ configured_counts plan.config
     → Ready d world → IsConfigured plan.config (address_bytes plan.image) (settings_of world.adapter) → CanAnswer world.adapter
 can-answer plan size d world had counts ready configured =
     let control = subst (Controls plan.config.promiscuous (names_vlans plan.config.vlans)) (sym configured.filter.receive_control_is)

@@ -21,7 +21,8 @@ returns-then-call-len g c =
     absent-played c.args.call.now.host c.args.call.now.event.now c.args.call.now.ticks.now
     c.args.network.now c.no_host.new.network c.args.observer.now c.no_host.new.observer
     (λ answer list. told c.args.call.now.ticks.now list) (IsInterruptAnswer c.args.call.now.host) c.requires.stands
-    (subst (λ (n : ℕ). n ≤ c.args.call.now.host) c.len.ensures c.if-call-len.true) c.no_host.ensures.hosts c.no_host.ensures.told (λ list. refl)
+    (subst (λ (n : ℕ). n ≤ c.args.call.now.host) c.len.ensures c.if-call-len.true)
+    c.no_host.ensures.hosts c.no_host.ensures.told (λ list. refl)
 
 pub interrupt-called-requires-clause-ready : goal.interrupt-called-requires-clause-ready
 interrupt-called-requires-clause-ready g c =

@@ -14,6 +14,7 @@ returns-clause-told g c =
       ticked = c.play_rest.new.observer;
       plays = plays;
       tells = c.answer.ensures c.args.observer.now (steps_told 0 plays.steps) plays.heard
-          (told-of_ticks c.args.call.now.event.now c.args.call.now.ticks.now plays.steps c.args.network.now.stations c.play_rest.new.self.stations
+          (told-of_ticks c.args.call.now.event.now c.args.call.now.ticks.now plays.steps c.args.network.now.stations
+          c.play_rest.new.self.stations
           c.requires.ticks plays.played plays.leads);
     }

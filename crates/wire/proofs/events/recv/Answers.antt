@@ -17,7 +17,9 @@ returns-then-call-len g c =
     absent-played c.args.call.now.host c.args.call.now.event.now c.args.call.now.ticks.now
     c.args.network.now c.no_host.new.network c.args.observer.now c.no_host.new.observer
     (λ answer list. told c.args.call.now.ticks.now list ++ given_of c.args.call.now.host c.args.socket answer)
-    (IsRecvAnswer c.args.call.now.host c.args.socket) c.requires.stands (subst (λ (n : ℕ). n ≤ c.args.call.now.host) c.len.ensures c.if-call-len.true) c.no_host.ensures.hosts c.no_host.ensures.told
+    (IsRecvAnswer c.args.call.now.host c.args.socket) c.requires.stands
+    (subst (λ (n : ℕ). n ≤ c.args.call.now.host) c.len.ensures c.if-call-len.true)
+    c.no_host.ensures.hosts c.no_host.ensures.told
     (λ list. append-nil (told c.args.call.now.ticks.now list))
 
 pub recv_into-called-requires-clause-ready : goal.recv_into-called-requires-clause-ready

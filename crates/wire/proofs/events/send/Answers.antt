@@ -20,7 +20,9 @@ returns-then-call-len g c =
     absent-played c.args.call.now.host c.args.call.now.event.now c.args.call.now.ticks.now
     c.args.network.now c.no_host.new.network c.args.observer.now c.no_host.new.observer
     (λ answer list. accepted_of c.args.call.now.host c.args.frame.now answer ++ told c.args.call.now.ticks.now list)
-    (IsSendAnswer c.args.call.now.host c.args.frame.now) c.requires.stands (subst (λ (n : ℕ). n ≤ c.args.call.now.host) c.len.ensures c.if-call-len.true) c.no_host.ensures.hosts
+    (IsSendAnswer c.args.call.now.host c.args.frame.now) c.requires.stands
+    (subst (λ (n : ℕ). n ≤ c.args.call.now.host) c.len.ensures c.if-call-len.true)
+    c.no_host.ensures.hosts
     c.no_host.ensures.told (λ list. refl)
 
 pub send-called-requires-clause-ready : goal.send-called-requires-clause-ready

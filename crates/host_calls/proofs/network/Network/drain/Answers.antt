@@ -56,7 +56,8 @@ loop-steps-preserved g c =
     (outlet (g.S.Outlet.frames c.step.new.sink) (g.S.Outlet.room_left c.step.new.sink)) (connected_at here k) (connected_at last k))
     c.loop-steps-test.true c.step.ensures.steps in
     record {
-      into = into-join c.loop-steps.steps 1 k first.stations here.stations last.stations (nth_host first k) (nth_host here k) (nth_host last k)
+      into = into-join c.loop-steps.steps 1 k first.stations here.stations last.stations (nth_host first k) (nth_host here k)
+          (nth_host last k)
           (g.S.Outlet.frames c.args.sink.now) (g.S.Outlet.frames c.loop-steps.sink) (g.S.Outlet.frames c.step.new.sink)
           (g.S.Outlet.room_left c.args.sink.now) (g.S.Outlet.room_left c.loop-steps.sink) (g.S.Outlet.room_left c.step.new.sink) into step;
       stands = stands-on 1 k here.stations last.stations (nth_host here k) (nth_host last k) step.given step.on

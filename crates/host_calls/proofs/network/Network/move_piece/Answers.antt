@@ -37,12 +37,14 @@ returns-clause-steps c =
     let stands = subst (λ (list : List StationState). CanBeDrained (nth_host n k) (world_at list k)) are c.requires.stands in
     elim c.match-matches.branch [
       | in-Part w ↦
-          subst (λ (moved : Bool). StepsOn (steps_of moved) k [] (connected_at n k) (connected_at (network hosts left) k)) (sym w.matches-is)
+          subst (λ (moved : Bool). StepsOn (steps_of moved) k [] (connected_at n k) (connected_at (network hosts left) k))
+          (sym w.matches-is)
           (stations-changed (StepsOn 1 k []) hosts stations n k left c.self.view_is
           (moves-piece k stations left (nth_host n k) c.step.result there c.step.ensures.occurs c.step.ensures.state w.in-Part.is stands
           (ap (λ (list : List StationState). (world_at list k).adapter.receiver.work) (sym are) ∙ c.requires.free)))
       | in_default w ↦
-          subst (λ (moved : Bool). StepsOn (steps_of moved) k [] (connected_at n k) (connected_at (network hosts left) k)) (sym w.matches-is)
+          subst (λ (moved : Bool). StepsOn (steps_of moved) k [] (connected_at n k) (connected_at (network hosts left) k))
+          (sym w.matches-is)
           (stations-changed (StepsOn 0 k []) hosts stations n k left c.self.view_is
           (moves-none k stations left (nth_host n k) c.step.result there c.step.ensures.occurs c.step.ensures.state
           w.in_default.not-Part w.in_default.not-Moved stands).on)

@@ -21,7 +21,8 @@ invariant_of-self g c =
     let ready = subst (λ (one : ConnectedHost). HostReady one.host (world_at one.stations k)) (sym before) c.requires.ready in
     let others = c.send-answer.ensures.others in
     let sent = c.send-answer.ensures.transmits (record { honest = tt; ready = ready }) in
-    let runs = (sent-call g.met.O.Observer.composes _ c.send-answer.new.bus ends h h' c.args.frame.now c.send-answer.result refl ready others
+    let runs = (sent-call g.met.O.Observer.composes _ c.send-answer.new.bus ends h h' c.args.frame.now c.send-answer.result refl ready
+    others
     sent c.finish.ensures).0 in
     record {
       same = lent-back (λ (stations : List StationState) told. length stations ≡ length (slice_set hosts k h')) ends.stations.now _

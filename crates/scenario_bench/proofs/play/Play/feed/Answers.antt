@@ -16,6 +16,7 @@ pub loop-frame-preserved : goal.loop-frame-preserved
 loop-frame-preserved c = one_sent (hosts_of c.args.plans.now) c.args.host c.in-Some.frame.now c.in_ok-send_event.field-0
     c.set_behind_send.new.events.items c.as_slice.result.now c.args.trace.now.frames c.loop-frame.frame-iterator
     c.next.new.self c.args.self.now c.loop-frame.self
-    c.run.new.self c.run-in-loop-frame.new.self c.loop-frame.invariant c.in-Some.ensures.steps c.in_ok-send_event.ensures c.in_ok-run.ensures.ok
+    c.run.new.self c.run-in-loop-frame.new.self c.loop-frame.invariant c.in-Some.ensures.steps c.in_ok-send_event.ensures
+    c.in_ok-run.ensures.ok
     (c.in_ok-set_behind_send.ensures ∙ ap (behind_send (hosts_of c.args.plans.now) c.args.host) c.pieces_of.ensures)
     c.as_slice.ensures.value c.in_ok-run-2.ensures.ok
