@@ -42,6 +42,6 @@ nth_host network k = host_or_empty (slice_get network.hosts k)
 abbrev pub connected_at : NetworkState → (k : ℕ) → ConnectedHost
 connected_at network k = connected (nth_host network k) network.stations
 
--- Of all hosts only the k-th changes. Nothing is said of stations.
+-- Of all hosts only the k-th changes: its driver and sockets. What stations do, the other clauses of a call say.
 abbrev pub OnlyHostChanges : (k : ℕ) → (old new : NetworkState) → Type 0
 OnlyHostChanges k old new = new.hosts ≡ slice_set old.hosts k (nth_host new k)

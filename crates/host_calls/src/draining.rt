@@ -54,7 +54,8 @@ impl Network {
         steps
     }
 
-    /// The next step, if one applies: else nothing is held. The room may rest on what holds of every adapter.
+    /// The next step of a drain, if one applies: else nothing is held. The room may rest on what holds of every
+    /// adapter. Of hosts and stations only this one changes, and no end of a wire.
     fn step<S: Outlet>(&mut self, number: usize, sink: &mut S) -> bool
         requires there { number < length self.old.hosts }
         requires stands { CanBeDrained (nth_host self.old number) (world_at self.old.stations number) }
@@ -81,7 +82,7 @@ impl Network {
         self.move_piece(number)
     }
 
-    /// The adapter writes back the descriptor of the piece in progress, if there is one.
+    /// The first kind of step: the adapter writes back the descriptor of the piece in progress, if there is one.
     fn finish(&mut self, number: usize) -> bool
         requires there { number < length self.old.hosts }
         requires stands { CanBeDrained (nth_host self.old number) (world_at self.old.stations number) }
@@ -94,7 +95,8 @@ impl Network {
         matches!(self.stations.step(number, StepKind::RxDone), Outcome::Done)
     }
 
-    /// The host handles an interrupt.
+    /// The second kind of step: the host handles an interrupt, without ticks. Of hosts and stations only this one
+    /// changes, and no end of a wire.
     fn handle(&mut self, number: usize)
         requires there { number < length self.old.hosts }
         requires stands { CanBeDrained (nth_host self.old number) (world_at self.old.stations number) }
@@ -107,7 +109,7 @@ impl Network {
         self.interrupt(number, &[], &mut Nobody);
     }
 
-    /// The host gives the oldest frame that waits for a socket.
+    /// The third kind of step: the host gives the oldest frame that waits for a socket, to the sink, without ticks.
     fn give<S: Outlet>(&mut self, number: usize, socket: usize, sink: &mut S)
         requires there { number < length self.old.hosts }
         requires stands { CanBeDrained (nth_host self.old number) (world_at self.old.stations number) }
@@ -125,7 +127,8 @@ impl Network {
         }
     }
 
-    /// The adapter moves the next piece of the oldest frame out of the packet buffer, if there is one.
+    /// The last kind of step: the adapter moves the next piece of the oldest frame out of the packet buffer, if there
+    /// is one.
     fn move_piece(&mut self, number: usize) -> bool
         requires there { number < length self.old.hosts }
         requires stands { CanBeDrained (nth_host self.old number) (world_at self.old.stations number) }

@@ -91,7 +91,8 @@ fn wire_of(plans: &[HostPlan], host: usize) -> &str
     }
 }
 
-/// Appends the arrivals of a frame in so many pieces, at each other host on a host's wire, in order.
+/// Appends the events by which a sender's frame comes to each other host on its wire, in order: at each the delivery,
+/// the steps that move its pieces, an interrupt, and a recv of each socket. If memory is refused, some may be there.
 fn push_arrivals(
     alloc: Global,
     plans: &[HostPlan],
@@ -201,7 +202,8 @@ impl EventMemory {
         self.event_of_kind(word % 8, host, &plans[host].image)
     }
 
-    /// The event of a kind, of eight, at a host with this EEPROM.
+    /// The event of one of the eight kinds that `auto` draws, at a host with this EEPROM. The last kind is any number
+    /// from 7 on. Only this memory changes: an event that needs some takes it.
     fn event_of_kind(&mut self, kind: u32, host: usize, image: &Image) -> Result<Event, AllocError>
         ensures { IfOk result (λ event. event_of event ≡ lists.event_of_kind kind host (address_bytes image.now)) }
     {

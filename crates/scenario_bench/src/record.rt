@@ -282,6 +282,7 @@ impl RunObserver for Record {
         }
     }
 
+    // Only the record changes: as `NotesAnswer` of `note_answer` says, and the number of the next event is one more.
     fn answer(&mut self, event: &Event, _accesses: u64, answer: Answer<()>, frame: &[u8]) {
         self.note_answer(event, answer, frame);
         self.number = self.number.saturating_add(1);

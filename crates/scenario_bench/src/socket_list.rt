@@ -6,7 +6,8 @@ ghost use Rattle.scenario_bench.specs.Given.{sockets_from, sockets_of_host};
 use network_plan::HostPlan;
 use std::alloc::{AllocError, Global};
 
-/// Appends the sockets of a host.
+/// Appends a pair of numbers for each socket of a host: the host's and the socket's. If memory is refused, some may be
+/// there.
 #[tactic(auto, using(crate::proofs::EmptySockets::pair_more, crate::proofs::EmptySockets::no_pair))]
 fn push_sockets(
     host: usize,
@@ -22,7 +23,7 @@ fn push_sockets(
 }
 
 /// The sockets of these hosts, each as the number of its host and its own number: hosts in order, and the sockets of
-/// each in order. [`bench`](crate::bench) takes a sink for each.
+/// each in order. It is for callers of [`bench`](crate::bench), which takes a sink for each.
 ///
 /// # Errors
 ///

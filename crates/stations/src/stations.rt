@@ -56,7 +56,7 @@ impl Stations {
     ///
     /// # Errors
     ///
-    /// Only if memory is refused.
+    /// Only if memory is refused. Then nothing has changed.
     pub fn connect(
         &mut self,
         alloc: Global,

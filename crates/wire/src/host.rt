@@ -38,7 +38,7 @@ pub fn bring_up_host(alloc: Global, plan: &HostPlan) -> Result<(Host, Machine), 
 }
 
 /// Initializes the adapter of a new machine. Before each access of this its EEPROM and its PHY take a step, and no
-/// frame arrives.
+/// frame arrives. After an error the machine may be in any state, and [`bring_up_host`] drops it.
 ///
 /// # Errors
 ///

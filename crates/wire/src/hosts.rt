@@ -43,7 +43,8 @@ pub fn bring_up(alloc: Global, plan: &Plan) -> Result<Network, PlanError>
     Ok(network)
 }
 
-/// Initializes one host of a plan, after those before it.
+/// Initializes one host of a plan, if those before it can be initialized. It isn't connected yet, so this holds
+/// whichever wire it will be on. An error gets the host's number.
 fn bring_up_one(
     alloc: Global,
     plans: &[HostPlan],
