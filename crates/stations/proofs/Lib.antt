@@ -1,3 +1,8 @@
+pub mod ClosedLogs
+pub mod WireReaders
+pub mod WireEnds
+pub mod WireChanges
+pub mod NewEnds
 pub mod Places
 pub mod Hosts
 pub mod Spreading

@@ -1,6 +1,8 @@
 pub mod Stations
 pub mod Ends
-pub mod EndView
+pub mod WireLogs
+pub mod LogReaders
+pub mod WiresView
 pub mod StationsView
 pub mod FrameRoom
 pub mod ToldTicks

@@ -14,6 +14,7 @@ mod outcomes;
 mod playing;
 mod stations;
 mod tick;
+mod wire_log;
 mod wires;
 
 pub use heap_frame::HeapFrame;
@@ -22,4 +23,5 @@ pub use observer::{Nobody, Observer};
 pub use outcomes::{Numbered, Outcomes};
 pub use stations::Stations;
 pub use tick::Tick;
+pub use wire_log::LOG_ENTRIES;
 pub use wires::END_FRAMES;

@@ -1,8 +1,10 @@
 // The stations of a network.
 
+use crate::wire_log::LOG_ENTRIES;
 use crate::wires::Wires;
 use adapter::{FrameCounts, Outcome, StepKind};
 use bus::Machine;
+use descriptors::Frame;
 use std::alloc::{AllocError, Global};
 use std::marker::Model;
 
@@ -30,7 +32,7 @@ impl Model for Stations {
 }
 
 impl Stations {
-    ghost use Rattle.std.specs.Prelude.{◌≡◌, ◌≢◌, ◌<◌, ◌↔◌, ◌∷◌, ◌++◌, [], length, true, IfOk, IsTrue, OnErr};
+    ghost use Rattle.std.specs.Prelude.{◌≡◌, ◌≢◌, ◌<◌, ◌↔◌, ◌∷◌, ◌++◌, ◌≤◌, [], length, true, IfOk, IsTrue, OnErr};
     ghost use Rattle.adapter.specs.Outcomes.{framed};
     ghost use Rattle.adapter.specs.Registers.{answer_at};
     ghost use Rattle.adapter.specs.State.{IsAdapter};
@@ -40,7 +42,8 @@ impl Stations {
     ghost use Rattle.bus.specs.declared.event.Event.TheVariants.{Accesses, Steps};
     ghost use Rattle.dma_memory.specs.HostMemory.{bytes_at, LiesIn};
     ghost use Rattle.registers.specs.Bits.{Meet};
-    ghost use Rattle.stations.specs.Stations.{stations_after, world_at};
+    ghost use Rattle.stations.specs.Stations.{backlog_at, stations_after, world_at};
+    ghost use Rattle.stations.specs.WireLogs.{last_of_others};
 
     /// No stations.
     pub fn new(alloc: Global) -> Stations
@@ -113,6 +116,18 @@ impl Stations {
             ≡ stations_after host (Steps kind true (framed result (world_at self.old host).adapter)) self.old }
     {
         self.machines[host].step(kind, true)
+    }
+
+    /// The log of a host's wire: the frames that were put on it, in order, each with the number of its sender. Entries
+    /// that each other end has read may be missing. The frames that wait at the host's end are the last of those that
+    /// other hosts put.
+    pub fn log(&self, host: usize) -> &[(usize, Frame)]
+        requires there { host < length self.now }
+        ensures waits { backlog_at self.now host
+            ≡ last_of_others host (length (backlog_at self.now host)) result.now }
+        ensures most { length result.now ≤ LOG_ENTRIES }
+    {
+        self.wires.log(host)
     }
 
     /// Whether a host's interrupt line is asserted.

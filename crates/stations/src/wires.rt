@@ -4,73 +4,40 @@ ghost use Rattle.std.specs.Prelude.{◌≡◌, ◌<◌, ◌≤◌, ◌↔◌, �
 ghost use Rattle.std.specs.Prelude.{drop, length, option_map, slice_get, slice_set};
 ghost use Rattle.descriptors.specs.Frames.{longest_frame};
 ghost use Rattle.stations.specs.Ends.{EndState, EndHasRoomFor, HaveRoom, with_line};
+ghost use Rattle.stations.specs.WireLogs.{last_of_others, log_entries};
+ghost use Rattle.std.specs.Prelude.{◌≢◌};
+ghost use Rattle.stations.specs.LogReaders.{IsLeastCursor, IsReader, IsReaderOn, IsSlowest, KeepsLogs, MakesRoom, PutsFrame};
+ghost use Rattle.stations.specs.LogReaders.{IsLogFor, OthersHaveRoom, end_at, moved_cursor, with_waiting};
+ghost use Rattle.stations.specs.WiresView.{ReadsLog};
+ghost use Rattle.stations.specs.declared.wires.End.{End};
 
-use frame_queue::FrameQueue;
+use crate::wire_log::{LOG_ENTRIES, WireLog};
+use descriptors::Frame;
 use std::alloc::{AllocError, Global};
 use std::marker::Model;
 
 /// How many frames may wait at an end of a wire (our choice).
 pub const END_FRAMES: u8 = 64;
 
-/// An end of a wire, with the frames that wait there.
-///
-/// In contracts it is an `EndState`, plain data that `specs/Ends.antt` lists.
+/// An end of a wire: where its host reads in the wire's log.
 #[derive(Drop)]
 pub(crate) struct End {
+    /// The number of its wire.
     wire: usize,
-    waiting: FrameQueue,
+    /// The place of the wire's log in the list of logs.
+    log: usize,
+    /// The first entry of the log that the host may not have read. The frames of other senders from there on wait.
+    cursor: usize,
+    /// The number of frames that wait.
+    waiting: u8,
 }
 
-impl Model for End {
-    ghost use Rattle.stations.specs.Ends.{EndState};
-    ghost use Rattle.stations.specs.EndView.{end_of, HasLine};
-
-    ghost Value = { EndState };
-
-    ghost view = { end_of };
-
-    ghost invariant = { HasLine };
-}
-
-impl End {
-    /// An end of a wire, at which no frame waits.
-    ///
-    /// # Errors
-    ///
-    /// Want of memory alone.
-    fn new(alloc: Global, wire: usize) -> Result<End, AllocError>
-        ensures { IfOk result (λ end. end ≡ record { wire = wire; line = [] }) }
-    {
-        Ok(End {
-            wire,
-            waiting: FrameQueue::new(alloc, END_FRAMES)?,
-        })
-    }
-
-    /// Whether a frame more may wait.
-    fn has_room(&self) -> bool
-        ensures { IsTrue result ↔ (length self.now.line < END_FRAMES) }
-    {
-        self.waiting.len() < END_FRAMES
-    }
-
-    /// A frame that a sender puts onto a wire waits at this end, if it is another end of that wire.
-    fn wait(&mut self, number: usize, sender: usize, wire: usize, frame: &[u8])
-        requires room { EndHasRoomFor sender wire number self.old }
-        requires fits { length frame.now ≤ longest_frame }
-        ensures { self.new ≡ with_line sender wire (frame.now ∷ []) number self.old }
-    {
-        if number != sender && self.wire == wire {
-            self.waiting.push(frame);
-        }
-    }
-}
-
-/// The wires of a network: an end for each host, in the order of their numbers.
+/// The wires of a network: a log for each wire, and an end for each host, in the order of their numbers.
 ///
-/// In contracts it is the list of ends.
+/// In contracts it is a list of `EndState`, plain data that `specs/Ends.antt` lists.
 #[derive(Drop)]
 pub(crate) struct Wires {
+    logs: Vec<WireLog>,
     ends: Vec<End>,
 }
 
@@ -80,7 +47,144 @@ impl Model for Wires {
 
     ghost Value = { List EndState };
 
-    ghost view = { λ wires. wires.ends.items };
+    ghost use Rattle.stations.specs.WiresView.{ends_from, HaveLogs};
+
+    ghost view = { λ inside. ends_from inside.logs.items 0 inside.ends.items };
+
+    ghost invariant = { λ inside. HaveLogs inside.logs.items inside.ends.items };
+}
+
+/// The log in which the ends of a wire read. A wire without ends has none.
+fn log_of(ends: &[End], wire: usize) -> Option<usize>
+    ensures none { IsNone result → (k : ℕ) → k < length ends.now → (end_at ends.now k).wire ≢ wire }
+    ensures some { IfSome result (λ log. IsReaderOn wire log ends.now) }
+{
+    for end in ends.iter() {
+        if end.wire == wire {
+            return Some(end.log);
+        }
+    }
+    None
+}
+
+/// The log for the next end of a wire: that of its other ends, or a new one.
+///
+/// # Errors
+///
+/// Only if memory is refused. Then nothing has changed.
+fn log_for(
+    logs: &mut Vec<WireLog>,
+    ends: &[End],
+    alloc: Global,
+    wire: usize,
+) -> Result<usize, AllocError>
+    requires there { (k : ℕ) → k < length ends.now → (end_at ends.now k).log < length logs.old.items }
+    requires one { (j k : ℕ) → j < length ends.now → k < length ends.now
+        → (end_at ends.now j).wire ≡ (end_at ends.now k).wire ↔ ((end_at ends.now j).log ≡ (end_at ends.now k).log) }
+    ensures ok { IfOk result (λ log. IsLogFor wire ends.now logs.new.items log) }
+    ensures kept { KeepsLogs logs.old.items logs.new.items }
+{
+    if let Some(log) = log_of(ends, wire) {
+        return Ok(log);
+    }
+    let log = logs.len();
+    logs.push(WireLog::new(alloc)?)?;
+    Ok(log)
+}
+
+/// Whether each other end of a wire has room for a frame more.
+fn others_have_room(ends: &[End], sender: usize, wire: usize) -> bool
+    ensures { IsTrue result ↔ OthersHaveRoom (length ends.now) sender wire ends.now }
+{
+    for (number, end) in ends.iter().enumerate() {
+        if number != sender && end.wire == wire && end.waiting >= END_FRAMES {
+            return false;
+        }
+    }
+    true
+}
+
+/// The end that read least of a log. The sender's end reads in this log.
+fn slowest(ends: &[End], log: usize, sender: usize) -> usize
+    requires there { IsReader log ends.now sender }
+    ensures { IsSlowest (length ends.now) log ends.now result }
+{
+    let mut reader = sender;
+    for number in 0..ends.len() {
+        if ends[number].log == log && ends[number].cursor < ends[reader].cursor {
+            reader = number;
+        }
+    }
+    reader
+}
+
+/// The least cursor in a log, of all ends but one. If there are no others, `most`.
+fn least_cursor(ends: &[End], log: usize, but: usize, most: usize) -> usize
+    ensures { IsLeastCursor (length ends.now) log but most ends.now result }
+{
+    let mut least = most;
+    for (number, end) in ends.iter().enumerate() {
+        if number != but && end.log == log && end.cursor < least {
+            least = end.cursor;
+        }
+    }
+    least
+}
+
+/// Sets the cursors in a log from which entries were dropped, this many. The slowest end had at most as many before its
+/// cursor, so it then reads from the front.
+fn move_cursors(ends: &mut [End], log: usize, dropped: usize)
+    ensures { (k : ℕ) → slice_get ends.new k ≡ option_map (moved_cursor log dropped) (slice_get ends.old k) }
+{
+    for number in 0..ends.len() {
+        if ends[number].log == log {
+            ends[number].cursor = ends[number].cursor.saturating_sub(dropped);
+        }
+    }
+}
+
+/// Makes room for an entry in a log. If it is full, it drops those entries for which no end waits.
+#[tactic(auto, using(crate::proofs::WireReaders::had_room, crate::proofs::WireReaders::in_order, crate::proofs::WireReaders::made_room))]
+fn make_room(ends: &mut [End], wire_log: &mut WireLog, log: usize, sender: usize)
+    requires there { IsReader log ends.old sender }
+    requires reads { (k : ℕ) (end : End) → slice_get ends.old k ≡ Some end → end.log ≡ log → ReadsLog wire_log.old k end }
+    ensures { MakesRoom log wire_log.old wire_log.new ends.old ends.new }
+{
+    let entries = wire_log.len();
+    if entries < LOG_ENTRIES {
+        return;
+    }
+    let reader = slowest(ends, log, sender);
+    let second = least_cursor(ends, log, reader, entries);
+    wire_log.close_up(reader, ends[reader].cursor, second);
+    move_cursors(ends, log, entries - wire_log.len());
+}
+
+/// A frame more waits at each end of a log but the sender's.
+fn count_waiting(ends: &mut [End], log: usize, sender: usize)
+    requires room { (k : ℕ) (end : End) → slice_get ends.old k ≡ Some end → k ≢ sender → end.log ≡ log
+        → end.waiting < END_FRAMES }
+    ensures { (k : ℕ) → slice_get ends.new k ≡ option_map (with_waiting log sender k) (slice_get ends.old k) }
+{
+    for number in 0..ends.len() {
+        if number != sender && ends[number].log == log {
+            ends[number].waiting += 1;
+        }
+    }
+}
+
+/// Puts a frame of a sender into a log: it waits at each other end that reads in the log.
+fn put_frame(ends: &mut [End], wire_log: &mut WireLog, log: usize, sender: usize, frame: &[u8])
+    requires there { IsReader log ends.old sender }
+    requires reads { (k : ℕ) (end : End) → slice_get ends.old k ≡ Some end → end.log ≡ log → ReadsLog wire_log.old k end }
+    requires room { (k : ℕ) (end : End) → slice_get ends.old k ≡ Some end → k ≢ sender → end.log ≡ log
+        → end.waiting < END_FRAMES }
+    requires fits { length frame.now ≤ longest_frame }
+    ensures { PutsFrame log sender frame.now wire_log.old wire_log.new ends.old ends.new }
+{
+    make_room(ends, wire_log, log, sender);
+    wire_log.append(sender, frame);
+    count_waiting(ends, log, sender);
 }
 
 impl Wires {
@@ -89,6 +193,7 @@ impl Wires {
         ensures { result ≡ [] }
     {
         Wires {
+            logs: Vec::new(alloc),
             ends: Vec::new(alloc),
         }
     }
@@ -97,14 +202,20 @@ impl Wires {
     ///
     /// # Errors
     ///
-    /// Want of memory alone; then nothing has changed.
+    /// Only if memory is refused. Then nothing has changed.
     pub(crate) fn connect(&mut self, alloc: Global, wire: usize) -> Result<(), AllocError>
         ensures connected { IfOk result (λ done. self.new ≡ self.old ++ record { wire = wire; line = [] } ∷ []) }
         ensures err { OnErr result (self.new ≡ self.old) }
     {
         self.ends.reserve(1)?;
-        let end = End::new(alloc, wire)?;
-        let _ = self.ends.push(end);
+        let log = log_for(&mut self.logs, self.ends.as_slice(), alloc, wire)?;
+        let cursor = self.logs[log].len();
+        let _ = self.ends.push(End {
+            wire,
+            log,
+            cursor,
+            waiting: 0,
+        });
         Ok(())
     }
 
@@ -120,24 +231,20 @@ impl Wires {
     pub(crate) fn have_room(&self, sender: usize, wire: usize) -> bool
         ensures { IsTrue result ↔ HaveRoom self.now sender wire }
     {
-        for (number, end) in self.ends.iter().enumerate() {
-            if number != sender && end.wire == wire && !end.has_room() {
-                return false;
-            }
-        }
-        true
+        others_have_room(self.ends.as_slice(), sender, wire)
     }
 
-    /// A sender puts a frame onto a wire: it waits at each other end, where there is room.
+    /// A sender puts a frame onto its wire: it waits at each other end, where there is room.
     pub(crate) fn put(&mut self, sender: usize, wire: usize, frame: &[u8])
+        requires there { sender < length self.old }
+        requires on { (end : EndState) → slice_get self.old sender ≡ Some end → wire ≡ end.wire }
         requires room { HaveRoom self.old sender wire }
         requires fits { length frame.now ≤ longest_frame }
         ensures { (k : ℕ) → slice_get self.new k
             ≡ option_map (with_line sender wire (frame.now ∷ []) k) (slice_get self.old k) }
     {
-        for number in 0..self.ends.len() {
-            self.ends[number].wait(number, sender, wire, frame);
-        }
+        let log = self.ends[sender].log;
+        put_frame(self.ends.as_mut_slice(), &mut self.logs[log], log, sender, frame);
     }
 
     /// The oldest frame that waits at a host's end, if there is one.
@@ -148,7 +255,8 @@ impl Wires {
             → IfSome result (λ frame. slice_get end.line 0 ≡ Some frame.now) }
         ensures fits { IfSome result (λ frame. length frame.now ≤ longest_frame) }
     {
-        self.ends[host].waiting.front()
+        let end = &self.ends[host];
+        self.logs[end.log].front(host, end.cursor)
     }
 
     /// The oldest frame that waits at a host's end is there no more.
@@ -157,6 +265,22 @@ impl Wires {
         ensures { (end : EndState) → slice_get self.old host ≡ Some end
             → self.new ≡ slice_set self.old host (record end { line = drop 1 end.line }) }
     {
-        self.ends[host].waiting.pop();
+        let end = &self.ends[host];
+        let Some(place) = self.logs[end.log].next(host, end.cursor) else {
+            return;
+        };
+        let end = &mut self.ends[host];
+        end.cursor = place + 1;
+        end.waiting -= 1;
+    }
+
+    /// The log of a host's wire.
+    pub(crate) fn log(&self, host: usize) -> &[(usize, Frame)]
+        requires there { host < length self.now }
+        ensures waits { (end : EndState) → slice_get self.now host ≡ Some end
+            → end.line ≡ last_of_others host (length end.line) result.now }
+        ensures most { length result.now ≤ log_entries }
+    {
+        self.logs[self.ends[host].log].as_slice()
     }
 }

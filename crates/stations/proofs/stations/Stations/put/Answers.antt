@@ -37,6 +37,14 @@ index_mut-requires g c =
     let host = c.args.host in
     omega (arith, below-machines ms es ss host c.self.view_is c.self.invariant.ends c.requires.there)
 
+pub put-requires-clause-there : goal.put-requires-clause-there
+put-requires-clause-there g c =
+    let ms = c.self.inside.machines.items in
+    let es = c.self.inside.wires in
+    let ss = c.args.self.now in
+    let host = c.args.host in
+    omega (arith, c.self.invariant.ends, below-machines ms es ss host c.self.view_is c.self.invariant.ends c.requires.there)
+
 pub returns-in_default : goal.returns-in_default
 returns-in_default g c =
     let ms = c.self.inside.machines.items in

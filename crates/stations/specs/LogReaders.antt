@@ -1,0 +1,79 @@
+-- What a put does to the ends that read in a log (our choice).
+use Rattle.std.specs.Prelude.{◌≡◌, ◌≢◌, ◌≤◌, ◌<◌, ◌-◌, ◌+◌, ◌⊎◌, ◌↔◌, ◌++◌, ◌==◌, ◌&&◌, not, ℕ, Some, List, [], ◌∷◌, drop, length, option_map, slice_get}
+use Rattle.std.specs.Prelude.{slice_index_or, if◌then◌else◌}
+use Rattle.stations.specs.Ends.{end_frames}
+use Rattle.stations.specs.WireLogs.{LogEntry, frames_of_others, log_entries}
+use Rattle.stations.specs.declared.wires.End.{End}
+
+abbrev pub end_at : List End → (k : ℕ) → End
+end_at ends k = slice_index_or ends k (record { wire = 0; log = 0; cursor = 0; waiting = 0 })
+
+-- the end at this place is there, and reads in this log
+pub record IsReader (log : ℕ) (ends : List End) (k : ℕ) : Type 0 where
+  pub there : k < length ends
+  pub reads : (end_at ends k).log ≡ log
+
+-- an end of this wire, which reads in this log
+pub record IsReaderOn (wire log : ℕ) (ends : List End) : Type 0 where
+  pub k : ℕ
+  pub is : IsReader log ends k
+  pub on : (end_at ends k).wire ≡ wire
+
+-- each end before this place that is of the wire, but the sender's, has room for a frame more
+abbrev pub OthersHaveRoom : (number sender wire : ℕ) → List End → Type 0
+OthersHaveRoom number sender wire ends =
+    (k : ℕ) → k < number → k ≢ sender → (end_at ends k).wire ≡ wire → (end_at ends k).waiting < end_frames
+
+-- the next end of a wire reads in this log: exactly the ends of the wire read in it
+pub record IsLogFor (wire : ℕ) (ends : List End) (logs : List (List LogEntry)) (log : ℕ) : Type 0 where
+  pub there : log < length logs
+  pub one : (k : ℕ) → k < length ends → (end_at ends k).wire ≡ wire ↔ ((end_at ends k).log ≡ log)
+
+-- Each log stays. There may be more.
+pub record KeepsLogs (old new : List (List LogEntry)) : Type 0 where
+  pub more : List (List LogEntry)
+  pub is : new ≡ old ++ more
+
+-- of the ends before this place that read in the log, it has read least
+pub record IsSlowest (number log : ℕ) (ends : List End) (reader : ℕ) : Type 0 where
+  pub is : IsReader log ends reader
+  pub least : (k : ℕ) → k < number → (end_at ends k).log ≡ log → (end_at ends reader).cursor ≤ (end_at ends k).cursor
+
+-- an end but this one that reads in the log, with this cursor
+pub record HasCursor (log but cursor : ℕ) (ends : List End) : Type 0 where
+  pub k : ℕ
+  pub is : IsReader log ends k
+  pub other : k ≢ but
+  pub at : (end_at ends k).cursor ≡ cursor
+
+-- the least cursor of the ends before this place that read in the log, but of one, at most this number
+pub record IsLeastCursor (number log but limit : ℕ) (ends : List End) (cursor : ℕ) : Type 0 where
+  pub most : cursor ≤ limit
+  pub least : (k : ℕ) → k < number → k ≢ but → (end_at ends k).log ≡ log → cursor ≤ (end_at ends k).cursor
+  pub found : (cursor ≡ limit) ⊎ HasCursor log but cursor ends
+
+-- A cursor in a log from which so many entries were dropped. If the end had fewer before its cursor, it then reads from the front.
+abbrev pub moved_cursor : (log dropped : ℕ) → End → End
+moved_cursor log dropped end = if end.log == log then record end { cursor = end.cursor - dropped } else end
+
+abbrev pub with_waiting : (log sender k : ℕ) → End → End
+with_waiting log sender k end =
+    if not (k == sender) && (end.log == log) then record end { waiting = end.waiting + 1 } else end
+
+-- There is room in a log for an entry. Each end that reads in it has still the same frames to read. The others don't change.
+pub record MakesRoom (log : ℕ) (before after : List LogEntry) (old new : List End) : Type 0 where
+  pub room : length after < log_entries
+  pub cursors : (k : ℕ) → End → ℕ
+  pub each : (k : ℕ) → slice_get new k ≡ option_map (λ (end : End). record end { cursor = cursors k end }) (slice_get old k)
+  pub others : (k : ℕ) (end : End) → end.log ≢ log → cursors k end ≡ end.cursor
+  pub below : (k : ℕ) (end : End) → slice_get old k ≡ Some end → end.log ≡ log → cursors k end ≤ length after
+  pub same : (k : ℕ) (end : End) → slice_get old k ≡ Some end → end.log ≡ log
+      → frames_of_others k (drop (cursors k end) after) ≡ frames_of_others k (drop end.cursor before)
+
+-- A frame is put into a log: once there is room, it is appended, and waits at each other end that reads in the log.
+pub record PutsFrame (log sender : ℕ) (frame : List ℕ) (before longer : List LogEntry) (old new : List End) : Type 0 where
+  pub after : List LogEntry
+  pub made : List End
+  pub makes : MakesRoom log before after old made
+  pub appended : longer ≡ after ++ (sender, frame) ∷ []
+  pub each : (k : ℕ) → slice_get new k ≡ option_map (with_waiting log sender k) (slice_get made k)

@@ -1,0 +1,126 @@
+// The log of a wire.
+
+ghost use Rattle.std.specs.Prelude.{◌≡◌, ◌+◌, ◌<◌, ◌≤◌, ◌↔◌, ◌∷◌, ◌++◌, [], IfOk, IfSome, IsNone, IsTrue, Some, drop, length, slice_get};
+ghost use Rattle.descriptors.specs.Frames.{longest_frame};
+ghost use Rattle.stations.specs.WireLogs.{closed_up, frame_at, frames_of_others, log_entries};
+
+use descriptors::Frame;
+use std::alloc::{AllocError, Global};
+use std::marker::Model;
+
+/// The most entries that the log of a wire has (our choice).
+pub const LOG_ENTRIES: usize = 1024;
+
+/// The log of a wire: the frames that hosts put on it, in order, each with the number of its sender.
+///
+/// Its memory is allocated when it is made. In contracts it is a list of `LogEntry`.
+#[derive(Drop)]
+pub(crate) struct WireLog {
+    entries: Vec<(usize, Frame)>,
+}
+
+impl Model for WireLog {
+    ghost use Rattle.std.specs.Prelude.{List};
+    ghost use Rattle.stations.specs.WireLogs.{LogEntry};
+
+    ghost Value = { List LogEntry };
+
+    ghost use Rattle.stations.specs.WiresView.{HasLogRoom};
+
+    ghost view = { λ log. log.entries.items };
+
+    ghost invariant = { HasLogRoom };
+}
+
+impl WireLog {
+    /// The log of a wire on which no frame was put.
+    ///
+    /// # Errors
+    ///
+    /// Only if memory is refused.
+    pub(crate) fn new(alloc: Global) -> Result<WireLog, AllocError>
+        ensures { IfOk result (λ log. log ≡ []) }
+    {
+        Ok(WireLog {
+            entries: Vec::with_capacity(alloc, LOG_ENTRIES)?,
+        })
+    }
+
+    /// The number of entries.
+    pub(crate) fn len(&self) -> usize
+        ensures value { result ≡ length self.now }
+        ensures most { result ≤ log_entries }
+    {
+        self.entries.len()
+    }
+
+    /// The entries, in the order in which their frames were put.
+    pub(crate) fn as_slice(&self) -> &[(usize, Frame)]
+        ensures value { result.now ≡ self.now }
+        ensures most { length result.now ≤ log_entries }
+    {
+        self.entries.as_slice()
+    }
+
+    /// Appends a frame of a sender. The log isn't full.
+    pub(crate) fn append(&mut self, sender: usize, frame: &[u8])
+        requires room { length self.old < log_entries }
+        requires fits { length frame.now ≤ longest_frame }
+        ensures { self.new ≡ self.old ++ (sender, frame.now) ∷ [] }
+    {
+        let _ = self.entries.push((sender, Frame::from_slice(frame)));
+    }
+
+    /// The place of the first frame from this place on that another host put.
+    pub(crate) fn next(&self, reader: usize, from: usize) -> Option<usize>
+        ensures none { IsNone result ↔ (frames_of_others reader (drop from self.now) ≡ []) }
+        ensures there { IfSome result (λ place. (from ≤ place) × (place < length self.now)) }
+        ensures most { IfSome result (λ place. place < log_entries) }
+        ensures first { IfSome result (λ place. frames_of_others reader (drop from self.now)
+            ≡ frame_at place self.now ∷ frames_of_others reader (drop (place + 1) self.now)) }
+    {
+        for place in from..self.entries.len() {
+            if self.entries[place].0 != reader {
+                return Some(place);
+            }
+        }
+        None
+    }
+
+    /// The frame at a place.
+    pub(crate) fn frame(&self, place: usize) -> &[u8]
+        requires there { place < length self.now }
+        ensures value { result.now ≡ frame_at place self.now }
+        ensures fits { length result.now ≤ longest_frame }
+    {
+        self.entries[place].1.as_slice()
+    }
+
+    /// The first frame from this place on that another host put, if there is one.
+    pub(crate) fn front(&self, reader: usize, from: usize) -> Option<&[u8]>
+        ensures none { IsNone result ↔ (frames_of_others reader (drop from self.now) ≡ []) }
+        ensures oldest { IfSome result (λ frame. slice_get (frames_of_others reader (drop from self.now)) 0
+            ≡ Some frame.now) }
+        ensures fits { IfSome result (λ frame. length frame.now ≤ longest_frame) }
+    {
+        let place = self.next(reader, from)?;
+        Some(self.frame(place))
+    }
+
+    /// Drops the entries for which no end waits: all before `first`, the cursor of the end that read least, and those
+    /// of that end's own host before `second`, the least cursor of the other ends.
+    pub(crate) fn close_up(&mut self, reader: usize, first: usize, second: usize)
+        requires order { first ≤ second }
+        requires there { second ≤ length self.old }
+        ensures { self.new ≡ closed_up reader first second self.old }
+    {
+        let mut kept = 0;
+        for place in first..self.entries.len() {
+            if place >= second || self.entries[place].0 != reader {
+                self.entries.swap(kept, place);
+                kept += 1;
+            }
+        }
+        self.entries.truncate(kept);
+    }
+}
