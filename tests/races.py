@@ -268,6 +268,11 @@ def wires(bench):
     row(bench, "a wire with 64 frames has no room", full, {"accepted": 65, "put": 64}, {})
     row(bench, "a wire has room after a delivery", full.does(["tick deliver:b", "tick txput:a", "tick txput:a"]), {"accepted": 65, "put": 65},
         {"reached": 1, "stored": 1})
+    waiting = [line for number in range(64) for line in [*send(frame(number)), "tick txtake:a", "tick txput:a"]]
+    last = [line for host in "abc" for line in [*send(one, host=host), f"tick txtake:{host}"]]
+    ends = Schedule().does(waiting, last, ["tick deliver:b"] * 64, ["tick txput:a", "tick txput:b", "tick txput:c"])
+    plays(bench, "races: a frame is put if every other end has room", TWO_HOSTS + third + "".join(f"{line}\n" for line in ends.lines).encode(),
+          told("a", accepted=65, put=64) + told("b", accepted=1, reached=64, stored=24, missed=40) + told("c", accepted=1, put=1), {})
 
 
 def inside(bench):

@@ -1,6 +1,7 @@
 -- A log that is closed up in place, and what each end reads in it.
-use Rattle.std.proofs.Common.{◌≡◌, ◌≢◌, ◌<◌, ◌≤◌, ◌+◌, ◌-◌, ◌==◌, not, Bool, true, false, ℕ, suc, List, [], ◌∷◌, ◌++◌, drop, take, length, map}
-use Rattle.std.proofs.Common.{slice_index_or, slice_set, if◌then◌else◌, inl, inr, refl, sym, ap, ◌∙◌, arith, append_assoc, append-nil, length-append}
+use Rattle.std.proofs.Common.{◌≡◌, ◌≢◌, ◌<◌, ◌≤◌, ◌+◌, ◌-◌, not, Bool, true, false, ℕ, suc, List, [], ◌∷◌, ◌++◌, drop, take, length, map}
+use Rattle.std.proofs.Common.{slice_index_or, slice_set, if◌then◌else◌, inl, inr, refl, sym, ap, ◌∙◌, arith}
+use Rattle.std.proofs.Common.{append_assoc, append-nil, length-append}
 use Rattle.std.specs.Prelude.{filter}
 use Rattle.std.specs.List.{SwappedAt}
 use Rattle.std.proofs.lemmas.List.{take_all, take_more, take-set-le, drop-append-le, drop_more, drop-set-lt, length-drop, length-set}
@@ -74,7 +75,8 @@ module _ (r f s : ℕ) (xs ys : List LogEntry) (k i : ℕ) (h : ClosesUp r f s x
   is = get_or_default ys i (0, []) x below
 
   both : x ∷ drop (i + 1) ys ≡ slice_index_or xs i x ∷ drop (i + 1) xs
-  both = ap (λ (y : LogEntry). y ∷ drop (i + 1) ys) is ∙ sym (drop_more ys i x below) ∙ h.rest ∙ drop_more xs i x (omega (arith, h.long, below))
+  both = ap (λ (y : LogEntry). y ∷ drop (i + 1) ys) is ∙ sym (drop_more ys i x below) ∙ h.rest
+      ∙ drop_more xs i x (omega (arith, h.long, below))
 
   same : slice_index_or xs i x ≡ x
   same = sym (ap (λ (l : List LogEntry). slice_index_or l 0 x) both)
@@ -213,7 +215,9 @@ module _ (r f s : ℕ) (xs : List LogEntry) (order : f ≤ s) (there : s ≤ len
       ∙ ap (λ (l : List LogEntry). middle ++ l) (drop-drop (s - f) f xs ∙ ap (λ (n : ℕ). drop n xs) on)
 
   pub few : length kept ≤ s - f
-  few = omega (arith, length-filter_both (is_of_other r) (λ (e : LogEntry). not (is_of_other r e)) (λ (e : LogEntry). refl) middle, length-take (s - f) (drop f xs))
+  few =
+      let both = length-filter_both (is_of_other r) (λ (e : LogEntry). not (is_of_other r e)) (λ (e : LogEntry). refl) middle in
+      omega (arith, both, length-take (s - f) (drop f xs))
 
   pub long : length (closed_up r f s xs) ≡ length kept + (length xs - s)
   long = length-append kept (drop s xs) ∙ ap (λ (n : ℕ). length kept + n) (length-drop s xs)
@@ -246,6 +250,6 @@ module _ (r f s : ℕ) (xs : List LogEntry) (order : f ≤ s) (there : s ≤ len
       ≡ length (filter (is_of_other r) (drop f xs)) + length (drop s xs)
   kept-waits =
       let whole = ap (λ (l : List LogEntry). length (filter (is_of_other r) l)) parts
-          ∙ ap (λ (l : List LogEntry). length l) (filter-append (is_of_other r) middle (drop s xs))
-          ∙ length-append kept (filter (is_of_other r) (drop s xs)) in
+      ∙ ap (λ (l : List LogEntry). length l) (filter-append (is_of_other r) middle (drop s xs))
+      ∙ length-append kept (filter (is_of_other r) (drop s xs)) in
       omega (arith, whole, length-append kept (drop s xs))

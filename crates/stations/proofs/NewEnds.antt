@@ -1,16 +1,16 @@
 -- A new end of a wire.
-use Rattle.std.proofs.Common.{◌≡◌, ◌<◌, ◌≤◌, ◌+◌, ◌⊎◌, ◌↔◌, zero, suc, ℕ, List, Option, Some, None, [], ◌∷◌, ◌++◌, length, drop}
-use Rattle.std.proofs.Common.{option_map, slice_get, slice_index_or, inl, inr, refl, sym, ap, ◌∙◌, subst, arith, length-append}
+use Rattle.std.proofs.Common.{◌≡◌, ◌+◌, ◌⊎◌, ◌↔◌, zero, suc, ℕ, List, Option, Some, None, [], ◌∷◌, ◌++◌, length, drop}
+use Rattle.std.proofs.Common.{option_map, slice_get, inl, inr, refl, sym, ap, ◌∙◌, subst, arith, length-append}
 use Rattle.std.specs.Prelude.{Err, Ok, OnErr, Result}
 use Rattle.std.proofs.lemmas.Option.{same_Some, slice_get_within}
 use Rattle.std.proofs.Math.ListN.{drop_of_length-le}
 use Rattle.stations.specs.Ends.{EndState}
-use Rattle.stations.specs.LogReaders.{IsLogFor, end_at}
+use Rattle.stations.specs.LogReaders.{IsLogFor}
 use Rattle.stations.specs.WireLogs.{LogEntry, frames_of_others}
 use Rattle.stations.specs.WiresView.{HaveLogs, ReadsLog, end_of, ends_from, log_of}
 use Rattle.stations.specs.declared.wires.End.{End}
 use Rattle.stations.proofs.Places.{same-places}
-use Rattle.stations.proofs.WireChanges.{still-logs}
+use Rattle.stations.proofs.WireChanges.{line_at, still-logs}
 use Rattle.stations.proofs.WireEnds.{get-end, log-more}
 use Rattle.stations.proofs.WireReaders.{is-end_at}
 
@@ -36,7 +36,7 @@ module _ (logs more : List (List LogEntry)) (es : List End) (have : HaveLogs log
       at : (k : ℕ) (o : Option End) → slice_get es k ≡ o → option_map (end_of (logs ++ more) k) o ≡ option_map (end_of logs k) o
       at k None is = refl
       at k (Some end) is =
-          ap (λ (l : List LogEntry). Some (let s : EndState = record { wire = end.wire; line = frames_of_others k (drop end.cursor l) } in s))
+          ap (λ (l : List LogEntry). Some (line_at end.wire (frames_of_others k (drop end.cursor l))))
           (log-more logs more end (have.there k end is))
 
 -- The next end.
@@ -57,7 +57,8 @@ append-shown logs n (e ∷ es) new =
     (append-shown logs (suc n) es new ∙ ap (λ (k : ℕ). ends_from logs (suc n) es ++ end_of logs k new ∷ []) same)
 
 module _ (logs : List (List LogEntry)) (es : List End) (have : HaveLogs logs es) (wire log : ℕ) (is_for : IsLogFor wire es logs log)
-    (new : End) (on : new.wire ≡ wire) (reads : new.log ≡ log) (at_end : new.cursor ≡ length (log_of logs new)) (none : new.waiting ≡ 0) where
+    (new : End) (on : new.wire ≡ wire) (reads : new.log ≡ log) (at_end : new.cursor ≡ length (log_of logs new))
+    (none : new.waiting ≡ 0) where
   nothing : drop new.cursor (log_of logs new) ≡ []
   nothing = drop_of_length-le (log_of logs new) (omega (arith, at_end))
 
@@ -78,14 +79,16 @@ module _ (logs : List (List LogEntry)) (es : List End) (have : HaveLogs logs es)
     one = λ j k d e of_d of_e. elim (from-append es new j d of_d) [
       | inl old ↦ elim (from-append es new k e of_e) [
         | inl other ↦ have.one j k d e old other
-        | inr same ↦ (let one = old-new j d old in
-          (λ wires. one.0 (wires ∙ ap (λ (x : End). x.wire) same) ∙ sym (ap (λ (x : End). x.log) same),
-          λ logs'. one.1 (logs' ∙ ap (λ (x : End). x.log) same) ∙ sym (ap (λ (x : End). x.wire) same)))
+        | inr same ↦ (let one = old-new j d old in (
+          λ wires. one.0 (wires ∙ ap (λ (x : End). x.wire) same) ∙ sym (ap (λ (x : End). x.log) same),
+          λ logs'. one.1 (logs' ∙ ap (λ (x : End). x.log) same) ∙ sym (ap (λ (x : End). x.wire) same),
+        ))
       ]
       | inr same ↦ elim (from-append es new k e of_e) [
-        | inl old ↦ (let one = old-new k e old in
-          (λ wires. ap (λ (x : End). x.log) same ∙ sym (one.0 (sym wires ∙ ap (λ (x : End). x.wire) same)),
-          λ logs'. ap (λ (x : End). x.wire) same ∙ sym (one.1 (sym logs' ∙ ap (λ (x : End). x.log) same))))
+        | inl old ↦ (let one = old-new k e old in (
+          λ wires. ap (λ (x : End). x.log) same ∙ sym (one.0 (sym wires ∙ ap (λ (x : End). x.wire) same)),
+          λ logs'. ap (λ (x : End). x.wire) same ∙ sym (one.1 (sym logs' ∙ ap (λ (x : End). x.log) same)),
+        ))
         | inr other ↦ (λ wires. ap (λ (x : End). x.log) (same ∙ sym other), λ logs'. ap (λ (x : End). x.wire) (same ∙ sym other))
       ]
     ];
@@ -94,9 +97,10 @@ module _ (logs : List (List LogEntry)) (es : List End) (have : HaveLogs logs es)
       old-new : (k : ℕ) (end : End) → slice_get es k ≡ Some end → end.wire ≡ new.wire ↔ (end.log ≡ new.log)
       old-new k end is =
           let at = is-end_at es k end is in
-          let one = is_for.one k (slice_get_within es k end is) in
-          (λ wires. sym (ap (λ (x : End). x.log) at) ∙ one.0 (ap (λ (x : End). x.wire) at ∙ wires ∙ on) ∙ sym reads,
-          λ logs'. sym (ap (λ (x : End). x.wire) at) ∙ one.1 (ap (λ (x : End). x.log) at ∙ logs' ∙ reads) ∙ sym on)
+          let one = is_for.one k (slice_get_within es k end is) in (
+            λ wires. sym (ap (λ (x : End). x.log) at) ∙ one.0 (ap (λ (x : End). x.wire) at ∙ wires ∙ on) ∙ sym reads,
+            λ logs'. sym (ap (λ (x : End). x.wire) at) ∙ one.1 (ap (λ (x : End). x.log) at ∙ logs' ∙ reads) ∙ sym on,
+          )
 
   pub connected-shown : ends_from logs 0 (es ++ new ∷ []) ≡ ends_from logs 0 es ++ record { wire = wire; line = [] } ∷ []
   connected-shown =

@@ -1,13 +1,15 @@
 -- What a put, a delivery and a new end leave of the ends of wires.
-use Rattle.std.proofs.Common.{◌≡◌, ◌≢◌, ◌<◌, ◌≤◌, ◌+◌, ◌-◌, ◌==◌, ◌&&◌, ◌↔◌, not, Bool, true, false, ℕ, List, Option, Some, None, [], ◌∷◌, ◌++◌, length, drop, map, take}
-use Rattle.std.proofs.Common.{if◌then◌else◌, option_map, slice_get, slice_set, slice_index_or, inl, inr, refl, sym, ap, ◌∙◌, subst, arith, append-nil, length-append}
+use Rattle.std.proofs.Common.{◌≡◌, ◌≢◌, ◌<◌, ◌≤◌, ◌+◌, ◌-◌, ◌==◌, ◌&&◌, not, Bool, true, false, ℕ, List, Option, Some, None}
+use Rattle.std.proofs.Common.{[], ◌∷◌, ◌++◌, length, drop, map, take}
+use Rattle.std.proofs.Common.{if◌then◌else◌, option_map, slice_get, slice_set, slice_index_or, inl, inr, refl, sym, ap, ◌∙◌, subst, arith}
+use Rattle.std.proofs.Common.{append-nil, length-append}
 use Rattle.std.proofs.lemmas.Bool.Decides.{eqb_tells}
 use Rattle.std.proofs.lemmas.List.{get_or_default, length-set, take_all}
 use Rattle.std.proofs.Math.ListN.{drop_of_length-le}
 use Rattle.std.proofs.lemmas.Option.{same_Some, slice_get_within}
 use Rattle.circular_buffer.proofs.Places.{slice_get-set_other, slice_get-set_same}
 use Rattle.stations.specs.Ends.{EndState, HaveRoom, with_line}
-use Rattle.stations.specs.LogReaders.{IsReader, MakesRoom, PutsFrame, end_at, with_waiting}
+use Rattle.stations.specs.LogReaders.{IsReader, MakesRoom, PutsFrame, with_waiting}
 use Rattle.stations.specs.WireLogs.{LogEntry, frame_at, frames_of_others}
 use Rattle.stations.specs.WiresView.{HaveLogs, ReadsLog, end_of, ends_from, log_of, unread}
 use Rattle.stations.specs.declared.wires.End.{End}
@@ -18,11 +20,15 @@ use Rattle.stations.proofs.WireEnds.{get-end, has-end, log-set_other, log-set_sa
 use Rattle.stations.proofs.WireReaders.{is-end_at}
 use Rattle.stations.proofs.Spreading.{same-length}
 
+-- an end of this wire, at which these frames wait
+abbrev pub line_at : ℕ → List (List ℕ) → EndState
+line_at wire frames = record { wire = wire; line = frames }
+
 equal : (a b : ℕ) → a ≡ b → (a == b) ≡ true
-equal a b is = elim (eqb_tells a b) [ | inl same ↦ same.0 | inr differs ↦ absurd (differs.1 is) ]
+equal a b is = elim (eqb_tells a b) [ inl same ↦ same.0 | inr differs ↦ absurd (differs.1 is) ]
 
 differ : (a b : ℕ) → a ≢ b → (a == b) ≡ false
-differ a b other = elim (eqb_tells a b) [ | inl same ↦ absurd (other same.1) | inr differs ↦ differs.0 ]
+differ a b other = elim (eqb_tells a b) [ inl same ↦ absurd (other same.1) | inr differs ↦ differs.0 ]
 
 -- Where each end comes from.
 
@@ -42,9 +48,10 @@ still-logs logs logs' es es' have more each = record {
   one = λ j k d e of_d of_e.
       let one = each j d of_d in
       let two = each k e of_e in
-      let was = have.one j k one.old two.old one.was two.was in
-      (λ same. one.log ∙ was.0 (sym one.wire ∙ same ∙ two.wire) ∙ sym two.log,
-      λ same. one.wire ∙ was.1 (sym one.log ∙ same ∙ two.log) ∙ sym two.wire);
+      let was = have.one j k one.old two.old one.was two.was in (
+        λ same. one.log ∙ was.0 (sym one.wire ∙ same ∙ two.wire) ∙ sym two.log,
+        λ same. one.wire ∙ was.1 (sym one.log ∙ same ∙ two.log) ∙ sym two.wire,
+      );
 }
 
 pub no-change : (logs : List (List LogEntry)) (es : List End) → HaveLogs logs es → (k : ℕ) (end : End) → slice_get es k ≡ Some end
@@ -60,7 +67,8 @@ module _ (logs : List (List LogEntry)) (es : List End) (host : ℕ) (e : End) (h
       (λ k. get-end logs (slice_set es host new) k ∙ elim (eqb_tells k host) [
         | inl same ↦ rw (same.1) (ap (option_map (end_of logs host)) (slice_get-set_same es host new (slice_get_within es host e has))
             ∙ sym (slice_get-set_same (ends_from logs 0 es) host (end_of logs host new)
-            (slice_get_within (ends_from logs 0 es) host (end_of logs host e) (get-end logs es host ∙ ap (option_map (end_of logs host)) has))))
+            (slice_get_within (ends_from logs 0 es) host (end_of logs host e)
+            (get-end logs es host ∙ ap (option_map (end_of logs host)) has))))
         | inr differs ↦ ap (option_map (end_of logs k)) (slice_get-set_other es host k new differs.1)
             ∙ sym (get-end logs es k)
             ∙ sym (slice_get-set_other (ends_from logs 0 es) host k (end_of logs host new) differs.1)
@@ -69,8 +77,8 @@ module _ (logs : List (List LogEntry)) (es : List End) (host : ℕ) (e : End) (h
   pub set-logs : HaveLogs logs es → ReadsLog (log_of logs e) host new → HaveLogs logs (slice_set es host new)
   set-logs have reads = still-logs logs logs es (slice_set es host new) have (omega arith) (λ k end is. elim (eqb_tells k host) [
     | inl same ↦ (let at : end ≡ new =
-          same_Some end new (sym is ∙ ap (slice_get (slice_set es host new)) same.1
-          ∙ slice_get-set_same es host new (slice_get_within es host e has)) in
+        same_Some end new (sym is ∙ ap (slice_get (slice_set es host new)) same.1
+        ∙ slice_get-set_same es host new (slice_get_within es host e has)) in
         record {
           old = e;
           was = ap (slice_get es) same.1 ∙ has;
@@ -85,8 +93,10 @@ module _ (logs : List (List LogEntry)) (es : List End) (host : ℕ) (e : End) (h
 
 -- A put.
 
-waits-yes : (log sender k : ℕ) (end : End) → k ≢ sender → end.log ≡ log → with_waiting log sender k end ≡ record end { waiting = end.waiting + 1 }
-waits-yes log sender k end other on = ap (λ (b : Bool). if not b && (end.log == log) then record end { waiting = end.waiting + 1 } else end) (differ k sender other)
+waits-yes : (log sender k : ℕ) (end : End) → k ≢ sender → end.log ≡ log
+    → with_waiting log sender k end ≡ record end { waiting = end.waiting + 1 }
+waits-yes log sender k end other on =
+    ap (λ (b : Bool). if not b && (end.log == log) then record end { waiting = end.waiting + 1 } else end) (differ k sender other)
     ∙ ap (λ (b : Bool). if b then record end { waiting = end.waiting + 1 } else end) (equal end.log log on)
 
 waits-own : (log sender k : ℕ) (end : End) → k ≡ sender → with_waiting log sender k end ≡ end
@@ -167,22 +177,32 @@ module _ (logs : List (List LogEntry)) (es : List End) (have : HaveLogs logs es)
       let e' : End = record end { cursor = puts.makes.cursors k end; waiting = n } in
       let log : log_of logs-put e' ≡ longer = log-set_same logs s.log longer e' there on in
       let line : frames_of_others k (drop e'.cursor longer) ≡ unread logs k end ++ added =
-          reads-more k end is on ∙ ap (λ (frames : List (List ℕ)). unread logs k end ++ frames) what in
+      reads-more k end is on ∙ ap (λ (frames : List (List ℕ)). unread logs k end ++ frames) what in
       let old = have.reads k end is in
       let reads : ReadsLog longer k e' = record {
-          cursor = omega (arith, puts.makes.below k end is on, length-append puts.after ((sender, frame) ∷ []),
-              ap (λ (l : List LogEntry). length l) puts.appended);
-          counts = omega (arith, count, old.counts, ap (λ (frames : List (List ℕ)). length frames) line,
-              length-append (unread logs k end) added);
-          most = most;
-        } in
+        cursor = omega (
+          arith,
+          puts.makes.below k end is on,
+          length-append puts.after ((sender, frame) ∷ []),
+          ap (λ (l : List LogEntry). length l) puts.appended,
+        );
+        counts = omega (
+          arith,
+          count,
+          old.counts,
+          ap (λ (frames : List (List ℕ)). length frames) line,
+          length-append (unread logs k end) added,
+        );
+        most = most;
+      } in
       record {
         wire = ap (λ (x : End). x.wire) at;
         log = ap (λ (x : End). x.log) at;
-        reads = subst (λ (x : End). ReadsLog (log_of logs-put x) k x) (sym at) (subst (λ (l : List LogEntry). ReadsLog l k e') (sym log) reads);
+        reads = subst (λ (x : End). ReadsLog (log_of logs-put x) k x) (sym at)
+            (subst (λ (l : List LogEntry). ReadsLog l k e') (sym log) reads);
         shows = ap (end_of logs-put k) at
-            ∙ ap (λ (l : List LogEntry). let end : EndState = record { wire = e'.wire; line = frames_of_others k (drop e'.cursor l) } in end) log
-            ∙ ap (λ (frames : List (List ℕ)). let end : EndState = record { wire = e'.wire; line = frames } in end) line
+            ∙ ap (λ (l : List LogEntry). line_at e'.wire (frames_of_others k (drop e'.cursor l))) log
+            ∙ ap (λ (frames : List (List ℕ)). line_at e'.wire frames) line
             ∙ sym shown;
       }
 
@@ -190,8 +210,8 @@ module _ (logs : List (List LogEntry)) (es : List End) (have : HaveLogs logs es)
   put-off : (k : ℕ) (end : End) → slice_get es k ≡ Some end → end.log ≢ s.log → PutAt k end
   put-off k end is off =
       let at : end-put k end ≡ end =
-          waits-off s.log sender k (record end { cursor = puts.makes.cursors k end }) off
-          ∙ ap (λ (n : ℕ). let e : End = record end { cursor = n } in e) (puts.makes.others k end off) in
+      waits-off s.log sender k (record end { cursor = puts.makes.cursors k end }) off
+      ∙ ap (λ (n : ℕ). let e : End = record end { cursor = n } in e) (puts.makes.others k end off) in
       let log : log_of logs-put end ≡ log_of logs end = log-set_other logs s.log longer end off in
       record {
         wire = ap (λ (x : End). x.wire) at;
@@ -199,7 +219,7 @@ module _ (logs : List (List LogEntry)) (es : List End) (have : HaveLogs logs es)
         reads = subst (λ (x : End). ReadsLog (log_of logs-put x) k x) (sym at)
             (subst (λ (l : List LogEntry). ReadsLog l k end) (sym log) (have.reads k end is));
         shows = ap (end_of logs-put k) at
-            ∙ ap (λ (l : List LogEntry). let end : EndState = record { wire = end.wire; line = frames_of_others k (drop end.cursor l) } in end) log
+            ∙ ap (λ (l : List LogEntry). line_at end.wire (frames_of_others k (drop end.cursor l))) log
             ∙ sym (line-off sender s.wire (frame ∷ []) k (end_of logs k end) (λ on. off ((have.one k sender end s is has).0 on)));
       }
 
@@ -210,7 +230,7 @@ module _ (logs : List (List LogEntry)) (es : List End) (have : HaveLogs logs es)
           (waits-own s.log sender k (record end { cursor = puts.makes.cursors k end }) same.1)
           (omega arith) (have.reads k end is).most (read-own k same.1)
           (line-own sender s.wire (frame ∷ []) k (end_of logs k end) same.1
-          ∙ ap (λ (frames : List (List ℕ)). let e : EndState = record { wire = end.wire; line = frames } in e) (sym (append-nil (unread logs k end))))
+          ∙ ap (λ (frames : List (List ℕ)). line_at end.wire frames) (sym (append-nil (unread logs k end))))
       | inr differs ↦ (let of_wire = (have.one k sender end s is has).1 on.1 in
           put-on k end is on.1 (end.waiting + 1) (frame ∷ [])
           (waits-yes s.log sender k (record end { cursor = puts.makes.cursors k end }) differs.1 on.1)
@@ -223,7 +243,8 @@ module _ (logs : List (List LogEntry)) (es : List End) (have : HaveLogs logs es)
   pub of-each : (k : ℕ) → slice_get new k ≡ option_map (end-put k) (slice_get es k)
   of-each k = puts.each k ∙ ap (option_map (with_waiting s.log sender k)) (puts.makes.each k) ∙ twice (slice_get es k)
     where
-      twice : (o : Option End) → option_map (with_waiting s.log sender k) (option_map (λ (end : End). record end { cursor = puts.makes.cursors k end }) o)
+      twice : (o : Option End) → option_map (with_waiting s.log sender k)
+          (option_map (λ (end : End). record end { cursor = puts.makes.cursors k end }) o)
           ≡ option_map (end-put k) o
       twice None = refl
       twice (Some end) = refl
@@ -297,11 +318,13 @@ module _ (logs : List (List LogEntry)) (es : List End) (ss : List EndState) (sho
   pub puts-reads : (log : List LogEntry) → log ≡ slice_index_or logs e.log log → (k : ℕ) (end : End) → slice_get es k ≡ Some end
       → end.log ≡ e.log → ReadsLog log k end
   puts-reads log found k end at on =
-      subst (λ (l : List LogEntry). ReadsLog l k end) (ap (λ (n : ℕ). slice_index_or logs n []) on ∙ sym (found-log log found)) (have.reads k end at)
+      subst (λ (l : List LogEntry). ReadsLog l k end)
+      (ap (λ (n : ℕ). slice_index_or logs n []) on ∙ sym (found-log log found)) (have.reads k end at)
 
   pub its-wire : (wire : ℕ) → ((end : EndState) → slice_get ss sender ≡ Some end → wire ≡ end.wire) → wire ≡ e.wire
   its-wire wire on = on (end_of logs sender e)
-      (ap (λ (l : List EndState). slice_get l sender) (sym shown) ∙ get-end logs es sender ∙ ap (option_map (end_of logs sender)) has-sender)
+      (ap (λ (l : List EndState). slice_get l sender) (sym shown) ∙ get-end logs es sender
+      ∙ ap (option_map (end_of logs sender)) has-sender)
 
   pub puts-room : (wire : ℕ) → ((end : EndState) → slice_get ss sender ≡ Some end → wire ≡ end.wire) → HaveRoom ss sender wire
       → (k : ℕ) (end : End) → slice_get es k ≡ Some end → k ≢ sender → end.wire ≡ e.wire → end.waiting < 64

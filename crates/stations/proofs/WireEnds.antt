@@ -1,16 +1,16 @@
 -- The ends of wires as plain data, by their places in the logs.
-use Rattle.std.proofs.Common.{◌≡◌, ◌≢◌, ◌<◌, ◌≤◌, ◌+◌, ◌-◌, ◌==◌, ◌↔◌, zero, suc, Bool, true, false, ℕ, List, Option, Some, None, [], ◌∷◌, ◌++◌, length, length-append, drop, take}
-use Rattle.std.proofs.Common.{if◌then◌else◌, option_map, slice_get, slice_set, slice_index_or, inl, inr, refl, sym, ap, ◌∙◌, subst, arith}
-use Rattle.std.proofs.lemmas.List.{get_or-set_other, get_or-set_same, get_or_append_left, get_or_default, take-append-drop, drop-append-le}
+use Rattle.std.proofs.Common.{◌≡◌, ◌≢◌, ◌<◌, ◌+◌, ◌-◌, ◌↔◌, zero, suc, ℕ, List, Some, [], ◌∷◌, ◌++◌, length, length-append, drop, take}
+use Rattle.std.proofs.Common.{option_map, slice_get, slice_set, slice_index_or, refl, sym, ap, ◌∙◌, arith}
+use Rattle.std.proofs.lemmas.List.{get_or-set_other, get_or-set_same, get_or_append_left, get_or_default, take-append-drop}
 use Rattle.std.proofs.lemmas.Option.{same_Some, slice_get-get_or, slice_get_within}
 use Rattle.std.proofs.Math.Seq.{drop-append-add}
 use Rattle.stations.specs.Ends.{EndState, HaveRoom}
 use Rattle.stations.specs.LogReaders.{OthersHaveRoom, end_at}
 use Rattle.stations.specs.WireLogs.{LogEntry, frames_of_others, last_of_others}
-use Rattle.stations.specs.WiresView.{HaveLogs, ReadsLog, end_of, ends_from, log_of, unread}
+use Rattle.stations.specs.WiresView.{HaveLogs, ReadsLog, end_of, ends_from, log_of}
 use Rattle.stations.specs.declared.wires.End.{End}
 use Rattle.stations.proofs.ClosedLogs.{frames-append}
-use Rattle.stations.proofs.WireReaders.{has-end_at, is-end_at}
+use Rattle.stations.proofs.WireReaders.{has-end_at}
 
 get-from : (logs : List (List LogEntry)) (n : ℕ) (es : List End) (k : ℕ)
     → slice_get (ends_from logs n es) k ≡ option_map (end_of logs (n + k)) (slice_get es k)
@@ -22,7 +22,9 @@ get-from logs n (e ∷ es) (suc k) =
 
 pub get-end : (logs : List (List LogEntry)) (es : List End) (k : ℕ)
     → slice_get (ends_from logs 0 es) k ≡ option_map (end_of logs k) (slice_get es k)
-get-end logs es k = get-from logs 0 es k ∙ ap (λ (m : ℕ). option_map (end_of logs m) (slice_get es k)) (let same : 0 + k ≡ k = omega arith in same)
+get-end logs es k =
+    let same : 0 + k ≡ k = omega arith in
+    get-from logs 0 es k ∙ ap (λ (m : ℕ). option_map (end_of logs m) (slice_get es k)) same
 
 length-from : (logs : List (List LogEntry)) (n : ℕ) (es : List End) → length (ends_from logs n es) ≡ length es
 length-from logs n [] = refl
@@ -35,7 +37,8 @@ module _ (logs : List (List LogEntry)) (es : List End) (ss : List EndState) (sho
   pub has-end : (host : ℕ) (e : End) → host < length ss → e ≡ slice_index_or es host e → slice_get es host ≡ Some e
   has-end host e below is = slice_get-get_or es host e (omega (arith, length_ends, below)) ∙ ap (λ (x : End). Some x) (sym is)
 
-  pub shows-end : (host : ℕ) (e : End) (end : EndState) → slice_get es host ≡ Some e → slice_get ss host ≡ Some end → end_of logs host e ≡ end
+  pub shows-end : (host : ℕ) (e : End) (end : EndState) → slice_get es host ≡ Some e → slice_get ss host ≡ Some end
+      → end_of logs host e ≡ end
   shows-end host e end has is =
       same_Some (end_of logs host e) end
       (ap (option_map (end_of logs host)) (sym has) ∙ sym (get-end logs es host)
@@ -74,7 +77,7 @@ module _ (logs : List (List LogEntry)) (es : List End) (ss : List EndState) (sho
           let e = end_at es k in
           let has = has-end_at es k below in
           let is : slice_get ss k ≡ Some (end_of logs k e) =
-              ap (λ (l : List EndState). slice_get l k) (sym shown) ∙ get-end logs es k ∙ ap (option_map (end_of logs k)) has in
+          ap (λ (l : List EndState). slice_get l k) (sym shown) ∙ get-end logs es k ∙ ap (option_map (end_of logs k)) has in
           let counts = (reads k e has).counts in
           let free = room k (end_of logs k e) is other on in
           omega (arith, free, counts)
@@ -86,9 +89,9 @@ waits-last log k cursor =
     let earlier = frames_of_others k (take cursor log) in
     let waiting = frames_of_others k (drop cursor log) in
     let all : frames_of_others k log ≡ earlier ++ waiting =
-        ap (frames_of_others k) (sym (take-append-drop cursor log)) ∙ frames-append k (take cursor log) (drop cursor log) in
+    ap (frames_of_others k) (sym (take-append-drop cursor log)) ∙ frames-append k (take cursor log) (drop cursor log) in
     let count : length (frames_of_others k log) - length waiting ≡ length earlier + 0 =
-        omega (arith, ap (λ (l : List (List ℕ)). length l) all, length-append earlier waiting) in
+    omega (arith, ap (λ (l : List (List ℕ)). length l) all, length-append earlier waiting) in
     ap (λ (n : ℕ). drop n (frames_of_others k log)) count
     ∙ ap (drop (length earlier + 0)) all
     ∙ drop-append-add earlier waiting 0

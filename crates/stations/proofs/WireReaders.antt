@@ -1,12 +1,11 @@
 -- Room in a log: what is kept, and the cursors that are set.
-use Rattle.std.proofs.Common.{◌≡◌, ◌≢◌, ◌<◌, ◌≤◌, ◌+◌, ◌-◌, ◌==◌, ◌⊎◌, Bool, true, false, ℕ, List, Option, Some, None, [], length, drop, map}
+use Rattle.std.proofs.Common.{◌≡◌, ◌≢◌, ◌<◌, ◌≤◌, ◌-◌, ◌==◌, Bool, true, false, ℕ, List, Option, Some, None, [], length, drop}
 use Rattle.std.proofs.Common.{if◌then◌else◌, option_map, slice_get, inl, inr, refl, sym, ap, ◌∙◌, subst, arith}
 use Rattle.std.specs.Prelude.{filter}
-use Rattle.std.proofs.lemmas.Bool.{cases_lt}
 use Rattle.std.proofs.lemmas.Bool.Decides.{eqb_tells}
 use Rattle.std.proofs.lemmas.List.{length-drop, length-map}
 use Rattle.std.proofs.lemmas.Option.{same_Some, slice_get-get_or, slice_get_within}
-use Rattle.stations.specs.LogReaders.{HasCursor, IsLeastCursor, IsReader, IsSlowest, MakesRoom, end_at, moved_cursor}
+use Rattle.stations.specs.LogReaders.{IsLeastCursor, IsReader, IsSlowest, MakesRoom, end_at, moved_cursor}
 use Rattle.stations.specs.WireLogs.{LogEntry, closed_up, frames_of_others, is_of_other, log_entries}
 use Rattle.stations.specs.WiresView.{ReadsLog}
 use Rattle.stations.specs.declared.wires.End.{End}
@@ -70,8 +69,9 @@ module _ (log : ℕ) (before : List LogEntry) (ends : List End) (reader second :
       let own = waits-at reader slow.is in
       elim next.found [
         | inl none ↦ (omega (arith, waits, own, none, length-drop second before))
-        | inr other ↦ (let theirs = subst (λ (n : ℕ). length (filter (is_of_other other.k) (drop n before)) ≤ 64) other.at (waits-at other.k other.is) in
-          omega (arith, waits, own, theirs, two-read reader other.k (λ same. other.other (sym same)) (drop second before)))
+        | inr other ↦ (let count = λ (n : ℕ). length (filter (is_of_other other.k) (drop n before)) ≤ 64 in
+            let theirs = subst count other.at (waits-at other.k other.is) in
+            omega (arith, waits, own, theirs, two-read reader other.k (λ same. other.other (sym same)) (drop second before)))
       ]
 
   abbrev pub dropped : ℕ
@@ -92,7 +92,12 @@ module _ (log : ℕ) (before : List LogEntry) (ends : List End) (reader second :
   }
     where
       shorter : length after ≤ length before
-      shorter = omega (arith, long reader first second before in_order next.most, few reader first second before in_order next.most, next.most)
+      shorter = omega (
+        arith,
+        long reader first second before in_order next.most,
+        few reader first second before in_order next.most,
+        next.most,
+      )
 
       read : (end : End) → end.log ≡ log → cursor-after end ≡ end.cursor - dropped
       read end on = elim (eqb_tells end.log log) [

@@ -1,8 +1,10 @@
 -- What a put does to the ends that read in a log (our choice).
-use Rattle.std.specs.Prelude.{◌≡◌, ◌≢◌, ◌≤◌, ◌<◌, ◌-◌, ◌+◌, ◌⊎◌, ◌↔◌, ◌++◌, ◌==◌, ◌&&◌, not, ℕ, Some, List, [], ◌∷◌, drop, length, option_map, slice_get}
+use Rattle.std.specs.Prelude.{◌≡◌, ◌≢◌, ◌≤◌, ◌<◌, ◌-◌, ◌+◌, ◌⊎◌, ◌↔◌, ◌++◌, ◌==◌, ◌&&◌, not, ℕ, Some, List}
+use Rattle.std.specs.Prelude.{[], ◌∷◌, drop, length, option_map, slice_get}
 use Rattle.std.specs.Prelude.{slice_index_or, if◌then◌else◌}
 use Rattle.stations.specs.Ends.{end_frames}
 use Rattle.stations.specs.WireLogs.{LogEntry, frames_of_others, log_entries}
+use Rattle.stations.specs.WiresView.{ReadsLog}
 use Rattle.stations.specs.declared.wires.End.{End}
 
 abbrev pub end_at : List End → (k : ℕ) → End
@@ -59,6 +61,10 @@ moved_cursor log dropped end = if end.log == log then record end { cursor = end.
 abbrev pub with_waiting : (log sender k : ℕ) → End → End
 with_waiting log sender k end =
     if not (k == sender) && (end.log == log) then record end { waiting = end.waiting + 1 } else end
+
+-- each end that reads in the log counts what waits there
+abbrev pub ReadIn : (log : ℕ) → List LogEntry → List End → Type 0
+ReadIn log entries ends = (k : ℕ) (end : End) → slice_get ends k ≡ Some end → end.log ≡ log → ReadsLog entries k end
 
 -- There is room in a log for an entry. Each end that reads in it has still the same frames to read. The others don't change.
 pub record MakesRoom (log : ℕ) (before after : List LogEntry) (old new : List End) : Type 0 where

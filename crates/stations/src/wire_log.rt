@@ -1,6 +1,7 @@
 // The log of a wire.
 
-ghost use Rattle.std.specs.Prelude.{◌≡◌, ◌+◌, ◌<◌, ◌≤◌, ◌↔◌, ◌∷◌, ◌++◌, [], IfOk, IfSome, IsNone, IsTrue, Some, drop, length, slice_get};
+ghost use Rattle.std.specs.Prelude.{◌≡◌, ◌+◌, ◌<◌, ◌≤◌, ◌↔◌, ◌∷◌, ◌++◌, [], IfOk, IfSome, IsNone, Some};
+ghost use Rattle.std.specs.Prelude.{drop, length, slice_get};
 ghost use Rattle.descriptors.specs.Frames.{longest_frame};
 ghost use Rattle.stations.specs.WireLogs.{closed_up, frame_at, frames_of_others, log_entries};
 

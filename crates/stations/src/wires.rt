@@ -6,9 +6,9 @@ ghost use Rattle.descriptors.specs.Frames.{longest_frame};
 ghost use Rattle.stations.specs.Ends.{EndState, EndHasRoomFor, HaveRoom, with_line};
 ghost use Rattle.stations.specs.WireLogs.{last_of_others, log_entries};
 ghost use Rattle.std.specs.Prelude.{◌≢◌};
-ghost use Rattle.stations.specs.LogReaders.{IsLeastCursor, IsReader, IsReaderOn, IsSlowest, KeepsLogs, MakesRoom, PutsFrame};
+ghost use Rattle.stations.specs.LogReaders.{IsLeastCursor, IsReader, IsReaderOn, IsSlowest};
+ghost use Rattle.stations.specs.LogReaders.{KeepsLogs, MakesRoom, PutsFrame, ReadIn};
 ghost use Rattle.stations.specs.LogReaders.{IsLogFor, OthersHaveRoom, end_at, moved_cursor, with_waiting};
-ghost use Rattle.stations.specs.WiresView.{ReadsLog};
 ghost use Rattle.stations.specs.declared.wires.End.{End};
 
 use crate::wire_log::{LOG_ENTRIES, WireLog};
@@ -144,10 +144,9 @@ fn move_cursors(ends: &mut [End], log: usize, dropped: usize)
 }
 
 /// Makes room for an entry in a log. If it is full, it drops those entries for which no end waits.
-#[tactic(auto, using(crate::proofs::WireReaders::had_room, crate::proofs::WireReaders::in_order, crate::proofs::WireReaders::made_room))]
 fn make_room(ends: &mut [End], wire_log: &mut WireLog, log: usize, sender: usize)
     requires there { IsReader log ends.old sender }
-    requires reads { (k : ℕ) (end : End) → slice_get ends.old k ≡ Some end → end.log ≡ log → ReadsLog wire_log.old k end }
+    requires reads { ReadIn log wire_log.old ends.old }
     ensures { MakesRoom log wire_log.old wire_log.new ends.old ends.new }
 {
     let entries = wire_log.len();
@@ -176,7 +175,7 @@ fn count_waiting(ends: &mut [End], log: usize, sender: usize)
 /// Puts a frame of a sender into a log: it waits at each other end that reads in the log.
 fn put_frame(ends: &mut [End], wire_log: &mut WireLog, log: usize, sender: usize, frame: &[u8])
     requires there { IsReader log ends.old sender }
-    requires reads { (k : ℕ) (end : End) → slice_get ends.old k ≡ Some end → end.log ≡ log → ReadsLog wire_log.old k end }
+    requires reads { ReadIn log wire_log.old ends.old }
     requires room { (k : ℕ) (end : End) → slice_get ends.old k ≡ Some end → k ≢ sender → end.log ≡ log
         → end.waiting < END_FRAMES }
     requires fits { length frame.now ≤ longest_frame }
@@ -244,7 +243,13 @@ impl Wires {
             ≡ option_map (with_line sender wire (frame.now ∷ []) k) (slice_get self.old k) }
     {
         let log = self.ends[sender].log;
-        put_frame(self.ends.as_mut_slice(), &mut self.logs[log], log, sender, frame);
+        put_frame(
+            self.ends.as_mut_slice(),
+            &mut self.logs[log],
+            log,
+            sender,
+            frame,
+        );
     }
 
     /// The oldest frame that waits at a host's end, if there is one.

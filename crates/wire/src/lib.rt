@@ -10,6 +10,7 @@ mod host;
 mod hosts;
 mod lan;
 mod law;
+mod log;
 mod new;
 mod run_observer;
 

@@ -24,9 +24,9 @@ returns c =
     let reader = c.slowest-reader.result in
     let second = c.least_cursor-second.result in
     let next = subst (λ (limit : ℕ). IsLeastCursor (length ends) log reader limit ends second) c.len-entries.ensures.value
-        c.least_cursor-second.ensures in
+    c.least_cursor-second.ensures in
     let dropped = ap (λ (n : ℕ). n - c.len.result) c.len-entries.ensures.value
-        ∙ ap (λ (n : ℕ). length before - n) (c.len.ensures.value ∙ ap (λ (l : List LogEntry). length l) c.close_up.ensures) in
+    ∙ ap (λ (n : ℕ). length before - n) (c.len.ensures.value ∙ ap (λ (l : List LogEntry). length l) c.close_up.ensures) in
     subst (λ (after : List LogEntry). MakesRoom log before after ends c.move_cursors.new.ends) (sym c.close_up.ensures)
     (made_room log before ends reader second c.requires.reads c.slowest-reader.ensures next c.move_cursors.new.ends
     (λ k. subst (λ (n : ℕ). slice_get c.move_cursors.new.ends k ≡ option_map (moved_cursor log n) (slice_get ends k)) dropped

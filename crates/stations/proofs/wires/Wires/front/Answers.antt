@@ -11,7 +11,7 @@ index-requires c =
     let logs = c.self.inside.logs.items in
     let es = c.self.inside.ends.items in
     let there = has-log logs es c.args.self.now c.self.view_is c.self.invariant c.args.host c.index-end.result.now c.requires.there
-        c.index-end.ensures in
+    c.index-end.ensures in
     omega (arith, there)
 
 pub returns-clause-none : goal.returns-clause-none
@@ -19,7 +19,7 @@ returns-clause-none c = λ end is.
     let logs = c.self.inside.logs.items in
     let es = c.self.inside.ends.items in
     let line = line-read logs es c.args.self.now c.self.view_is c.self.invariant c.args.host c.index-end.result.now c.index.result.now
-        c.requires.there c.index-end.ensures c.index.ensures end is in
+    c.requires.there c.index-end.ensures c.index.ensures end is in
     subst (λ (frames : List (List ℕ)). IsNone c.front.result ↔ (frames ≡ [])) line c.front.ensures.none
 
 pub returns-clause-oldest : goal.returns-clause-oldest
@@ -27,5 +27,5 @@ returns-clause-oldest c = λ end is.
     let logs = c.self.inside.logs.items in
     let es = c.self.inside.ends.items in
     let line = line-read logs es c.args.self.now c.self.view_is c.self.invariant c.args.host c.index-end.result.now c.index.result.now
-        c.requires.there c.index-end.ensures c.index.ensures end is in
+    c.requires.there c.index-end.ensures c.index.ensures end is in
     subst (λ (frames : List (List ℕ)). IfSome c.front.result (λ frame. slice_get frames 0 ≡ Some frame.now)) line c.front.ensures.oldest

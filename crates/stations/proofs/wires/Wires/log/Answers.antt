@@ -12,7 +12,7 @@ index-requires-2 c =
     let logs = c.self.inside.logs.items in
     let es = c.self.inside.ends.items in
     let there = has-log logs es c.args.self.now c.self.view_is c.self.invariant c.args.host c.index.result.now c.requires.there
-        c.index.ensures in
+    c.index.ensures in
     omega (arith, there)
 
 pub returns-clause-waits : goal.returns-clause-waits
@@ -22,7 +22,7 @@ returns-clause-waits c = λ end is.
     let e = c.index.result.now in
     let log = c.index-2.result.now in
     let line = line-read logs es c.args.self.now c.self.view_is c.self.invariant c.args.host e log c.requires.there c.index.ensures
-        c.index-2.ensures end is in
+    c.index-2.ensures end is in
     subst (λ (entries : List LogEntry). end.line ≡ last_of_others c.args.host (length end.line) entries) (sym c.as_slice.ensures.value)
     (subst (λ (frames : List (List ℕ)). frames ≡ last_of_others c.args.host (length frames) log) line
     (sym (waits-last log c.args.host e.cursor)))

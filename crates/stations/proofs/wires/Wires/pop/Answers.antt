@@ -1,9 +1,10 @@
-use Rattle.std.proofs.Common.{◌≡◌, ◌≤◌, ◌∷◌, ◌+◌, [], List, ℕ, drop, slice_set, refl, ap, sym, subst, ◌∙◌, arith}
+use Rattle.std.proofs.Common.{◌≡◌, ◌≤◌, ◌∷◌, ◌+◌, List, ℕ, drop, slice_set, refl, ap, sym, subst, ◌∙◌, arith}
 use Rattle.stations.specs.Ends.{EndState}
 use Rattle.stations.specs.WireLogs.{LogEntry, frame_at, frames_of_others}
 use Rattle.stations.specs.WiresView.{ReadsLog, log_of}
 use Rattle.stations.specs.declared.wires.End.{End}
-use Rattle.stations.proofs.WireChanges.{found-log, had-one, has-sender, line-on, read-on, reads-on, same-end, set-logs, set-shown, stays-empty}
+use Rattle.stations.proofs.WireChanges.{found-log, had-one, has-sender, line-on, line_at, read-on, reads-on, same-end, set-logs, set-shown}
+use Rattle.stations.proofs.WireChanges.{stays-empty}
 use Rattle.stations.proofs.WireEnds.{has-log, length_ends, line-read, shows-end}
 use Rattle.stations.proofs.wires.Wires.pop.Goals as goal
 
@@ -16,7 +17,7 @@ index-requires c =
     let logs = c.self.inside.logs.items in
     let es = c.self.inside.ends.items in
     let there = has-log logs es c.args.self.now c.self.view_is c.self.invariant c.args.host c.index-end.result.now c.requires.there
-        c.index-end.ensures in
+    c.index-end.ensures in
     omega (arith, there)
 
 pub returns-in_default : goal.returns-in_default
@@ -25,7 +26,7 @@ returns-in_default c = λ end is.
     let es = c.self.inside.ends.items in
     let ss = c.args.self.now in
     let line = line-read logs es ss c.self.view_is c.self.invariant c.args.host c.index-end.result.now c.index.result.now
-        c.requires.there c.index-end.ensures c.index.ensures end is in
+    c.requires.there c.index-end.ensures c.index.ensures end is in
     stays-empty ss c.args.host end is (sym line ∙ c.in_default.ensures.none.0 refl)
 
 pub index_mut-end-requires : goal.index_mut-end-requires
@@ -60,12 +61,12 @@ invariant_of-self c =
     let log = c.index.result.now in
     let have = c.self.invariant in
     let same = same-end logs es ss c.self.view_is have host c.index-end.result.now c.requires.there c.index-end.ensures e
-        c.index_mut-end.ensures.value in
+    c.index_mut-end.ensures.value in
     let has = has-sender logs es ss c.self.view_is have host e c.requires.there c.index_mut-end.ensures.value in
     let was = found-log logs es ss c.self.view_is have host c.index-end.result.now c.requires.there c.index-end.ensures log c.index.ensures
-        ∙ ap (log_of logs) same in
+    ∙ ap (log_of logs) same in
     let first = subst (λ (x : End). frames_of_others host (drop x.cursor log)
-        ≡ frame_at place log ∷ frames_of_others host (drop (place + 1) log)) same c.in-Some.ensures.first in
+    ≡ frame_at place log ∷ frames_of_others host (drop (place + 1) log)) same c.in-Some.ensures.first in
     set-logs logs es host e has (read-on log host e place c.in-Some.ensures.there.1 first) refl refl have
     (subst (λ (l : List LogEntry). ReadsLog l host (read-on log host e place c.in-Some.ensures.there.1 first)) was
     (reads-on log host e place c.in-Some.ensures.there.1 first
@@ -82,20 +83,21 @@ returns c = λ end is.
     let log = c.index.result.now in
     let have = c.self.invariant in
     let same = same-end logs es ss c.self.view_is have host c.index-end.result.now c.requires.there c.index-end.ensures e
-        c.index_mut-end.ensures.value in
+    c.index_mut-end.ensures.value in
     let has = has-sender logs es ss c.self.view_is have host e c.requires.there c.index_mut-end.ensures.value in
     let was = found-log logs es ss c.self.view_is have host c.index-end.result.now c.requires.there c.index-end.ensures log c.index.ensures
-        ∙ ap (log_of logs) same in
+    ∙ ap (log_of logs) same in
     let first = subst (λ (x : End). frames_of_others host (drop x.cursor log)
-        ≡ frame_at place log ∷ frames_of_others host (drop (place + 1) log)) same c.in-Some.ensures.first in
+    ≡ frame_at place log ∷ frames_of_others host (drop (place + 1) log)) same c.in-Some.ensures.first in
     let new = read-on log host e place c.in-Some.ensures.there.1 first in
     let old = shows-end logs es ss c.self.view_is host e end has is in
     let line : frames_of_others host (drop (place + 1) (log_of logs new)) ≡ drop 1 end.line =
-        ap (λ (l : List LogEntry). frames_of_others host (drop (place + 1) l)) (sym was)
-        ∙ line-on log host e place c.in-Some.ensures.there.1 first
-        ∙ ap (λ (l : List LogEntry). drop 1 (frames_of_others host (drop e.cursor l))) was
-        ∙ ap (λ (s : EndState). drop 1 s.line) old in
+    ap (λ (l : List LogEntry). frames_of_others host (drop (place + 1) l)) (sym was)
+    ∙ line-on log host e place c.in-Some.ensures.there.1 first
+    ∙ ap (λ (l : List LogEntry). drop 1 (frames_of_others host (drop e.cursor l))) was
+    ∙ ap (λ (s : EndState). drop 1 s.line) old in
     set-shown logs es host e has new refl refl
-    ∙ ap (λ (l : List EndState). slice_set l host (let s : EndState = record { wire = e.wire; line = frames_of_others host (drop (place + 1) (log_of logs new)) } in s)) c.self.view_is
-    ∙ ap (λ (frames : List (List ℕ)). slice_set ss host (let s : EndState = record { wire = e.wire; line = frames } in s)) line
-    ∙ ap (λ (wire : ℕ). slice_set ss host (let s : EndState = record { wire = wire; line = drop 1 end.line } in s)) (ap (λ (s : EndState). s.wire) old)
+    ∙ ap (λ (l : List EndState). slice_set l host (line_at e.wire (frames_of_others host (drop (place + 1) (log_of logs new)))))
+    c.self.view_is
+    ∙ ap (λ (frames : List (List ℕ)). slice_set ss host (line_at e.wire frames)) line
+    ∙ ap (λ (wire : ℕ). slice_set ss host (line_at wire (drop 1 end.line))) (ap (λ (s : EndState). s.wire) old)

@@ -1,7 +1,7 @@
-use Rattle.std.proofs.Common.{◌≡◌, ◌≢◌, ◌<◌, ◌∷◌, [], List, ℕ, Some, length, option_map, slice_get, slice_set, ap, sym, subst, ◌∙◌, arith}
+use Rattle.std.proofs.Common.{◌≡◌, ◌∷◌, [], List, ℕ, Some, option_map, slice_get, slice_set, ap, sym, subst, ◌∙◌, arith}
 use Rattle.stations.specs.Ends.{EndState, with_line}
 use Rattle.stations.specs.LogReaders.{IsReader, PutsFrame}
-use Rattle.stations.specs.WiresView.{HaveLogs, ReadsLog, ends_from}
+use Rattle.stations.specs.WiresView.{HaveLogs, ends_from}
 use Rattle.stations.specs.declared.wires.End.{End}
 use Rattle.stations.proofs.WireChanges.{found-log, has-sender, its-wire, length-put, put-logs, put-shown, puts-reads, puts-room, puts-there}
 use Rattle.stations.proofs.WireChanges.{written-back}
@@ -17,7 +17,7 @@ index_mut-requires c =
     let logs = c.self.inside.logs.items in
     let es = c.self.inside.ends.items in
     let there = has-log logs es c.args.self.now c.self.view_is c.self.invariant c.args.sender c.index.result.now c.requires.there
-        c.index.ensures in
+    c.index.ensures in
     omega (arith, there)
 
 pub put_frame-requires-clause-there : goal.put_frame-requires-clause-there
@@ -57,12 +57,13 @@ invariant_of-self c =
     let have = c.self.invariant in
     let has = has-sender logs es ss c.self.view_is have c.args.sender e c.requires.there c.index.ensures in
     let room = puts-room logs es ss c.self.view_is have c.args.sender e c.requires.there c.index.ensures c.args.wire c.requires.on
-        c.requires.room in
-    let puts = subst (λ (ends : List End). PutsFrame e.log c.args.sender c.args.frame.now before longer ends new) c.as_mut_slice.ensures.value
-        c.put_frame.ensures in
+    c.requires.room in
+    let puts = subst (λ (ends : List End). PutsFrame e.log c.args.sender c.args.frame.now before longer ends new)
+    c.as_mut_slice.ensures.value c.put_frame.ensures in
     let was = found-log logs es ss c.self.view_is have c.args.sender e c.requires.there c.index.ensures before c.index_mut.ensures.value in
     let same = length-put logs es have c.args.sender e has room c.args.frame.now before longer new puts was in
-    subst (λ (ends : List End). HaveLogs (slice_set logs e.log longer) ends) (sym (written-back new es c.self.inside.ends.len same c.self.inside.ends.ok.0))
+    subst (λ (ends : List End). HaveLogs (slice_set logs e.log longer) ends)
+    (sym (written-back new es c.self.inside.ends.len same c.self.inside.ends.ok.0))
     (put-logs logs es have c.args.sender e has room c.args.frame.now before longer new puts was)
 
 pub returns : goal.returns
@@ -77,12 +78,13 @@ returns c = λ k.
     let have = c.self.invariant in
     let has = has-sender logs es ss c.self.view_is have c.args.sender e c.requires.there c.index.ensures in
     let room = puts-room logs es ss c.self.view_is have c.args.sender e c.requires.there c.index.ensures c.args.wire c.requires.on
-        c.requires.room in
-    let puts = subst (λ (ends : List End). PutsFrame e.log c.args.sender c.args.frame.now before longer ends new) c.as_mut_slice.ensures.value
-        c.put_frame.ensures in
+    c.requires.room in
+    let puts = subst (λ (ends : List End). PutsFrame e.log c.args.sender c.args.frame.now before longer ends new)
+    c.as_mut_slice.ensures.value c.put_frame.ensures in
     let was = found-log logs es ss c.self.view_is have c.args.sender e c.requires.there c.index.ensures before c.index_mut.ensures.value in
     let same = length-put logs es have c.args.sender e has room c.args.frame.now before longer new puts was in
-    ap (λ (ends : List End). slice_get (ends_from (slice_set logs e.log longer) 0 ends) k) (written-back new es c.self.inside.ends.len same c.self.inside.ends.ok.0)
+    ap (λ (ends : List End). slice_get (ends_from (slice_set logs e.log longer) 0 ends) k)
+    (written-back new es c.self.inside.ends.len same c.self.inside.ends.ok.0)
     ∙ put-shown logs es have c.args.sender e has room c.args.frame.now before longer new puts was k
     ∙ ap (λ (l : List EndState). option_map (with_line c.args.sender e.wire (c.args.frame.now ∷ []) k) (slice_get l k)) c.self.view_is
     ∙ ap (λ (wire : ℕ). option_map (with_line c.args.sender wire (c.args.frame.now ∷ []) k) (slice_get ss k))

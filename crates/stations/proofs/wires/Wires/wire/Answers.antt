@@ -1,4 +1,4 @@
-use Rattle.std.proofs.Common.{sym, ap, arith}
+use Rattle.std.proofs.Common.{ap, arith}
 use Rattle.stations.specs.Ends.{EndState}
 use Rattle.stations.proofs.WireEnds.{has-end, length_ends, shows-end}
 use Rattle.stations.proofs.wires.Wires.wire.Goals as goal
