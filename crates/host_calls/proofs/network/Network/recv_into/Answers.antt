@@ -2,7 +2,7 @@ use Rattle.std.proofs.Common.{rules, refl, subst, true}
 use Rattle.host_calls.specs.CallAnswers.{LeavesRecv, RecvRuns, frame_answer}
 use Rattle.host_calls.specs.ConnectedHosts.{played_call}
 use Rattle.host_calls.proofs.HostsOfNetworks.{after-call, others-stay, ready-before, same-stations}
-use Rattle.host_calls.proofs.Receiving.{any-answers, any-leaves, any-legal, any-runs}
+use Rattle.host_calls.proofs.Receiving.{any-answers, any-leaves, any-legal, any-rest, any-runs}
 use Rattle.host_calls.proofs.network.Network.recv_into.Goals as goal
 
 pub invariant_of-self : goal.invariant_of-self
@@ -54,6 +54,11 @@ pub returns-clause-size : goal.returns-clause-size
 returns-clause-size g c =
     any-legal c.index_mut.result.now c.recv-answer.new.self c.args.socket c.recv-answer.result c.args.into.now
     c.recv-answer.new.into c.recv-answer.ensures.ok
+
+pub returns-clause-rest : goal.returns-clause-rest
+returns-clause-rest g c =
+    any-rest _ c.recv-answer.new.bus c.index_mut.result.now c.recv-answer.new.self c.args.socket c.recv-answer.result c.args.into.now
+    c.recv-answer.new.into c.recv-answer.ensures.ok c.recv-answer.ensures.err
 
 pub returns-clause-others : goal.returns-clause-others
 returns-clause-others g c =
