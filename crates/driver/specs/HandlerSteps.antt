@@ -26,6 +26,7 @@ use Rattle.driver.specs.Parts.{AreFrames, FillBuffers, FitIntoBuffers, IsFrameSi
 use Rattle.driver.specs.Parts.{joined_frames, lengths_in, parts_of, pieces_of, received_of}
 use Rattle.driver.specs.declared.look.Run.{Run}
 use Rattle.driver.specs.declared.parts.Part.{Part}
+use Rattle.driver.specs.declared.parts.TheConstants.{MOST_PARTS}
 use Rattle.driver.specs.declared.receiver.Received.{Received}
 use Rattle.driver.specs.declared.receiver.Receiver.{Ghosts as OfReceiver}
 use Rattle.adapter.specs.declared.offsets.TheConstants.{MPC}
@@ -45,11 +46,15 @@ pub data IsPart {X : Type 0} : List X → List X → Type 0 where
   part_with : {one : X} {some all : List X} → IsPart some all → IsPart (one ∷ some) (one ∷ all)
   part_without : {one : X} {some all : List X} → IsPart some all → IsPart some (one ∷ all)
 
+-- The driver's count of bad runs and a host's count of unclaimed frames have 64 bits, so they are below this number (our choice).
+abbrev pub count_limit : ℕ
+count_limit = 2 ^ 64
+
 -- A count grew by `more`, but saturates at the greatest u64.
 pub record GrowsBy (before after more : ℕ) : Type 0 where
   pub least : before ≤ after
   pub most : after ≤ before + more
-  pub exactly : after < 2 ^ 64 - 1 → after ≡ before + more
+  pub exactly : after < count_limit - 1 → after ≡ before + more
 
 -- A receiver was shown this frame, and kept it, or returned its buffers, which are in the pool then.
 pub record Shows {R : Type 0} (took : R → R → List Received → List Received → Type 0) (before after : R) (received : Received)
@@ -71,7 +76,7 @@ run_of parts whole = record { parts = parts; whole = whole }
 -- It has one to six slots. If it is whole, each slot before the last is full, and the last isn't empty.
 pub record IsRun (run : RunOfSlots) : Type 0 where
   pub least : 1 ≤ length run.parts
-  pub most : length run.parts ≤ 6
+  pub most : length run.parts ≤ MOST_PARTS
   pub full : IsTrue run.whole → FillBuffers (lengths_in run.parts)
 
 -- the buffers of these runs, one run after the other
@@ -149,10 +154,14 @@ abbrev pub WhereReadyIn : {B R : Type 0} → Ghosts B → (old new : Scene B R) 
 WhereReadyIn bus old new Holds =
     (up : Bool) (held : List HandedOut) → IsReady bus up (held_at held (moment old)) → Holds up (held_in held old) (held_in held new)
 
--- The first of these pieces contains bytes 12 and 13 of the frame.
+-- The size of a frame's header in bytes: two addresses and the EtherType (IEEE 802.3, 3.2.3 to 3.2.6).
+abbrev pub header_bytes : ℕ
+header_bytes = 14
+
+-- The first of these pieces contains the frame's header, and so its EtherType, bytes 12 and 13.
 abbrev pub HasEtherType : List HandedOut → Type 0
 HasEtherType [] = ⊥
-HasEtherType (first ∷ later) = 14 ≤ length first.bytes
+HasEtherType (first ∷ later) = header_bytes ≤ length first.bytes
 
 -- Over a bus that obeys the law, while others hold the pieces of a whole frame that was taken, `Holds` relates the moments before and after
 -- a call that passes the run on.
@@ -234,7 +243,7 @@ pub record TakesAll {B R : Type 0} (bus : Ghosts B) (receivers : OfReceiver R) (
 abbrev pub ReadsEtherType : {B : Type 0} → Ghosts B → List Part → Moment B → (read : ℕ) → Type 0
 ReadsEtherType bus parts now read =
     (up : Bool) (held later : List HandedOut) (first : HandedOut) → IsReady bus up (held_at (held ++ first ∷ later) now)
-    → parts_of (first ∷ later) ≡ parts → 14 ≤ length first.bytes → read ≡ ether_type first.bytes
+    → parts_of (first ∷ later) ≡ parts → header_bytes ≤ length first.bytes → read ≡ ether_type first.bytes
 
 -- The bytes of a frame that is held, as they are read over a bus that obeys the law.
 abbrev pub ReadsHeld : {B : Type 0} → Ghosts B → Received → Moment B → List ℕ → Type 0

@@ -3,7 +3,7 @@
 use Rattle.std.specs.Prelude.{◌≡◌, ◌≤◌, ◌<◌, ◌+◌, ◌-◌, ◌*◌, ◌++◌, ℕ, false, List, [], ◌∷◌, Result, IfErr, IfOk, length}
 use Rattle.adapter.specs.declared.offsets.TheConstants.{RDBAL, RDT, TDBAL}
 use Rattle.registers.specs.Counting.{greatest_count}
-use Rattle.dma_memory.specs.Layout.{Counts}
+use Rattle.dma_memory.specs.Layout.{Counts, descriptor_bytes}
 use Rattle.dma_memory.specs.Owners.{HasOneOwner, HaveSameNumbers}
 use Rattle.eeprom.specs.Image.{HasRightSum, address_bytes}
 use Rattle.rx_engine.specs.Addresses.{IsAddress}
@@ -68,7 +68,8 @@ pub record HasFoundRing {B : Type 0} (bus : Ghosts B) (config : Config) (old new
   pub vlans : List ℕ
   pub tables : AreFilterTables config groups vlans
   pub settings : settings_of (bus.world new).adapter ≡ settings_after_all
-      (writes_before_rings config (address_bytes (bus.world old).adapter.image) groups vlans ++ ring_writes RDBAL 0 (16 * config.rx))
+      (writes_before_rings config (address_bytes (bus.world old).adapter.image) groups vlans
+      ++ ring_writes RDBAL 0 (descriptor_bytes * config.rx))
       (settings_of (bus.world old).adapter)
 
 pub record FindsRing {B : Type 0} (bus : Ghosts B) (config : Config) (result : Result (Unit {0}) InitError) (old new : B) : Type 0 where
@@ -94,8 +95,8 @@ pub record OffersFirst {B : Type 0} (bus : Ghosts B) (old new : Moment B) : Type
 -- The transmit descriptors are cleared, the ring set up, and TCTL written.
 abbrev pub transmit_accesses : Counts → List Access
 transmit_accesses counts =
-    clears_from (16 * counts.rx) counts.tx
-    ++ accesses_of (ring_writes TDBAL (16 * counts.rx) (16 * counts.tx) ++ transmit_writes)
+    clears_from (descriptor_bytes * counts.rx) counts.tx
+    ++ accesses_of (ring_writes TDBAL (descriptor_bytes * counts.rx) (descriptor_bytes * counts.tx) ++ transmit_writes)
 
 -- The whole.
 

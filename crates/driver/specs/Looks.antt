@@ -15,10 +15,15 @@ use Rattle.driver_law.specs.Calls.{Moment, Ran, frames_ended, in_world_of, only,
 use Rattle.driver_law.specs.OldestSlot.{LooksAtSlot}
 use Rattle.driver.specs.Parts.{FillBuffers, IsFrameSize}
 use Rattle.driver.specs.declared.look.Run.{Run}
+use Rattle.driver.specs.declared.parts.TheConstants.{MOST_PARTS}
+
+-- The length in a receive descriptor has 16 bits, so this is the greatest ("3.2.3 Receive Descriptor Format").
+abbrev pub greatest_length : ℕ
+greatest_length = 65535
 
 -- no slots
 abbrev pub new_run : Run
-new_run = record { lengths = replicate 6 0; count = 0; length = 0; whole = true }
+new_run = record { lengths = replicate MOST_PARTS 0; count = 0; length = 0; whole = true }
 
 -- a piece of a whole frame may have this size, if its frame ends in it or not
 abbrev pub IsPartSize : (ends : Bool) → ℕ → Type 0
@@ -37,9 +42,9 @@ pub record IsSoundPart (descriptor : RxDesc) : Type 0 where
 -- A run of so many outstanding slots, or fewer: one to six. If it is whole, it has the size of a frame, each slot before the last is full,
 -- and the last isn't empty.
 pub record IsLookedRun (outstanding : ℕ) (run : Run) : Type 0 where
-  pub room : length run.lengths ≡ 6
+  pub room : length run.lengths ≡ MOST_PARTS
   pub least : 1 ≤ run.count
-  pub most : run.count ≤ 6
+  pub most : run.count ≤ MOST_PARTS
   pub inside : run.count ≤ outstanding
   pub length_is : run.length ≡ sum (take run.count run.lengths)
   pub size : IsTrue run.whole → IsFrameSize run.length

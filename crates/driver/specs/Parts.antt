@@ -9,6 +9,7 @@ use Rattle.bus.specs.declared.event.Access.TheVariants.{Loads}
 use Rattle.driver_law.specs.DriverState.{HandedOut, buffer_at, frame_of}
 use Rattle.driver.specs.declared.parts.Part.{Part}
 use Rattle.driver.specs.declared.parts.Parts.TheInside.{Inside}
+use Rattle.driver.specs.declared.parts.TheConstants.{MOST_PARTS}
 use Rattle.driver.specs.declared.receiver.Received.{Received}
 
 -- How `Parts` keeps them.
@@ -24,9 +25,9 @@ abbrev pub filled : List Part → (empty : ℕ) → List (Option Part)
 filled parts empty = map (λ (part : Part). Some part) parts ++ replicate empty None
 
 pub record IsFilled (inside : Inside) : Type 0 where
-  pub places : inside.places ≡ filled (parts_in inside.places) (6 - inside.count)
+  pub places : inside.places ≡ filled (parts_in inside.places) (MOST_PARTS - inside.count)
   pub count : length (parts_in inside.places) ≡ inside.count
-  pub most : inside.count ≤ 6
+  pub most : inside.count ≤ MOST_PARTS
 
 -- Buffers and sizes.
 

@@ -11,6 +11,10 @@ use Rattle.driver_law.specs.TransmitSteps.{with_freed}
 use Rattle.driver.specs.declared.transmit.SendError.{SendError}
 use Rattle.driver.specs.declared.transmit.SendError.TheVariants.{TooShort, TooLong, RingFull}
 
+-- the offset of the status in a transmit descriptor, in bytes ("3.3.3 Legacy Transmit Descriptor Format")
+abbrev pub sent_status_offset : ℕ
+sent_status_offset = 12
+
 -- the same driver with other outstanding transmit slots
 abbrev pub with_transmit_slots : DriverState → (oldest sending : ℕ) → DriverState
 with_transmit_slots d oldest sending = record d { oldest_transmit = oldest; sending = sending }

@@ -1,7 +1,7 @@
 // A driver initializes its adapter.
 
 ghost use Rattle.std.specs.Prelude.{◌≡◌, ◌↔◌, ◌*◌, ◌≤◌, Err, IfErr, IfOk, false, true};
-ghost use Rattle.dma_memory.specs.Layout.{IsAllowed, size_of};
+ghost use Rattle.dma_memory.specs.Layout.{IsAllowed, descriptor_bytes, size_of};
 ghost use Rattle.dma_memory.specs.Owners.{HasOneOwner};
 ghost use Rattle.adapter.specs.Rings.{new_ring};
 ghost use Rattle.bring_up.specs.Configuration.{CanBeHad, configured_counts};
@@ -46,7 +46,7 @@ fn find_ring<B: Bus>(bus: &mut B, config: &Config, layout: Layout) -> Result<(),
 
 /// The place of a ring of `slots` slots that begins at `base`.
 fn place_of(base: u64, slots: u16) -> RingPlace
-    ensures { result ≡ record { base = base; bytes = 16 * slots } }
+    ensures { result ≡ record { base = base; bytes = descriptor_bytes * slots } }
 {
     RingPlace {
         base,

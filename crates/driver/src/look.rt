@@ -7,7 +7,7 @@ ghost use Rattle.registers.specs.Bits.{HasBit, is_set};
 ghost use Rattle.descriptors.specs.RxStatus.{dd, eop, status_bits};
 ghost use Rattle.bus.specs.Keeping.{Keeps};
 ghost use Rattle.driver_law.specs.Calls.{WhereReady, at};
-ghost use Rattle.driver.specs.Looks.{IsLookedRun, IsSoundPart, LooksAt, LooksAtPlace, new_run};
+ghost use Rattle.driver.specs.Looks.{IsLookedRun, IsSoundPart, LooksAt, LooksAtPlace, greatest_length, new_run};
 ghost use Rattle.driver.specs.Parts.{IsFrameSize};
 
 use crate::Driver;
@@ -15,14 +15,8 @@ use crate::parts::MOST_PARTS;
 use crate::refill::receive_slot;
 use bitflags::Flags;
 use bus::Bus;
-use descriptors::{RX_DESC_BYTES, RxDesc, RxStatus};
+use descriptors::{LONGEST_LEGAL, RX_DESC_BYTES, RxDesc, RxStatus, SHORTEST_LEGAL};
 use dma_memory::RECEIVE_BUFFER_BYTES;
-
-/// The size of the shortest frame that an adapter receives, in bytes, without its check sequence.
-const SHORTEST_RECEIVED: u32 = 60;
-
-/// The size of the longest frame that an adapter receives, in bytes, without its check sequence.
-const LONGEST_RECEIVED: u32 = 1518;
 
 /// The oldest finished slots, up to one with EOP, or six without EOP.
 #[derive(Clone, Copy)]
@@ -82,8 +76,8 @@ impl Run {
 
     /// Appends a slot.
     fn add(&mut self, descriptor: &RxDesc)
-        requires room { self.old.count < 6 }
-        requires short { self.old.length ≤ 65535 * self.old.count }
+        requires room { self.old.count < MOST_PARTS }
+        requires short { self.old.length ≤ greatest_length * self.old.count }
         ensures lengths { self.new.lengths ≡ slice_set self.old.lengths self.old.count descriptor.now.length }
         ensures count { self.new.count ≡ self.old.count + 1 }
         ensures length { self.new.length ≡ self.old.length + descriptor.now.length }
@@ -99,7 +93,7 @@ impl Run {
     fn is_frame(&self) -> bool
         ensures { IsTrue result ↔ (IsTrue self.now.whole × IsFrameSize self.now.length) }
     {
-        self.whole && SHORTEST_RECEIVED <= self.length && self.length <= LONGEST_RECEIVED
+        self.whole && SHORTEST_LEGAL as u32 <= self.length && self.length <= LONGEST_LEGAL as u32
     }
 }
 

@@ -12,7 +12,7 @@ ghost use Rattle.driver.specs.HandlerSteps.{TakesSlots, WhereReadyIn, WhereTaken
 ghost use Rattle.driver.specs.Parts.{buffers_in, lengths_in};
 
 use crate::look::Run;
-use crate::{Driver, Part, Parts, Received, Receiver};
+use crate::{Driver, MOST_PARTS, Part, Parts, Received, Receiver};
 use bus::Bus;
 use circular_buffer::HeapCircularBuffer;
 use dma_memory::BufId;
@@ -22,7 +22,7 @@ const ETHER_TYPE: u64 = 12;
 
 /// Takes the oldest buffers of a queue, one for each length.
 fn take_parts(queue: &mut HeapCircularBuffer<BufId>, lengths: &[u16]) -> Parts
-    requires few { length lengths.now ≤ 6 }
+    requires few { length lengths.now ≤ MOST_PARTS }
     requires enough { length lengths.now ≤ length queue.old.items }
     ensures left { queue.new ≡ buffer (drop (length lengths.now) queue.old.items) queue.old.capacity }
     ensures buffers { buffers_in result ≡ take (length lengths.now) queue.old.items }
@@ -43,8 +43,8 @@ fn take_parts(queue: &mut HeapCircularBuffer<BufId>, lengths: &[u16]) -> Parts
 impl Driver {
     /// Takes the slots of a run off the ring, with their buffers.
     fn take_run(&mut self, run: &Run) -> Parts
-        requires size { length run.now.lengths ≡ 6 }
-        requires few { run.now.count ≤ 6 }
+        requires size { length run.now.lengths ≡ MOST_PARTS }
+        requires few { run.now.count ≤ MOST_PARTS }
         requires enough { run.now.count ≤ length self.old.buffers }
         ensures leaves { LeavesRing run.now result self.old self.new }
         ensures one_owner { HasNoSecondOwner self.new.layout.buffers (buffers_in result ++ owners self.new) }

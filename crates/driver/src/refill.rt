@@ -2,7 +2,7 @@
 
 ghost use Rattle.std.specs.Prelude.{◌≡◌, ◌⊎◌, ◌+◌, ◌*◌, ◌<◌, ◌≤◌, ◌++◌, ◌∷◌, ℕ, [], length};
 ghost use Rattle.std.specs.Bool.{OnFalse, OnTrue};
-ghost use Rattle.dma_memory.specs.Layout.{size_of};
+ghost use Rattle.dma_memory.specs.Layout.{descriptor_bytes, size_of};
 ghost use Rattle.dma_memory.specs.Owners.{HasNoSecondOwner, HaveSameNumbers};
 ghost use Rattle.descriptors.specs.RxDesc.{rx_desc_bytes};
 ghost use Rattle.bus.specs.Keeping.{Keeps};
@@ -21,7 +21,7 @@ use dma_memory::{DESCRIPTOR_BYTES, Pool};
 
 /// The address of a receive slot's descriptor. The ring begins at address 0.
 pub(crate) fn receive_slot(slot: u16) -> u64
-    ensures { result ≡ 16 * slot }
+    ensures { result ≡ descriptor_bytes * slot }
 {
     DESCRIPTOR_BYTES * u64::from(slot)
 }

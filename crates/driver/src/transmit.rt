@@ -3,29 +3,24 @@
 ghost use Rattle.std.specs.Prelude.{◌≡◌, ◌↔◌, ◌+◌, ◌<◌, ◌≤◌, true, Err, length, slice_index};
 ghost use Rattle.std.specs.Bool.{OnFalse, OnTrue};
 ghost use Rattle.registers.specs.Bits.{is_set};
-ghost use Rattle.dma_memory.specs.Layout.{size_of};
+ghost use Rattle.dma_memory.specs.Layout.{descriptor_bytes, size_of};
 ghost use Rattle.descriptors.specs.Frames.{longest_frame, shortest_sent};
 ghost use Rattle.descriptors.specs.TxFields.{tx_dd};
 ghost use Rattle.bus.specs.Keeping.{Keeps};
 ghost use Rattle.driver_law.specs.Calls.{Ran, WhereUp, at, whole_descriptor};
 ghost use Rattle.driver_law.specs.DriverState.{transmit_slot, transmit_tail};
 ghost use Rattle.driver.specs.SendSteps.{FreesOldest, HasWrongLength, LooksBack, Reclaims, Transmits};
-ghost use Rattle.driver.specs.SendSteps.{sent_now, with_transmit_slots};
+ghost use Rattle.driver.specs.SendSteps.{sent_now, sent_status_offset, with_transmit_slots};
 
 use crate::Driver;
 use adapter::offsets::TDT;
 use bitflags::Flags;
 use bus::Bus;
-use descriptors::{TxCommand, TxDesc, TxStatus};
+use descriptors::{
+    LONGEST_SENDABLE, SHORTEST_SENDABLE, TX_DESC_BYTES, TxCommand, TxDesc, TxStatus,
+};
 use dma_memory::{DESCRIPTOR_BYTES, Layout};
 use thiserror::Error;
-
-/// The size of the shortest frame that can be sent, in bytes: its addresses and its type (our choice).
-const SHORTEST_SENT: usize = 14;
-
-/// The size of the longest frame that can be sent, in bytes: Ethernet's longest with a VLAN tag, without check
-/// sequence. Its header has 14 bytes, the tag 4, and its data 1,500.
-const LONGEST_SENT: usize = 1518;
 
 /// Why a frame isn't sent.
 #[derive(Clone, Copy, Debug, PartialEq, Eq, Error)]
@@ -46,21 +41,21 @@ pub enum SendError {
 fn descriptor_address(layout: Layout, slot: u16) -> u64
     requires { slot < layout.tx }
     ensures start { result ≡ transmit_slot layout slot }
-    ensures below_size { result + 16 ≤ size_of layout }
+    ensures below_size { result + descriptor_bytes ≤ size_of layout }
 {
     layout.transmit_ring() + DESCRIPTOR_BYTES * u64::from(slot)
 }
 
 /// Whether the adapter is done with a transmit descriptor: DD is set.
-fn shows_done(bytes: &[u8; 16]) -> bool
-    ensures { result ≡ is_set (slice_index bytes.now 12) tx_dd }
+fn shows_done(bytes: &[u8; TX_DESC_BYTES]) -> bool
+    ensures { result ≡ is_set (slice_index bytes.now sent_status_offset) tx_dd }
 {
     TxDesc::from_bytes(bytes).status.contains(TxStatus::DD)
 }
 
 /// The descriptor of a frame in one buffer: a whole packet (EOP), with a check sequence (IFCS), and with its
 /// write-back requested (RS).
-fn whole_packet(buffer: u64, size: u16) -> [u8; 16]
+fn whole_packet(buffer: u64, size: u16) -> [u8; TX_DESC_BYTES]
     ensures { result ≡ whole_descriptor buffer size }
 {
     TxDesc {
@@ -87,7 +82,7 @@ impl Driver {
         if self.sending == 0 {
             return false;
         }
-        let mut bytes = [0; 16];
+        let mut bytes = [0; TX_DESC_BYTES];
         bus.load(
             descriptor_address(self.layout, self.oldest_transmit),
             &mut bytes,
@@ -144,9 +139,9 @@ impl Driver {
     ///
     /// E20 [`TooShort`](SendError::TooShort) if the frame has fewer than 14 bytes, E21
     /// [`TooLong`](SendError::TooLong) if it has more than 1,518; both without an access. E22
-    /// [`RingFull`](SendError::RingFull) if all slots of the transmit ring but one are still outstanding after the call
-    /// has freed those whose descriptors have DD. If the bus obeys the law and the driver is ready with its transmit
-    /// side up, E22 means exactly one load (a ring has at least 8 slots) and an unchanged driver.
+    /// [`RingFull`](SendError::RingFull) only if all slots of the transmit ring but one are still outstanding after the
+    /// call has freed those whose descriptors have DD. If the bus obeys the law and the driver is ready with its
+    /// transmit side up, E22 means exactly one load (a ring has at least 8 slots) and an unchanged driver.
     pub fn transmit<B: Bus>(&mut self, bus: &mut B, frame: &[u8]) -> Result<(), SendError>
         requires memory { size_of self.old.layout ≤ B.extent bus.old }
         ensures keeps { Keeps B.Bus bus.old bus.new }
@@ -161,10 +156,10 @@ impl Driver {
         // And over one that obeys the law.
         ensures transmits { Transmits B.Bus frame.now result (at bus.old self.old) (at bus.new self.new) }
     {
-        if frame.len() < SHORTEST_SENT {
+        if frame.len() < SHORTEST_SENDABLE {
             return Err(SendError::TooShort);
         }
-        if frame.len() > LONGEST_SENT {
+        if frame.len() > LONGEST_SENDABLE {
             return Err(SendError::TooLong);
         }
         self.reclaim(bus);

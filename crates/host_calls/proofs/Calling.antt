@@ -190,10 +190,3 @@ pub others-run : (caller k : ℕ) (steps : List AtomicStep) (a b : List StationS
     → LeadsTo caller steps a b → HostReady h (world_at a k) → HostRuns k steps (did [] [] []) (connected h a) (connected h b)
 others-run caller k steps a b h other leads ready =
     runs-alone k steps a b h ready (happens-elsewhere caller k steps a b other leads) (none-elsewhere caller k steps a b other leads)
-
--- What was lent comes back.
-pub lent-back : {O : Type 0} (Holds : List StationState → O → Type 0) (new new' : List StationState) (after after' : O)
-    → new' ≡ new → after' ≡ after → Holds new after → Holds new' after'
-lent-back {O} Holds new new' after after' same observed holds =
-    subst (λ (stations : List StationState). Holds stations after') (sym same)
-    (subst (λ (observer : O). Holds new observer) (sym observed) holds)

@@ -13,6 +13,7 @@ use Rattle.descriptors.specs.RingLaws.{places-none}
 use Rattle.dma_memory.specs.OwnersLaws.{length-one_owner}
 use Rattle.rx_engine.specs.Descriptors.{named_address}
 use Rattle.rx_engine.specs.Pieces.{frames_of}
+use Rattle.rx_engine.specs.declared.engine.TheConstants.{MOST_FRAMES}
 use Rattle.rx_engine.specs.declared.engine.Work.{Work}
 use Rattle.adapter.specs.HostFrames.{finished_pieces, frames_held, frames_to_send, piece_in, pieces_in_slots}
 use Rattle.adapter.specs.Slots.{finished, in_work, offered, outstanding, slot_of_work}
@@ -93,7 +94,7 @@ slots-counted h world stands =
 
 -- So a host holds at most as many frames as it has buffers, and those of the packet buffer.
 pub held-at_most : (h : HostState) (world : World) → CanBeDrained h world → IsAdapter world.adapter
-    → count_frames h world ≤ h.driver.layout.buffers + 24
+    → count_frames h world ≤ h.driver.layout.buffers + MOST_FRAMES
 held-at_most h world stands adapter =
     omega (
       arith,

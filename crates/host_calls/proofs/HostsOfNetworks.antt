@@ -4,10 +4,10 @@ use Rattle.std.proofs.Common.{arith, refl, sym, ap, subst, ◌∙◌}
 use Rattle.std.proofs.lemmas.List.{set-get_or}
 use Rattle.std.proofs.lemmas.Option.{slice_get-get_or}
 use Rattle.circular_buffer.proofs.Places.{slice_get-set_same}
-use Rattle.packet_socket.specs.HostCalls.{HostDid}
+use Rattle.packet_socket.specs.HostCalls.{HostDid, HostReady}
 use Rattle.packet_socket.specs.HostState.{HostState}
 use Rattle.bus.specs.declared.event.Access.{Access}
-use Rattle.stations.specs.Stations.{StationState}
+use Rattle.stations.specs.Stations.{StationState, world_at}
 use Rattle.stations.proofs.Lengths.{length-event, length-stays}
 use Rattle.stations.specs.AtomicSteps.{At, AtomicStep, Idles, after}
 use Rattle.host_calls.specs.CallsOfHosts.{CallRuns}
@@ -45,19 +45,31 @@ before-call hosts stations n k h shown below found =
     ap (λ (one : HostState). connected one stations) (host-found hosts stations n k h shown below found)
     ∙ ap (λ (one : NetworkState). connected (nth_host n k) one.stations) shown
 
+-- If the k-th host is ready, it is ready as code has it.
+pub ready-before : (hosts : List HostState) (stations : List StationState) (n : NetworkState) (k : ℕ) (h : HostState)
+    → network hosts stations ≡ n → k < length n.hosts → h ≡ slice_index_or hosts k h → HostReady (nth_host n k) (world_at n.stations k)
+    → HostReady h (world_at stations k)
+ready-before hosts stations n k h shown below found =
+    subst (λ (one : ConnectedHost). HostReady one.host (world_at one.stations k))
+    (sym (before-call hosts stations n k h shown below found))
+
 inside : (hosts : List HostState) (stations : List StationState) (n : NetworkState) (k : ℕ) → network hosts stations ≡ n
     → k < length n.hosts → k < length hosts
 inside hosts stations n k shown below = subst (λ (one : NetworkState). k < length one.hosts) (sym shown) below
 
--- What holds of the host and the stations that a call leaves holds of the network.
-pub after-call : (Holds : ConnectedHost → ConnectedHost → Type 0) (hosts : List HostState) (stations : List StationState)
-    (n : NetworkState) (k : ℕ) (h h' : HostState) (left : List StationState) → connected h stations ≡ connected_at n k
-    → network hosts stations ≡ n → k < length n.hosts → Holds (connected h stations) (connected h' left)
-    → Holds (connected_at n k) (connected_at (network (slice_set hosts k h') left) k)
-after-call Holds hosts stations n k h h' left before shown below holds =
-    let behind = host-behind hosts left k h' (inside hosts stations n k shown below) in
-    subst (λ (old : ConnectedHost). Holds old (connected_at (network (slice_set hosts k h') left) k)) before
-    (subst (λ (host : HostState). Holds (connected h stations) (connected host left)) (sym behind) holds)
+-- What holds of the host, of the stations and of the observer that a call leaves holds of the network and of the observer: the stations
+-- and the observer were lent, and come back.
+pub after-call : {O : Type 0} (Holds : O → ConnectedHost → ConnectedHost → Type 0) (hosts : List HostState) (stations : List StationState)
+    (n : NetworkState) (k : ℕ) (h h' : HostState) (left back : List StationState) (told told' : O) → network hosts stations ≡ n
+    → k < length n.hosts → h ≡ slice_index_or hosts k h → back ≡ left → told' ≡ told → Holds told (connected h stations) (connected h' left)
+    → Holds told' (connected_at n k) (connected_at (network (slice_set hosts k h') back) k)
+after-call {O} Holds hosts stations n k h h' left back told told' shown below found same observed holds =
+    let behind = host-behind hosts back k h' (inside hosts stations n k shown below) in
+    subst (λ (old : ConnectedHost). Holds told' old (connected_at (network (slice_set hosts k h') back) k))
+    (before-call hosts stations n k h shown below found)
+    (subst (λ (host : HostState). Holds told' (connected h stations) (connected host back)) (sym behind)
+    (subst (λ (list : List StationState). Holds told' (connected h stations) (connected h' list)) (sym same)
+    (subst (λ (observer : O). Holds observer (connected h stations) (connected h' left)) (sym observed) holds)))
 
 pub others-stay : (hosts : List HostState) (stations : List StationState) (n : NetworkState) (k : ℕ) (h' : HostState)
     (left : List StationState) → network hosts stations ≡ n → k < length n.hosts
@@ -67,12 +79,13 @@ others-stay hosts stations n k h' left shown below =
     ap (λ (one : NetworkState). slice_set one.hosts k h') shown
     ∙ ap (λ (one : HostState). slice_set n.hosts k one) (sym behind)
 
--- A call leaves as many stations as there are hosts.
-pub same-stations : {done : HostDid} {made : List Access → Type 0} (call : PlayedCall) (hosts : List HostState) (a b : List StationState)
-    (k : ℕ) (h h' : HostState) → CallRuns call done made (connected h a) (connected h' b) → length a ≡ length hosts
-    → length b ≡ length (slice_set hosts k h')
-same-stations call hosts a b k h h' runs same =
-    length-stays call.caller runs.steps a b runs.of_call.leads ∙ same ∙ sym (length-set hosts k h')
+-- A call leaves as many stations as there are hosts. They come back.
+pub same-stations : {done : HostDid} {made : List Access → Type 0} (call : PlayedCall) (hosts : List HostState)
+    (a left back : List StationState) (k : ℕ) (h h' : HostState) → CallRuns call done made (connected h a) (connected h' left)
+    → back ≡ left → length a ≡ length hosts → length back ≡ length (slice_set hosts k h')
+same-stations call hosts a left back k h h' runs returned same =
+    ap (λ (list : List StationState). length list) returned
+    ∙ length-stays call.caller runs.steps a left runs.of_call.leads ∙ same ∙ sym (length-set hosts k h')
 
 -- So does a tick.
 pub length-played : (step : AtomicStep) (stations : List StationState) → length (after step stations) ≡ length stations

@@ -37,7 +37,7 @@ use Rattle.packet_socket.specs.declared.receive.RecvError.TheVariants.{Empty, No
 use Rattle.driver.specs.Parts.{IsFrameSize}
 use Rattle.driver.specs.declared.receiver.Received.{Received}
 use Rattle.host_calls.specs.LentCalls.{lent}
-use Rattle.host_calls.specs.CallAnswers.{AnswersRecv, LeavesRecv, MakesRecv, frame_answer, given_by}
+use Rattle.host_calls.specs.CallAnswers.{AnswersRecv, KeepsRest, LeavesRecv, MakesRecv, frame_answer, given_by}
 use Rattle.host_calls.specs.CallsOfHosts.{CallRuns, IsOfDriver, OnlyLastWrites}
 use Rattle.host_calls.specs.ConnectedHosts.{connected}
 use Rattle.host_calls.proofs.Calling.{call-runs, flows-of, lent_call, work-goes}
@@ -201,6 +201,13 @@ any-leaves a m b h h' socket (Ok size) before into zero long ok err finished =
     ok.others
 any-leaves a m b h h' socket (Err error) before into zero long ok err finished =
     err-leaves a m b h h' socket error zero err.0 err.1 finished
+
+-- The caller's bytes after the frame.
+pub any-rest : {O : Type 0} {g : OfObserver O} (a m : LentBus O g) (h h' : HostState) (socket : ℕ) (result : Result ℕ RecvError)
+    (before into : List ℕ) → IfOk result (Returns h h' socket before into)
+    → IfErr result (λ error. (m ≡ a) × (h' ≡ h) × (into ≡ before)) → KeepsRest result before into
+any-rest a m h h' socket (Ok size) before into ok err = ok.rest
+any-rest a m h h' socket (Err error) before into ok err = err.2
 
 -- What is given is a legal frame.
 pub any-legal : (h h' : HostState) (socket : ℕ) (result : Result ℕ RecvError) (before into : List ℕ)

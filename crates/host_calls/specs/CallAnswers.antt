@@ -1,6 +1,6 @@
 -- What a call of a host answers, and which accesses it makes (our choice).
 use Rattle.std.specs.Prelude.{⊤, ◌≡◌, ◌↔◌, ◌≤◌, ◌<◌, ◌+◌, ◌-◌, ◌++◌, ◌∷◌, []}
-use Rattle.std.specs.Prelude.{ℕ, List, Result, Ok, Err, length, map, take}
+use Rattle.std.specs.Prelude.{ℕ, List, Result, Ok, Err, drop, length, map, take}
 use Rattle.descriptors.specs.Frames.{longest_frame, shortest_sent}
 use Rattle.adapter.specs.HostFrames.{frames_to_send}
 use Rattle.std.specs.List.{concat}
@@ -60,6 +60,12 @@ given_by socket (Err error) = []
 abbrev pub frame_answer : List ℕ → Result ℕ RecvError → Result (List ℕ) RecvError
 frame_answer bytes (Ok size) = Ok (take size bytes)
 frame_answer bytes (Err error) = Err error
+
+-- The caller's bytes before and after a call that asks for a frame: those from the frame's size on don't change. If no frame is returned,
+-- none changes.
+abbrev pub KeepsRest : Result ℕ RecvError → (before after : List ℕ) → Type 0
+KeepsRest (Ok size) before after = drop size after ≡ drop size before
+KeepsRest (Err error) before after = after ≡ before
 
 -- A frame that is returned is the oldest that waited.
 abbrev pub IsOldest : Result (List ℕ) RecvError → List (List ℕ) → Type 0

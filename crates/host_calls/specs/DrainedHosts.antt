@@ -1,5 +1,5 @@
 -- A drained host: its sockets gave all frames that it held for them (our choice).
-use Rattle.std.specs.Prelude.{◌≡◌, ◌≢◌, ◌≤◌, ◌+◌, ◌-◌, ◌*◌, ◌/◌, ◌^◌, ◌<◌, ◌⊎◌, ◌++◌, ◌∷◌}
+use Rattle.std.specs.Prelude.{◌≡◌, ◌≢◌, ◌≤◌, ◌+◌, ◌-◌, ◌*◌, ◌/◌, ◌<◌, ◌⊎◌, ◌++◌, ◌∷◌}
 use Rattle.std.specs.Prelude.{[]}
 use Rattle.std.specs.Prelude.{ℕ, All, IsTrue, List, length, replicate}
 use Rattle.std.specs.Prelude.{sum_by}
@@ -16,7 +16,7 @@ use Rattle.stations.specs.AtomicSteps.{At, AtomicStep, Idles}
 use Rattle.stations.specs.Stations.{StationState, backlog_at, world_at}
 use Rattle.stations.specs.AtomicRuns.{LeadsTo}
 use Rattle.delivery.specs.Happenings.{Moved, happened_in}
-use Rattle.driver_law.specs.Calls.{HasNoForgottenWork, IsRefilled}
+use Rattle.driver_law.specs.Calls.{HasNoForgottenWork, IsRefilled, sum_limit}
 use Rattle.driver.specs.HandlerSteps.{GrowsBy}
 use Rattle.driver.specs.declared.receiver.Received.{Received}
 use Rattle.packet_socket.specs.HostCalls.{Given, HostReady, did, given_for, held_for_socket, without_socket}
@@ -80,14 +80,16 @@ IsDrainStep number (At host (Steps kind wire_free answer)) = (host ≡ number) �
 IsDrainStep number (At host (Arrives frame fate)) = ⊥
 IsDrainStep number (Idles tick) = ⊥
 
--- The count of misses is unchanged: the sum of those that the driver read and those in MPC, up to the greatest u64, and whether the sum is
+-- The count of misses is unchanged: the sum of those that the driver read and those in MPC, up to the greatest u64. An exact count stays
 -- exact.
 pub record KeepsMisses (h : HostState) (a : World) (h' : HostState) (b : World) : Type 0 where
-  pub sum : h.driver.missed + a.adapter.missed_packets < 2 ^ 64
+  pub sum : h.driver.missed + a.adapter.missed_packets < sum_limit
       → h'.driver.missed + b.adapter.missed_packets ≡ h.driver.missed + a.adapter.missed_packets
-  pub sticks : 2 ^ 64 - 1 ≤ h.driver.missed + a.adapter.missed_packets → 2 ^ 64 - 1 ≤ h'.driver.missed + b.adapter.missed_packets
+  pub sticks : sum_limit - 1 ≤ h.driver.missed + a.adapter.missed_packets → sum_limit - 1 ≤ h'.driver.missed + b.adapter.missed_packets
+  -- The count is exact if the driver's sum is, MPC is below its greatest value, and the two together fit into a u64. No more is said of a
+  -- count that isn't exact.
   pub exact :
-      IsTrue h.driver.exact → a.adapter.missed_packets < greatest_count → h.driver.missed + a.adapter.missed_packets < 2 ^ 64
+      IsTrue h.driver.exact → a.adapter.missed_packets < greatest_count → h.driver.missed + a.adapter.missed_packets < sum_limit
       → IsTrue h'.driver.exact × (b.adapter.missed_packets < greatest_count)
 
 -- How many steps the drain took: at most four for each piece of the frames that the host held, and one; at least those that its adapter

@@ -5,7 +5,7 @@ ghost use Rattle.driver.specs.Parts.{IsFrameSize};
 ghost use Rattle.stations.specs.Stations.{world_at};
 ghost use Rattle.packet_socket.specs.HostCalls.{HostReady};
 ghost use Rattle.host_calls.specs.ConnectedHosts.{played_call};
-ghost use Rattle.host_calls.specs.CallAnswers.{InterruptRuns, RecvRuns, SendRuns, frame_answer};
+ghost use Rattle.host_calls.specs.CallAnswers.{InterruptRuns, KeepsRest, RecvRuns, SendRuns, frame_answer};
 ghost use Rattle.host_calls.specs.Networks.{OnlyHostChanges, connected_at, nth_host};
 
 use crate::network::Network;
@@ -71,7 +71,8 @@ impl Network {
     }
 
     /// A host asks for the oldest frame of a socket, while ticks are played on all stations. It is copied into the
-    /// front of `into`, and the answer is how many bytes it has.
+    /// front of `into`, and the answer is how many bytes it has. The bytes of `into` after the frame don't change; if
+    /// no frame is returned, none does.
     ///
     /// # Errors
     ///
@@ -91,6 +92,7 @@ impl Network {
             (played_call number ticks.now (O.heard observer.old observer.new) result.accesses) socket
             (frame_answer into.new result.answer) (connected_at self.old number) (connected_at self.new number) }
         ensures size { IfOk result.answer IsFrameSize }
+        ensures rest { KeepsRest result.answer into.old into.new }
         ensures others { OnlyHostChanges number self.old self.new }
     {
         let mut bus = LentBus {

@@ -13,6 +13,7 @@ use crate::Outlet;
 use crate::network::Network;
 use adapter::{Outcome, StepKind};
 use packet_socket::Host;
+use rx_engine::MOST_FRAMES;
 use stations::Nobody;
 
 /// The first socket for which a frame waits.
@@ -40,7 +41,7 @@ impl Network {
     pub fn drain<S: Outlet>(&mut self, number: usize, sink: &mut S) -> u64
         requires there { number < length self.old.hosts }
         requires stands { CanBeDrained (nth_host self.old number) (world_at self.old.stations number) }
-        requires room { (nth_host self.old number).driver.layout.buffers + 24 ≤ S.room_left sink.old }
+        requires room { (nth_host self.old number).driver.layout.buffers + MOST_FRAMES ≤ S.room_left sink.old }
         ensures drains { DrainsInto result number (S.frames sink.old) (S.frames sink.new)
             (connected_at self.old number) (connected_at self.new number) }
         ensures left { length (S.frames sink.old) + S.room_left sink.old

@@ -1,5 +1,5 @@
 -- What a host holds for its sockets, and what it does in its calls (our choice).
-use Rattle.std.specs.Prelude.{⊤, ◌≡◌, ◌==◌, ◌≤◌, ◌<◌, ◌+◌, ◌-◌, ◌^◌, ◌++◌, ◌∷◌, []}
+use Rattle.std.specs.Prelude.{⊤, ◌≡◌, ◌==◌, ◌≤◌, ◌<◌, ◌+◌, ◌-◌, ◌++◌, ◌∷◌, []}
 use Rattle.std.specs.Prelude.{ℕ, Bool, true, List, Result, Ok, Err, count_by}
 use Rattle.std.specs.Prelude.{All, drop, filter, flat_map, length, map, slice_set, take}
 use Rattle.std.specs.List.Sorted.{IsPermutation}
@@ -17,7 +17,7 @@ use Rattle.driver_law.specs.Calls.{stores_from, tail_write}
 use Rattle.driver_law.specs.DriverState.{DriverState, HandedOut, buffer_at, frame_of, holding, next_receive, numbers_of, with_owners}
 use Rattle.driver_law.specs.ReadyDrivers.{ReadyWith}
 use Rattle.driver.specs.HandlerSteps.{AreFramesOf, AreOfOneFrame, Asked, DoesNothing, GrowsBy, HandlesCauses, IsTaken, RunOfSlots}
-use Rattle.driver.specs.HandlerSteps.{ServesRing}
+use Rattle.driver.specs.HandlerSteps.{ServesRing, count_limit}
 use Rattle.driver.specs.Parts.{AreFrames, IsFrameSize, part_loads, received_of}
 use Rattle.driver.specs.declared.parts.Part.{Part}
 use Rattle.driver.specs.SendSteps.{SendAnswer, Sends}
@@ -98,7 +98,7 @@ pub record Accounts (h : HostState) (a : World) (h' : HostState) (b : World) (gi
       ++ socket_frames h.kinds socket stored
   pub least : h.unclaimed ≤ h'.unclaimed
   pub most : unclaimed_in h' b ≤ unclaimed_in h a + without_socket h.kinds stored
-  pub exactly : h'.unclaimed < 2 ^ 64 - 1 → unclaimed_in h' b ≡ unclaimed_in h a + without_socket h.kinds stored
+  pub exactly : h'.unclaimed < count_limit - 1 → unclaimed_in h' b ≡ unclaimed_in h a + without_socket h.kinds stored
 
 -- A host in its world, at a moment of a run.
 pub record HostInWorld : Type 0 where

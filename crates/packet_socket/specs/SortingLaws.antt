@@ -1,5 +1,5 @@
 -- Sockets sort the frames that they are shown.
-use Rattle.std.proofs.Common.{◌≡◌, ◌+◌, ◌-◌, ◌^◌, ◌<◌, ◌++◌, ◌∷◌, [], ℕ, cond, Option, Some, None, List, length, min, refl, sym}
+use Rattle.std.proofs.Common.{◌≡◌, ◌+◌, ◌-◌, ◌<◌, ◌++◌, ◌∷◌, [], ℕ, cond, Option, Some, None, List, length, min, refl, sym}
 use Rattle.std.proofs.Common.{ap, subst, ◌∙◌, append_assoc, length-append, arith}
 use Rattle.std.specs.List.{slice_set}
 use Rattle.std.specs.List.Sorted.{IsPermutation}
@@ -8,7 +8,7 @@ use Rattle.std.proofs.lemmas.List.{append-nil, length-set}
 use Rattle.std.proofs.lemmas.List.Elements.{filter-append}
 use Rattle.std.proofs.lemmas.List.Sorted.{IsPermutation-append_left, IsPermutation-refl, IsPermutation-trans, length_permutation}
 use Rattle.std.proofs.lemmas.List.Sums.{sum_by-append, sum_by-cons}
-use Rattle.driver.specs.HandlerSteps.{GrowsBy}
+use Rattle.driver.specs.HandlerSteps.{GrowsBy, count_limit}
 use Rattle.driver.specs.declared.receiver.Received.{Received}
 use Rattle.packet_socket.specs.SocketKinds.{goes_to, has_none, has_socket, socket_of}
 use Rattle.packet_socket.specs.HostCalls.{Queues, claimed_of, socket_entries, unclaimed_of}
@@ -32,7 +32,7 @@ grows-join a b c m n one two = record {
       omega (arith, before, later);
 }
 
-grows-one : (a b : ℕ) → a < 2 ^ 64 → b ≡ min (a + 1) (2 ^ 64 - 1) → GrowsBy a b 1
+grows-one : (a b : ℕ) → a < count_limit → b ≡ min (a + 1) (count_limit - 1) → GrowsBy a b 1
 grows-one a b fits is = record
     { least = omega (arith, fits, is); most = omega (arith, fits, is); exactly = λ below. omega (arith, fits, is, below) }
 
@@ -137,8 +137,8 @@ sorts-kept kinds queues room unclaimed socket received queue is there pushed = r
 }
 
 pub sorts-counted : (sockets : SocketsState) (unclaimed : ℕ) (received : Received) → socket_of sockets.kinds received.ether_type ≡ None
-    → sockets.unclaimed < 2 ^ 64
-    → unclaimed ≡ min (sockets.unclaimed + 1) (2 ^ 64 - 1) → Sorts sockets (record sockets { unclaimed = unclaimed }) (received ∷ []) []
+    → sockets.unclaimed < count_limit → unclaimed ≡ min (sockets.unclaimed + 1) (count_limit - 1)
+    → Sorts sockets (record sockets { unclaimed = unclaimed }) (received ∷ []) []
 sorts-counted sockets unclaimed received is fits more = record {
   kinds = refl;
   room = refl;

@@ -130,8 +130,8 @@ impl Host {
     /// # Errors
     ///
     /// E20 [`TooShort`](SendError::TooShort) if the frame has fewer than 14 bytes, E21 [`TooLong`](SendError::TooLong)
-    /// if it has more than 1,518; both without an access. E22 [`RingFull`](SendError::RingFull) if all slots of the
-    /// transmit ring but one are still outstanding after the call has freed those whose descriptors have DD.
+    /// if it has more than 1,518; both without an access. E22 [`RingFull`](SendError::RingFull) only if all slots of
+    /// the transmit ring but one are still outstanding after the call has freed those whose descriptors have DD.
     pub fn send<B: Bus>(&mut self, bus: &mut B, frame: &[u8]) -> Result<(), SendError>
         requires memory { size_of self.old.driver.layout ≤ B.extent bus.old }
         ensures keeps { Keeps B.Bus bus.old bus.new }

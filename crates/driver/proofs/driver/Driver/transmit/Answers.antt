@@ -7,15 +7,15 @@ use Rattle.driver_law.specs.DriverState.{DriverState, holding}
 use Rattle.driver.proofs.SentFrames.{frees-and-sends, was-full}
 use Rattle.driver.proofs.driver.Driver.transmit.Goals as goal
 
-pub returns-then-frame-lt-SHORTEST_SENT-clause-transmits : goal.returns-then-frame-lt-SHORTEST_SENT-clause-transmits
-returns-then-frame-lt-SHORTEST_SENT-clause-transmits g c held is = record {
+pub returns-then-frame-lt-SHORTEST_SENDABLE-clause-transmits : goal.returns-then-frame-lt-SHORTEST_SENDABLE-clause-transmits
+returns-then-frame-lt-SHORTEST_SENDABLE-clause-transmits g c held is = record {
   ran = ran_by-stays g.B.Bus g.met.B.Bus.composes.stays c.args.bus.now (holding held c.args.self.now) is.ready;
   answer = tt;
   frees_first = tt;
 }
 
-pub returns-then-frame-gt-LONGEST_SENT-clause-transmits : goal.returns-then-frame-gt-LONGEST_SENT-clause-transmits
-returns-then-frame-gt-LONGEST_SENT-clause-transmits g c held is = record {
+pub returns-then-frame-gt-LONGEST_SENDABLE-clause-transmits : goal.returns-then-frame-gt-LONGEST_SENDABLE-clause-transmits
+returns-then-frame-gt-LONGEST_SENDABLE-clause-transmits g c held is = record {
   ran = ran_by-stays g.B.Bus g.met.B.Bus.composes.stays c.args.bus.now (holding held c.args.self.now) is.ready;
   answer = tt;
   frees_first = tt;

@@ -1,10 +1,7 @@
-use Rattle.std.proofs.Common.{rules, ◌≡◌, length, refl, slice_set, subst, sym, true, List}
-use Rattle.packet_socket.specs.HostCalls.{HostReady}
-use Rattle.stations.specs.Stations.{StationState, world_at}
+use Rattle.std.proofs.Common.{rules, refl, true}
 use Rattle.host_calls.specs.CallAnswers.{InterruptRuns}
-use Rattle.host_calls.specs.ConnectedHosts.{ConnectedHost, connected, played_call}
-use Rattle.host_calls.proofs.Calling.{lent-back}
-use Rattle.host_calls.proofs.HostsOfNetworks.{after-call, before-call, others-stay, same-stations}
+use Rattle.host_calls.specs.ConnectedHosts.{played_call}
+use Rattle.host_calls.proofs.HostsOfNetworks.{after-call, others-stay, ready-before, same-stations}
 use Rattle.host_calls.proofs.Interrupting.{interrupt-runs}
 use Rattle.host_calls.proofs.network.Network.interrupt.Goals as goal
 
@@ -16,16 +13,11 @@ invariant_of-self g c =
     let hosts = c.self.inside.hosts.items in
     let old = c.self.inside.stations in
     let ends = c.finish.new.self in
-    let before = before-call hosts old c.args.self.now k h c.self.view_is c.requires.there c.index_mut.ensures.value in
-    let ready = subst (λ (one : ConnectedHost). HostReady one.host (world_at one.stations k)) (sym before) c.requires.ready in
+    let ready = ready-before hosts old c.args.self.now k h c.self.view_is c.requires.there c.index_mut.ensures.value c.requires.ready in
     let ensures = c.interrupt-answer.ensures in
     let runs = (interrupt-runs g.met.O.Observer.composes _ c.interrupt-answer.new.bus ends h h' c.interrupt-answer.result refl ready
     ensures.only_receives ensures.serves (ensures.handles true (record { honest = tt; ready = ready })) c.finish.ensures).runs in
-    record {
-      same = lent-back (λ (stations : List StationState) told. length stations ≡ length (slice_set hosts k h')) ends.stations.now _
-          ends.observer.now ends.observer.now (search rules) refl
-          (same-stations _ hosts old ends.stations.now k h h' runs c.self.invariant.same);
-    }
+    record { same = same-stations _ hosts old ends.stations.now _ k h h' runs (search rules) c.self.invariant.same }
 
 pub returns-clause-handles : goal.returns-clause-handles
 returns-clause-handles g c =
@@ -35,18 +27,15 @@ returns-clause-handles g c =
     let result = c.interrupt-answer.result in
     let ensures = c.interrupt-answer.ensures in
     let ends = c.finish.new.self in
-    let before = before-call c.self.inside.hosts.items c.self.inside.stations c.args.self.now k h c.self.view_is c.requires.there
-    c.index_mut.ensures.value in
-    let ready = subst (λ (one : ConnectedHost). HostReady one.host (world_at one.stations k)) (sym before) c.requires.ready in
-    after-call (InterruptRuns
-    (played_call k c.args.ticks.now (g.O.Observer.heard c.args.observer.now _) ends.accesses) result)
-    c.self.inside.hosts.items c.self.inside.stations c.args.self.now k h h' _ before c.self.view_is c.requires.there
-    (lent-back (λ (stations : List StationState) told. InterruptRuns
-    (played_call k c.args.ticks.now (g.O.Observer.heard c.args.observer.now told) ends.accesses) result
-    (connected h c.self.inside.stations) (connected h' stations))
-    ends.stations.now _ ends.observer.now _ (search rules) (search rules)
+    let hosts = c.self.inside.hosts.items in
+    let old = c.self.inside.stations in
+    let ready = ready-before hosts old c.args.self.now k h c.self.view_is c.requires.there c.index_mut.ensures.value c.requires.ready in
+    after-call (λ told. InterruptRuns
+    (played_call k c.args.ticks.now (g.O.Observer.heard c.args.observer.now told) ends.accesses) result)
+    hosts old c.args.self.now k h h' ends.stations.now _ ends.observer.now _ c.self.view_is c.requires.there
+    c.index_mut.ensures.value (search rules) (search rules)
     (interrupt-runs g.met.O.Observer.composes _ c.interrupt-answer.new.bus ends h h' result refl ready ensures.only_receives
-    ensures.serves (ensures.handles true (record { honest = tt; ready = ready })) c.finish.ensures))
+    ensures.serves (ensures.handles true (record { honest = tt; ready = ready })) c.finish.ensures)
 
 pub returns-clause-others : goal.returns-clause-others
 returns-clause-others g c =

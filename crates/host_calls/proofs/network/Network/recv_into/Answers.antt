@@ -1,11 +1,8 @@
-use Rattle.std.proofs.Common.{rules, ◌≡◌, length, refl, slice_set, subst, sym, true, List}
-use Rattle.packet_socket.specs.HostCalls.{HostReady}
-use Rattle.stations.specs.Stations.{StationState, world_at}
+use Rattle.std.proofs.Common.{rules, refl, subst, true}
 use Rattle.host_calls.specs.CallAnswers.{LeavesRecv, RecvRuns, frame_answer}
-use Rattle.host_calls.specs.ConnectedHosts.{ConnectedHost, connected, played_call}
-use Rattle.host_calls.proofs.Calling.{lent-back}
-use Rattle.host_calls.proofs.HostsOfNetworks.{after-call, before-call, others-stay, same-stations}
-use Rattle.host_calls.proofs.Receiving.{any-answers, any-leaves, any-legal, any-runs}
+use Rattle.host_calls.specs.ConnectedHosts.{played_call}
+use Rattle.host_calls.proofs.HostsOfNetworks.{after-call, others-stay, ready-before, same-stations}
+use Rattle.host_calls.proofs.Receiving.{any-answers, any-leaves, any-legal, any-rest, any-runs}
 use Rattle.host_calls.proofs.network.Network.recv_into.Goals as goal
 
 pub invariant_of-self : goal.invariant_of-self
@@ -16,17 +13,12 @@ invariant_of-self g c =
     let hosts = c.self.inside.hosts.items in
     let old = c.self.inside.stations in
     let ends = c.finish.new.self in
-    let before = before-call hosts old c.args.self.now k h c.self.view_is c.requires.there c.index_mut.ensures.value in
-    let ready = subst (λ (one : ConnectedHost). HostReady one.host (world_at one.stations k)) (sym before) c.requires.ready in
+    let ready = ready-before hosts old c.args.self.now k h c.self.view_is c.requires.there c.index_mut.ensures.value c.requires.ready in
     let ensures = c.recv-answer.ensures in
     let runs = any-runs g.met.O.Observer.composes _ c.recv-answer.new.bus ends h h' c.args.socket c.recv-answer.result c.args.into.now
     c.recv-answer.new.into refl (search rules) ready (ensures.receives true (record { honest = tt; ready = ready })) ensures.ok ensures.err
     c.finish.ensures in
-    record {
-      same = lent-back (λ (stations : List StationState) told. length stations ≡ length (slice_set hosts k h')) ends.stations.now _
-          ends.observer.now ends.observer.now (search rules) refl
-          (same-stations _ hosts old ends.stations.now k h h' runs c.self.invariant.same);
-    }
+    record { same = same-stations _ hosts old ends.stations.now _ k h h' runs (search rules) c.self.invariant.same }
 
 pub returns-clause-gives : goal.returns-clause-gives
 returns-clause-gives g c =
@@ -38,20 +30,16 @@ returns-clause-gives g c =
     let m = c.recv-answer.new.bus in
     let ends = c.finish.new.self in
     let ensures = c.recv-answer.ensures in
-    let before = before-call c.self.inside.hosts.items c.self.inside.stations c.args.self.now k h c.self.view_is c.requires.there
-    c.index_mut.ensures.value in
-    let ready = subst (λ (one : ConnectedHost). HostReady one.host (world_at one.stations k)) (sym before) c.requires.ready in
+    let hosts = c.self.inside.hosts.items in
+    let old = c.self.inside.stations in
+    let ready = ready-before hosts old c.args.self.now k h c.self.view_is c.requires.there c.index_mut.ensures.value c.requires.ready in
     let receives = ensures.receives true (record { honest = tt; ready = ready }) in
     let runs = any-runs g.met.O.Observer.composes _ m ends h h' c.args.socket result c.args.into.now into refl (search rules)
     ready receives ensures.ok ensures.err c.finish.ensures in
-    after-call (RecvRuns
-    (played_call k c.args.ticks.now (g.O.Observer.heard c.args.observer.now _) ends.accesses) c.args.socket
-    (frame_answer into result))
-    c.self.inside.hosts.items c.self.inside.stations c.args.self.now k h h' _ before c.self.view_is c.requires.there
-    (lent-back (λ (stations : List StationState) told. RecvRuns
-    (played_call k c.args.ticks.now (g.O.Observer.heard c.args.observer.now told) ends.accesses) c.args.socket (frame_answer into result)
-    (connected h c.self.inside.stations) (connected h' stations))
-    ends.stations.now _ ends.observer.now _ (search rules) (search rules)
+    after-call (λ told. RecvRuns
+    (played_call k c.args.ticks.now (g.O.Observer.heard c.args.observer.now told) ends.accesses) c.args.socket (frame_answer into result))
+    hosts old c.args.self.now k h h' ends.stations.now _ ends.observer.now _ c.self.view_is c.requires.there
+    c.index_mut.ensures.value (search rules) (search rules)
     (record {
       runs = runs;
       states = record {
@@ -60,12 +48,17 @@ returns-clause-gives g c =
             (any-leaves _ m ends h h' c.args.socket result c.args.into.now into refl (search rules) ensures.ok ensures.err
             c.finish.ensures);
       };
-    }))
+    })
 
 pub returns-clause-size : goal.returns-clause-size
 returns-clause-size g c =
     any-legal c.index_mut.result.now c.recv-answer.new.self c.args.socket c.recv-answer.result c.args.into.now
     c.recv-answer.new.into c.recv-answer.ensures.ok
+
+pub returns-clause-rest : goal.returns-clause-rest
+returns-clause-rest g c =
+    any-rest _ c.recv-answer.new.bus c.index_mut.result.now c.recv-answer.new.self c.args.socket c.recv-answer.result c.args.into.now
+    c.recv-answer.new.into c.recv-answer.ensures.ok c.recv-answer.ensures.err
 
 pub returns-clause-others : goal.returns-clause-others
 returns-clause-others g c =

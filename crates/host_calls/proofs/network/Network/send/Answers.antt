@@ -1,11 +1,8 @@
-use Rattle.std.proofs.Common.{rules, ◌≡◌, ap, length, refl, slice_set, subst, sym, List}
+use Rattle.std.proofs.Common.{rules, ap, refl, subst}
 use Rattle.packet_socket.specs.HostState.{HostState}
-use Rattle.packet_socket.specs.HostCalls.{HostReady}
-use Rattle.stations.specs.Stations.{StationState, world_at}
 use Rattle.host_calls.specs.CallAnswers.{LeavesSend, SendRuns}
-use Rattle.host_calls.specs.ConnectedHosts.{ConnectedHost, connected, played_call}
-use Rattle.host_calls.proofs.Calling.{lent-back}
-use Rattle.host_calls.proofs.HostsOfNetworks.{after-call, before-call, others-stay, same-stations}
+use Rattle.host_calls.specs.ConnectedHosts.{played_call}
+use Rattle.host_calls.proofs.HostsOfNetworks.{after-call, others-stay, ready-before, same-stations}
 use Rattle.host_calls.proofs.Sending.{send-answers, send-leaves, sent-call}
 use Rattle.host_calls.proofs.network.Network.send.Goals as goal
 
@@ -17,18 +14,12 @@ invariant_of-self g c =
     let hosts = c.self.inside.hosts.items in
     let old = c.self.inside.stations in
     let ends = c.finish.new.self in
-    let before = before-call hosts old c.args.self.now k h c.self.view_is c.requires.there c.index_mut.ensures.value in
-    let ready = subst (λ (one : ConnectedHost). HostReady one.host (world_at one.stations k)) (sym before) c.requires.ready in
+    let ready = ready-before hosts old c.args.self.now k h c.self.view_is c.requires.there c.index_mut.ensures.value c.requires.ready in
     let others = c.send-answer.ensures.others in
     let sent = c.send-answer.ensures.transmits (record { honest = tt; ready = ready }) in
     let runs = (sent-call g.met.O.Observer.composes _ c.send-answer.new.bus ends h h' c.args.frame.now c.send-answer.result refl ready
-    others
-    sent c.finish.ensures).0 in
-    record {
-      same = lent-back (λ (stations : List StationState) told. length stations ≡ length (slice_set hosts k h')) ends.stations.now _
-          ends.observer.now ends.observer.now (search rules) refl
-          (same-stations _ hosts old ends.stations.now k h h' runs c.self.invariant.same);
-    }
+    others sent c.finish.ensures).0 in
+    record { same = same-stations _ hosts old ends.stations.now _ k h h' runs (search rules) c.self.invariant.same }
 
 pub returns-clause-sends : goal.returns-clause-sends
 returns-clause-sends g c =
@@ -38,20 +29,17 @@ returns-clause-sends g c =
     let frame = c.args.frame.now in
     let result = c.send-answer.result in
     let ends = c.finish.new.self in
-    let before = before-call c.self.inside.hosts.items c.self.inside.stations c.args.self.now k h c.self.view_is c.requires.there
-    c.index_mut.ensures.value in
-    let ready = subst (λ (one : ConnectedHost). HostReady one.host (world_at one.stations k)) (sym before) c.requires.ready in
+    let hosts = c.self.inside.hosts.items in
+    let old = c.self.inside.stations in
+    let ready = ready-before hosts old c.args.self.now k h c.self.view_is c.requires.there c.index_mut.ensures.value c.requires.ready in
     let others = c.send-answer.ensures.others in
     let sent = c.send-answer.ensures.transmits (record { honest = tt; ready = ready }) in
     let call = sent-call g.met.O.Observer.composes _ c.send-answer.new.bus ends h h' frame result refl ready others sent
     c.finish.ensures in
-    after-call (SendRuns
-    (played_call k c.args.ticks.now (g.O.Observer.heard c.args.observer.now _) ends.accesses) frame result)
-    c.self.inside.hosts.items c.self.inside.stations c.args.self.now k h h' _ before c.self.view_is c.requires.there
-    (lent-back (λ (stations : List StationState) told. SendRuns
-    (played_call k c.args.ticks.now (g.O.Observer.heard c.args.observer.now told) ends.accesses) frame result
-    (connected h c.self.inside.stations) (connected h' stations))
-    ends.stations.now _ ends.observer.now _ (search rules) (search rules)
+    after-call (λ told. SendRuns
+    (played_call k c.args.ticks.now (g.O.Observer.heard c.args.observer.now told) ends.accesses) frame result)
+    hosts old c.args.self.now k h h' ends.stations.now _ ends.observer.now _ c.self.view_is c.requires.there
+    c.index_mut.ensures.value (search rules) (search rules)
     (record {
       runs = call.0;
       states = record {
@@ -61,7 +49,7 @@ returns-clause-sends g c =
             (send-leaves _ c.send-answer.new.bus ends h h' result refl others c.send-answer.ensures.nothing c.finish.ensures);
         frees_first = call.1;
       };
-    }))
+    })
 
 pub returns-clause-others : goal.returns-clause-others
 returns-clause-others g c =
