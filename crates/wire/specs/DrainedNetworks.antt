@@ -7,9 +7,8 @@ use Rattle.delivery.specs.Happenings.{Given, Happening, Moved}
 use Rattle.adapter.specs.World.{World}
 use Rattle.host_calls.specs.ConnectedHosts.{connected}
 use Rattle.host_calls.specs.DrainedHosts.{Drains}
-use Rattle.wire.specs.Equations.{Delivers, IsExact, counted}
+use Rattle.wire.specs.Equations.{Delivers, IsExact, NetworkStands, counted}
 use Rattle.host_calls.specs.Networks.{IsHost, NetworkState}
-use Rattle.wire.specs.Networks.{NetworkStands}
 
 -- What a drain says of frames: each frame of the host's packet buffer was moved to its ring, then each frame was given.
 abbrev pub said_of_drain : (host moves : ℕ) → List GivenFrame → List Happening
