@@ -9,7 +9,7 @@ use Rattle.network_plan.specs.declared.plan.HostPlan.{HostPlan}
 use Rattle.packet_socket.specs.HostState.{HostState}
 use Rattle.stations.specs.Stations.{StationState, world_of}
 use Rattle.host_calls.specs.Networks.{NetworkState}
-use Rattle.wire.specs.Networks.{HostStands, NetworkStands}
+use Rattle.wire.specs.Equations.{HostStands, NetworkStands}
 use Rattle.wire.proofs.Standing.{stands-with}
 
 pub made-stands : (plans : List HostPlan) (hosts : List HostState) (stations : List StationState)

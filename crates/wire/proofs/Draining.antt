@@ -14,11 +14,10 @@ use Rattle.delivery.specs.Happenings.{Happening, Moved, happened_in, of_host}
 use Rattle.host_calls.specs.DrainedHosts.{CanBeDrained, Drains, DrainsInto, KeepsMisses}
 use Rattle.host_calls.specs.ConnectedHosts.{connected}
 use Rattle.wire.specs.DrainedNetworks.{KeepsCount, NetworkDrains, said_of_drain}
-use Rattle.wire.specs.Equations.{Delivers, IsExact, counted, sum_of}
+use Rattle.wire.specs.Equations.{Delivers, HostStands, IsExact, NetworkStands, counted, sum_of}
+use Rattle.wire.specs.Runs.{HostsGo}
 use Rattle.host_calls.specs.Networks.{IsHost, NetworkState, OnlyHostChanges, connected_at, nth_host}
 use Rattle.host_calls.proofs.HostsOfNetworks.{host-there}
-use Rattle.wire.specs.Networks.{HostStands, NetworkStands}
-use Rattle.wire.specs.EventParts.{HostsGo}
 use Rattle.wire.proofs.Delivering.{Tells, delivers-none}
 use Rattle.wire.proofs.Playing.{hosts-as}
 use Rattle.wire.proofs.Standing.{caller-behind, each-runs, hosts-go}

@@ -33,12 +33,12 @@ use Rattle.host_calls.proofs.HostTrails.{happens-alone, none-alone}
 use Rattle.host_calls.specs.CallAnswers.{MakesRecv, RecvRuns, given_by}
 use Rattle.host_calls.specs.CallsOfHosts.{CallRuns, HostRuns, IsOfDriver}
 use Rattle.host_calls.specs.ConnectedHosts.{ConnectedHost, PlayedCall, connected, played_call}
-use Rattle.wire.specs.EventParts.{AbsentTold, CallPlayed, HostsGo, IsRecvAnswer, ticked}
+use Rattle.wire.specs.Equations.{NetworkStands}
+use Rattle.wire.specs.Runs.{HostsGo, IsRecvAnswer, given_of, ticked}
+use Rattle.wire.specs.PlayedCalls.{AbsentTold, CallPlayed}
 use Rattle.host_calls.specs.Networks.{IsHost, NetworkState, OnlyHostChanges, connected_at, nth_host}
 use Rattle.host_calls.proofs.HostsOfNetworks.{host-there}
-use Rattle.wire.specs.Networks.{NetworkStands}
 use Rattle.wire.specs.RunObservers.{AreOfTicks, EventTold, Replies, TellsReply, ending, played_ticks, tick_in}
-use Rattle.wire.specs.Runs.{given_of}
 use Rattle.wire.proofs.Delivering.{Tells}
 use Rattle.wire.proofs.Standing.{caller-behind, each-runs, hosts-go}
 

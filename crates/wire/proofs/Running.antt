@@ -12,13 +12,13 @@ use Rattle.delivery.specs.Happenings.{Happening, told, told_alone}
 use Rattle.network_plan.specs.declared.event.Event.{Event}
 use Rattle.network_plan.specs.declared.event.Event.TheVariants.{Interrupt, Recv, Send, Tick as Alone}
 use Rattle.network_plan.specs.declared.reply.Reply.{Reply}
-use Rattle.wire.specs.EventParts.{CallPlayed, IsInterruptAnswer, IsRecvAnswer, IsSendAnswer, TickPlayed, ticked}
-use Rattle.wire.specs.Equations.{Delivers}
+use Rattle.wire.specs.Equations.{Delivers, NetworkStands}
+use Rattle.wire.specs.Runs.{EventRuns, IsInterruptAnswer, IsRecvAnswer, IsSendAnswer, RunTold, RunsTo, StatesRun, accepted_of, caller_of}
+use Rattle.wire.specs.Runs.{given_of, happenings, said, ticked}
+use Rattle.wire.specs.PlayedCalls.{CallPlayed, TickPlayed}
 use Rattle.host_calls.specs.Networks.{NetworkState}
-use Rattle.wire.specs.Networks.{NetworkStands}
 use Rattle.stations.specs.ToldTicks.{ComposesTold, TickTold}
 use Rattle.wire.specs.RunObservers.{ComposesRuns, EventTold}
-use Rattle.wire.specs.Runs.{EventRuns, RunTold, RunsTo, StatesRun, accepted_of, caller_of, given_of, happenings, said}
 use Rattle.wire.proofs.Delivering.{delivers-join, delivers-none}
 use Rattle.wire.proofs.Playing.{ticks-go}
 use Rattle.wire.proofs.Tellings.{tells-steps}

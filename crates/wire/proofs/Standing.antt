@@ -35,9 +35,9 @@ use Rattle.delivery.specs.CountedHosts.{CanAnswer, CanBeCounted, IsCounted, IsCo
 use Rattle.host_calls.proofs.Calling.{others-run, ready-behind}
 use Rattle.host_calls.specs.CallsOfHosts.{HostRuns, IsOfDriver, IsTailWrite}
 use Rattle.host_calls.specs.ConnectedHosts.{connected}
-use Rattle.wire.specs.EventParts.{HostsGo}
+use Rattle.wire.specs.Equations.{HostStands, NetworkStands}
+use Rattle.wire.specs.Runs.{HostsGo}
 use Rattle.host_calls.specs.Networks.{IsHost, NetworkState}
-use Rattle.wire.specs.Networks.{HostStands, NetworkStands}
 use Rattle.wire.proofs.AdaptersStay.{adapter-behind}
 use Rattle.wire.proofs.Delivering.{Tells, delivers-runs}
 

@@ -13,7 +13,7 @@ use Rattle.packet_socket.specs.SocketKinds.{goes_to}
 use Rattle.packet_socket.specs.declared.socket_kind.SocketKind.{SocketKind}
 use Rattle.host_calls.specs.CallsOfHosts.{HostRuns}
 use Rattle.host_calls.specs.ConnectedHosts.{connected}
-use Rattle.wire.specs.EventParts.{TakesFrames}
+use Rattle.wire.specs.Runs.{TakesFrames}
 
 part-append : (kinds : List SocketKind) (socket : ℕ) (xs ys : List (List ℕ))
     → socket_frames kinds socket (xs ++ ys) ≡ socket_frames kinds socket xs ++ socket_frames kinds socket ys

@@ -5,10 +5,10 @@ use Rattle.delivery.specs.Happenings.{told}
 use Rattle.network_plan.specs.declared.event.Event.{Event}
 use Rattle.network_plan.specs.declared.event.Event.TheVariants.{Interrupt, Recv, Send, Tick as Alone}
 use Rattle.network_plan.specs.declared.reply.Reply.{Reply}
-use Rattle.wire.specs.EventParts.{CallPlayed, IsInterruptAnswer, IsRecvAnswer, IsSendAnswer, TickPlayed, ticked}
+use Rattle.wire.specs.Equations.{NetworkStands}
+use Rattle.wire.specs.Runs.{EventRuns, IsInterruptAnswer, IsRecvAnswer, IsSendAnswer, accepted_of, given_of, ticked}
+use Rattle.wire.specs.PlayedCalls.{CallPlayed, TickPlayed}
 use Rattle.host_calls.specs.Networks.{NetworkState}
-use Rattle.wire.specs.Networks.{NetworkStands}
-use Rattle.wire.specs.Runs.{EventRuns, accepted_of, given_of}
 use Rattle.wire.proofs.Playing.{hosts-as}
 use Rattle.wire.proofs.Running.{interrupt-event, recv-event, send-event, tick-event}
 

@@ -20,7 +20,8 @@ use Rattle.delivery.specs.TickNumbers.{noted_numbers}
 use Rattle.host_calls.proofs.HostTrails.{none-alone}
 use Rattle.network_plan.specs.declared.reply.Answer.TheVariants.{Ticked}
 use Rattle.network_plan.specs.declared.reply.Reply.{Reply}
-use Rattle.wire.specs.EventParts.{AreOutcomesAlone, TickPlayed}
+use Rattle.wire.specs.Runs.{AreOutcomesAlone}
+use Rattle.wire.specs.PlayedCalls.{TickPlayed}
 
 noted-tick : (step : AtomicStep) → IsTick step → noted_of 0 (step ∷ []) ≡ record { accesses = 0; outcome = outcome_of step } ∷ []
 noted-tick (At host (Steps kind wire_free answer)) is = refl

@@ -1,24 +1,33 @@
--- The equations of delivery: one host between two states of a network (our choice).
-use Rattle.std.specs.Prelude.{◌≡◌, ◌≤◌, ◌<◌, ◌+◌, ◌-◌, ◌^◌, ◌++◌, ℕ, IsTrue, List, map, min}
+-- The equations of delivery, and what holds of each host before and after each event (our choice). Read parts 3 and 4 first; parts 1 and 2
+-- define their words. A word from another crate is explained at the field that uses it, so that no other file need be opened.
+--   1. The count of misses, and when it is exact: `IsExact`.
+--   2. The equations that have several fields: `CountsMisses`, `CountsUnclaimed`, `KeepsPlan`.
+--   3. `Delivers`: the equations of one host between two states of a network, one equation a field.
+--   4. `HostStands`, `NetworkStands`: what holds of each host before and after each event.
+-- h and h' are a host in the first state and in the second, a and b its worlds. A world is an adapter with its host's memory, and a station
+-- is a host's world with its end of its wire. `happened` is the list of what happened to frames in between (`happenings` of specs/Runs).
+use Rattle.std.specs.Prelude.{◌≡◌, ◌≤◌, ◌<◌, ◌+◌, ◌-◌, ◌^◌, ◌++◌, [], ℕ, IsTrue, List, length, map, min}
 use Rattle.registers.specs.Counting.{greatest_count}
+use Rattle.dma_memory.specs.Owners.{HasOneOwner}
 use Rattle.descriptors.specs.Frames.{padded}
 use Rattle.adapter.specs.HostFrames.{frames_to_send}
+use Rattle.adapter.specs.State.{IsAdapter}
 use Rattle.adapter.specs.World.{World}
+use Rattle.driver_law.specs.DriverState.{owners}
+use Rattle.driver_law.specs.Calls.{HasNoForgottenWork, IsRefilled}
 use Rattle.stations.specs.Stations.{StationState, backlog_at, wire_at, world_at}
-use Rattle.packet_socket.specs.HostCalls.{held_for_socket, socket_frames, unclaimed_in, without_socket}
+use Rattle.packet_socket.specs.HostCalls.{HostReady, driver_of, held_for_socket, socket_frames, unclaimed_in, without_socket}
 use Rattle.packet_socket.specs.HostState.{HostState}
 use Rattle.packet_socket.specs.declared.socket_kind.SocketKind.{SocketKind}
+use Rattle.delivery.specs.CountedHosts.{CanAnswer}
 use Rattle.delivery.specs.Fates.{marks}
 use Rattle.delivery.specs.Happenings.{Happening, accepted, given, missed, put, reached, stored, toward}
 use Rattle.delivery.specs.Reception.{ReceivesRightly}
+use Rattle.host_calls.specs.Networks.{IsHost, NetworkState}
 
--- the frames stored at a host that go to one of its sockets
-abbrev pub kept : List SocketKind → (k socket : ℕ) → List Happening → List (List ℕ)
-kept kinds k socket happened = socket_frames kinds socket (stored k happened)
+-- 1. Misses.
 
--- Misses.
-
--- the greatest count of misses
+-- the greatest count of misses, and of frames without a socket: the greatest u64
 abbrev pub most_counted : ℕ
 most_counted = 2 ^ 64 - 1
 
@@ -30,10 +39,16 @@ abbrev pub counted : HostState → World → ℕ
 counted host world = min (sum_of host world) most_counted
 
 -- The count is exact: no read of MPC returned its greatest value, at which it saturates, MPC doesn't have it now, and no sum saturated.
+-- `greatest_count` is the greatest value of a 32-bit counter, as MPC is.
 pub record IsExact (host : HostState) (world : World) : Type 0 where
+  -- no read of MPC returned its greatest value, and no sum of such reads saturated
   pub exact : IsTrue host.driver.exact
+  -- MPC doesn't have its greatest value now
   pub below_greatest : world.adapter.missed_packets < greatest_count
+  -- the sum with MPC doesn't saturate
   pub fits : sum_of host world ≤ most_counted
+
+-- 2. The equations with more than one field.
 
 -- No more is counted than was missed. If the count is exact at the end, it was exact at the beginning, and grew by exactly the misses.
 pub record CountsMisses (h : HostState) (a : World) (misses : ℕ) (h' : HostState) (b : World) : Type 0 where
@@ -45,32 +60,89 @@ pub record CountsMisses (h : HostState) (a : World) (misses : ℕ) (h' : HostSta
   -- The sum of what the driver read never decreases.
   pub grows : h.driver.missed ≤ h'.driver.missed
 
--- Frames without a socket are counted, up to the greatest u64, or still held.
+-- Frames without a socket are counted, up to the greatest u64, or still held. `unclaimed_in` is the count (`unclaimed`), plus the number of
+-- held frames without a socket; `frames` is the number of those stored meanwhile.
 pub record CountsUnclaimed (h : HostState) (a : World) (frames : ℕ) (h' : HostState) (b : World) : Type 0 where
+  -- the count never decreases
   pub least : h.unclaimed ≤ h'.unclaimed
+  -- no more are counted and held than were counted, held and stored
   pub most : unclaimed_in h' b ≤ unclaimed_in h a + frames
+  -- as many, if the count isn't saturated
   pub exactly : h'.unclaimed < most_counted → unclaimed_in h' b ≡ unclaimed_in h a + frames
 
 -- What the plan fixes doesn't change: the wire, the sockets, the sizes of rings and pool, the filter, and the size of the receive packet
--- buffer.
+-- buffer. `wire_at stations k` is the number of the k-th host's wire, and `world_at stations k` is the k-th host's world.
 pub record KeepsPlan (k : ℕ) (old new : List StationState) (h h' : HostState) : Type 0 where
   pub wire : wire_at new k ≡ wire_at old k
+  -- the table of sockets
   pub kinds : h'.kinds ≡ h.kinds
+  -- how many slots each ring has, and how many receive buffers there are
   pub layout : h'.driver.layout ≡ h.driver.layout
+  -- the registers of the receive filter
   pub filter : (world_at new k).adapter.filter ≡ (world_at old k).adapter.filter
   pub kilobytes : (world_at new k).adapter.receive_kilobytes ≡ (world_at old k).adapter.receive_kilobytes
 
+-- 3. The equations. The lists of a host are parts of what happened, in order (`accepted`, `put`, `reached`, `stored`, `given`, `toward`).
+
+-- the frames stored at a host that go to one of its sockets (`socket_frames` are the frames of a list that go to the socket)
+abbrev pub kept : List SocketKind → (k socket : ℕ) → List Happening → List (List ℕ)
+kept kinds k socket happened = socket_frames kinds socket (stored k happened)
+
 -- The k-th host, from one state to another, and what happened between them.
 pub record Delivers (k : ℕ) (happened : List Happening) (old new : List StationState) (h h' : HostState) : Type 0 where
+  -- the wire, the sockets, the filter and the sizes don't change
   pub plan_is_kept : KeepsPlan k old new h h'
-  -- the frames put on the wire, then those still to be sent, are those that were to be sent, then those accepted, padded
+  -- The frames put on the wire, then those still to be sent, are those that were to be sent, then those accepted, padded.
+  -- `frames_to_send`: the frames in the transmit packet buffer, then those of the descriptors from TDH to TDT, padded to 60 bytes.
   pub sent_is_accepted : put k happened ++ frames_to_send (world_at new k)
       ≡ frames_to_send (world_at old k) ++ map padded (accepted k happened)
-  -- the frames that reached it, then those that still wait at its end, are those that waited, then those that others put on its wire
+  -- The frames that reached it, then those that still wait at its end of its wire (`backlog_at`), are those that waited, then those that
+  -- other hosts put on its wire (`toward`).
   pub reached_is_put : reached k happened ++ backlog_at new k ≡ backlog_at old k ++ toward (wire_at old) k happened
-  -- the frames that a socket gave, then those still held for it, are those that were held, then those stored that go to it
+  -- The frames that a socket gave, then those still held for it, are those that were held, then those stored that go to it.
+  -- `held_for_socket`: the frames in the socket's queue, then those of the receive ring and of the receive packet buffer that go to it.
   pub given_is_kept : (socket : ℕ) → given k socket happened ++ held_for_socket h' socket (world_at new k)
       ≡ held_for_socket h socket (world_at old k) ++ kept h.kinds k socket happened
+  -- Each frame that reached it met the first fate that applies: illegal, filtered, missed as the receive packet buffer was full, stored.
+  -- `marks`: each frame that reached it, with its fate, and each time that the oldest frame left this buffer, in order. How full the buffer
+  -- is follows by counting: the frames in it at the beginning, plus those stored, minus those that left (`ReceivesRightly`).
   pub fates_are_right : ReceivesRightly (world_at old k).adapter (marks k happened) (world_at new k).adapter
+  -- missed frames are counted until a counter saturates
   pub misses_are_counted : CountsMisses h (world_at old k) (missed k happened) h' (world_at new k)
+  -- stored frames without a socket are counted, until the count saturates, or still held (`without_socket` is their number)
   pub unclaimed_is_counted : CountsUnclaimed h (world_at old k) (without_socket h.kinds (stored k happened)) h' (world_at new k)
+
+-- 4. What holds of a network before and after each event.
+
+-- What its driver read of MPC, and then the whole count of misses, is exact below MPC's greatest value.
+pub record CountsExactly (host : HostState) (world : World) : Type 0 where
+  pub reads : host.driver.missed < greatest_count → IsTrue host.driver.exact
+  pub counts : counted host world < greatest_count → IsExact host world
+
+-- What holds of a host before and after each of its calls.
+pub record HostStands (host : HostState) (world : World) : Type 0 where
+  -- its driver knows its rings and buffers, and the frames that wait for its sockets are in them
+  pub ready : HostReady host world
+  -- No work is forgotten: if a frame ends in its finished receive slots, RXT0 is recorded, and it is in the mask.
+  pub work : HasNoForgottenWork host.driver world
+  -- No buffer is free, or all receive slots but one are outstanding.
+  pub refilled : IsRefilled host.driver
+  -- each slot whose descriptor is stored is offered
+  pub offered : host.driver.staged ≡ []
+  -- both sides of its adapter are enabled, and each head and tail is the index of a slot of its ring
+  pub can : CanAnswer world.adapter
+  -- No buffer has two owners: each number of a buffer is exactly once in the list of owners, which are the pool, the slots of the receive
+  -- ring, and the sockets' queues (`driver_of` is the driver with the queued frames among its owners).
+  pub one_owner : HasOneOwner host.driver.layout.buffers (owners (driver_of host world))
+  -- fewer frames are to be sent than the transmit ring has slots
+  pub sends_at_most : length (frames_to_send world) + 1 ≤ host.driver.layout.tx
+  -- a small count of misses is exact
+  pub exact : CountsExactly host world
+
+-- Each host has its station, and stands. What holds of every adapter holds of its adapter. A station is a host's world with its end of its
+-- wire, and `IsHost network k host` says that this host is the k-th, from 0.
+pub record NetworkStands (network : NetworkState) : Type 0 where
+  pub same : length network.stations ≡ length network.hosts
+  pub each : (k : ℕ) (host : HostState) → IsHost network k host → HostStands host (world_at network.stations k)
+  -- its registers and its receive engine are as in every adapter, and its EEPROM has 64 words (`IsAdapter`)
+  pub adapters : (k : ℕ) (host : HostState) → IsHost network k host → IsAdapter (world_at network.stations k).adapter

@@ -2,6 +2,8 @@
 use Rattle.std.specs.Prelude.{⊤, ◌≡◌, false, true}
 use Rattle.std.specs.List.{Contains}
 use Rattle.eeprom.specs.Image.{address_bytes}
+use Rattle.registers.specs.ReceiveControl.{shift_of}
+use Rattle.registers.specs.declared.receive_control.GroupOffset.TheVariants.{Bits47To36}
 use Rattle.rx_engine.specs.FilterLaws.{SameSets}
 use Rattle.rx_engine.specs.Passing.{ReceiveFilter}
 use Rattle.rx_engine.specs.Registers.{FilterRegisters, filter_of}
@@ -17,7 +19,7 @@ abbrev pub plans_filter : HostPlan → ReceiveFilter
 plans_filter plan = record {
   addresses = λ address. address ≡ address_bytes plan.image;
   groups = λ number. Contains (numbers_of_groups plan.config.groups.items) number;
-  shift = 4;
+  shift = shift_of Bits47To36;
   every_vlan = names_vlans plan.config.vlans ≡ false;
   vlans = λ number. Contains (vlans_of plan.config.vlans) number;
   vlan_type = VLAN_TYPE;

@@ -75,11 +75,16 @@ pub record ComesUp (plan : HostPlan) (host : HostState) (station : StationState)
   pub no_frames : HostHasNoFrames host station
   pub adapter : IsAdapter station.world.adapter
 
+-- A link that comes up within this number of ticks is found: its state is read up to `most_reads` (1,000) times, each time by two accesses,
+-- and a tick of the PHY comes before each access.
+abbrev pub most_link_ticks : ℕ
+most_link_ticks = 2 * most_reads
+
 -- Why a host isn't initialized, other than that memory is refused: its EEPROM's checksum is wrong; or it is right, and the link needs more
 -- than 2,000 ticks or never comes up.
 abbrev pub IsDevices : HostPlan → InitError → Type 0
 IsDevices plan Checksum = ¬ (HasRightSum plan.image)
-IsDevices plan NoLink = HasRightSum plan.image × NeedsMoreThan (2 * most_reads) plan.link
+IsDevices plan NoLink = HasRightSum plan.image × NeedsMoreThan most_link_ticks plan.link
 IsDevices plan error = ⊥
 
 abbrev pub IsReason : HostPlan → InitError → Type 0

@@ -1,10 +1,9 @@
-pub mod Networks
 pub mod Equations
 pub mod RunObservers
 pub mod RunObserverLaws
 pub mod Collecting
-pub mod EventParts
 pub mod Runs
+pub mod PlayedCalls
 pub mod DrainedNetworks
 pub mod Counting
 pub mod NewNetworks

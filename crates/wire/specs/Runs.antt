@@ -1,21 +1,47 @@
--- Runs of events (our choice).
-use Rattle.std.specs.Prelude.{◌≡◌, ◌++◌, ◌∷◌, [], ℕ, List, Ok, Option, Some, length}
+-- What a run states, and one event with its reply: the contract of `Lan::run` (our choice). A word must be defined before it is used, so
+-- read the parts from 6 back to 1. The equations are in specs/Equations. A word from another crate is explained at a field that uses it,
+-- so that no other file need be opened.
+--   6. A run: `RunsTo`, `StatesRun`.
+--   5. One event with its reply: `EventRuns`, whose fields are records of parts 4, 3 and 2.
+--   4. What the reply says of the event's atomic steps: `IsCallReply` for a call, `IsTickReply` for a tick by itself.
+--   3. What a host that is there answers: `IsSendAnswer`, `IsRecvAnswer`, `IsInterruptAnswer`.
+--   2. The atomic steps of an event, as every host finds them: `HostsGo`, `TicksAnswered`.
+--   1. What an event and its reply say of frames: `said`, `happenings`.
+-- Part 7 is for `Lan::play` only. An atomic step is one access of a driver, one step of an adapter, one delivery, or a tick that finds
+-- nothing to do. A station is an adapter with its host's memory (`world_at stations k`) and its end of its wire.
+use Rattle.std.specs.Prelude.{◌≡◌, ◌≢◌, ◌≤◌, ◌↔◌, ◌++◌, ◌∷◌, [], ℕ, All, List, Ok, Option, Result, Some, length, map, slice_get}
+use Rattle.adapter.specs.HostFrames.{frames_held}
+use Rattle.adapter.specs.declared.outcome.Outcome.TheVariants.{Nothing}
+use Rattle.bus.specs.TickGroups.{without_go}
+use Rattle.driver_law.specs.DriverState.{HandedOut, numbers_of}
+use Rattle.driver.specs.Parts.{joined_frames}
+use Rattle.driver.specs.SendSteps.{SendAnswer}
+use Rattle.driver.specs.declared.interrupt.Handled.{Handled}
+use Rattle.packet_socket.specs.HostCalls.{socket_frames, waiting_frames}
 use Rattle.packet_socket.specs.HostState.{HostState}
-use Rattle.stations.specs.AtomicSteps.{AtomicStep}
+use Rattle.packet_socket.specs.declared.receive.RecvError.{RecvError}
+use Rattle.stations.specs.AtomicRuns.{LeadsTo, counted_of, is_go, noted_of, past_at}
+use Rattle.stations.specs.AtomicSteps.{AtomicStep, tick_of}
+use Rattle.stations.specs.Stations.{world_at}
+use Rattle.stations.specs.declared.outcomes.Numbered.{Numbered}
 use Rattle.stations.specs.declared.tick.Tick.{Tick}
+use Rattle.stations.specs.declared.tick.Tick.TheVariants.{Deliver, Go, Step}
+use Rattle.delivery.specs.Counts.{counts_of}
 use Rattle.delivery.specs.Happenings.{Accepted, Given, Happening, told, told_alone}
+use Rattle.delivery.specs.StepAnswers.{AreAnswered, OfEachTick, counts_at}
+use Rattle.delivery.specs.TickNumbers.{numbers, noted_numbers}
+use Rattle.network_plan.specs.Answers.{FrameAnswer}
 use Rattle.network_plan.specs.declared.event.Event.{Event}
 use Rattle.network_plan.specs.declared.event.Event.TheVariants.{Interrupt, Recv, Send, Tick as Alone}
-use Rattle.network_plan.specs.Answers.{FrameAnswer}
-use Rattle.network_plan.specs.declared.reply.Answer.TheVariants.{Received, Sent, Ticked}
+use Rattle.network_plan.specs.declared.reply.Answer.TheVariants.{Interrupted, NoHost, Received, Sent, Ticked}
 use Rattle.network_plan.specs.declared.reply.Reply.{Reply}
+use Rattle.host_calls.specs.CallAnswers.{InterruptResult, MakesInterrupt, MakesRecv, MakesSend, RecvResult, SendResult}
+use Rattle.host_calls.specs.CallsOfHosts.{IsOfDriver, OnlyLastWrites}
 use Rattle.host_calls.specs.ConnectedHosts.{ConnectedHost, connected}
-use Rattle.wire.specs.Equations.{Delivers}
-use Rattle.wire.specs.EventParts.{HostsGo, IsCallReply, IsInterruptAnswer, IsRecvAnswer, IsSendAnswer, IsTickReply, TickedCall, ticked}
 use Rattle.host_calls.specs.Networks.{IsHost, NetworkState}
-use Rattle.wire.specs.Networks.{NetworkStands}
+use Rattle.wire.specs.Equations.{Delivers, NetworkStands}
 
--- What an event and its reply say of frames.
+-- 1. What an event and its reply say of frames. `FrameAnswer` is a reply's answer, with the bytes of the frame that a socket gave.
 
 -- a frame that was accepted, by the answer
 abbrev pub accepted_of : (host : ℕ) (frame : List ℕ) → FrameAnswer → List Happening
@@ -27,7 +53,9 @@ abbrev pub given_of : (host socket : ℕ) → FrameAnswer → List Happening
 given_of host socket (Received (Ok frame)) = Given host socket frame ∷ []
 given_of host socket _ = []
 
--- First a frame that was accepted, then what the outcomes of its ticks tell, then a frame that was given.
+-- First a frame that was accepted, then what the outcomes of its ticks tell, then a frame that was given. `told`: of each tick that isn't
+-- Go with its outcome, a frame that was put on the wire, reached a host with its fate, or left the receive packet buffer for memory.
+-- `told_alone`: the same of a tick by itself.
 abbrev pub said : Event → Reply → List Happening
 said (Send host frame ticks) reply = accepted_of host frame.items reply.answer ++ told ticks.items reply.outcomes.list
 said (Recv host socket ticks) reply = told ticks.items reply.outcomes.list ++ given_of host socket reply.answer
@@ -40,7 +68,136 @@ happenings [] replies = []
 happenings (event ∷ events) [] = []
 happenings (event ∷ events) (reply ∷ replies) = said event reply ++ happenings events replies
 
--- Events.
+-- 2. The atomic steps of an event, as every host finds them.
+
+-- Each tick is answered by counting: the frames in the packet buffers, the offered slots, whether a piece is in progress, and what is
+-- pending at the EEPROM and the PHY. `counts_of` are these numbers of an adapter. `counts_at start steps k` are those of the k-th host
+-- after the steps, computed from the state at the start.
+pub record TicksAnswered (steps : List AtomicStep) (old new : NetworkState) : Type 0 where
+  -- a tick's outcome follows from what is counted at the start, with the outcomes before it applied (`AreAnswered`, whose table is in
+  -- docs/DELIVERY, "Answers")
+  pub there : (k : ℕ) (h : HostState) → IsHost old k h → AreAnswered k old.stations steps
+  -- a host that isn't there has nothing to do (`OfEachTick`: for each tick that names the k-th host)
+  pub absent : (k : ℕ) → length old.hosts ≤ k → OfEachTick k steps (λ before tick outcome. outcome ≡ Nothing)
+  -- what is counted at the end is what was counted at the start, with all outcomes applied
+  pub counts : (k : ℕ) (h : HostState) → IsHost old k h
+      → counts_of (world_at new.stations k).adapter ≡ counts_at old.stations steps k
+
+-- These atomic steps lead from one state to the other. Each host goes by the equations of delivery, and stands.
+pub record HostsGo (caller : ℕ) (happened : List Happening) (steps : List AtomicStep) (old new : NetworkState) : Type 0 where
+  -- each step can happen, and leaves the stations exactly as the next finds them (`LeadsTo`); each access is the caller's
+  pub leads : LeadsTo caller steps old.stations new.stations
+  -- there are as many hosts as before
+  pub hosts : length new.hosts ≡ length old.hosts
+  -- the equations over this event (specs/Equations)
+  pub delivers : (k : ℕ) (h h' : HostState) → IsHost old k h → IsHost new k h' → Delivers k happened old.stations new.stations h h'
+  -- each tick is answered by counting
+  pub ticks : TicksAnswered steps old new
+  -- after it each host stands: one owner for each buffer, no forgotten work, refilled (specs/Equations)
+  pub stands : NetworkStands new
+
+-- 3. What a call of a host that is there answers. What each result means, and which accesses it goes with, is the contract of the call
+-- itself: of `Network::send`, `recv_into` and `interrupt` (`SendResult`, `RecvResult`, `InterruptResult`, and `Makes..`, in
+-- host_calls/specs/CallAnswers). These contracts have their own row in docs/CONTRACTS, "Where to begin", so they need not be opened here. A
+-- `ConnectedHost` is a host with all stations; `(past_at host steps).accesses` are the accesses of the host's driver among the steps.
+
+-- The conditions of `SendResult` are those of the contract of `Network::send`: too short, too long, ring full, or accepted.
+pub record IsSendAnswer (host : ℕ) (frame : List ℕ) (answer : FrameAnswer) (steps : List AtomicStep) (old new : ConnectedHost) : Type 0
+  where
+    pub result : SendAnswer
+    pub is : answer ≡ Sent result
+    -- what this result states of the host before and after the call
+    pub states : SendResult host frame result steps old new
+    -- the accesses of its driver are exactly these, in order
+    pub makes : MakesSend result frame old.host new.host (past_at host steps).accesses
+
+-- The conditions of `RecvResult` are those of the contract of `Network::recv_into`: no such socket, no frame, or its oldest frame.
+pub record IsRecvAnswer (host socket : ℕ) (answer : FrameAnswer) (steps : List AtomicStep) (old new : ConnectedHost) : Type 0 where
+  pub result : Result (List ℕ) RecvError
+  pub is : answer ≡ Received result
+  -- what this result states of the host before and after the call
+  pub states : RecvResult host socket result steps old new
+  -- the accesses of its driver are exactly these, in order
+  pub makes : MakesRecv result socket old.host new.host (past_at host steps).accesses
+
+-- The frames taken were at the front of what the host held. Each socket's queue got those that go to it, in order, at its end.
+pub record TakesFrames (host : ℕ) (steps : List AtomicStep) (taken : List (List ℕ)) (old new : ConnectedHost) : Type 0 where
+  -- `frames_held`: the frames of the receive ring, from the driver's oldest slot on, then those of the receive packet buffer. `stored` are
+  -- the frames that the steps stored in this buffer.
+  pub left : taken ++ frames_held new.host.driver.oldest_receive (world_at new.stations host)
+      ≡ frames_held old.host.driver.oldest_receive (world_at old.stations host) ++ (past_at host steps).stored
+  -- `waiting_frames`: the frames in the socket's queue. `socket_frames`: the frames of a list that go to the socket.
+  pub queues : (socket : ℕ) → waiting_frames new.host socket (world_at new.stations host)
+      ≡ waiting_frames old.host socket (world_at old.stations host) ++ socket_frames old.host.kinds socket taken
+
+-- The conditions of `InterruptResult` are those of the contract of `Network::interrupt`: NotMine, or Handled with the number of frames
+-- taken.
+pub record IsInterruptAnswer (host : ℕ) (answer : FrameAnswer) (steps : List AtomicStep) (old new : ConnectedHost) : Type 0 where
+  pub result : Handled
+  pub is : answer ≡ Interrupted result
+  -- the frames that were taken off the receive ring, each in its pieces: none if the answer is NotMine
+  pub taken : List (List HandedOut)
+  -- what this result states of the host before and after the call
+  pub states : InterruptResult host taken result steps old new
+  -- these frames, each with its pieces joined, went to the sockets
+  pub takes : TakesFrames host steps (joined_frames taken) old new
+  -- the accesses of its driver are exactly these, in order (`numbers_of`: the numbers of a frame's buffers)
+  pub makes : MakesInterrupt result (map numbers_of taken) old.host new.host (past_at host steps).accesses
+
+-- 4. What a reply says of the steps. First of a call, then of a tick that is played in no call.
+
+-- the host that is called, and the ticks that are played in the call
+pub record TickedCall : Type 0 where
+  pub host : ℕ
+  pub ticks : List Tick
+
+abbrev pub ticked : ℕ → List Tick → TickedCall
+ticked host ticks = record { host = host; ticks = ticks }
+
+-- What a reply says of the call and its ticks, whichever call it is.
+pub record IsCallReply (reply : Reply) (steps : List AtomicStep) (old new : NetworkState) (call : TickedCall) : Type 0 where
+  -- The steps that aren't accesses are the ticks that aren't Go, in order. `tick_of` of an access is Go, so accesses are left out.
+  pub played : without_go is_go (map tick_of steps) ≡ without_go is_go call.ticks
+  -- Each access is one of a driver that is up (`IsOfDriver`: a load, a store, a read of ICR or MPC, or a write of TDT or RDT), and only the
+  -- last may write a register.
+  pub accesses : (h : HostState) → IsHost old call.host h
+      → All (IsOfDriver h.driver.layout) (past_at call.host steps).accesses × OnlyLastWrites (past_at call.host steps).accesses
+  -- a call of a host that isn't there makes no access
+  pub unmade : length old.hosts ≤ call.host → (past_at call.host steps).accesses ≡ []
+  -- it answers NoHost, and no other call does
+  pub no_host : reply.answer ≡ NoHost ↔ (length old.hosts ≤ call.host)
+  -- The reply has the number of accesses (`counted_of`, from 0 on), at most the greatest u64.
+  pub counted : reply.accesses ≡ counted_of 0 steps
+  -- It has the outcome of each tick, with the number of accesses before it (`noted_of`, from 0 accesses on).
+  pub outcomes : reply.outcomes.list ≡ noted_of 0 steps
+  -- An outcome's number is the lesser of its group's number and the number of accesses. Each Go ends a group; the first has number 0
+  -- (`numbers`). `noted_numbers` are the numbers in the outcomes.
+  pub numbered : noted_numbers reply.outcomes.list ≡ numbers call.ticks 0 reply.accesses
+  -- of a host that isn't called neither driver nor queues change
+  pub others : (k : ℕ) → k ≢ call.host → slice_get new.hosts k ≡ slice_get old.hosts k
+
+-- A tick that is played in no call: its outcome is that of its atomic step. A Go does nothing.
+abbrev pub AreOutcomesAlone : Tick → List AtomicStep → List Numbered → Type 0
+AreOutcomesAlone Go steps outcomes = (steps ≡ []) × (outcomes ≡ record { accesses = 0; outcome = Nothing } ∷ [])
+AreOutcomesAlone (Step host kind) steps outcomes = outcomes ≡ noted_of 0 steps
+AreOutcomesAlone (Deliver host) steps outcomes = outcomes ≡ noted_of 0 steps
+
+-- What a reply says of a tick that is played in no call.
+pub record IsTickReply (reply : Reply) (steps : List AtomicStep) (old new : NetworkState) (tick : Tick) : Type 0 where
+  -- the step of the tick; none if it is Go
+  pub played : without_go is_go (map tick_of steps) ≡ without_go is_go (tick ∷ [])
+  -- no host makes an access
+  pub accesses : (k : ℕ) → (past_at k steps).accesses ≡ []
+  -- so the reply's number of accesses is 0
+  pub counted : reply.accesses ≡ counted_of 0 steps
+  pub outcomes : AreOutcomesAlone tick steps reply.outcomes.list
+  -- there is one outcome, with number 0
+  pub numbered : noted_numbers reply.outcomes.list ≡ 0 ∷ []
+  pub answer : reply.answer ≡ Ticked
+  -- no driver and no queue changes
+  pub others : new.hosts ≡ old.hosts
+
+-- 5. One event with its reply.
 
 -- The host whose call it is. A tick by itself is of no call, so any number would do here: `IsTickReply.accesses` excludes each access.
 abbrev pub caller_of : Event → ℕ
@@ -65,18 +222,20 @@ IsCallAnswer (Alone tick) answer = λ steps old new. answer ≡ Ticked
 
 -- An event and its reply lead from one state of a network to the next.
 pub record EventRuns (old : NetworkState) (event : Event) (reply : Reply) (new : NetworkState) : Type 0 where
-  -- before it each host stands: one owner for each buffer, no forgotten work, refilled
+  -- before it each host stands: one owner for each buffer, no forgotten work, refilled (specs/Equations)
   pub stood : NetworkStands old
   -- by these atomic steps each host goes by the equations, each tick is answered, and each host stands again
   pub steps : List AtomicStep
   pub go : HostsGo (caller_of event) (said event reply) steps old new
   -- what the reply says of the steps
   pub replied : OfEvent event (IsCallReply reply steps old new) (IsTickReply reply steps old new)
-  -- what is answered, and exactly which accesses the call made
+  -- what is answered, and exactly which accesses the call made (`connected h stations`: the host h with all stations)
   pub answer : (h h' : HostState) → IsHost old (caller_of event) h → IsHost new (caller_of event) h'
       → IsCallAnswer event reply.answer steps (connected h old.stations) (connected h' new.stations)
 
--- There is a state before the first event, between any two, and after the last.
+-- 6. A run.
+
+-- There is a state before the first event, between any two, and after the last. There are as many replies as events.
 abbrev pub StatesRun : NetworkState → List Event → List Reply → NetworkState → Type 0
 StatesRun old [] [] new = new ≡ old
 StatesRun old [] (reply ∷ replies) new = ⊥
@@ -84,15 +243,19 @@ StatesRun old (event ∷ events) [] new = ⊥
 StatesRun old (event ∷ events) (reply ∷ replies) new =
     (middle : NetworkState) × EventRuns old event reply middle × StatesRun middle events replies new
 
--- These events were run, and a reply to each appended.
+-- These events were run, and a reply to each appended. A `NetworkState` is the list of hosts, with the list of their stations.
 pub record RunsTo (old : NetworkState) (events : List Event) (before behind : List Reply) (new : NetworkState) : Type 0 where
   pub replies : List Reply
   pub appended : behind ≡ before ++ replies
+  -- from each state to the next by one event and its reply
   pub states : StatesRun old events replies new
+  -- there are as many hosts as before
   pub hosts : length new.hosts ≡ length old.hosts
-  -- the equations over the whole run
+  -- the equations over the whole run (`Delivers`, specs/Equations), for each host (`IsHost network k h`: h is the k-th host, from 0)
   pub delivers : (k : ℕ) (h h' : HostState) → IsHost old k h → IsHost new k h'
       → Delivers k (happenings events replies) old.stations new.stations h h'
+
+-- 7. For `Lan::play`, which has an observer in place of a list of replies.
 
 -- These events were run, and the observer was told a reply to each. The run alone is described, so `runs` has no earlier replies.
 pub record RunTold {O : Type 0} (ran : O → O → List Event → List Reply → Type 0) (events : List Event) (old new : NetworkState)

@@ -5,7 +5,7 @@ ghost use Rattle.packet_socket.specs.HostState.{HostState};
 ghost use Rattle.stations.specs.Stations.{world_at};
 ghost use Rattle.wire.specs.Counting.{AreCounts};
 ghost use Rattle.host_calls.specs.Networks.{IsHost};
-ghost use Rattle.wire.specs.Networks.{NetworkStands};
+ghost use Rattle.wire.specs.Equations.{NetworkStands};
 
 use crate::Lan;
 

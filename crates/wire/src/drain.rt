@@ -4,7 +4,7 @@ ghost use Rattle.std.specs.Prelude.{◌≡◌, ◌≤◌, ◌+◌, length};
 ghost use Rattle.host_calls.specs.DrainedHosts.{count_frames};
 ghost use Rattle.packet_socket.specs.HostState.{HostState};
 ghost use Rattle.stations.specs.Stations.{world_at};
-ghost use Rattle.wire.specs.DrainedNetworks.{NetworkDrains};
+ghost use Rattle.wire.specs.DrainedNetworks.{NetworkDrains, most_buffered};
 ghost use Rattle.host_calls.specs.Networks.{IsHost};
 
 use crate::Lan;
@@ -18,7 +18,8 @@ impl Lan {
     /// frames that its packet buffer may hold. A host never holds more for its sockets. It is 0 if the host isn't
     /// there.
     pub fn drain_room(&self, host: usize) -> usize
-        ensures there { (state : HostState) → IsHost self.now host state → result ≡ state.driver.layout.buffers + 24 }
+        ensures there { (state : HostState) → IsHost self.now host state
+            → result ≡ state.driver.layout.buffers + most_buffered }
         ensures enough { (state : HostState) → IsHost self.now host state
             → count_frames state (world_at self.now.stations host) ≤ result }
         ensures none { length self.now.hosts ≤ host → result ≡ 0 }
@@ -39,7 +40,7 @@ impl Lan {
     /// its next piece to the ring.
     pub fn drain<S: Outlet>(&mut self, host: usize, sink: &mut S) -> u64
         requires room { (state : HostState) → IsHost self.old host state
-            → state.driver.layout.buffers + 24 ≤ S.room_left sink.old }
+            → state.driver.layout.buffers + most_buffered ≤ S.room_left sink.old }
         ensures drains { NetworkDrains self.old host result (S.frames sink.old) (S.frames sink.new) self.new }
         ensures left { length (S.frames sink.old) + S.room_left sink.old
             ≤ length (S.frames sink.new) + S.room_left sink.new }

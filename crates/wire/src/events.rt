@@ -3,11 +3,10 @@
 ghost use Rattle.std.specs.Prelude.{◌≡◌, ◌≤◌, ◌++◌, ◌∷◌, [], length};
 ghost use Rattle.bus.specs.TickGroups.{without_go};
 ghost use Rattle.delivery.specs.Happenings.{told};
-ghost use Rattle.wire.specs.EventParts.{AbsentTold, CallPlayed, IsInterruptAnswer, IsRecvAnswer, IsSendAnswer};
-ghost use Rattle.wire.specs.EventParts.{TickPlayed, ticked};
-ghost use Rattle.wire.specs.Networks.{NetworkStands};
+ghost use Rattle.wire.specs.Equations.{NetworkStands};
+ghost use Rattle.wire.specs.Runs.{IsInterruptAnswer, IsRecvAnswer, IsSendAnswer, accepted_of, given_of, ticked};
+ghost use Rattle.wire.specs.PlayedCalls.{AbsentTold, CallPlayed, TickPlayed};
 ghost use Rattle.wire.specs.RunObservers.{EventTold, played_ticks};
-ghost use Rattle.wire.specs.Runs.{accepted_of, given_of};
 ghost use Rattle.stations.specs.AtomicRuns.{is_go};
 ghost use Rattle.stations.specs.AtomicSteps.{watched};
 

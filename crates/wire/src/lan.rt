@@ -23,7 +23,7 @@ impl Model for Lan {
 
     ghost Value = { NetworkState };
 
-    ghost use Rattle.wire.specs.Networks.{NetworkStands};
+    ghost use Rattle.wire.specs.Equations.{NetworkStands};
 
     ghost view = { λ inside. inside.network };
 

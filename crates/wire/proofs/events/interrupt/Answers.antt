@@ -9,7 +9,7 @@ use Rattle.host_calls.specs.CallAnswers.{MakesInterrupt}
 use Rattle.host_calls.specs.ConnectedHosts.{played_call}
 use Rattle.host_calls.specs.Networks.{connected_at, nth_host}
 use Rattle.host_calls.proofs.HostsOfNetworks.{host-there}
-use Rattle.wire.specs.EventParts.{IsInterruptAnswer}
+use Rattle.wire.specs.Runs.{IsInterruptAnswer}
 use Rattle.wire.proofs.Delivering.{Tells}
 use Rattle.wire.proofs.Playing.{absent-played, call-played, told-of_call}
 use Rattle.wire.proofs.Taking.{takes-frames}

@@ -7,8 +7,7 @@ use Rattle.host_calls.specs.CallAnswers.{RecvRuns, frame_answer}
 use Rattle.host_calls.specs.ConnectedHosts.{played_call}
 use Rattle.host_calls.specs.Networks.{connected_at, nth_host}
 use Rattle.host_calls.proofs.HostsOfNetworks.{host-there}
-use Rattle.wire.specs.EventParts.{IsRecvAnswer}
-use Rattle.wire.specs.Runs.{given_of}
+use Rattle.wire.specs.Runs.{IsRecvAnswer, given_of}
 use Rattle.wire.proofs.Playing.{absent-played, recv-told, told-of_call}
 use Rattle.wire.proofs.events.recv.Goals as goal
 

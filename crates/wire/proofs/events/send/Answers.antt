@@ -8,8 +8,7 @@ use Rattle.host_calls.specs.CallAnswers.{MakesSend}
 use Rattle.host_calls.specs.ConnectedHosts.{played_call}
 use Rattle.host_calls.specs.Networks.{connected_at, nth_host}
 use Rattle.host_calls.proofs.HostsOfNetworks.{host-there}
-use Rattle.wire.specs.EventParts.{IsSendAnswer}
-use Rattle.wire.specs.Runs.{accepted_of}
+use Rattle.wire.specs.Runs.{IsSendAnswer, accepted_of}
 use Rattle.wire.proofs.Delivering.{Tells}
 use Rattle.wire.proofs.Playing.{absent-played, call-played, told-of_call}
 use Rattle.wire.proofs.Tellings.{tells-send}

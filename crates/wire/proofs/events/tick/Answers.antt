@@ -2,7 +2,7 @@ use Rattle.std.proofs.Common.{◌∷◌, [], ap, subst, sym, ◌∙◌}
 use Rattle.host_calls.specs.Networks.{NetworkState}
 use Rattle.stations.specs.ToldTicks.{tick_told}
 use Rattle.adapter.specs.declared.outcome.Outcome.TheVariants.{Nothing}
-use Rattle.wire.specs.EventParts.{TickPlayed}
+use Rattle.wire.specs.PlayedCalls.{TickPlayed}
 use Rattle.wire.proofs.Ticking.{go-played, not-go, tick-played}
 use Rattle.wire.proofs.events.tick.Goals.{in-Go, in_default}
 use Rattle.wire.proofs.events.tick.Goals as goal

@@ -4,7 +4,7 @@ use Rattle.packet_socket.specs.HostState.{HostState}
 use Rattle.stations.specs.Stations.{world_at}
 use Rattle.host_calls.specs.Networks.{NetworkState, host_or_empty, nth_host}
 use Rattle.host_calls.proofs.Endings.{held-at_most}
-use Rattle.wire.specs.Networks.{NetworkStands}
+use Rattle.wire.specs.Equations.{NetworkStands}
 use Rattle.wire.proofs.Draining.{can-drain}
 use Rattle.wire.proofs.lan.Lan.drain_room.Goals as goal
 

@@ -1,0 +1,46 @@
+-- What the private functions that play one event state: a call with its ticks, or a tick by itself (our choice). None of this is part of
+-- the contract of `Lan::run`: an `EventRuns` (specs/Runs) is built from it.
+use Rattle.std.specs.Prelude.{◌≡◌, ℕ, All, List}
+use Rattle.bus.specs.TickGroups.{without_go}
+use Rattle.packet_socket.specs.HostState.{HostState}
+use Rattle.stations.specs.AtomicRuns.{IsTick, LeadsTo, is_go, steps_told}
+use Rattle.stations.specs.AtomicSteps.{AtomicStep, Watched, watched}
+use Rattle.stations.specs.PlayedTicks.{PlaysTicks}
+use Rattle.stations.specs.Stations.{StationState}
+use Rattle.stations.specs.declared.observer.Observer.{Ghosts as OfObserver}
+use Rattle.stations.specs.declared.tick.Tick.{Tick}
+use Rattle.delivery.specs.Happenings.{Happening, happened_in, told_alone}
+use Rattle.network_plan.specs.Answers.{FrameAnswer}
+use Rattle.network_plan.specs.declared.event.Event.{Event}
+use Rattle.network_plan.specs.declared.reply.Answer.TheVariants.{NoHost}
+use Rattle.network_plan.specs.declared.reply.Reply.{Reply}
+use Rattle.host_calls.specs.ConnectedHosts.{ConnectedHost, connected}
+use Rattle.host_calls.specs.Networks.{IsHost, NetworkState}
+use Rattle.wire.specs.RunObservers.{TellsReply, ending}
+use Rattle.wire.specs.Runs.{HostsGo, IsCallReply, IsTickReply, TickedCall}
+
+-- A call was made, and this replies to it.
+pub record CallPlayed (call : TickedCall) (happened : List Happening) (reply : Reply)
+    (answers : FrameAnswer → List AtomicStep → ConnectedHost → ConnectedHost → Type 0) (old new : NetworkState) : Type 0 where
+  pub steps : List AtomicStep
+  pub go : HostsGo call.host happened steps old new
+  pub replied : IsCallReply reply steps old new call
+  pub answer : (h h' : HostState) → IsHost old call.host h → IsHost new call.host h'
+      → answers reply.answer steps (connected h old.stations) (connected h' new.stations)
+
+-- The ticks of a call for a host that isn't there were played, and the observer was told that there is no such host.
+pub record AbsentTold {O : Type 0} (observers : OfObserver O) (ran : O → O → List Event → List Reply → Type 0) (event : Event)
+    (ticks : List Tick) (old new : Watched O) : Type 0 where
+  pub ticked : O
+  pub plays : PlaysTicks observers (without_go is_go ticks) 0 old (watched new.stations ticked)
+  pub tells : TellsReply ran event (ending 0 NoHost (steps_told 0 plays.steps)) old.observer new.observer
+
+-- A tick was played by itself.
+pub record TickPlayed (tick : Tick) (reply : Reply) (old new : List StationState) : Type 0 where
+  pub steps : List AtomicStep
+  pub are : All IsTick steps
+  pub leads : (caller : ℕ) → LeadsTo caller steps old new
+  pub said : told_alone tick reply.outcomes.list ≡ happened_in steps
+  -- whatever hosts there are
+  pub replied : (hosts : List HostState)
+      → IsTickReply reply steps (record { hosts = hosts; stations = old }) (record { hosts = hosts; stations = new }) tick
