@@ -1,6 +1,6 @@
 // The state of a server, and the steps before an access.
 
-ghost use Rattle.std.specs.Prelude.{◌≡◌, IfOk, OnOk};
+ghost use Rattle.std.specs.Prelude.{◌≡◌, ◌+◌, IfOk, OnOk, nat_le};
 ghost use Rattle.adapter.specs.Registers.{after_write, new_adapter};
 ghost use Rattle.eeprom.specs.Image.{image_with};
 ghost use Rattle.adapter_server.specs.Kinds.{kind_numbered};
@@ -65,6 +65,13 @@ fn kind_numbered(number: u32) -> StepKind
     }
 }
 
+/// Whether `count` bytes from an address on are in a memory of this size.
+fn is_within(size: u64, address: u64, count: u64) -> bool
+    ensures { result ≡ nat_le (address + count) size }
+{
+    count <= size && address <= size - count
+}
+
 /// A new adapter, whose PBA is written once.
 fn adapter_of(alloc: Global, options: &ServeOptions) -> Result<Adapter, AllocError>
     ensures { IfOk result (λ adapter. adapter ≡ after_write pba options.now.receive_kilobytes
@@ -120,8 +127,7 @@ impl Session {
     fn is_memory(&self, address: u64, count: u64) -> bool
         ensures { result ≡ is_memory self.now address count }
     {
-        let size = self.device.machine.size();
-        count <= size && address <= size - count
+        is_within(self.device.machine.size(), address, count)
     }
 
     /// The kind of steps that the next word of the generator chooses.
