@@ -11,7 +11,8 @@ use Rattle.stations.specs.declared.tick.Tick.{Tick}
 use Rattle.stations.specs.declared.tick.Tick.TheVariants.{Deliver, Go, Step}
 use Rattle.stations.proofs.TickLoops.{counted-ticks}
 use Rattle.stations.specs.AtomicRunLaws.{counted_join, noted_join}
-use Rattle.stations.specs.AtomicRuns.{IsTick, LeadsTo, counted_of, is_go, most_accesses, noted_of}
+use Rattle.bus.specs.LivelyBuses.{most_accesses}
+use Rattle.stations.specs.AtomicRuns.{IsTick, LeadsTo, counted_of, is_go, noted_of}
 use Rattle.delivery.specs.TickNumbers.{numbers, noted_numbers}
 
 -- One tick more.

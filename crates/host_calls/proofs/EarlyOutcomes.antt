@@ -14,7 +14,8 @@ use Rattle.stations.specs.declared.outcomes.Numbered.{Numbered}
 use Rattle.adapter.specs.Outcomes.{FrameOutcome}
 use Rattle.stations.proofs.TickLoops.{counted-ticks}
 use Rattle.stations.specs.AtomicRunLaws.{noted_join}
-use Rattle.stations.specs.AtomicRuns.{IsTick, counted_of, most_accesses, noted_of}
+use Rattle.bus.specs.LivelyBuses.{most_accesses}
+use Rattle.stations.specs.AtomicRuns.{IsTick, counted_of, noted_of}
 use Rattle.host_calls.specs.CausesLaws.{noted_first}
 use Rattle.host_calls.specs.InterruptCauses.{ReadsIcrFirst}
 

@@ -26,7 +26,8 @@ use Rattle.stations.specs.declared.tick.Tick.TheVariants.{Go}
 use Rattle.stations.proofs.HostTrails.{steps-alone, trail-of, world-here}
 use Rattle.stations.proofs.TickLoops.{counted-ticks}
 use Rattle.stations.specs.AtomicRunLaws.{counted_join, leads_join, past_join, steps_told_join}
-use Rattle.stations.specs.AtomicRuns.{counted_of, events_at, most_accesses, past_at, steps_told}
+use Rattle.bus.specs.LivelyBuses.{most_accesses}
+use Rattle.stations.specs.AtomicRuns.{counted_of, events_at, past_at, steps_told}
 use Rattle.stations.specs.Retelling.{Prepared, Retells, SameLent, bytes_here, world_here}
 use Rattle.stations.specs.RetellingLaws.{same_lent_on}
 use Rattle.stations.specs.declared.lent_bus.LentBus.{LentBus}

@@ -1,6 +1,7 @@
 -- Atomic steps one after the other, in a call of one host or between calls (our choice).
-use Rattle.std.specs.Prelude.{⊤, ◌≡◌, ◌+◌, ◌==◌, ◌^◌, ◌-◌, ◌++◌, ℕ, Bool, false, true, List, [], ◌∷◌, min, if◌then◌else◌}
+use Rattle.std.specs.Prelude.{⊤, ◌≡◌, ◌+◌, ◌==◌, ◌++◌, ℕ, Bool, false, true, List, [], ◌∷◌, min, if◌then◌else◌}
 use Rattle.std.specs.List.{flat_map}
+use Rattle.bus.specs.LivelyBuses.{most_accesses}
 use Rattle.bus.specs.PastOfStretch.{Past}
 use Rattle.bus.specs.Trails.{past_of}
 use Rattle.bus.specs.declared.event.Event.{Event}
@@ -50,10 +51,6 @@ abbrev pub past_at : (host : ℕ) → List AtomicStep → Past
 past_at k steps = past_of (events_at k steps)
 
 -- Outcomes with the number of accesses before them.
-
--- the greatest count of accesses
-abbrev pub most_accesses : ℕ
-most_accesses = 2 ^ 64 - 1
 
 abbrev pub numbered : ℕ → AtomicStep → List Numbered
 numbered n step = record { accesses = n; outcome = outcome_of step } ∷ []

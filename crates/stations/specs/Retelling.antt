@@ -7,7 +7,8 @@ use Rattle.stations.specs.AtomicSteps.{AtomicStep, Watched, tick_of, watched}
 use Rattle.stations.specs.declared.observer.Observer.{Ghosts as OfObserver}
 use Rattle.stations.specs.Stations.{world_at}
 use Rattle.stations.specs.declared.tick.Tick.TheVariants.{Go}
-use Rattle.stations.specs.AtomicRuns.{LeadsTo, counted_of, is_go, most_accesses, past_at, steps_told}
+use Rattle.bus.specs.LivelyBuses.{most_accesses}
+use Rattle.stations.specs.AtomicRuns.{LeadsTo, counted_of, is_go, past_at, steps_told}
 use Rattle.stations.specs.PlayedTicks.{PlaysTicks}
 use Rattle.stations.specs.declared.lent_bus.LentBus.{LentBus}
 

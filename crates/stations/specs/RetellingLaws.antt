@@ -10,7 +10,8 @@ use Rattle.stations.specs.declared.observer.Observer.{Ghosts as OfObserver}
 use Rattle.stations.specs.declared.tick.Tick.{Tick}
 use Rattle.stations.specs.declared.tick.Tick.TheVariants.{Go}
 use Rattle.stations.specs.AtomicRunLaws.{counted_join, leads_join, past_join, steps_told_join}
-use Rattle.stations.specs.AtomicRuns.{LeadsTo, counted_of, is_go, most_accesses, past_at, steps_told}
+use Rattle.bus.specs.LivelyBuses.{most_accesses}
+use Rattle.stations.specs.AtomicRuns.{LeadsTo, counted_of, is_go, past_at, steps_told}
 use Rattle.stations.specs.Retelling.{Retells, SameLent}
 use Rattle.stations.specs.declared.lent_bus.LentBus.{LentBus}
 

@@ -60,7 +60,7 @@ impl<'a, 't, O: Observer> Bus for LentBus<'a, 't, O> {
 
 impl<'a, 't, O: Observer> HonestBus for LentBus<'a, 't, O> {
     ghost use Rattle.std.specs.Prelude.{min};
-    ghost use Rattle.stations.specs.AtomicRuns.{most_accesses};
+    ghost use Rattle.bus.specs.LivelyBuses.{most_accesses};
     ghost use Rattle.stations.specs.RetellingLaws.{retells_count};
 
     ghost counted = { λ bus. min bus.accesses most_accesses };

@@ -10,11 +10,6 @@ use Rattle.host_calls.specs.DrainedHosts.{Drains}
 use Rattle.wire.specs.Equations.{Delivers, IsExact, NetworkStands, counted}
 use Rattle.host_calls.specs.Networks.{IsHost, NetworkState}
 
--- The greatest number of frames in a receive packet buffer: it has at most 48 kilobytes, and room for one frame in every two (our choice).
--- A drain needs room for these frames and for one in each receive buffer.
-abbrev pub most_buffered : ℕ
-most_buffered = 24
-
 -- What a drain says of frames: each frame of the host's packet buffer was moved to its ring, then each frame was given.
 abbrev pub said_of_drain : (host moves : ℕ) → List GivenFrame → List Happening
 said_of_drain host moves given = replicate moves (Moved host) ++ map (λ (one : GivenFrame). Given host one.socket one.frame) given

@@ -4,22 +4,20 @@ ghost use Rattle.std.specs.Prelude.{◌≡◌, ◌≤◌, ◌+◌, length};
 ghost use Rattle.host_calls.specs.DrainedHosts.{count_frames};
 ghost use Rattle.packet_socket.specs.HostState.{HostState};
 ghost use Rattle.stations.specs.Stations.{world_at};
-ghost use Rattle.wire.specs.DrainedNetworks.{NetworkDrains, most_buffered};
+ghost use Rattle.wire.specs.DrainedNetworks.{NetworkDrains};
 ghost use Rattle.host_calls.specs.Networks.{IsHost};
 
 use crate::Lan;
 use host_calls::Outlet;
-
-/// How many frames a receive packet buffer has room for, at most.
-const MOST_BUFFERED: usize = 24;
+use rx_engine::MOST_FRAMES;
 
 impl Lan {
-    /// The number of frames for which a [`drain`](Lan::drain) of a host needs room: its receive buffers, and the 24
-    /// frames that its packet buffer may hold. A host never holds more for its sockets. It is 0 if the host isn't
+    /// The number of frames for which a [`drain`](Lan::drain) of a host needs room: its receive buffers, and the
+    /// [`MOST_FRAMES`] frames (24) that its packet buffer may hold. A host never holds more for its sockets. It is 0 if the host isn't
     /// there.
     pub fn drain_room(&self, host: usize) -> usize
         ensures there { (state : HostState) → IsHost self.now host state
-            → result ≡ state.driver.layout.buffers + most_buffered }
+            → result ≡ state.driver.layout.buffers + MOST_FRAMES }
         ensures enough { (state : HostState) → IsHost self.now host state
             → count_frames state (world_at self.now.stations host) ≤ result }
         ensures none { length self.now.hosts ≤ host → result ≡ 0 }
@@ -27,7 +25,7 @@ impl Lan {
         let Some(host) = self.network.host(host) else {
             return 0;
         };
-        usize::from(host.layout().buffers()) + MOST_BUFFERED
+        usize::from(host.layout().buffers()) + usize::from(MOST_FRAMES)
     }
 
     /// Drains a host: gives each frame that it holds for its sockets to `sink`, with the socket's number, and returns
@@ -40,7 +38,7 @@ impl Lan {
     /// its next piece to the ring.
     pub fn drain<S: Outlet>(&mut self, host: usize, sink: &mut S) -> u64
         requires room { (state : HostState) → IsHost self.old host state
-            → state.driver.layout.buffers + most_buffered ≤ S.room_left sink.old }
+            → state.driver.layout.buffers + MOST_FRAMES ≤ S.room_left sink.old }
         ensures drains { NetworkDrains self.old host result (S.frames sink.old) (S.frames sink.new) self.new }
         ensures left { length (S.frames sink.old) + S.room_left sink.old
             ≤ length (S.frames sink.new) + S.room_left sink.new }

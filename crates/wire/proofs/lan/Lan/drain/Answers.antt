@@ -1,7 +1,8 @@
 use Rattle.std.proofs.Common.{◌≤◌, ◌<◌, ◌+◌, ℕ, length, subst, sym}
 use Rattle.host_calls.specs.Networks.{NetworkState, nth_host}
 use Rattle.host_calls.proofs.HostsOfNetworks.{host-there}
-use Rattle.wire.specs.DrainedNetworks.{NetworkDrains, most_buffered}
+use Rattle.rx_engine.specs.declared.engine.TheConstants.{MOST_FRAMES}
+use Rattle.wire.specs.DrainedNetworks.{NetworkDrains}
 use Rattle.wire.proofs.Draining.{absent-drained, can-drain, host-drained}
 use Rattle.wire.proofs.lan.Lan.drain.Goals as goal
 
@@ -33,7 +34,7 @@ drain-requires-clause-room g c =
     let k = c.args.host in
     let n = c.self.inside.network in
     let below = subst (λ (count : ℕ). k < count) c.len.ensures c.if-host-len.false in
-    subst (λ (now : NetworkState). (nth_host now k).driver.layout.buffers + most_buffered ≤ g.S.Outlet.room_left c.args.sink.now)
+    subst (λ (now : NetworkState). (nth_host now k).driver.layout.buffers + MOST_FRAMES ≤ g.S.Outlet.room_left c.args.sink.now)
     (sym c.self.view_is)
     (c.requires.room (nth_host c.args.self.now k)
     (host-there c.args.self.now k (subst (λ (now : NetworkState). k < length now.hosts) c.self.view_is below)))
