@@ -1,13 +1,16 @@
 pub mod Gives
+pub mod Puts
 pub mod EventsOfCommands
 pub mod Printed
 pub mod Noting
 pub mod RecordLaws
 pub mod NotedEvents
 pub mod NotedDrains
+pub mod NotedPuts
 pub mod JoinedActs
 pub mod EmptySockets
 pub mod PlayedEvents
 pub mod Writing
 pub mod Told
 pub mod Benching
+pub mod WireBenching
