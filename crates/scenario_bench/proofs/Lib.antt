@@ -6,7 +6,6 @@ pub mod Noting
 pub mod RecordLaws
 pub mod NotedEvents
 pub mod NotedDrains
-pub mod NotedPuts
 pub mod JoinedActs
 pub mod EmptySockets
 pub mod PlayedEvents

@@ -20,7 +20,7 @@ use Rattle.wire.specs.DrainedNetworks.{said_of_drain}
 use Rattle.wire.specs.Runs.{accepted_of, given_of, said}
 use Rattle.scenario_bench.specs.Acts.{Act, Drained, Ran, said_in}
 use Rattle.scenario_bench.specs.Given.{next_number, numbered_frame}
-use Rattle.scenario_bench.specs.Puts.{PutFrame, PutsGrow, put_frame_in, put_frames_in}
+use Rattle.scenario_bench.specs.Puts.{PutFrame, PutsGrow, put_frames_in}
 use Rattle.scenario_bench.specs.RecordingLaws.{puts_not}
 use Rattle.scenario_bench.specs.SocketLists.{SocketFrames, with_socket_frames, with_given}
 use Rattle.scenario_bench.specs.Tallies.{AreNoted, GetsGiven, GetsSaid, TalliesGrow, socket_behind}

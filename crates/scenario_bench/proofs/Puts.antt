@@ -1,10 +1,10 @@
 -- Frames that were put, and the traces of wires.
-use Rattle.std.proofs.Common.{◌≡◌, ◌<◌, ◌≤◌, ◌+◌, ◌++◌, ◌∷◌, [], ℕ, Bool, true, false, List, Option, Some, length, map, drop, take}
+use Rattle.std.proofs.Common.{◌≡◌, ◌<◌, ◌≤◌, ◌+◌, ◌++◌, ◌∷◌, [], ℕ, Bool, true, false, List, Option, Some, length, drop, take}
 use Rattle.std.proofs.Common.{◌||◌, not, get_or, if◌then◌else◌, option_map, slice_get, slice_index_or, sum_by}
 use Rattle.std.proofs.Common.{refl, sym, ap, subst, ◌∙◌, append_assoc, append-nil, arith, bytes_eq, string_bytes}
 use Rattle.std.specs.Borrow.{Bor}
 use Rattle.std.specs.Io.KnownBytes.{Appends, append_known}
-use Rattle.std.specs.List.{AllByRecursion, flat_map, fold, list_any}
+use Rattle.std.specs.List.{AllByRecursion, flat_map, list_any}
 use Rattle.std.proofs.lemmas.Grind.{common_steps}
 use Rattle.std.proofs.lemmas.List.{drop-append-le, length-drop, map-append, nil_from_length, take-append-le, take_at}
 use Rattle.std.proofs.lemmas.List.Sums.{fold-append, sum_by-cons}
@@ -12,7 +12,7 @@ use Rattle.std.proofs.lemmas.Option.{slice_get-get_or, slice_get-map}
 use Rattle.network_plan.specs.declared.plan.HostPlan.{HostPlan}
 use Rattle.pcap_trace.specs.Devices.{AppendsFront, Grows}
 use Rattle.pcap_trace.specs.Format.{Timed, file_header, packet_of, written}
-use Rattle.pcap_trace.proofs.Flushed.{GoesOut, goes-ends, goes-header, goes-more, goes-stops}
+use Rattle.pcap_trace.proofs.Flushed.{GoesOut, goes-header, goes-more, goes-stops}
 use Rattle.pcap_trace.proofs.Packets.{written-append, written-push}
 use Rattle.scenario.specs.SoFar.{Host, host_of_plan, hosts_of}
 use Rattle.scenario_bench.specs.EventLists.{wire_name_of}
@@ -78,12 +78,6 @@ module _ (hosts : List Host) (wire : List ℕ) where
     goes = goes-header before waiting begun;
   }
 
-  pub fits : (all : List PutFrame) (info : PutInfo) (infos list : List PutInfo) (bytes : List ℕ) (before now : Option (List ℕ))
-      (waiting : List ℕ) → list ≡ info ∷ infos → HasPut hosts wire all list bytes before now waiting → info.length ≤ length bytes
-  fits all info infos list bytes before now waiting is has =
-      let sizes : sum_by length_in (info ∷ infos) ≡ length bytes = sym (ap (sum_by length_in) is) ∙ has.size in
-      omega (arith, sizes, sum_by-cons length_in info infos)
-
   abbrev pub on-wire : PutInfo → Bool
   on-wire info = bytes_eq (wire_name_of hosts info.host) wire
 
@@ -127,20 +121,6 @@ module _ (hosts : List Host) (wire : List ℕ) where
       same-not false true e = cc
       same-not false false e = refl
 
-  -- a frame of another wire
-  pub puts-passed : (all : List PutFrame) (info : PutInfo) (infos list : List PutInfo) (frame bytes rest : List ℕ)
-      (before now : Option (List ℕ)) (waiting : List ℕ)
-      → list ≡ info ∷ infos → frame ≡ take info.length bytes → rest ≡ drop info.length bytes → on-wire info ≡ false
-      → HasPut hosts wire all list bytes before now waiting → HasPut hosts wire all infos rest before now waiting
-  puts-passed all info infos list frame bytes rest before now waiting is frame_is rest_is on has = record {
-    front = has.front;
-    parts = next all info infos list frame bytes rest false has.front is frame_is rest_is on has.parts
-        ∙ ap (λ (front : List Timed). front ++ frames_on_wire hosts wire (frames_from infos rest)) (append-nil has.front);
-    size = left info infos list bytes rest is rest_is has.size;
-    short = (subst (AllByRecursion HasPutSize) is has.short).1;
-    goes = has.goes;
-  }
-
   pub puts-written : (all : List PutFrame) (info : PutInfo) (infos list : List PutInfo) (frame bytes rest : List ℕ)
       (before now later : Option (List ℕ)) (waiting more : List ℕ)
       → list ≡ info ∷ infos → frame ≡ take info.length bytes → rest ≡ drop info.length bytes → on-wire info ≡ true
@@ -165,16 +145,6 @@ module _ (hosts : List Host) (wire : List ℕ) where
       let rest = frames_on_wire hosts wire (frames_from infos bytes) in
       subst (λ (bytes : List ℕ). AppendsFront before later bytes) (sym (ap written has.parts ∙ written-append has.front rest))
       (goes-stops before now later waiting (written has.front) (flat_map packet_of rest) has.goes front)
-
-  pub puts-ends : (all : List PutFrame) (infos : List PutInfo) (bytes : List ℕ) (before now later : Option (List ℕ)) (waiting : List ℕ)
-      → infos ≡ [] → HasPut hosts wire all infos bytes before now waiting → Appends now later waiting
-      → Appends before later (written (frames_on_wire hosts wire all))
-  puts-ends all infos bytes before now later waiting none has went =
-      let nothing : frames_on_wire hosts wire (frames_from infos bytes) ≡ [] =
-      ap (λ (xs : List PutInfo). frames_on_wire hosts wire (frames_from xs bytes)) none in
-      subst (Appends before later)
-      (sym (ap written (has.parts ∙ ap (λ (rest : List Timed). has.front ++ rest) nothing ∙ append-nil has.front)))
-      (goes-ends before now later waiting (written has.front) has.goes went)
 
 -- a wire's text
 pub wire_text_at : (hosts : List Host) (puts : List PutFrame) (wires : List (Bor (List ℕ))) (place : ℕ) (d : Bor (List ℕ))

@@ -1,5 +1,5 @@
 -- The result of the bench with the traces of wires.
-use Rattle.std.proofs.Common.{◌≡◌, ◌++◌, [], ℕ, List, Option, Some, length, map, option_map, inl, inr, refl, sym, ap, subst, ◌∙◌}
+use Rattle.std.proofs.Common.{◌≡◌, ◌++◌, [], ℕ, List, Some, length, map, option_map, inl, inr, sym, ap, subst, ◌∙◌}
 use Rattle.std.proofs.lemmas.List.{length-map}
 use Rattle.network_plan.specs.declared.plan.HostPlan.{HostPlan}
 use Rattle.pcap_trace.specs.Format.{Timed}

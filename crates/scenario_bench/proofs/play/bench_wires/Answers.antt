@@ -1,6 +1,5 @@
-use Rattle.std.proofs.Common.{◌∙◌, List, Some, ap, length, map, option_copied, refl, sym}
+use Rattle.std.proofs.Common.{◌∙◌, Some, ap, length, map, option_copied, refl, sym}
 use Rattle.std.proofs.lemmas.Result.{err_from_is_err_and}
-use Rattle.network_plan.specs.declared.plan.HostPlan.{HostPlan}
 use Rattle.scenario_bench.specs.PlayedEvents.{frames_of}
 use Rattle.scenario_bench.specs.WireLists.{names_in}
 use Rattle.scenario_bench.proofs.Benching.{sockets_counted}

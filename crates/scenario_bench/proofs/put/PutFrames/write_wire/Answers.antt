@@ -1,9 +1,9 @@
-use Rattle.std.proofs.Common.{◌≡◌, ◌+◌, ◌<◌, ◌∙◌, ◌∷◌, ℕ, List, add-one, arith, drop, drop-cons, false, get_or, length, refl, sym, true}
+use Rattle.std.proofs.Common.{◌≡◌, ◌+◌, ◌<◌, ◌∙◌, ◌∷◌, ℕ, List, add-one, arith, drop, drop-cons, get_or, length, refl, sym, true}
 use Rattle.std.proofs.lemmas.Result.{err_from_is_err_and, on_err_weaker}
 use Rattle.pcap_trace.specs.Devices.{AppendsFront}
 use Rattle.scenario.specs.SoFar.{hosts_of}
 use Rattle.scenario_bench.specs.declared.put.PutInfo.{PutInfo}
-use Rattle.scenario_bench.proofs.Puts.{on-wire-is, puts-first, puts-passed, puts-stops, puts-written}
+use Rattle.scenario_bench.proofs.Puts.{on-wire-is, puts-first, puts-stops, puts-written}
 use Rattle.scenario_bench.proofs.put.PutFrames.write_wire.Goals as goal
 
 abbrev no-info : PutInfo
