@@ -90,14 +90,15 @@ What each code means, and what to do: nicbench --help
 
 RUN_HELP = b"""Run a scenario: hosts on wires, step by step
 
-Usage: nicbench run <SCENARIO> <OUTDIR>
+Usage: nicbench run [OPTIONS] <SCENARIO> <OUTDIR>
 
 Arguments:
   <SCENARIO>  The scenario to run, a text file, or - for standard input
   <OUTDIR>    The folder to write traces into; it must exist
 
 Options:
-  -h, --help  Print help
+      --wires  Also write all frames that adapters put on each wire, to OUTDIR/WIRE.pcap
+  -h, --help   Print help
 
 A scenario is a text of lines; spaces or tabs separate words. In this one a host sends a frame of 14
 bytes to another, and its adapter pads it to 60:
@@ -147,7 +148,9 @@ Then come the events, numbered from 0:
   auto COUNT START        COUNT random events, up to 1000000; START is the seed
 
 OUTDIR/h.s.pcap is the trace of the frames that socket s of host h returned. The timestamp of each frame, in
-microseconds, is the number of its event. Files that don't exist are created, empty, before the first event.
+microseconds, is the number of its event. With --wires, OUTDIR/w.pcap is the trace of all frames that adapters
+put on wire w, also those that no host received; the files of wires follow those of sockets, in the order in
+which the host lines first name the wires. Files that don't exist are created, empty, before the first event.
 All files are written after the last event; an existing one loses its bytes when its first new byte is written.
 So on an error existing files are unchanged, unless it is E67: then the files before the one that failed are
 complete, and those after it are unchanged. Standard output has a line for each host:

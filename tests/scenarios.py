@@ -55,11 +55,11 @@ def held(path):
     return files
 
 
-def plays(bench, name, text, lines, files):
-    """Runs a scenario; checks the lines, and the files in OUTDIR."""
+def plays(bench, name, text, lines, files, options=()):
+    """Runs a scenario with these options; checks the lines, and the files in OUTDIR."""
     path = folder(bench)
     bench.put("s.scenario", text)
-    bench.ends(name, ["run", "s.scenario", "outdir"], 0, lines)
+    bench.ends(name, ["run", *options, "s.scenario", "outdir"], 0, lines)
     bench.check(f"{name}: what is written", held(path), files)
 
 
@@ -68,12 +68,12 @@ def refusal(fault):
     return f"nicbench: {fault}\n".encode() + UNCHANGED
 
 
-def refused(bench, name, text, fault, status=1, files=()):
+def refused(bench, name, text, fault, status=1, files=(), options=()):
     """Checks that a scenario is rejected. New files in OUTDIR are created, empty; existing files don't change."""
     path = folder(bench)
     bench.put("s.scenario", text)
     for before in [b"", b"old"] if files else [b""]:
-        bench.ends(f"run: {name}", ["run", "s.scenario", "outdir"], status, b"", refusal(fault))
+        bench.ends(f"run: {name}", ["run", *options, "s.scenario", "outdir"], status, b"", refusal(fault))
         bench.check(f"run: {name}: what is written", held(path), {file: before for file in files})
         for file in files:
             bench.put(f"outdir/{file}", b"old")
@@ -387,6 +387,97 @@ def drawn(bench):
           {"b.0.pcap": written([(7, EXAMPLE_FRAME)])})
 
 
+# Two wires, w and v. b's receive packet buffer has room for one frame.
+TWO_WIRES = (b"host a 02:00:00:00:00:01 w\nhost c 02:00:00:00:00:03 v\nhost b 02:00:00:00:00:02 w rxa 2\nhost d 02:00:00:00:00:04 v\n"
+             b"socket b all\nsocket d all\n")
+# Frames of a, of which b misses the second, and a frame of d, which c never gets.
+OF_A = [EXAMPLE_FRAME, EXAMPLE_FRAME[:12] + b"\x86\xdd"]
+OF_D = bytes.fromhex("02000000000302000000000488b5")
+TRAFFIC = (b"".join(b"send %s %s\n" % (host, frame.hex().encode()) for host, frame in [(b"a", OF_A[0]), (b"a", OF_A[1]), (b"d", OF_D)])
+           + b"".join(b"tick txtake:%s\ntick txput:%s\n" % (host, host) for host in [b"a", b"d", b"a"]) + b"tick deliver:b\n" + ARRIVAL)
+TRAFFIC_LINES = (told("a", accepted=2, put=2) + told("c") + told("b", reached=2, stored=1, missed=1, given=1) + told("d", accepted=1, put=1))
+TRAFFIC_FILES = {"b.0.pcap": written([(14, OF_A[0])]), "d.0.pcap": FILE_HEADER}
+WIRE_FILES = {"w.pcap": written([(4, OF_A[0]), (8, OF_A[1])]), "v.pcap": written([(6, OF_D)])}
+
+
+def wires(bench):
+    """The traces of wires: the frames that were put, in order, with the numbers of their events."""
+    plays(bench, "wires: the example", EXAMPLE, EXAMPLE_LINES,
+          {"b.0.pcap": written([(7, EXAMPLE_FRAME)]), "w.pcap": written([(2, EXAMPLE_FRAME)])}, ["--wires"])
+    plays(bench, "wires: two wires, and frames that no host receives", TWO_WIRES + TRAFFIC, TRAFFIC_LINES, {**TRAFFIC_FILES, **WIRE_FILES}, ["--wires"])
+    plays(bench, "wires: without the option", TWO_WIRES + TRAFFIC, TRAFFIC_LINES, TRAFFIC_FILES)
+    plays(bench, "wires: no event", TWO_WIRES, told("a") + told("c") + told("b") + told("d"),
+          {name: FILE_HEADER for name in ["b.0.pcap", "d.0.pcap", "w.pcap", "v.pcap"]}, ["--wires"])
+    sends = b"".join(b"send a %s\n" % frame.hex().encode() for frame in OF_A)
+    plays(bench, "wires: two frames in one call", TO_SOCKET + sends + b"interrupt b / txtake:a txput:a go txtake:a txput:a\n",
+          told("a", accepted=2, put=2) + told("b"), {"b.0.pcap": FILE_HEADER, "w.pcap": written([(2, frame) for frame in OF_A])}, ["--wires"])
+    plays(bench, "wires: a put without a frame", TO_SOCKET + b"tick txput:a\nrecv b 0 / txput:a txput:b\n", told("a") + told("b"),
+          {"b.0.pcap": FILE_HEADER, "w.pcap": FILE_HEADER}, ["--wires"])
+    plays(bench, "wires: a drain has a number, and puts no frame", EXAMPLE.replace(TO_SOCKET, TO_SOCKET + b"drain b\n") + b"drain a\n", EXAMPLE_LINES,
+          {"b.0.pcap": written([(8, EXAMPLE_FRAME)]), "w.pcap": written([(3, EXAMPLE_FRAME)])}, ["--wires"])
+    frames = [EXAMPLE_FRAME + bytes([n]) * n for n in range(20)] + [EXAMPLE_FRAME.ljust(1518, b"\1")]
+    bench.put("fed.pcap", trace(*map(packet, frames)))
+    numbers = [8 * n for n in range(21)]
+    plays(bench, "wires: a feed", TO_SOCKET + b"feed a fed.pcap\n", told("a", accepted=21, put=21) + told("b", reached=21, stored=21, given=21),
+          {"b.0.pcap": written([(n + 7 if n < 160 else 177, frame) for n, frame in zip(numbers, frames)]),
+           "w.pcap": written([(n + 2, frame) for n, frame in zip(numbers, frames)])}, ["--wires"])
+    plays(bench, "wires: a host of a wire's name", EXAMPLE.replace(b" b", b" w").replace(b":b", b":w"), EXAMPLE_LINES.replace(b"b ", b"w "),
+          {"w.0.pcap": written([(7, EXAMPLE_FRAME)]), "w.pcap": written([(2, EXAMPLE_FRAME)])}, ["--wires"])
+    drawn_wires(bench)
+    wire_places(bench)
+
+
+def drawn_wires(bench):
+    """With random events: the other outputs are the same as without the option, and each frame that was put is in its wire's trace."""
+    hosts = [b"host %c 02:00:00:00:00:%02x %s rxa 4\n" % (b"abcde"[n], n + 1, wire) for n, wire in enumerate([b"x", b"y", b"x", b"y", b"x"])]
+    bench.put("s.scenario", b"".join(hosts) + b"socket a all\nsocket b 88b5\nauto 20000 3\n")
+    path, runs = folder(bench), []
+    for options in [[], ["--wires"]]:
+        ran = bench.run("run", *options, "s.scenario", "outdir")
+        runs.append((ran.returncode, ran.stdout, ran.stderr, held(path)))
+    traces = {name: runs[1][3].pop(name) for name in ["x.pcap", "y.pcap"]}
+    bench.check("wires: random events: the other outputs are the same", runs[1] == runs[0], True)
+    put = dict(re.findall(rb"^(\w) accepted \d+ put (\d+) ", runs[0][1], re.M))
+    for name, ends, others in [("x.pcap", b"ace", b"bd"), ("y.pcap", b"bd", b"ace")]:
+        packets = [traces[name][at:at + 76] for at in range(24, len(traces[name]), 76)]
+        senders = [packet[16 + 11] for packet in packets]
+        bench.check(f"wires: random events: {name}: the frames of each host", [senders.count(n + 1) for n in range(5)],
+                    [int(put[b"%c" % host]) if host in ends else 0 for host in b"abcde"])
+        times = [int.from_bytes(packet[4:8], "little") for packet in packets]
+        bench.check(f"wires: random events: {name}: in order", times, sorted(times))
+        bench.check(f"wires: random events: {name}: there are frames", len(packets) > 100, True)
+
+
+def wire_places(bench):
+    """Files of wires that can't be created or written. They follow those of sockets, in the order in which hosts name the wires."""
+    made = ["b.0.pcap", "d.0.pcap"]
+    option = ["--wires"]
+    refused(bench, "wires: a wire's name", TWO_WIRES.replace(b" w", b" a.0"), "E40 Name", 1, [*made, "a.0.pcap", "v.pcap"], option)
+    refused(bench, "wires: a plan", TWO_WIRES.replace(b" v", b" u", 1), "E41 Ends", 1, [*made, "w.pcap", "u.pcap", "v.pcap"], option)
+    for name in [b"x/y", b"../w", b"/w"]:
+        refused(bench, f"wires: a file outside of OUTDIR: {name.decode()}", TO_SOCKET.replace(b" w\n", b" %s\n" % name), "E68 Open", 3, made[:1], option)
+    bench.check("wires: no file is made outside of OUTDIR", os.path.exists(bench.path("w.pcap")), False)
+    bench.ends("wires: no OUTDIR", ["run", "--wires", "s.scenario", "missing"], 3, b"", refusal("E68 Open"))
+    bench.put("s.scenario", TWO_WIRES + TRAFFIC)
+    order = ["b.0.pcap", "d.0.pcap", "w.pcap", "v.pcap"]
+    texts = {**TRAFFIC_FILES, **WIRE_FILES}
+    for place, file in enumerate(order):
+        path = folder(bench)
+        for name in order:
+            bench.put(f"outdir/{name}", b"old")
+        os.remove(bench.path(f"outdir/{file}"))
+        os.symlink("/dev/full", bench.path(f"outdir/{file}"))
+        bench.ends(f"wires: {file} is a full device", ["run", "--wires", "s.scenario", "outdir"], 3, b"", b"nicbench: E67 Write\n")
+        bench.check(f"wires: {file} is a full device: the others", [bench.get(f"outdir/{name}") for name in order if name != file],
+                    [texts[name] if order.index(name) < place else b"old" for name in order if name != file])
+        os.remove(bench.path(f"outdir/{file}"))
+        folder(bench)
+        os.mkdir(os.path.join(path, file))
+        bench.ends(f"wires: {file} is a folder", ["run", "--wires", "s.scenario", "outdir"], 3, b"", refusal("E68 Open"))
+        os.rmdir(os.path.join(path, file))
+        bench.check(f"wires: {file} is a folder: the files before it", held(path), {name: b"" for name in order[:place]})
+
+
 def all_cases(bench):
-    for part in [played, feeds, lines, plans, places, drawn]:
+    for part in [played, feeds, lines, plans, places, drawn, wires]:
         part(bench)

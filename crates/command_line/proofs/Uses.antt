@@ -70,15 +70,16 @@ without_keeps id rows h = at_row_keeps id (λ _. []) [] rows (λ r has. tt) tt h
 
 -- ---- a use of an argument
 
--- a use with this action and at least n values has a value, or asks for help or the version
-abbrev pub gives_by : ArgAction → ℕ → Bool
-gives_by Set n = nat_lt 0 n
-gives_by Help n = true
-gives_by Version n = true
-gives_by _ n = false
+-- a use with this action and at least n values, or with these if it has none, has a value, or asks for help or the version
+abbrev pub gives_by : ArgAction → ℕ → (missing : List Text) → Bool
+gives_by Set n missing = nat_lt 0 n
+gives_by SetTrue n missing = nat_lt 0 (length missing)
+gives_by Help n missing = true
+gives_by Version n missing = true
+gives_by _ n missing = false
 
 abbrev pub gives : Rule → Bool
-gives a = gives_by (action_of a) (unwrap_or_range a.range).start_inclusive
+gives a = gives_by (action_of a) (unwrap_or_range a.range).start_inclusive a.missing
 
 abbrev pub Gives : Option Rule → Type 0
 Gives None = Unit {0}
@@ -95,7 +96,18 @@ found_gives p (a ∷ rest) e =
     let parts = both (gives a) (list_all gives rest) e in
     gives_of_either (p a) (Some a) (find p rest) parts.0 (found_gives p rest parts.1)
 
-use_as_keeps : (x : ArgAction) (n : ℕ) (again : Bool) (a : Rule) (values : List Text) (rows : List Row) → gives_by x n ≡ true
+some_values_keep : (id : Text) (how : Reading) (s : ValueSource) (values : List Text) (rows : List Row) → nat_lt 0 (length values) ≡ true
+    → EachHasValue rows → EachHasValue (with_values id how s values rows)
+some_values_keep id how s [] rows some h = absurd (true≢false (sym some))
+some_values_keep id how s (v ∷ vs) rows some h = with_values_keeps id how s v vs rows h
+
+-- a flag has the values that stand for a use with none, if it has none
+flag_use_keeps : (a : Rule) (how : Reading) (s : ValueSource) (values : List Text) (rows : List Row) → nat_lt 0 (length a.missing) ≡ true
+    → EachHasValue rows → EachHasValue (with_values a.id how s (values_or_missing a values) rows)
+flag_use_keeps a how s [] rows some h = some_values_keep a.id how s a.missing rows some h
+flag_use_keeps a how s (v ∷ vs) rows some h = with_values_keeps a.id how s v vs rows h
+
+use_as_keeps : (x : ArgAction) (n : ℕ) (again : Bool) (a : Rule) (values : List Text) (rows : List Row) → gives_by x n a.missing ≡ true
     → range_kinds n (most_values a) (length values) ≡ [] → action_fault x again a (values_or_missing a values) rows ≡ []
     → EachHasValue rows → EachHasValue (used_as x a.id (reading_by a) (values_or_missing a values) rows)
 use_as_keeps Set n again a [] rows g few f h =
@@ -105,7 +117,8 @@ use_as_keeps Set n again a (v ∷ vs) rows g few f h = with_values_keeps a.id (r
 use_as_keeps Help n again a values rows g few f h = some_kind _ _ f
 use_as_keeps Version n again a values rows g few f h = some_kind _ _ f
 use_as_keeps Append n again a values rows g few f h = absurd (true≢false (sym g))
-use_as_keeps SetTrue n again a values rows g few f h = absurd (true≢false (sym g))
+use_as_keeps SetTrue n again a values rows g few f h =
+    flag_use_keeps a (reading_by a) _ values (without a.id rows) g (without_keeps a.id rows h)
 use_as_keeps SetFalse n again a values rows g few f h = absurd (true≢false (sym g))
 use_as_keeps Count n again a values rows g few f h = absurd (true≢false (sym g))
 use_as_keeps HelpShort n again a values rows g few f h = absurd (true≢false (sym g))

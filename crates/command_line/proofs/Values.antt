@@ -1,14 +1,18 @@
 -- From what clap's getters give to what its matches hold.
 use Rattle.std.specs.Borrow.{Bor}
-use Rattle.std.specs.Prelude.{Option, Some, None, option_map, IfSome, IsSome}
-use Rattle.std.proofs.Common.{◌≡◌, ◌∙◌, ap, refl, subst, sym}
+use Rattle.std.specs.Prelude.{Option, Some, None, option_map, IfSome, IsSome, codes}
+use Rattle.std.proofs.Common.{◌≡◌, ◌∙◌, Bool, ap, refl, subst, sym, true≢false}
+use Rattle.std.specs.Option.{option_eq}
+use Rattle.std.specs.Str.{bytes_eq}
+use Rattle.std.proofs.lemmas.Slice.Eq.{bytes_eq-Decides}
+use Rattle.std.proofs.lemmas.Option.{same_Some}
 use Rattle.clap.proofs.WalkLemmas.{first_value-rows}
 use Rattle.clap.specs.Words.{Text, first_of, first_value, rows_of}
 use Rattle.clap.specs.declared.parser.matches.Found.{Found}
-use Rattle.command_line.specs.Jobs.{IsValueOf, IsValueOr}
+use Rattle.command_line.specs.Jobs.{IsFlagOf, IsValueOf, IsValueOr}
 
 -- a getter's answer is the text of the rows
-text_of : (found : Found) (id : Text) (got : Option (Bor Text)) → option_map (λ s. s.now) got ≡ first_value found id
+pub text_of : (found : Found) (id : Text) (got : Option (Bor Text)) → option_map (λ s. s.now) got ≡ first_value found id
     → first_of id (rows_of found) ≡ option_map (λ s. s.now) got
 text_of found id got e = sym (first_value-rows found id) ∙ sym e
 
@@ -61,3 +65,19 @@ of_value spells P each None None h = tt
 of_value spells P each (Some text) (Some value) h = each text value h
 of_value spells P each None (Some value) h = absurd h
 of_value spells P each (Some text) None h = tt
+
+-- a flag is true exactly if its text is "true"
+pub flag_value : (first : Option Text) (got : Option (Bor Text)) (word : Bor Text) (flag : Bool) → word.now ≡ codes "true"
+    → first ≡ option_map (λ s. s.now) got → flag ≡ option_eq (λ x y. bytes_eq x.now y.now) got (Some word) → IsFlagOf first flag
+flag_value first None word flag word_is is set = (
+  λ true_is. absurd (true≢false (sym true_is ∙ set)),
+  λ same. absurd (none≢some (codes "true") (sym is ∙ same)),
+)
+  where
+    none≢some : (text : Text) → None ≡ Some text → ⊥
+    none≢some text same = cc
+flag_value first (Some text) word flag word_is is set =
+    let decides = bytes_eq-Decides text.now word.now in (
+      λ true_is. is ∙ ap (λ (t : Text). Some t) (decides.0 (sym set ∙ true_is) ∙ word_is),
+      λ same. set ∙ decides.1 (same_Some text.now (codes "true") (sym is ∙ same) ∙ sym word_is),
+    )

@@ -1,5 +1,5 @@
 -- What clap holds for the words, as a job or as the value that it is refused for (our choice).
-use Rattle.std.specs.Prelude.{◌≡◌, ◌≤◌, ◌⊎◌, IfSome, ℕ, List, [], ◌∷◌, IsSomeAnd, Option, Some, None, ⊤, IsSome, codes}
+use Rattle.std.specs.Prelude.{◌≡◌, ◌≤◌, ◌⊎◌, ◌↔◌, IfSome, IsTrue, ℕ, Bool, List, [], ◌∷◌, IsSomeAnd, Option, Some, None, ⊤, IsSome, codes}
 use Rattle.clap.specs.Words.{Row, Text, first_of}
 use Rattle.command_line.specs.Shape.{found_in, refusals}
 use Rattle.command_line.specs.Spelling.{IsGroup, IsKilobytes, IsLink, SpellsAddress, SpellsDecimal, SpellsGroup, SpellsKilobytes}
@@ -28,6 +28,10 @@ abbrev pub IsValueOr : {V : Type 0} → (Text → V → Type 0) → V → Option
 IsValueOr spells default None value = value ≡ default
 IsValueOr spells default (Some text) value = spells text value
 
+-- clap's text for a flag is "true" exactly if the flag is in the words
+abbrev pub IsFlagOf : Option Text → Bool → Type 0
+IsFlagOf text flag = IsTrue flag ↔ (text ≡ Some (codes "true"))
+
 pub record IsPassFilterOf (rows : List Row) (filter : PassFilter) : Type 0 where
   pub address : IsValueOf SpellsAddress (first_of (codes "address") rows) filter.address
   pub group : IsValueOf SpellsGroup (first_of (codes "group") rows) filter.group
@@ -41,6 +45,7 @@ pub record IsPassJobOf (rows : List Row) (job : PassJob) : Type 0 where
 pub record IsRunJobOf (rows : List Row) (job : RunJob) : Type 0 where
   pub scenario : first_of (codes "SCENARIO") rows ≡ Some job.scenario.now
   pub directory : first_of (codes "OUTDIR") rows ≡ Some job.directory.now
+  pub wires : IsFlagOf (first_of (codes "wires") rows) job.wires
 
 abbrev pub IsShowJobOf : List Row → ShowJob → Type 0
 IsShowJobOf rows job = first_of (codes "TRACE") rows ≡ Some job.trace.now

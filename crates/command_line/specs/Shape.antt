@@ -9,6 +9,10 @@ use Rattle.clap.specs.declared.builder.ArgAction.TheVariants as action
 abbrev pub option_rule : Text → Rule
 option_rule name = record (new_rule name) { long = Some name; action = Some action.Set; value_names = 1 }
 
+-- an option without a value, which may stand once
+abbrev pub flag_rule : Text → Rule
+flag_rule name = record (new_rule name) { long = Some name; action = Some action.SetTrue }
+
 -- a file, which must be there
 abbrev pub file_rule : Text → Rule
 file_rule name = record (new_rule name) { required = true; action = Some action.Set }
@@ -20,9 +24,11 @@ pass_app =
     (option_rule (codes "address"))) (option_rule (codes "group"))) (option_rule (codes "vlan")))
     (file_rule (codes "IN"))) (file_rule (codes "OUT"))
 
--- `run SCENARIO OUTDIR`
+-- `run [--wires] SCENARIO OUTDIR`
 unfoldable pub run_app : App
-run_app = with_rule (with_rule (new_app (codes "run")) (file_rule (codes "SCENARIO"))) (file_rule (codes "OUTDIR"))
+run_app =
+    with_rule (with_rule (with_rule (new_app (codes "run"))
+    (flag_rule (codes "wires"))) (file_rule (codes "SCENARIO"))) (file_rule (codes "OUTDIR"))
 
 -- `show TRACE`
 unfoldable pub show_app : App

@@ -3,13 +3,13 @@ ghost use Rattle.std.specs.Prelude.{◌≡◌, IfOk, IsOkAnd, false, map};
 ghost use Rattle.clap.specs.Words.{app_of, rule_of, with_subcommand};
 ghost use Rattle.clap.specs.declared.builder.command.Command.TheViews.{out-Command as fields_of};
 ghost use Rattle.command_line.specs.Arguments.{rule_for, with_rules};
-ghost use Rattle.command_line.specs.Shape.{file_rule, option_rule, pass_app, program_app, run_app, serve_app};
-ghost use Rattle.command_line.specs.Shape.{show_app};
+ghost use Rattle.command_line.specs.Shape.{file_rule, flag_rule, option_rule, pass_app, program_app, run_app};
+ghost use Rattle.command_line.specs.Shape.{serve_app, show_app};
 
 use crate::help::{
     ADDRESS_HELP, GROUP_HELP, IMAGE_HELP, LINK_HELP, MEMORY_HELP, PASS_ABOUT, PASS_NOTE,
     PROGRAM_NOTE, REGISTERS_HELP, RUN_ABOUT, RUN_NOTE, RXA_HELP, SEED_HELP, SERVE_ABOUT,
-    SERVE_NOTE, SHOW_ABOUT, SHOW_NOTE, VERSION, VLAN_HELP,
+    SERVE_NOTE, SHOW_ABOUT, SHOW_NOTE, VERSION, VLAN_HELP, WIRES_HELP,
 };
 use clap::{Arg, ArgAction, Command};
 use std::alloc::{AllocError, Global};
@@ -19,6 +19,8 @@ use std::alloc::{AllocError, Global};
 enum Argument<'a> {
     /// An option `--NAME VALUE`, which may be used once: its name, the name of its value in help, and its help.
     Value(&'a str, &'a str, &'a str),
+    /// An option `--NAME` without a value, which may be used once: its name and its help.
+    Flag(&'a str, &'a str),
     /// A file, which is required: its name and its help.
     File(&'a str, &'a str),
 }
@@ -33,6 +35,17 @@ fn value_option<'a>(alloc: Global, name: &'a str, value: &'a str, help: &'a str)
         .value_name(value)
         .help(help)
         .action(ArgAction::Set)
+}
+
+/// An option `--NAME` without a value, which may be used once.
+fn flag<'a>(alloc: Global, name: &'a str, help: &'a str) -> Arg<'a>
+    ensures rule { rule_of result ≡ flag_rule name.entry.now }
+    ensures local { result.global ≡ false }
+{
+    Arg::new(alloc, name)
+        .long(name)
+        .help(help)
+        .action(ArgAction::SetTrue)
 }
 
 /// A file, which is required.
@@ -53,6 +66,7 @@ fn clap_argument<'a>(alloc: Global, argument: &Argument<'a>) -> Arg<'a>
 {
     match *argument {
         Argument::Value(name, value, help) => value_option(alloc, name, value, help),
+        Argument::Flag(name, help) => flag(alloc, name, help),
         Argument::File(name, help) => file(alloc, name, help),
     }
 }
@@ -103,7 +117,8 @@ fn pass_command<'a>(alloc: Global) -> Result<Command<'a>, AllocError>
     with_arguments(alloc, pass, &PASS_ARGUMENTS)
 }
 
-const RUN_ARGUMENTS: [Argument<'static>; 2] = [
+const RUN_ARGUMENTS: [Argument<'static>; 3] = [
+    Argument::Flag("wires", WIRES_HELP),
     Argument::File(
         "SCENARIO",
         "The scenario to run, a text file, or - for standard input",
@@ -111,7 +126,7 @@ const RUN_ARGUMENTS: [Argument<'static>; 2] = [
     Argument::File("OUTDIR", "The folder to write traces into; it must exist"),
 ];
 
-/// `run SCENARIO OUTDIR`.
+/// `run [--wires] SCENARIO OUTDIR`.
 fn run_command<'a>(alloc: Global) -> Result<Command<'a>, AllocError>
     ensures app { IfOk result (λ command. app_of command ≡ run_app) }
     ensures local { IfOk result (λ command. (fields_of command).has_globals ≡ false) }

@@ -5,7 +5,7 @@
 pub enum Job<'a> {
     /// `pass`: the frames of a trace go through a receive filter and a ring to another trace.
     Pass(PassJob<'a>),
-    /// `run`: a scenario is run, and what its sockets give goes to traces.
+    /// `run`: a scenario is run, and what its sockets give goes to traces, on request also what is put on its wires.
     Run(RunJob<'a>),
     /// `show`: the frames of a trace are listed.
     Show(ShowJob<'a>),
@@ -24,13 +24,15 @@ pub struct PassJob<'a> {
     pub output: &'a str,
 }
 
-/// The job of `run SCENARIO OUTDIR`.
+/// The job of `run [--wires] SCENARIO OUTDIR`.
 #[derive(Clone, Copy, Debug, PartialEq, Eq)]
 pub struct RunJob<'a> {
     /// The path of the scenario that is run, SCENARIO.
     pub scenario: &'a str,
     /// The path of the folder that traces are written into, OUTDIR.
     pub directory: &'a str,
+    /// Whether the traces of wires are written, too (`--wires`).
+    pub wires: bool,
 }
 
 /// The job of `show TRACE`.

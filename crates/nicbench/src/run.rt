@@ -1,6 +1,6 @@
 //! The command `run`.
 ghost use Rattle.std.specs.Prelude.{◌≡◌, ◌+◌, All, IfOk, OnOk, length};
-ghost use Rattle.nicbench.specs.Sinks.{sockets_in};
+ghost use Rattle.nicbench.specs.Sinks.{sockets_in, wires_in};
 
 use crate::fault::Fault;
 use crate::files::{FileSink, create, find_folder, read_bytes, read_trace};
@@ -9,7 +9,7 @@ use command_line::RunJob;
 use network_plan::HostPlan;
 use pcap_bench::{ProgramError, Sink, Trace, WriterSink};
 use scenario::Scenario;
-use scenario_bench::{bench, print_summary};
+use scenario_bench::{Summary, bench, bench_wires, print_summary, wires};
 use std::io::{self, Input};
 use std::rt::Files;
 
@@ -87,22 +87,77 @@ fn create_sinks<R: Files + AllocGlobal>(
     Ok(sinks)
 }
 
-/// Reads SCENARIO and the traces that it feeds, makes sure that the files in OUTDIR can be written, plays the scenario,
-/// writes the files, and prints a line for each host.
+/// The file of a wire, `DIRECTORY/WIRE.pcap`. One in another folder isn't made. It is no socket's file: a name has no
+/// dot, and the name of a socket's file has a second one.
+fn create_wire<R: Files + AllocGlobal>(
+    rt: &R,
+    directory: &str,
+    wire: &str,
+) -> Result<FileSink<R::File>, Fault>
+    ensures { IfOk result (λ sink. ⟦<FileSink<R::File> as Sink>⟧.failures sink ≡ 0) }
+{
+    if wire.contains('/') {
+        return Err(Fault::Program(ProgramError::Open));
+    }
+    let path = format!(in rt.alloc(); "{directory}/{wire}.pcap")?;
+    let sink = create(rt, path.as_str())?;
+    Ok(sink)
+}
+
+/// A file for each wire, in the order in which the hosts first name them.
+fn create_wire_sinks<R: Files + AllocGlobal>(
+    rt: &R,
+    directory: &str,
+    plans: &[HostPlan],
+) -> Result<Vec<FileSink<R::File>>, Fault>
+    ensures count { IfOk result (λ sinks. length sinks.items ≡ wires_in plans.now) }
+    ensures countable { IfOk result (λ sinks.
+        All (λ sink. ⟦<FileSink<R::File> as Sink>⟧.failures sink ≡ 0) sinks.items) }
+{
+    let names = wires(rt.alloc(), plans)?;
+    let mut sinks = Vec::new(rt.alloc());
+    for name in names.as_slice() {
+        sinks.push(create_wire(rt, directory, name)?)?;
+    }
+    Ok(sinks)
+}
+
+/// Makes sure that the files in OUTDIR can be written, plays a scenario, and writes the files: those of the sockets,
+/// and then those of the wires, if the job asks for them.
+fn play<R: Files + Watched + AllocGlobal>(
+    rt: &R,
+    job: &RunJob<'_>,
+    scenario: &Scenario,
+    traces: &[Trace],
+) -> Result<Summary, Fault>
+    requires { length traces.now ≡ length scenario.now.traces.items }
+{
+    let plans = scenario.plan.hosts.as_slice();
+    let mut sinks = create_sinks(rt, job.directory, plans)?;
+    if !job.wires {
+        report_play(rt, traces);
+        return Ok(bench(rt.alloc(), scenario, traces, sinks.as_mut_slice())?);
+    }
+    let mut wire_sinks = create_wire_sinks(rt, job.directory, plans)?;
+    report_play(rt, traces);
+    let summary = bench_wires(
+        rt.alloc(),
+        scenario,
+        traces,
+        sinks.as_mut_slice(),
+        wire_sinks.as_mut_slice(),
+    )?;
+    Ok(summary)
+}
+
+/// Reads SCENARIO and the traces that it feeds, plays the scenario, writes its files, and prints a line for each host.
 pub(crate) fn run_scenario<R: Files + Input + Print + Watched + AllocGlobal>(
     rt: &R,
     job: &RunJob<'_>,
 ) -> Result<(), Fault> {
     let scenario = read_scenario(rt, job.scenario)?;
     let traces = read_traces(rt, scenario.trace_names())?;
-    let mut sinks = create_sinks(rt, job.directory, scenario.plan.hosts.as_slice())?;
-    report_play(rt, traces.as_slice());
-    let summary = bench(
-        rt.alloc(),
-        &scenario,
-        traces.as_slice(),
-        sinks.as_mut_slice(),
-    )?;
+    let summary = play(rt, job, &scenario, traces.as_slice())?;
     print_summary(&summary, &mut WriterSink::new(io::writer(rt)))?;
     Ok(())
 }

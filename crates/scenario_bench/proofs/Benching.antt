@@ -15,7 +15,8 @@ use Rattle.scenario.specs.declared.command.Scenario.{Scenario}
 use Rattle.scenario_bench.specs.Benches.{AreWritten, AreWrittenUpTo, Benches, PlaysScenario, SinkState, Stops, texts_of}
 use Rattle.scenario_bench.specs.EventLists.{all_events}
 use Rattle.scenario_bench.specs.Given.{given_from, sockets_from}
-use Rattle.scenario_bench.specs.PlayedEvents.{Begins, HasPlayed, TellTallies, TellsTally}
+use Rattle.scenario_bench.specs.PlayedEvents.{Begins, HasPlayed, HasPlayedScenario, IsUnplayed, TellTallies, TellsTally}
+use Rattle.scenario_bench.specs.Puts.{PutFrame}
 use Rattle.scenario_bench.specs.SocketLists.{SocketFrames, frames_given}
 use Rattle.scenario_bench.specs.Summaries.{TellsHosts}
 use Rattle.scenario_bench.specs.Tallies.{empty_sockets, no_tally, socket_behind, tally_behind}
@@ -191,36 +192,53 @@ pub tells_as : (hosts plans : List HostPlan) (b : Play) (told : List HostSummary
     → TellTallies (length plans) plans b told
 tells_as hosts plans b told is tells = subst (λ (hs : List HostPlan). TellTallies (length hs) hs b told) is tells
 
-pub benched : {old new : List SinkState}
-    → (scenario : Scenario) (traces : List (List (List ℕ))) (summary : Summary) (count : ℕ) (a b : Play)
-    → Begins scenario.plan.hosts.items a
-    → HasPlayed (all_events (hosts_of scenario.plan.hosts.items) traces (map said_of scenario.commands.items)) a b
-    → TellTallies (length scenario.plan.hosts.items) scenario.plan.hosts.items b summary.hosts.items
-    → count ≡ length (sockets_from 0 (hosts_of scenario.plan.hosts.items))
-    → AreWritten count (map frames_given b.record.sockets.items) old new → Benches scenario traces summary old new
-benched {old} {new} scenario traces summary count a b begun played tells counts wrote =
-    let plans = scenario.plan.hosts.items in
-    let said = all_events (hosts_of plans) traces (map said_of scenario.commands.items) in
-    let plays = plays_of scenario traces a b begun played in
-    let all : count ≡ length (texts_of plays) = counts
-    ∙ sym (length-map (sockets_from 0 (hosts_of plans)) (λ (place : ℕ × ℕ). given_from place.0 place.1 0 played.acts)) in
-    record {
-      plays = plays;
-      texts = subst (λ (n : ℕ). AreWritten n (texts_of plays) old new) all
-          (subst (λ (texts : List (List Timed)). AreWritten count texts old new) (texts_are plans said a b begun played) wrote);
-      tells = hosts_tell plans said a b summary.hosts.items begun played tells;
-    }
+module _ (scenario : Scenario) (traces : List (List (List ℕ))) (puts : Option (List PutFrame)) (play : Play) (summary : Summary)
+    (has : HasPlayedScenario scenario traces puts play summary) where
+  abbrev plans : List HostPlan
+  plans = scenario.plan.hosts.items
 
-pub bench_failed : {old new : List SinkState} → (scenario : Scenario) (traces : List (List (List ℕ))) (error : BenchError)
-    (why : WriteError) (a b : Play) → error ≡ errors.Write why → Begins scenario.plan.hosts.items a
-    → HasPlayed (all_events (hosts_of scenario.plan.hosts.items) traces (map said_of scenario.commands.items)) a b
-    → (failed : ℕ) × AreWrittenUpTo failed (map frames_given b.record.sockets.items) old new
-    → Stops scenario traces error old new
-bench_failed {old} {new} scenario traces error why a b is begun played wrote =
-    let plans = scenario.plan.hosts.items in
-    let said = all_events (hosts_of plans) traces (map said_of scenario.commands.items) in
-    let texts = texts_are plans said a b begun played in
-    subst (λ (e : BenchError). Stops scenario traces e old new) (sym is) (
-      plays_of scenario traces a b begun played,
-      (wrote.0, subst (λ (texts : List (List Timed)). AreWrittenUpTo wrote.0 texts old new) texts wrote.1),
-    )
+  abbrev said : List Said
+  said = all_events (hosts_of plans) traces (map said_of scenario.commands.items)
+
+  abbrev pub plays_in : PlaysScenario scenario traces
+  plays_in = plays_of scenario traces has.first play has.begins has.played
+
+  pub sockets_counted : (count : ℕ) → count ≡ length (sockets_from 0 (hosts_of plans)) → count ≡ length play.record.sockets.items
+  sockets_counted count is = is ∙ sym (sockets_count plans said has.first play has.begins has.played)
+
+  pub hosts_told : TellsHosts (hosts_of plans) (history has.played.acts) play.lan summary.hosts.items
+  hosts_told = hosts_tell plans said has.first play summary.hosts.items has.begins has.played has.tells
+
+  pub texts_written : {old new : List SinkState} → (count : ℕ) → count ≡ length (sockets_from 0 (hosts_of plans))
+      → AreWritten count (map frames_given play.record.sockets.items) old new
+      → AreWritten (length (texts_of plays_in)) (texts_of plays_in) old new
+  texts_written {old} {new} count counts wrote =
+      let all : count ≡ length (texts_of plays_in) = counts
+      ∙ sym (length-map (sockets_from 0 (hosts_of plans)) (λ (place : ℕ × ℕ). given_from place.0 place.1 0 has.played.acts)) in
+      subst (λ (n : ℕ). AreWritten n (texts_of plays_in) old new) all
+      (subst (λ (texts : List (List Timed)). AreWritten count texts old new)
+      (texts_are plans said has.first play has.begins has.played) wrote)
+
+  pub texts_failed : {old new : List SinkState} → (failed : ℕ) × AreWrittenUpTo failed (map frames_given play.record.sockets.items) old new
+      → (failed : ℕ) × AreWrittenUpTo failed (texts_of plays_in) old new
+  texts_failed {old} {new} wrote = (
+    wrote.0,
+    subst (λ (texts : List (List Timed)). AreWrittenUpTo wrote.0 texts old new)
+        (texts_are plans said has.first play has.begins has.played) wrote.1,
+  )
+
+  pub benched : {old new : List SinkState} → (count : ℕ) → count ≡ length (sockets_from 0 (hosts_of plans))
+      → AreWritten count (map frames_given play.record.sockets.items) old new → Benches scenario traces summary old new
+  benched count counts wrote = record { plays = plays_in; texts = texts_written count counts wrote; tells = hosts_told }
+
+  pub bench_failed : {old new : List SinkState} → (error : BenchError) (why : WriteError) → error ≡ errors.Write why
+      → (failed : ℕ) × AreWrittenUpTo failed (map frames_given play.record.sockets.items) old new → Stops scenario traces error old new
+  bench_failed {old} {new} error why is wrote =
+      subst (λ (e : BenchError). Stops scenario traces e old new) (sym is) (plays_in, texts_failed wrote)
+
+pub unplayed_stops : (scenario : Scenario) (traces : List (List (List ℕ))) (error : BenchError) (sinks : List SinkState)
+    → IsUnplayed scenario error → Stops scenario traces error sinks sinks
+unplayed_stops scenario traces (errors.Plan error) sinks is = (is, refl)
+unplayed_stops scenario traces (errors.Run stopped) sinks is = refl
+unplayed_stops scenario traces errors.Memory sinks is = refl
+unplayed_stops scenario traces (errors.Write error) sinks is = absurd is

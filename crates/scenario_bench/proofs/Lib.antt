@@ -1,4 +1,5 @@
 pub mod Gives
+pub mod Puts
 pub mod EventsOfCommands
 pub mod Printed
 pub mod Noting
@@ -11,3 +12,4 @@ pub mod PlayedEvents
 pub mod Writing
 pub mod Told
 pub mod Benching
+pub mod WireBenching

@@ -13,6 +13,7 @@ use Rattle.wire.specs.DrainedNetworks.{said_of_drain}
 use Rattle.scenario_bench.specs.Acts.{Drained, history}
 use Rattle.scenario_bench.specs.Given.{numbered_frame}
 use Rattle.scenario_bench.specs.DrainedView.{drained_frame}
+use Rattle.scenario_bench.specs.Puts.{PutFrame, PutsGrow}
 use Rattle.scenario_bench.specs.SocketLists.{SocketFrames, with_socket_frames}
 use Rattle.scenario_bench.specs.Tallies.{AreNoted, GetsGiven, GetsSaid, TalliesGrow, TallyCounts, tallied_by, socket_behind, tally_behind}
 use Rattle.scenario_bench.specs.Tallies.{with_said}
@@ -21,7 +22,7 @@ use Rattle.scenario_bench.specs.declared.drained.DrainedFrame.{DrainedFrame}
 use Rattle.scenario_bench.specs.declared.tally.Passage.TheVariants as passage
 use Rattle.scenario_bench.specs.declared.tally.Tally.{Tally}
 use Rattle.scenario_bench.specs.RecordingLaws.{grows_join, grows_not}
-use Rattle.scenario_bench.proofs.NotedEvents.{gets_given, gets_none}
+use Rattle.scenario_bench.proofs.NotedEvents.{gets_given, gets_none, puts_drained}
 
 abbrev given-at : (host : ℕ) → GivenFrame → Happening
 given-at host one = Given host one.socket one.frame
@@ -72,6 +73,8 @@ noted_moves host buffered frames a b noted = record {
   number = noted.number;
   hosts = λ k. noted.hosts k ∙ same-tally host buffered k frames (slice_get a.hosts.items k);
   sockets = λ k. noted.sockets k ∙ same-socket host buffered a.number frames (slice_get a.sockets.items k);
+  puts = subst (λ (more : List PutFrame). PutsGrow (more ++ []) a.puts b.puts)
+      (puts_drained a.number host 0 frames ∙ sym (puts_drained a.number host buffered frames)) noted.puts;
 }
 
 -- Delivered frames, in order.

@@ -1,10 +1,10 @@
 -- Recorded events, in order.
 use Rattle.std.proofs.Common.{◌≡◌, ◌==◌, ◌&&◌, ◌++◌, ◌∷◌, [], ℕ, Bool, true, false, List, Option, Some, None, Ok, Err}
-use Rattle.std.proofs.Common.{map}
+use Rattle.std.proofs.Common.{map, replicate, suc, zero}
 use Rattle.std.proofs.Common.{slice_get, option_map, if◌then◌else◌, refl, sym, ap, subst, ◌∙◌, append-nil}
 use Rattle.std.proofs.lemmas.Grind.{flat_map-append}
 use Rattle.pcap_trace.specs.Format.{Timed}
-use Rattle.delivery.specs.Happenings.{Given, Happening, given, given_in_one, told, told_alone, told_of}
+use Rattle.delivery.specs.Happenings.{Given, Happening, Moved, given, given_in_one, told, told_alone, told_of}
 use Rattle.network_plan.specs.declared.event.Event.{Event}
 use Rattle.network_plan.specs.declared.event.Event.TheVariants as event
 use Rattle.network_plan.specs.Answers.{FrameAnswer}
@@ -20,6 +20,8 @@ use Rattle.wire.specs.DrainedNetworks.{said_of_drain}
 use Rattle.wire.specs.Runs.{accepted_of, given_of, said}
 use Rattle.scenario_bench.specs.Acts.{Act, Drained, Ran, said_in}
 use Rattle.scenario_bench.specs.Given.{next_number, numbered_frame}
+use Rattle.scenario_bench.specs.Puts.{PutFrame, PutsGrow, put_frames_in}
+use Rattle.scenario_bench.specs.RecordingLaws.{puts_not}
 use Rattle.scenario_bench.specs.SocketLists.{SocketFrames, with_socket_frames, with_given}
 use Rattle.scenario_bench.specs.Tallies.{AreNoted, GetsGiven, GetsSaid, TalliesGrow, socket_behind}
 use Rattle.scenario_bench.specs.Tallies.{with_said}
@@ -130,21 +132,44 @@ single number act (Some socket) = ap (λ (frames : List Timed). Some (with_socke
 
 act-noted : (act : Act) (old new : Record) → new.number ≡ next_number old.number
     → TalliesGrow (said_in act) old.hosts.items new.hosts.items
-    → GetsSaid old.number (said_in act) old.sockets.items new.sockets.items → AreNoted (act ∷ []) old new
-act-noted act old new next hosts sockets = record {
+    → GetsSaid old.number (said_in act) old.sockets.items new.sockets.items
+    → PutsGrow (put_frames_in old.number (said_in act)) old.puts new.puts → AreNoted (act ∷ []) old new
+act-noted act old new next hosts sockets puts = record {
   number = next;
   hosts = subst (λ (happened : List Happening). TalliesGrow happened old.hosts.items new.hosts.items)
       (sym (append-nil (said_in act))) hosts;
   sockets = λ k. sockets k ∙ single old.number act (slice_get old.sockets.items k);
+  puts = subst (λ (more : List PutFrame). PutsGrow more old.puts new.puts)
+      (sym (append-nil (put_frames_in old.number (said_in act)))) puts;
 }
 
 pub noted : (one : Event) (reply : Reply) (old new : Record) → new.number ≡ next_number old.number
     → TalliesGrow (said one reply) old.hosts.items new.hosts.items
-    → GetsSaid old.number (said one reply) old.sockets.items new.sockets.items → AreNoted (Ran one reply ∷ []) old new
-noted one reply old new next hosts sockets = act-noted (Ran one reply) old new next hosts sockets
+    → GetsSaid old.number (said one reply) old.sockets.items new.sockets.items
+    → PutsGrow (put_frames_in old.number (said one reply)) old.puts new.puts → AreNoted (Ran one reply ∷ []) old new
+noted one reply old new next hosts sockets puts = act-noted (Ran one reply) old new next hosts sockets puts
+
+-- A drain puts no frame.
+
+puts-moved : (number host moves : ℕ) (later : List Happening)
+    → put_frames_in number (replicate moves (Moved host) ++ later) ≡ put_frames_in number later
+puts-moved number host zero later = refl
+puts-moved number host (suc moves) later = puts-moved number host moves later
+
+puts-given : (number host : ℕ) (frames : List GivenFrame)
+    → put_frames_in number (map (λ (one : GivenFrame). Given host one.socket one.frame) frames) ≡ []
+puts-given number host [] = refl
+puts-given number host (one ∷ frames) = puts-given number host frames
+
+pub puts_drained : (number host moves : ℕ) (frames : List GivenFrame) → put_frames_in number (said_of_drain host moves frames) ≡ []
+puts_drained number host moves frames =
+    puts-moved number host moves (map (λ (one : GivenFrame). Given host one.socket one.frame) frames)
+    ∙ puts-given number host frames
 
 pub drain_noted : (host : ℕ) (frames : List GivenFrame) (old new : Record) → new.number ≡ next_number old.number
     → TalliesGrow (said_of_drain host 0 frames) old.hosts.items new.hosts.items
-    → GetsSaid old.number (said_of_drain host 0 frames) old.sockets.items new.sockets.items
+    → GetsSaid old.number (said_of_drain host 0 frames) old.sockets.items new.sockets.items → new.puts ≡ old.puts
     → AreNoted (Drained host 0 frames ∷ []) old new
-drain_noted host frames old new next hosts sockets = act-noted (Drained host 0 frames) old new next hosts sockets
+drain_noted host frames old new next hosts sockets puts = act-noted (Drained host 0 frames) old new next hosts sockets
+    (subst (λ (more : List PutFrame). PutsGrow more old.puts new.puts) (sym (puts_drained old.number host 0 frames))
+    (puts ∙ puts_not old.puts))

@@ -2,6 +2,7 @@
 use Rattle.std.proofs.Common.{◌≡◌, ◌==◌, ◌++◌, ◌∷◌, [], ℕ, Bool, true, false, Err, Global, List, None, Ok, Option, Some, Vec, map}
 use Rattle.std.proofs.Common.{if◌then◌else◌, option_map, slice_get, refl, sym, ap, subst, ◌∙◌, append-nil}
 use Rattle.std.specs.List.{flat_map, fold}
+use Rattle.std.proofs.lemmas.Grind.{flat_map-append}
 use Rattle.stations.specs.Outcomes.{note_of}
 use Rattle.stations.specs.ToldTicks.{TickTold}
 use Rattle.stations.specs.declared.tick.Tick.{Tick}
@@ -15,6 +16,7 @@ use Rattle.wire.specs.RunObservers.{AreOfTicks, TellsReply, ending, happened_of,
 use Rattle.wire.specs.RunObserverLaws.{told_happened}
 use Rattle.wire.specs.Runs.{accepted_of, given_of, said}
 use Rattle.scenario_bench.specs.Given.{next_number, numbered_frame}
+use Rattle.scenario_bench.specs.Puts.{PutFrame, PutsGrow, put_frame_in, put_frames_in}
 use Rattle.scenario_bench.specs.Recording.{NotesAnswer, HearsTicks, RecordsReplies, answered}
 use Rattle.scenario_bench.specs.SocketLists.{SocketFrames, with_socket_frames}
 use Rattle.scenario_bench.specs.Tallies.{TalliesGrow, tallied_by, counted_once, passage_by, tally_behind, with_said}
@@ -115,6 +117,47 @@ event-grows (event.Tick one) reply ticks a b c of_ticks outcomes ticked answers 
     (sym (ap (told_alone one) outcomes ∙ alone one ticks of_ticks))
     (none-more (flat_map happened_of ticks) a b c ticked answers)
 
+-- Only ticks put frames.
+
+puts-accepted : (number host : ℕ) (frame : List ℕ) (one : FrameAnswer) → put_frames_in number (accepted_of host frame one) ≡ []
+puts-accepted number host frame (answer.Sent (Ok u)) = refl
+puts-accepted number host frame (answer.Sent (Err error)) = refl
+puts-accepted number host frame (answer.Received result) = refl
+puts-accepted number host frame (answer.Interrupted handled) = refl
+puts-accepted number host frame answer.Ticked = refl
+puts-accepted number host frame answer.NoHost = refl
+
+puts-given : (number host socket : ℕ) (one : FrameAnswer) → put_frames_in number (given_of host socket one) ≡ []
+puts-given number host socket (answer.Received (Ok frame)) = refl
+puts-given number host socket (answer.Received (Err error)) = refl
+puts-given number host socket (answer.Sent result) = refl
+puts-given number host socket (answer.Interrupted handled) = refl
+puts-given number host socket answer.Ticked = refl
+puts-given number host socket answer.NoHost = refl
+
+-- the frames that an event puts are those of its ticks
+event-puts : (number : ℕ) (one : Event) (reply : Reply) (ticks : List TickTold) → AreOfTicks one ticks
+    → reply.outcomes.list ≡ map note_of ticks → put_frames_in number (flat_map happened_of ticks) ≡ put_frames_in number (said one reply)
+event-puts number (event.Send host frame list) reply ticks of_ticks outcomes =
+    let of = put_frames_in number in
+    let before = accepted_of host frame.items reply.answer in
+    sym (ap of (ap (told list.items) outcomes ∙ told_happened list.items ticks of_ticks))
+    ∙ sym (ap (λ (puts : List PutFrame). puts ++ of (told list.items reply.outcomes.list))
+    (puts-accepted number host frame.items reply.answer))
+    ∙ sym (flat_map-append (put_frame_in number) before (told list.items reply.outcomes.list))
+event-puts number (event.Recv host socket list) reply ticks of_ticks outcomes =
+    let of = put_frames_in number in
+    let behind = given_of host socket reply.answer in
+    let ticked = told list.items reply.outcomes.list in
+    sym (ap of (ap (told list.items) outcomes ∙ told_happened list.items ticks of_ticks))
+    ∙ sym (append-nil (of ticked))
+    ∙ sym (ap (λ (puts : List PutFrame). of ticked ++ puts) (puts-given number host socket reply.answer))
+    ∙ sym (flat_map-append (put_frame_in number) ticked behind)
+event-puts number (event.Interrupt host list) reply ticks of_ticks outcomes =
+    sym (ap (put_frames_in number) (ap (told list.items) outcomes ∙ told_happened list.items ticks of_ticks))
+event-puts number (event.Tick one) reply ticks of_ticks outcomes =
+    sym (ap (put_frames_in number) (ap (told_alone one) outcomes ∙ alone one ticks of_ticks))
+
 -- A socket returns what the answer says.
 
 answered-as : (k s : ℕ) (one : Event) (reply : Reply) → given k s (answered one reply.answer) ≡ given k s (said one reply)
@@ -132,12 +175,14 @@ with-as number xs ys same (Some socket) =
 
 -- A send's answer has no frame for a socket.
 pub sent-answers : (one : Event) (host : ℕ) (frame : Vec ℕ Global) (list : Vec Tick Global) (given : FrameAnswer) (old new : Record)
-    → one ≡ event.Send host frame list → new.number ≡ old.number → new.failed ≡ old.failed → new.sockets.items ≡ old.sockets.items
+    → one ≡ event.Send host frame list → new.number ≡ old.number → new.puts ≡ old.puts → new.failed ≡ old.failed
+    → new.sockets.items ≡ old.sockets.items
     → TalliesGrow (accepted_of host frame.items given) old.hosts.items new.hosts.items → NotesAnswer (answered one given) old new
-sent-answers one host frame list given old new is number failed sockets hosts =
+sent-answers one host frame list given old new is number puts failed sockets hosts =
     subst (λ (e : Event). NotesAnswer (answered e given) old new) (sym is)
     (record {
       number = number;
+      puts = puts;
       before = λ sound. sym failed ∙ sound;
       hosts = hosts;
       sockets = λ sound k.
@@ -159,7 +204,7 @@ records-reply one given accesses ticks begin ticked after number heard of_ticks 
       reply = reply;
       replies = record { answer = refl; accesses = refl; outcomes = refl };
       told = λ sound. record {
-        before = sym heard.failed ∙ answers.before sound;
+        before = heard.before (answers.before sound);
         each = refl;
         noted =
             noted one reply begin new (next ∙ ap next_number heard.number)
@@ -170,6 +215,9 @@ records-reply one given accesses ticks begin ticked after number heard of_ticks 
             (slice_get ticked.sockets.items k)
             ∙ ap (λ (n : ℕ). option_map (with_said n (said one reply)) (slice_get ticked.sockets.items k)) heard.number
             ∙ ap (λ (sockets : List SocketFrames). option_map (with_said begin.number (said one reply)) (slice_get sockets k))
-            heard.sockets);
+            heard.sockets)
+            (subst (λ (puts : List PutFrame). PutsGrow puts begin.puts new.puts)
+            (event-puts begin.number one reply ticks of_ticks refl)
+            (answers.puts ∙ heard.puts (answers.before sound)));
       };
     }

@@ -3,6 +3,9 @@ pub mod EventLists
 pub mod Acts
 pub mod Given
 pub mod SocketLists
+pub mod Puts
+pub mod PutView
+pub mod WireLists
 pub mod Tallies
 pub mod Recording
 pub mod RecordingLaws
@@ -11,4 +14,5 @@ pub mod GivenView
 pub mod DrainedView
 pub mod Summaries
 pub mod Benches
+pub mod WireBenches
 pub mod Printing

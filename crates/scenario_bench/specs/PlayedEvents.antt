@@ -1,18 +1,22 @@
 -- Events and drains that were played and recorded (our choice).
-use Rattle.std.specs.Prelude.{◌≡◌, ◌↔◌, ℕ, List, Err, IsTrue, Ok, Some, length, map, replicate, slice_get, string_bytes}
+use Rattle.std.specs.Prelude.{◌≡◌, ◌↔◌, ℕ, List, Err, IsTrue, Ok, Option, Some, length, map, replicate, slice_get, string_bytes}
 use Rattle.adapter.specs.World.{World}
 use Rattle.packet_socket.specs.HostState.{HostState}
 use Rattle.stations.specs.Stations.{world_at}
 use Rattle.wire.specs.Equations.{IsExact, counted}
 use Rattle.host_calls.specs.Networks.{IsHost}
 use Rattle.scenario_bench.specs.declared.summary.HostSummary.{HostSummary}
+use Rattle.scenario_bench.specs.declared.summary.Summary.{Summary}
 use Rattle.scenario_bench.specs.declared.tally.Tally.{Tally}
 use Rattle.network_plan.specs.declared.plan.HostPlan.{HostPlan}
 use Rattle.pcap_trace.specs.declared.trace.Trace.{Trace}
 use Rattle.wire.specs.NewNetworks.{IsLanAnswer}
-use Rattle.scenario.specs.SoFar.{Said, hosts_of}
+use Rattle.scenario.specs.SoFar.{Said, hosts_of, said_of}
+use Rattle.scenario.specs.declared.command.Scenario.{Scenario}
 use Rattle.scenario_bench.specs.Acts.{Act, ActsLead, act_of}
+use Rattle.scenario_bench.specs.EventLists.{all_events}
 use Rattle.scenario_bench.specs.Given.{sockets_from}
+use Rattle.scenario_bench.specs.Puts.{PutFrame}
 use Rattle.scenario_bench.specs.Tallies.{AreNoted, empty_sockets, no_tally}
 use Rattle.scenario_bench.specs.declared.bench_error.BenchError.{BenchError}
 use Rattle.scenario_bench.specs.declared.bench_error.BenchError.TheVariants as errors
@@ -65,3 +69,22 @@ pub record TellTallies (first : ℕ) (plans : List HostPlan) (play : Play) (told
   pub each : (k : ℕ) (plan : HostPlan) (tally : Tally) (host : HostState) (one : HostSummary) → slice_get plans k ≡ Some plan
       → slice_get play.record.hosts.items k ≡ Some tally → IsHost play.lan k host → slice_get told k ≡ Some one
       → TellsTally plan tally host (world_at play.lan.stations k) one
+
+-- A scenario.
+
+-- The network of its plan was made, its commands were played, and these are the summaries of its hosts. Frames that adapters put were
+-- recorded after these, if there are any.
+pub record HasPlayedScenario (scenario : Scenario) (traces : List (List (List ℕ))) (puts : Option (List PutFrame)) (play : Play)
+    (summary : Summary) : Type 0 where
+  pub first : Play
+  pub begins : Begins scenario.plan.hosts.items first
+  pub recorded : first.record.puts ≡ puts
+  pub played : HasPlayed (all_events (hosts_of scenario.plan.hosts.items) traces (map said_of scenario.commands.items)) first play
+  pub tells : TellTallies (length scenario.plan.hosts.items) scenario.plan.hosts.items play summary.hosts.items
+
+-- Its network wasn't made, or memory was refused.
+abbrev pub IsUnplayed : Scenario → BenchError → Type 0
+IsUnplayed scenario (errors.Plan error) = IsLanAnswer scenario.plan.hosts.items (Err error)
+IsUnplayed scenario (errors.Run stopped) = Unit {0}
+IsUnplayed scenario errors.Memory = Unit {0}
+IsUnplayed scenario (errors.Write error) = ⊥

@@ -10,15 +10,17 @@ use Rattle.stations.specs.ToldTicks.{TickTold}
 use Rattle.wire.specs.RunObservers.{happened_of}
 use Rattle.wire.specs.Runs.{accepted_of, given_of}
 use Rattle.scenario_bench.specs.Acts.{ran}
+use Rattle.scenario_bench.specs.Puts.{PutsGrow, put_frames_in}
 use Rattle.scenario_bench.specs.Tallies.{AreNoted, GetsSaid, TalliesGrow}
 use Rattle.scenario_bench.specs.declared.record.Record.{Record}
 
--- The outcomes of these ticks are recorded.
+-- The outcomes of these ticks are recorded, and their frames that were put, unless memory was refused for one.
 pub record HearsTicks (old new : Record) (ticks : List TickTold) : Type 0 where
-  pub failed : new.failed ≡ old.failed
+  pub before : new.failed ≡ false → old.failed ≡ false
   pub number : new.number ≡ old.number
   pub sockets : new.sockets.items ≡ old.sockets.items
   pub hosts : TalliesGrow (flat_map happened_of ticks) old.hosts.items new.hosts.items
+  pub puts : new.failed ≡ false → PutsGrow (put_frames_in old.number (flat_map happened_of ticks)) old.puts new.puts
 
 -- what happens to a frame by the answer of an event
 abbrev pub answered : Event → FrameAnswer → List Happening
@@ -30,6 +32,7 @@ answered (event.Tick tick) answer = []
 -- This is recorded, unless memory was refused.
 pub record NotesAnswer (happened : List Happening) (old new : Record) : Type 0 where
   pub number : new.number ≡ old.number
+  pub puts : new.puts ≡ old.puts
   pub before : new.failed ≡ false → old.failed ≡ false
   pub hosts : TalliesGrow happened old.hosts.items new.hosts.items
   pub sockets : new.failed ≡ false → GetsSaid old.number happened old.sockets.items new.sockets.items

@@ -9,10 +9,11 @@ use Rattle.pcap_trace.specs.Format.{Timed}
 use Rattle.delivery.specs.Happenings.{Happening, given}
 use Rattle.network_plan.specs.declared.event.Event.{Event}
 use Rattle.network_plan.specs.declared.reply.Reply.{Reply}
-use Rattle.stations.specs.ToldTicks.{ComposesTold}
+use Rattle.stations.specs.ToldTicks.{ComposesTold, TickTold}
 use Rattle.wire.specs.RunObservers.{ComposesRuns, happened_of}
 use Rattle.scenario_bench.specs.Acts.{Act, Ran, history, ran, said_in}
 use Rattle.scenario_bench.specs.Given.{given_from, next_number, numbered_frame}
+use Rattle.scenario_bench.specs.Puts.{PutFrame, PutsGrow, put_frame_in, put_frames_in, put_from}
 use Rattle.scenario_bench.specs.Recording.{HearsTicks, RecordsReplies}
 use Rattle.scenario_bench.specs.SocketLists.{SocketFrames}
 use Rattle.scenario_bench.specs.Tallies.{AreNoted, TalliesGrow, tallied_by, number_behind, socket_behind, tally_behind}
@@ -36,6 +37,30 @@ further xs ys k (Some tally) = ap (λ (t : Tally). Some t) (sym (fold-append (ta
 pub grows_join : (xs ys : List Happening) (a b c : List Tally) → TalliesGrow xs a b → TalliesGrow ys b c → TalliesGrow (xs ++ ys) a c
 grows_join xs ys a b c one two k =
     two k ∙ ap (option_map (tally_behind ys k)) (one k) ∙ further xs ys k (slice_get a k)
+
+-- Frames that were put.
+
+pub puts_not : (puts : Option (List PutFrame)) → PutsGrow [] puts puts
+puts_not None = refl
+puts_not (Some puts) = ap (λ (all : List PutFrame). Some all) (sym (append-nil puts))
+
+puts-further : (xs ys : List PutFrame) (found : Option (List PutFrame))
+    → option_map (λ (puts : List PutFrame). puts ++ ys) (option_map (λ (puts : List PutFrame). puts ++ xs) found)
+    ≡ option_map (λ (puts : List PutFrame). puts ++ (xs ++ ys)) found
+puts-further xs ys None = refl
+puts-further xs ys (Some puts) = ap (λ (all : List PutFrame). Some all) (append_assoc puts xs ys)
+
+pub puts_join : (xs ys : List PutFrame) (a b c : Option (List PutFrame)) → PutsGrow xs a b → PutsGrow ys b c → PutsGrow (xs ++ ys) a c
+puts_join xs ys a b c one two = two ∙ ap (option_map (λ (puts : List PutFrame). puts ++ ys)) one ∙ puts-further xs ys a
+
+put_from-join : (number : ℕ) (acts later : List Act)
+    → put_from number (acts ++ later) ≡ put_from number acts ++ put_from (number_behind number acts) later
+put_from-join number [] later = refl
+put_from-join number (act ∷ acts) later =
+    let first = put_frames_in number (said_in act) in
+    let next = next_number number in
+    ap (λ (rest : List PutFrame). first ++ rest) (put_from-join next acts later)
+    ∙ sym (append_assoc first (put_from next acts) (put_from (number_behind next acts) later))
 
 -- Acts, one list after the other.
 
@@ -70,6 +95,9 @@ notes_join acts later a b c one two = record {
       ∙ ap (λ (n : ℕ). option_map (socket_behind n later) (slice_get b.sockets.items k)) one.number
       ∙ ap (option_map (socket_behind (number_behind a.number acts) later)) (one.sockets k)
       ∙ behind-join a.number acts later (slice_get a.sockets.items k);
+  puts = subst (λ (puts : List PutFrame). PutsGrow puts a.puts c.puts) (sym (put_from-join a.number acts later))
+      (puts_join (put_from a.number acts) (put_from (number_behind a.number acts) later) a.puts b.puts c.puts one.puts
+      (subst (λ (n : ℕ). PutsGrow (put_from n later) b.puts c.puts) one.number two.puts));
 }
 
 nothing-more : (number : ℕ) (found : Option SocketFrames) → found ≡ option_map (socket_behind number []) found
@@ -82,15 +110,22 @@ noted_none a = record {
   number = refl;
   hosts = grows_not a.hosts.items;
   sockets = λ k. nothing-more a.number (slice_get a.sockets.items k);
+  puts = puts_not a.puts;
 }
 
 -- What the record is told.
 
 pub ticks_compose : ComposesTold HearsTicks
 ticks_compose = record {
-  stays = λ a. record { failed = refl; number = refl; sockets = refl; hosts = grows_not a.hosts.items };
+  stays = λ a. record {
+    before = λ sound. sound;
+    number = refl;
+    sockets = refl;
+    hosts = grows_not a.hosts.items;
+    puts = λ sound. puts_not a.puts;
+  };
   joins = λ a b c first later one two. record {
-    failed = two.failed ∙ one.failed;
+    before = λ sound. one.before (two.before sound);
     number = two.number ∙ one.number;
     sockets = two.sockets ∙ one.sockets;
     hosts =
@@ -98,6 +133,14 @@ ticks_compose = record {
         (sym (flat_map-append happened_of first later))
         (grows_join (flat_map happened_of first) (flat_map happened_of later) a.hosts.items b.hosts.items c.hosts.items one.hosts
         two.hosts);
+    puts = λ sound.
+        let of : List TickTold → List PutFrame = λ ticks. put_frames_in a.number (flat_map happened_of ticks) in
+        let both : of (first ++ later) ≡ of first ++ of later =
+        ap (put_frames_in a.number) (flat_map-append happened_of first later)
+        ∙ flat_map-append (put_frame_in a.number) (flat_map happened_of first) (flat_map happened_of later) in
+        subst (λ (puts : List PutFrame). PutsGrow puts a.puts c.puts) (sym both)
+        (puts_join (of first) (of later) a.puts b.puts c.puts (one.puts (two.before sound))
+        (subst (λ (n : ℕ). PutsGrow (put_frames_in n (flat_map happened_of later)) b.puts c.puts) one.number (two.puts sound)));
   };
 }
 
@@ -113,13 +156,14 @@ ran-join (one ∷ events) later (reply ∷ replies) others same =
 pub record_composes : ComposesRuns HearsTicks RecordsReplies (λ now one. ⊤)
 record_composes = record {
   quiet = λ a b heard sound. record {
-    before = sym heard.failed ∙ sound;
+    before = heard.before sound;
     each = refl;
     noted = record {
       number = heard.number;
       hosts = heard.hosts;
       sockets = λ k.
           ap (λ (sockets : List SocketFrames). slice_get sockets k) heard.sockets ∙ (noted_none a).sockets k;
+      puts = heard.puts sound;
     };
   };
   joins = λ a b c events later replies others one two sound.

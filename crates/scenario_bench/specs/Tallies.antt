@@ -10,6 +10,7 @@ use Rattle.adapter.specs.declared.outcome.Outcome.TheVariants as outcome
 use Rattle.scenario_bench.specs.Acts.{Act, history}
 use Rattle.scenario_bench.specs.SocketLists.{SocketFrames, no_frames, with_socket_frames, with_given}
 use Rattle.scenario_bench.specs.Given.{given_from, next_number, numbered_frame}
+use Rattle.scenario_bench.specs.Puts.{PutsGrow, put_from}
 use Rattle.scenario_bench.specs.declared.record.Record.{Record}
 use Rattle.scenario_bench.specs.declared.tally.Passage.{Passage}
 use Rattle.scenario_bench.specs.declared.tally.Passage.TheVariants as passage
@@ -68,6 +69,7 @@ pub record AreNoted (acts : List Act) (old new : Record) : Type 0 where
   pub number : new.number ≡ number_behind old.number acts
   pub hosts : TalliesGrow (history acts) old.hosts.items new.hosts.items
   pub sockets : SocketsGrow old.number acts old.sockets.items new.sockets.items
+  pub puts : PutsGrow (put_from old.number acts) old.puts new.puts
 
 -- What the parts of an act add.
 

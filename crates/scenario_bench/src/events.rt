@@ -82,7 +82,7 @@ fn push_arrival(
 }
 
 /// The name of a host's wire, or an empty name if there is no such host.
-fn wire_of(plans: &[HostPlan], host: usize) -> &str
+pub(crate) fn wire_of(plans: &[HostPlan], host: usize) -> &str
     ensures { result.now ≡ lists.wire_name_of (hosts_of plans.now) host }
 {
     match plans.get(host) {

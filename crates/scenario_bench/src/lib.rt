@@ -1,6 +1,7 @@
-//! Plays scenarios: returns the frames of each socket, as traces, and the counts of each host.
+//! Plays scenarios: returns the frames of each socket and of each wire, as traces, and the counts of each host.
 //!
-//! [`bench`] runs the commands of a [`Scenario`](scenario::Scenario) over hosts on wires.
+//! [`bench`] runs the commands of a [`Scenario`](scenario::Scenario) over hosts on wires; [`bench_wires`] also writes
+//! the frames of each wire.
 #![tactic(auto)]
 
 mod bench_error;
@@ -9,13 +10,16 @@ mod events;
 mod given;
 mod play;
 mod printing;
+mod put;
 mod record;
 mod socket_list;
 mod summary;
 mod tally;
+mod wire_list;
 
 pub use bench_error::BenchError;
-pub use play::bench;
+pub use play::{bench, bench_wires};
 pub use printing::print_summary;
 pub use socket_list::sockets;
 pub use summary::{HostSummary, Summary};
+pub use wire_list::wires;

@@ -1,15 +1,17 @@
 //! Plays a scenario.
 ghost use Rattle.std.specs.Prelude.{◌≡◌, ◌<◌, ◌≤◌, ◌∷◌, [], ℕ, All, Some, length, map, slice_get};
-ghost use Rattle.std.specs.Prelude.{IfErr, IfOk, OnErr, OnOk};
+ghost use Rattle.std.specs.Prelude.{IfErr, IfOk, None, OnErr, OnOk};
 ghost use Rattle.std.specs.List.{flat_map};
 ghost use Rattle.packet_socket.specs.HostState.{HostState};
 ghost use Rattle.scenario.specs.SoFar.{Drains, event_of, hosts_of, said_of};
 ghost use Rattle.scenario_bench.specs.Benches.{AreWritten, AreWrittenUpTo, Benches, Stops};
 ghost use Rattle.scenario_bench.specs.EventLists as lists;
 ghost use Rattle.scenario_bench.specs.Given.{sockets_from};
-ghost use Rattle.scenario_bench.specs.PlayedEvents.{Begins, HasPlayed, IsWanting, StopsAtPlan, TellTallies};
-ghost use Rattle.scenario_bench.specs.PlayedEvents.{TellsTally, frames_of};
+ghost use Rattle.scenario_bench.specs.PlayedEvents.{Begins, HasPlayed, HasPlayedScenario, IsUnplayed, IsWanting};
+ghost use Rattle.scenario_bench.specs.PlayedEvents.{StopsAtPlan, TellTallies, TellsTally, frames_of};
+ghost use Rattle.scenario_bench.specs.Puts.{wire_names};
 ghost use Rattle.scenario_bench.specs.SocketLists.{frames_given};
+ghost use Rattle.scenario_bench.specs.WireBenches.{BenchesWires, StopsWires};
 ghost use Rattle.scenario_bench.specs.declared.tally.Tally.{Tally};
 ghost use Rattle.stations.specs.Stations.{world_at};
 ghost use Rattle.host_calls.specs.Networks.{IsHost};
@@ -17,8 +19,10 @@ ghost use Rattle.host_calls.specs.Networks.{IsHost};
 use crate::bench_error::BenchError;
 use crate::drained::DrainedFrames;
 use crate::events::{EventMemory, pieces_of, set_behind_send};
+use crate::put::PutFrames;
 use crate::record::Record;
 use crate::summary::{HostSummary, Summary};
+use crate::wire_list::wires;
 use network_plan::{Event, HostPlan, Plan};
 use pcap_trace::{RecordWriter, Sink, Trace, WriteError};
 use rand_core::SeedableRng;
@@ -36,13 +40,14 @@ struct Play {
 }
 
 impl Play {
-    /// Initializes the hosts of a plan.
-    fn new(alloc: Global, plan: &Plan) -> Result<Play, BenchError>
+    /// Initializes the hosts of a plan. Frames that adapters put are recorded after these, if there are any.
+    fn new(alloc: Global, plan: &Plan, puts: Option<PutFrames>) -> Result<Play, BenchError>
         ensures ok { IfOk result (Begins plan.now.hosts.items) }
+        ensures puts { IfOk result (λ play. play.record.puts ≡ puts) }
         ensures err { IfErr result (StopsAtPlan plan.now.hosts.items) }
     {
         let lan = Lan::new(alloc, plan)?;
-        let record = Record::new(alloc, plan.hosts.as_slice())?;
+        let record = Record::new(alloc, plan.hosts.as_slice(), puts)?;
         Ok(Play { lan, record })
     }
 
@@ -233,6 +238,25 @@ impl Play {
     }
 }
 
+/// Makes the network of a scenario's plan, and plays its commands in order. Frames that adapters put are recorded after
+/// these, if there are any. Returns what was played, and the summary.
+fn play_scenario(
+    alloc: Global,
+    scenario: &Scenario,
+    traces: &[Trace],
+    puts: Option<PutFrames>,
+) -> Result<(Play, Summary), BenchError>
+    ensures ok { IfOk result (λ played.
+        HasPlayedScenario scenario.now (map frames_of traces.now) puts played.0 played.1) }
+    ensures err { IfErr result (IsUnplayed scenario.now) }
+{
+    let plans = scenario.plan.hosts.as_slice();
+    let mut play = Play::new(alloc, &scenario.plan, puts)?;
+    play.commands(alloc, plans, traces, scenario.commands.as_slice())?;
+    let summary = play.summary(alloc, plans)?;
+    Ok((play, summary))
+}
+
 /// Plays a scenario: makes the network of its plan, and runs its events and drains in order. Then it writes to each
 /// sink the frames that its socket returned, as a trace (libpcap, "pcap-savefile"). The time of a frame is the number
 /// of its event or drain, in microseconds. Events and drains are numbered from 0, up to the greatest `u64`.
@@ -262,11 +286,54 @@ pub fn bench<W: Sink>(
         (map (λ (s : W). record { taken = W.taken s; failures = W.failures s }) sinks.old)
         (map (λ (s : W). record { taken = W.taken s; failures = W.failures s }) sinks.new)) }
 {
-    let plans = scenario.plan.hosts.as_slice();
-    let mut play = Play::new(alloc, &scenario.plan)?;
-    play.commands(alloc, plans, traces, scenario.commands.as_slice())?;
-    let summary = play.summary(alloc, plans)?;
+    let (play, summary) = play_scenario(alloc, scenario, traces, None)?;
     let mut writer = RecordWriter::new(alloc)?;
     play.write(&mut writer, sinks)?;
+    Ok(summary)
+}
+
+/// Plays a scenario as [`bench`] does, and after the traces of sockets writes those of wires: to each of `wire_sinks`
+/// the frames that were put on its wire, in order, as a trace. The time of a frame is the number of its event, as in
+/// the traces of sockets.
+///
+/// Pass a sink for each wire of [`wires`](crate::wires), in the same order, and traces and sinks as for [`bench`].
+///
+/// # Errors
+///
+/// As [`bench`]; the sinks of sockets come before those of wires. [`Run`](BenchError::Run) (E47) also if memory is
+/// refused for the frames that an event may put.
+pub fn bench_wires<W: Sink>(
+    alloc: Global,
+    scenario: &Scenario,
+    traces: &[Trace],
+    sinks: &mut [W],
+    wire_sinks: &mut [W],
+) -> Result<Summary, BenchError>
+    requires traces { length traces.now ≡ length scenario.now.traces.items }
+    requires sinks { length sinks.old ≡ length (sockets_from 0 (hosts_of scenario.now.plan.hosts.items)) }
+    requires wires { length wire_sinks.old ≡ length (wire_names (hosts_of scenario.now.plan.hosts.items)) }
+    requires countable { All (λ (sink : W). W.failures sink < u64.MAX) sinks.old }
+    requires wires_countable { All (λ (sink : W). W.failures sink < u64.MAX) wire_sinks.old }
+    ensures ok { IfOk result (λ summary. BenchesWires scenario.now (map frames_of traces.now) summary (record {
+      old = map (λ (s : W). record { taken = W.taken s; failures = W.failures s }) sinks.old;
+      new = map (λ (s : W). record { taken = W.taken s; failures = W.failures s }) sinks.new;
+      wires_old = map (λ (s : W). record { taken = W.taken s; failures = W.failures s }) wire_sinks.old;
+      wires_new = map (λ (s : W). record { taken = W.taken s; failures = W.failures s }) wire_sinks.new;
+    })) }
+    ensures err { IfErr result (λ error. StopsWires scenario.now (map frames_of traces.now) error (record {
+      old = map (λ (s : W). record { taken = W.taken s; failures = W.failures s }) sinks.old;
+      new = map (λ (s : W). record { taken = W.taken s; failures = W.failures s }) sinks.new;
+      wires_old = map (λ (s : W). record { taken = W.taken s; failures = W.failures s }) wire_sinks.old;
+      wires_new = map (λ (s : W). record { taken = W.taken s; failures = W.failures s }) wire_sinks.new;
+    })) }
+{
+    let plans = scenario.plan.hosts.as_slice();
+    let puts = PutFrames::new(alloc);
+    let (play, summary) = play_scenario(alloc, scenario, traces, Some(puts))?;
+    let names = wires(alloc, plans)?;
+    let mut writer = RecordWriter::new(alloc)?;
+    play.write(&mut writer, sinks)?;
+    let puts = play.record.puts.as_ref().unwrap();
+    puts.write_wires(plans, names.as_slice(), &mut writer, wire_sinks)?;
     Ok(summary)
 }

@@ -1,4 +1,4 @@
-//! The record of a run: counts for each host, and the frames that each socket returned.
+//! The record of a run: counts for each host, the frames that each socket returned, and those that were put on wires.
 ghost use Rattle.std.specs.Prelude.{◌≡◌, ◌≤◌, ◌++◌, ◌∷◌, [], ℕ, List, IfOk, OnOk, length, map, replicate};
 ghost use Rattle.adapter.specs.Outcomes.{with_frame};
 ghost use Rattle.delivery.specs.Happenings.{tick_host, told_of};
@@ -7,6 +7,7 @@ ghost use Rattle.scenario.specs.SoFar.{hosts_of};
 ghost use Rattle.scenario_bench.specs.Acts.{Drained};
 ghost use Rattle.scenario_bench.specs.DrainedView.{drained_frame};
 ghost use Rattle.scenario_bench.specs.Given.{numbered_frame, sockets_from, sockets_of_host};
+ghost use Rattle.scenario_bench.specs.Puts.{PutsGrow, is_put, put_frames_in};
 ghost use Rattle.scenario_bench.specs.Recording.{NotesAnswer, answered};
 ghost use Rattle.scenario_bench.specs.Tallies.{AreNoted, GetsGiven, GetsSaid, IsPassage, TalliesGrow, TallyCounts};
 ghost use Rattle.scenario_bench.specs.Tallies.{empty_sockets, no_tally};
@@ -15,8 +16,9 @@ ghost use Rattle.wire.specs.Runs.{accepted_of, given_of};
 
 use crate::drained::DrainedFrame;
 use crate::given::GivenFrames;
+use crate::put::PutFrames;
 use crate::tally::{Passage, Tally};
-use adapter::{Fate, Outcome};
+use adapter::{Fate, Outcome, StepKind};
 use network_plan::{Answer, Event, HostPlan};
 use stations::{Observer, Tick};
 use std::alloc::{AllocError, Global};
@@ -31,8 +33,10 @@ pub(crate) struct Record {
     pub(crate) hosts: Vec<Tally>,
     /// The frames of each socket, hosts in order and their sockets in order.
     pub(crate) sockets: Vec<GivenFrames>,
-    /// Whether memory was refused for a frame that a socket returned. This doesn't happen, because the memory is
-    /// allocated before the frame's event. But the proof doesn't use this fact.
+    /// The frames that adapters put on wires; `None` if they aren't recorded.
+    pub(crate) puts: Option<PutFrames>,
+    /// Whether memory was refused for a frame that a socket returned or that was put on a wire. This doesn't happen,
+    /// because the memory is allocated before the frame's event. But the proof doesn't use this fact.
     pub(crate) failed: bool,
 }
 
@@ -119,6 +123,66 @@ fn note_outcome(hosts: &mut [Tally], host: usize, outcome: &Outcome<()>)
     }
 }
 
+/// Whether a frame was put onto a wire.
+fn is_put(outcome: &Outcome<()>) -> bool
+    ensures { result ≡ is_put outcome.now }
+{
+    matches!(outcome, Outcome::Put(_))
+}
+
+/// Records the frame of an outcome at a host, if it was put onto a wire, and such frames are recorded.
+fn note_put(
+    puts: &mut Option<PutFrames>,
+    host: usize,
+    number: u64,
+    outcome: &Outcome<()>,
+    frame: &[u8],
+) -> Result<(), AllocError>
+    requires { length frame.now ≤ 1518 }
+    ensures { OnOk result (PutsGrow (put_frames_in number (told_of host (with_frame frame.now outcome.now)))
+        puts.old puts.new) }
+{
+    if !is_put(outcome) {
+        return Ok(());
+    }
+    match puts {
+        Some(puts) => puts.push(host, number, frame),
+        None => Ok(()),
+    }
+}
+
+/// How many of these ticks are steps that may put a frame onto a wire.
+fn puts_among(ticks: &[Tick]) -> usize
+    ensures { result ≤ length ticks.now }
+{
+    let mut count = 0;
+    for tick in ticks {
+        if let Tick::Step(_, StepKind::TxPut) = tick {
+            count += 1;
+        }
+    }
+    count
+}
+
+/// How many frames an event may put onto wires.
+fn most_puts(event: &Event) -> usize {
+    match event {
+        Event::Send { ticks, .. } | Event::Recv { ticks, .. } | Event::Interrupt { ticks, .. } =>
+            puts_among(ticks.as_slice()),
+        Event::Tick(tick) => puts_among(std::slice::from_ref(tick)),
+    }
+}
+
+/// Makes room for the frames that an event may put onto wires, if such frames are recorded.
+fn reserve_puts(puts: &mut Option<PutFrames>, event: &Event) -> Result<(), AllocError>
+    ensures { puts.new ≡ puts.old }
+{
+    match puts {
+        Some(puts) => puts.reserve(most_puts(event)),
+        None => Ok(()),
+    }
+}
+
 /// Records a frame that a socket returned in the event with this number.
 fn note_frame(
     sockets: &mut [GivenFrames],
@@ -181,12 +245,17 @@ fn note_drained(
 }
 
 impl Record {
-    /// The record of these hosts before a run.
-    pub(crate) fn new(alloc: Global, plans: &[HostPlan]) -> Result<Record, AllocError>
+    /// The record of these hosts before a run. Frames that are put on wires are recorded after these, if there are any.
+    pub(crate) fn new(
+        alloc: Global,
+        plans: &[HostPlan],
+        puts: Option<PutFrames>,
+    ) -> Result<Record, AllocError>
         ensures number { IfOk result (λ noted. noted.number ≡ 0) }
         ensures hosts { IfOk result (λ noted. noted.hosts.items ≡ replicate (length plans.now) no_tally) }
         ensures sockets { IfOk result
             (λ noted. noted.sockets.items ≡ empty_sockets (sockets_from 0 (hosts_of plans.now))) }
+        ensures puts { IfOk result (λ noted. noted.puts ≡ puts) }
     {
         let hosts = no_tallies(alloc, plans.len())?;
         let sockets = no_given(alloc, plans)?;
@@ -194,6 +263,7 @@ impl Record {
             number: 0,
             hosts,
             sockets,
+            puts,
             failed: false,
         })
     }
@@ -252,8 +322,12 @@ impl Observer for Record {
 
     ghost composes = { ticks_compose };
 
-    fn note(&mut self, tick: Tick, _accesses: u64, outcome: Outcome<()>, _frame: &[u8]) {
-        note_outcome(self.hosts.as_mut_slice(), tick_host(tick), &outcome);
+    fn note(&mut self, tick: Tick, _accesses: u64, outcome: Outcome<()>, frame: &[u8]) {
+        let host = tick_host(tick);
+        note_outcome(self.hosts.as_mut_slice(), host, &outcome);
+        if note_put(&mut self.puts, host, self.number, &outcome, frame).is_err() {
+            self.failed = true;
+        }
     }
 }
 
@@ -272,6 +346,9 @@ impl RunObserver for Record {
 
     fn make_room(&mut self, event: &Event, _ticks: usize) -> bool {
         if self.failed {
+            return false;
+        }
+        if reserve_puts(&mut self.puts, event).is_err() {
             return false;
         }
         match event {

@@ -1,6 +1,6 @@
-use Rattle.std.proofs.Common.{codes}
+use Rattle.std.proofs.Common.{codes, refl}
 use Rattle.clap.specs.Words.{found_of}
-use Rattle.command_line.proofs.Values.{is_got, some_text}
+use Rattle.command_line.proofs.Values.{flag_value, is_got, some_text, text_of}
 use Rattle.command_line.proofs.run.run_job.Goals as goal
 
 pub unwrap-scenario-requires : goal.unwrap-scenario-requires
@@ -15,4 +15,6 @@ returns c = record {
       c.unwrap-scenario.ensures;
   directory = some_text (found_of c.args.matches.now) (codes "OUTDIR") c.get_str-2.result c.unwrap-directory.result c.get_str-2.ensures
       c.unwrap-directory.ensures;
+  wires = flag_value _ c.get_str-3.result _ c.eq-wires.result refl
+      (text_of (found_of c.args.matches.now) (codes "wires") c.get_str-3.result c.get_str-3.ensures) c.eq-wires.ensures;
 }

@@ -15,7 +15,7 @@ returns-in-Send c =
     let after : (with_items c.args.self.now.hosts c.note_sent.new.hosts).items ≡ c.note_sent.new.hosts =
     with_items_is c.args.self.now.hosts c.note_sent.new.hosts (search (rules, arith)) in
     let happened = accepted_of c.in-Send.host c.in-Send.frame.items given in
-    sent-answers c.args.event.now c.in-Send.host c.in-Send.frame c.in-Send.ticks given c.args.self.now _ c.in-Send.is refl refl refl
+    sent-answers c.args.event.now c.in-Send.host c.in-Send.frame c.in-Send.ticks given c.args.self.now _ c.in-Send.is refl refl refl refl
     (subst (λ (old : List Tally). TalliesGrow happened old (with_items c.args.self.now.hosts c.note_sent.new.hosts).items) (sym before)
     (subst (λ (new : List Tally). TalliesGrow happened c.as_mut_slice.result.now new) (sym after)
     (c.note_sent.ensures c.in-Send.frame.items c.args.frame.now)))

@@ -1,0 +1,10 @@
+use Rattle.std.proofs.Common.{◌≡◌, length}
+use Rattle.std.specs.Prelude.{All}
+use Rattle.nicbench.proofs.run.create_wire_sinks.Given as goal
+
+-- the files of the wires so far are there, and have not failed
+abbrev pub invariant-loop-name : goal.invariant-loop-name
+invariant-loop-name g l = record {
+  count : length l.sinks.items ≡ l.name-index;
+  countable : All (λ sink. sink.failures ≡ 0) l.sinks.items;
+}

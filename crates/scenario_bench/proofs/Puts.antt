@@ -1,0 +1,201 @@
+-- Frames that were put, and the traces of wires.
+use Rattle.std.proofs.Common.{◌≡◌, ◌<◌, ◌≤◌, ◌+◌, ◌++◌, ◌∷◌, [], ℕ, Bool, true, false, List, Option, Some, length, drop, take}
+use Rattle.std.proofs.Common.{◌||◌, not, get_or, if◌then◌else◌, option_map, slice_get, slice_index_or, sum_by}
+use Rattle.std.proofs.Common.{refl, sym, ap, subst, ◌∙◌, append_assoc, append-nil, arith, bytes_eq, string_bytes}
+use Rattle.std.specs.Borrow.{Bor}
+use Rattle.std.specs.Io.KnownBytes.{Appends, append_known}
+use Rattle.std.specs.List.{AllByRecursion, flat_map, list_any}
+use Rattle.std.proofs.lemmas.Grind.{common_steps}
+use Rattle.std.proofs.lemmas.List.{drop-append-le, length-drop, map-append, nil_from_length, take-append-le, take_at}
+use Rattle.std.proofs.lemmas.List.Sums.{fold-append, sum_by-cons}
+use Rattle.std.proofs.lemmas.Option.{slice_get-get_or, slice_get-map}
+use Rattle.network_plan.specs.declared.plan.HostPlan.{HostPlan}
+use Rattle.pcap_trace.specs.Devices.{AppendsFront, Grows}
+use Rattle.pcap_trace.specs.Format.{Timed, file_header, packet_of, written}
+use Rattle.pcap_trace.proofs.Flushed.{GoesOut, goes-header, goes-more, goes-stops}
+use Rattle.pcap_trace.proofs.Packets.{written-append, written-push}
+use Rattle.scenario.specs.SoFar.{Host, host_of_plan, hosts_of}
+use Rattle.scenario_bench.specs.EventLists.{wire_name_of}
+use Rattle.scenario_bench.specs.Given.{numbered_frame}
+use Rattle.scenario_bench.specs.PutView.{HasPutSize, frames_from, length_in}
+use Rattle.scenario_bench.specs.Puts.{PutFrame, frames_on_wire, put_frame, wire_names, wire_texts, with_wire_of}
+use Rattle.scenario_bench.specs.WireLists.{names_in}
+use Rattle.scenario_bench.specs.declared.put.PutInfo.{PutInfo}
+
+-- A frame more.
+
+-- one more frame, whose bytes follow the others
+frames-more : (infos : List PutInfo) (bytes : List ℕ) (info : PutInfo) (frame : List ℕ) → sum_by length_in infos ≡ length bytes
+    → info.length ≡ length frame
+    → frames_from (infos ++ info ∷ []) (bytes ++ frame) ≡ frames_from infos bytes ++ put_frame info.host info.number frame ∷ []
+frames-more [] bytes info frame all is =
+    let none : bytes ≡ [] = nil_from_length bytes (sym all) in
+    let whole : take info.length frame ≡ frame = ap (λ (n : ℕ). take n frame) is ∙ ap (take (length frame)) (sym (append-nil frame))
+    ∙ take_at frame [] (length frame) refl in
+    ap (λ (xs : List ℕ). put_frame info.host info.number (take info.length (xs ++ frame)) ∷ []) none
+    ∙ ap (λ (xs : List ℕ). put_frame info.host info.number xs ∷ []) whole
+frames-more (first ∷ infos) bytes info frame all is =
+    let parts = sum_by-cons length_in first infos in
+    let fits : first.length ≤ length bytes = omega (arith, parts, all) in
+    let rest : sum_by length_in infos ≡ length (drop first.length bytes) = omega (arith, parts, all, length-drop first.length bytes) in
+    ap (λ (xs : List ℕ). put_frame first.host first.number xs ∷ frames_from (infos ++ info ∷ []) (drop first.length (bytes ++ frame)))
+    (take-append-le first.length bytes frame fits)
+    ∙ ap (λ (xs : List ℕ). put_frame first.host first.number (take first.length bytes) ∷ frames_from (infos ++ info ∷ []) xs)
+    (drop-append-le first.length bytes frame fits)
+    ∙ ap (λ (all : List PutFrame). put_frame first.host first.number (take first.length bytes) ∷ all)
+    (frames-more infos (drop first.length bytes) info frame rest is)
+
+pub put_more : (puts : List PutFrame) (info : PutInfo) (frame : List ℕ) (infos more : List PutInfo) (bytes longer : List ℕ)
+    → puts ≡ frames_from infos bytes → sum_by length_in infos ≡ length bytes → info.length ≡ length frame → more ≡ infos ++ info ∷ []
+    → longer ≡ bytes ++ frame → frames_from more longer ≡ puts ++ put_frame info.host info.number frame ∷ []
+put_more puts info frame infos more bytes longer is all size more_is longer_is =
+    ap (λ (xs : List PutInfo). frames_from xs longer) more_is
+    ∙ ap (frames_from (infos ++ info ∷ [])) longer_is
+    ∙ frames-more infos bytes info frame all size
+    ∙ ap (λ (all : List PutFrame). all ++ put_frame info.host info.number frame ∷ []) (sym is)
+
+-- Writing.
+
+-- The first frames of this wire were written or wait; these are left, and these are their bytes.
+pub record HasPut (hosts : List Host) (wire : List ℕ) (all : List PutFrame) (infos : List PutInfo) (bytes : List ℕ)
+    (before now : Option (List ℕ)) (waiting : List ℕ) : Type 0 where
+  pub front : List Timed
+  pub parts : frames_on_wire hosts wire all ≡ front ++ frames_on_wire hosts wire (frames_from infos bytes)
+  pub size : sum_by length_in infos ≡ length bytes
+  pub short : AllByRecursion HasPutSize infos
+  pub goes : GoesOut before now waiting (written front)
+
+module _ (hosts : List Host) (wire : List ℕ) where
+  pub puts-first : (all : List PutFrame) (infos list : List PutInfo) (bytes slice : List ℕ) (before : Option (List ℕ)) (waiting : List ℕ)
+      → all ≡ frames_from infos bytes → list ≡ infos → slice ≡ bytes → sum_by length_in infos ≡ length bytes
+      → AllByRecursion HasPutSize infos → waiting ≡ file_header → HasPut hosts wire all list slice before before waiting
+  puts-first all infos list bytes slice before waiting is list_is slice_is size short begun = record {
+    front = [];
+    parts = ap (frames_on_wire hosts wire) (is ∙ sym (ap (λ (xs : List PutInfo). frames_from xs slice) list_is
+        ∙ ap (frames_from infos) slice_is));
+    size = ap (sum_by length_in) list_is ∙ size ∙ sym (ap length slice_is);
+    short = subst (AllByRecursion HasPutSize) (sym list_is) short;
+    goes = goes-header before waiting begun;
+  }
+
+  abbrev pub on-wire : PutInfo → Bool
+  on-wire info = bytes_eq (wire_name_of hosts info.host) wire
+
+  abbrev if-here : Bool → Timed → List Timed
+  if-here here frame = if here then frame ∷ [] else []
+
+  -- what the first of the frames that are left adds
+  next : (all : List PutFrame) (info : PutInfo) (infos list : List PutInfo) (frame bytes rest : List ℕ) (here : Bool) (front : List Timed)
+      → list ≡ info ∷ infos → frame ≡ take info.length bytes → rest ≡ drop info.length bytes → on-wire info ≡ here
+      → frames_on_wire hosts wire all ≡ front ++ frames_on_wire hosts wire (frames_from list bytes)
+      → frames_on_wire hosts wire all ≡ (front ++ if-here here (numbered_frame info.number frame))
+      ++ frames_on_wire hosts wire (frames_from infos rest)
+  next all info infos list frame bytes rest here front is frame_is rest_is on parts =
+      let one : List ℕ → Timed = numbered_frame info.number in
+      let later : List ℕ → List Timed = λ xs. frames_on_wire hosts wire (frames_from infos xs) in
+      parts
+      ∙ ap (λ (xs : List PutInfo). front ++ frames_on_wire hosts wire (frames_from xs bytes)) is
+      ∙ ap (λ (b : Bool). front ++ (if-here b (one (take info.length bytes)) ++ later (drop info.length bytes))) on
+      ∙ ap (λ (xs : List ℕ). front ++ (if-here here (one xs) ++ later (drop info.length bytes))) (sym frame_is)
+      ∙ ap (λ (xs : List ℕ). front ++ (if-here here (one frame) ++ later xs)) (sym rest_is)
+      ∙ sym (append_assoc front (if-here here (one frame)) (later rest))
+
+  left : (info : PutInfo) (infos list : List PutInfo) (bytes rest : List ℕ) → list ≡ info ∷ infos → rest ≡ drop info.length bytes
+      → sum_by length_in list ≡ length bytes → sum_by length_in infos ≡ length rest
+  left info infos list bytes rest is rest_is size =
+      let sizes : sum_by length_in (info ∷ infos) ≡ length bytes = sym (ap (sum_by length_in) is) ∙ size in
+      let parts = sum_by-cons length_in info infos in
+      let behind : sum_by length_in infos ≡ length (drop info.length bytes) =
+      omega (arith, sizes, parts, length-drop info.length bytes) in
+      behind ∙ sym (ap length rest_is)
+
+  -- whether the wire of a frame's host has another name
+  pub on-wire-is : (info : PutInfo) (name : List ℕ) (differs here : Bool) → name ≡ wire_name_of hosts info.host
+      → differs ≡ not (bytes_eq name wire) → differs ≡ not here → on-wire info ≡ here
+  on-wire-is info name differs here named tests is =
+      ap (λ (n : List ℕ). bytes_eq n wire) (sym named) ∙ same-not (bytes_eq name wire) here (sym tests ∙ is)
+    where
+      same-not : (a b : Bool) → not a ≡ not b → a ≡ b
+      same-not true true e = refl
+      same-not true false e = cc
+      same-not false true e = cc
+      same-not false false e = refl
+
+  pub puts-written : (all : List PutFrame) (info : PutInfo) (infos list : List PutInfo) (frame bytes rest : List ℕ)
+      (before now later : Option (List ℕ)) (waiting more : List ℕ)
+      → list ≡ info ∷ infos → frame ≡ take info.length bytes → rest ≡ drop info.length bytes → on-wire info ≡ true
+      → HasPut hosts wire all list bytes before now waiting
+      → Appends (append_known now waiting) (append_known later more) (packet_of (numbered_frame info.number frame)) → Grows now later
+      → HasPut hosts wire all infos rest before later more
+  puts-written all info infos list frame bytes rest before now later waiting more is frame_is rest_is on has went grown =
+      let one = numbered_frame info.number frame in
+      record {
+        front = has.front ++ one ∷ [];
+        parts = next all info infos list frame bytes rest true has.front is frame_is rest_is on has.parts;
+        size = left info infos list bytes rest is rest_is has.size;
+        short = (subst (AllByRecursion HasPutSize) is has.short).1;
+        goes = subst (GoesOut before later more) (sym (written-push has.front one))
+            (goes-more before now later waiting more (written has.front) (packet_of one) has.goes went grown);
+      }
+
+  pub puts-stops : (all : List PutFrame) (infos : List PutInfo) (bytes : List ℕ) (before now later : Option (List ℕ))
+      (waiting : List ℕ) → HasPut hosts wire all infos bytes before now waiting → AppendsFront now later waiting
+      → AppendsFront before later (written (frames_on_wire hosts wire all))
+  puts-stops all infos bytes before now later waiting has front =
+      let rest = frames_on_wire hosts wire (frames_from infos bytes) in
+      subst (λ (bytes : List ℕ). AppendsFront before later bytes) (sym (ap written has.parts ∙ written-append has.front rest))
+      (goes-stops before now later waiting (written has.front) (flat_map packet_of rest) has.goes front)
+
+-- a wire's text
+pub wire_text_at : (hosts : List Host) (puts : List PutFrame) (wires : List (Bor (List ℕ))) (place : ℕ) (d : Bor (List ℕ))
+    → place < length wires
+    → slice_get (wire_texts hosts puts (names_in wires)) place ≡ Some (frames_on_wire hosts (get_or wires place d).now puts)
+wire_text_at hosts puts wires place d below =
+    let text : List ℕ → List Timed = λ wire. frames_on_wire hosts wire puts in
+    let name : Bor (List ℕ) → List ℕ = λ wire. wire.now in
+    slice_get-map text (names_in wires) place
+    ∙ ap (option_map text) (slice_get-map name wires place ∙ ap (option_map name) (slice_get-get_or wires place d below))
+
+-- Names of wires.
+
+any-map : (wire : List ℕ) (wires : List (Bor (List ℕ)))
+    → list_any (λ (name : List ℕ). bytes_eq name wire) (names_in wires) ≡ list_any (λ (name : Bor (List ℕ)). bytes_eq name.now wire) wires
+any-map wire [] = refl
+any-map wire (one ∷ wires) = ap (λ (b : Bool). bytes_eq one.now wire || b) (any-map wire wires)
+
+chosen : (there : Bool) (names more : List (List ℕ)) (b : Bool) → b ≡ there
+    → (if b then names else more) ≡ (if there then names else more)
+chosen there names more b is = ap (λ (c : Bool). if c then names else more) is
+
+-- the names of one host more
+one-more : (plans : List HostPlan) (number : ℕ) (plan d : HostPlan) (wires : List (Bor (List ℕ))) (there : Bool) → number < length plans
+    → plan ≡ slice_index_or plans number d → names_in wires ≡ wire_names (hosts_of (take number plans))
+    → list_any (λ (name : Bor (List ℕ)). bytes_eq name.now (string_bytes plan.wire)) wires ≡ there
+    → wire_names (hosts_of (take (number + 1) plans))
+    ≡ (if there then names_in wires else names_in wires ++ string_bytes plan.wire ∷ [])
+one-more plans number plan d wires there below is so_far tested =
+    let first = take number plans in
+    let host = host_of_plan plan in
+    let taken : take (number + 1) plans ≡ first ++ plan ∷ [] = grind (arith, common_steps, below, is) in
+    let hosts : hosts_of (take (number + 1) plans) ≡ hosts_of first ++ host ∷ [] =
+    ap hosts_of taken ∙ map-append host_of_plan first (plan ∷ []) in
+    ap wire_names hosts
+    ∙ fold-append with_wire_of [] (hosts_of first) (host ∷ [])
+    ∙ ap (λ (names : List (List ℕ)). with_wire_of names host) (sym so_far)
+    ∙ chosen there (names_in wires) (names_in wires ++ host.wire ∷ [])
+    (list_any (λ (name : List ℕ). bytes_eq name host.wire) (names_in wires)) (any-map host.wire wires ∙ tested)
+
+pub wire_there : (plans : List HostPlan) (number : ℕ) (plan d : HostPlan) (wires : List (Bor (List ℕ))) → number < length plans
+    → plan ≡ slice_index_or plans number d → names_in wires ≡ wire_names (hosts_of (take number plans))
+    → list_any (λ (name : Bor (List ℕ)). bytes_eq name.now (string_bytes plan.wire)) wires ≡ true
+    → names_in wires ≡ wire_names (hosts_of (take (number + 1) plans))
+wire_there plans number plan d wires below is so_far tested = sym (one-more plans number plan d wires true below is so_far tested)
+
+pub wire_more : (plans : List HostPlan) (number : ℕ) (plan d : HostPlan) (wires more : List (Bor (List ℕ))) (wire : Bor (List ℕ))
+    → number < length plans → plan ≡ slice_index_or plans number d → names_in wires ≡ wire_names (hosts_of (take number plans))
+    → list_any (λ (name : Bor (List ℕ)). bytes_eq name.now (string_bytes plan.wire)) wires ≡ false
+    → wire.now ≡ string_bytes plan.wire → more ≡ wires ++ wire ∷ [] → names_in more ≡ wire_names (hosts_of (take (number + 1) plans))
+wire_more plans number plan d wires more wire below is so_far tested named grown =
+    ap names_in grown ∙ map-append (λ (name : Bor (List ℕ)). name.now) wires (wire ∷ [])
+    ∙ ap (λ (name : List ℕ). names_in wires ++ name ∷ []) named
+    ∙ sym (one-more plans number plan d wires false below is so_far tested)

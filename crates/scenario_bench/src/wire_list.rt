@@ -1,0 +1,29 @@
+//! The wires of a scenario.
+ghost use Rattle.std.specs.Prelude.{◌≡◌, IfOk, length};
+ghost use Rattle.scenario.specs.SoFar.{hosts_of};
+ghost use Rattle.scenario_bench.specs.Puts.{wire_names};
+ghost use Rattle.scenario_bench.specs.WireLists.{names_in};
+
+use network_plan::HostPlan;
+use std::alloc::{AllocError, Global};
+
+/// The names of the wires of these hosts: each once, in the order in which the hosts first name them. It is for callers
+/// of [`bench_wires`](crate::bench_wires), which takes a sink for each.
+///
+/// # Errors
+///
+/// Only if memory was refused.
+pub fn wires<'a>(alloc: Global, plans: &'a [HostPlan]) -> Result<Vec<&'a str>, AllocError>
+    ensures names { IfOk result (λ wires. names_in wires.items ≡ wire_names (hosts_of plans.now)) }
+    ensures count { IfOk result (λ wires. length wires.items ≡ length (wire_names (hosts_of plans.now))) }
+{
+    let mut wires = Vec::new(alloc);
+    for plan in plans {
+        let wire = plan.wire.as_str();
+        if wires.as_slice().contains(&wire) {
+            continue;
+        }
+        wires.push(wire)?;
+    }
+    Ok(wires)
+}
