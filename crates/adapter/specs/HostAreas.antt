@@ -17,7 +17,7 @@ use Rattle.adapter.specs.World.{World, receive_ring, transmit_ring}
 abbrev pub ring_area : Ring → Area
 ring_area ring = record { address = ring.base; size = 16 * count_of ring }
 
--- the bytes of the frame in work
+-- the bytes of the piece in progress
 abbrev pub work_areas : List ℕ → Option Work → List Area
 work_areas memory None = []
 work_areas memory (Some work) = record { address = receive.named_address memory work.descriptor; size = work.length } ∷ []
@@ -48,7 +48,7 @@ data_of memory descriptor = record {
   size = (transmit.descriptor_at memory descriptor).length;
 }
 
--- the data of the descriptors from TDH to TDT, the bytes of finished slots and of the slot in work, and the buffers of offered slots
+-- the data of the descriptors from TDH to TDT, the bytes of finished slots and of the piece in progress, and the buffers of offered slots
 abbrev pub frame_areas : ℕ → World → List Area
 frame_areas oldest world =
     map (data_of world.memory) (offered (transmit_ring world))

@@ -61,7 +61,7 @@ abbrev pub new_adapter : List ℕ → Link → AdapterState
 new_adapter words link = adapter_at_reset words (new_phy link) 48
 
 -- CTRL.RST leaves the PHY and PBA as they are, gives every other register its value after a reset, empties both packet buffers, drops the
--- frame in work and starts stopped engines again (our choice)
+-- piece in progress and starts stopped engines again (our choice)
 abbrev pub after_reset : AdapterState → AdapterState
 after_reset state = adapter_at_reset state.image state.phy state.receive_kilobytes
 

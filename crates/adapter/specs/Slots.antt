@@ -35,12 +35,12 @@ pub record IsDealt (memory : List ℕ) (ring : Ring) (oldest : ℕ) (taken : Lis
 
 -- The slots of a world.
 
--- the slot of the frame in work
+-- the slot of the piece in progress
 abbrev pub slot_of_work : Option Work → List ℕ
 slot_of_work None = []
 slot_of_work (Some work) = work.descriptor ∷ []
 
--- the slots of the receive ring whose frame is in work
+-- the slot of the receive ring whose piece is in progress
 abbrev pub in_work : World → List ℕ
 in_work world = slot_of_work world.adapter.receiver.work
 

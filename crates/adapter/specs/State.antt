@@ -41,7 +41,7 @@ pub record AdapterState : Type 0 where
   pub transmitted_packets : ℕ
   -- RNBC
   pub no_receive_buffers : ℕ
-  -- the receive packet buffer, the frame in work, and whether a fault has stopped the engine
+  -- the receive packet buffer, the piece in progress, and whether a fault has stopped the engine
   pub receiver : Receiver
   -- the transmit packet buffer, and whether a fault has stopped the engine
   pub transmitter : Transmitter

@@ -120,13 +120,13 @@ impl Adapter {
     /// leaves memory and the indices of the rings (our choice).
     ///
     /// Of memory a step changes at most the buffer that the receive descriptor at RDH names
-    /// ([`RxData`](StepKind::RxData)), bytes 8 to 15 of the descriptor in work
-    /// ([`RxDone`](StepKind::RxDone)), and byte 12 of the descriptor of the frame put
+    /// ([`RxData`](StepKind::RxData)), bytes 8 to 15 of the descriptor of the piece in progress
+    /// ([`RxDone`](StepKind::RxDone)), and byte 12 of the descriptor of the frame that is put on the wire
     /// ([`TxPut`](StepKind::TxPut)).
     ///
-    /// An adapter is stepped with memories of one size: so the descriptor of a frame in work, or put,
-    /// lies in memory, as it did when it was read. In a smaller one `RxDone` writes nothing where the
-    /// descriptor doesn't lie in it whole, and `TxPut` nothing where its byte 12 doesn't.
+    /// Memory must have the same size in each step. So a descriptor that the adapter writes back is within memory, as
+    /// it was when the adapter read it. In a smaller memory, `RxDone` writes nothing if the descriptor isn't within
+    /// memory, and `TxPut` writes nothing if byte 12 of the descriptor isn't.
     pub fn step(&mut self, kind: StepKind, memory: &mut HostMemory, wire_free: bool) -> Outcome<()>
         ensures answer { Answers kind wire_free memory.old self.old (framed result self.old) }
         ensures state { self.new ≡ after_step kind (framed result self.old) memory.old self.old }

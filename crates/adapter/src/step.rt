@@ -7,9 +7,10 @@ pub enum StepKind {
     TxTake,
     /// Puts the oldest frame of the transmit packet buffer onto the wire.
     TxPut,
-    /// Writes the oldest frame of the receive packet buffer to the buffer of the receive descriptor at RDH.
+    /// Writes the next piece of the oldest frame of the receive packet buffer to the buffer of the receive descriptor
+    /// at RDH. A piece has at most as many bytes as that buffer (RCTL.BSIZE).
     RxData,
-    /// Writes back the descriptor of the frame that `RxData` wrote.
+    /// Writes back the descriptor of the piece that `RxData` wrote.
     RxDone,
     /// Ends a pending read of the EEPROM.
     EepromTick,

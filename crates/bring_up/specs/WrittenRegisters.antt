@@ -5,7 +5,7 @@ use Rattle.adapter.specs.declared.offsets.TheConstants.{CTRL, IMC, IMS, PBA}
 use Rattle.bus.specs.Settings.{Write}
 use Rattle.registers.specs.Places.{alone, ctrl_asde, ctrl_rst, ctrl_slu, rxdmt0, rxo, rxt0, txdw}
 
--- A register has 32 bits, so its value is below this number ("13.2 Register Conventions").
+-- A register has 32 bits, so its value is below this number (chapter 13, "Register Descriptions").
 abbrev pub register_limit : ℕ
 register_limit = 2 ^ 32
 

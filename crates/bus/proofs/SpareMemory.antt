@@ -23,7 +23,7 @@ use Rattle.bus.proofs.Rings.{dealt-left, dealt-right}
 
 -- Apart from the areas.
 
--- The frame in work stands in its buffer.
+-- The piece in progress is in its buffer.
 work-apart : (memory : List ℕ) (work : Option Work) (size : ℕ) (area : Area)
     → All (λ d. AreApart (record { address = receive.named_address memory d; size = size }) area) (slot_of_work work)
     → All (λ place. place.size ≤ size) (work_areas memory work) → All (λ other. AreApart other area) (work_areas memory work)

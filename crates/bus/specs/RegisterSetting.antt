@@ -140,7 +140,7 @@ TransmitStaysIdle =
     (oldest_receive : ℕ) (a b : World) (past : Past) → Sound oldest_receive a.adapter.transmit_ring.tail a
     → a.adapter.transmit_ring.head ≡ a.adapter.transmit_ring.tail → Happens a b past → IsTransmitIdle b
 
--- No receive slot is finished or in work, and those offered, with the addresses of their buffers, are as they were.
+-- No receive slot is finished, no piece is in progress, and the slots offered, with the addresses of their buffers, are as they were.
 pub record OffersStay (oldest_receive : ℕ) (a b : World) : Type 0 where
   pub none_finished : finished oldest_receive b ≡ []
   pub no_work : b.adapter.receiver.work ≡ None

@@ -56,7 +56,7 @@ pub fn with_rings(alloc: Global, image: &Image) -> Result<SoloBus, AllocError>
     Ok(bus)
 }
 
-/// A bus with a frame in work.
+/// A bus with a piece of a frame in progress.
 ///
 /// # Errors
 ///

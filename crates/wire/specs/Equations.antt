@@ -1,5 +1,6 @@
 -- The equations of delivery, and what holds of each host before and after each event (our choice). Read parts 3 and 4 first; parts 1 and 2
--- define their words. A word from another crate is explained at the field that uses it, so that no other file need be opened.
+-- define their words. A word from another crate is explained in one sentence at the field that uses it; its definition is in that crate.
+-- docs/CONTRACTS, "To review `Lan::run`", names the files of these definitions.
 --   1. The count of misses, and when it is exact: `IsExact`.
 --   2. The equations that have several fields: `CountsMisses`, `CountsUnclaimed`, `KeepsPlan`.
 --   3. `Delivers`: the equations of one host between two states of a network, one equation a field.
@@ -84,7 +85,8 @@ pub record KeepsPlan (k : ℕ) (old new : List StationState) (h h' : HostState) 
 
 -- 3. The equations. The lists of a host are parts of what happened, in order (`accepted`, `put`, `reached`, `stored`, `given`, `toward`).
 
--- the frames stored at a host that go to one of its sockets (`socket_frames` are the frames of a list that go to the socket)
+-- The frames stored at a host that go to one of its sockets (`socket_frames` are the frames of a list that go to the socket). A frame goes
+-- to the first socket for its EtherType. If there is none, it goes to the first socket for all frames, and if there is none, to no socket.
 abbrev pub kept : List SocketKind → (k socket : ℕ) → List Happening → List (List ℕ)
 kept kinds k socket happened = socket_frames kinds socket (stored k happened)
 
@@ -93,7 +95,8 @@ pub record Delivers (k : ℕ) (happened : List Happening) (old new : List Statio
   -- the wire, the sockets, the filter and the sizes don't change
   pub plan_is_kept : KeepsPlan k old new h h'
   -- The frames put on the wire, then those still to be sent, are those that were to be sent, then those accepted, padded.
-  -- `frames_to_send`: the frames in the transmit packet buffer, then those of the descriptors from TDH to TDT, padded to 60 bytes.
+  -- `frames_to_send`: the frames in the transmit packet buffer, then those of the descriptors from TDH to TDT, padded with zeros to 60
+  -- bytes.
   pub sent_is_accepted : put k happened ++ frames_to_send (world_at new k)
       ≡ frames_to_send (world_at old k) ++ map padded (accepted k happened)
   -- The frames that reached it, then those that still wait at its end of its wire (`backlog_at`), are those that waited, then those that
@@ -103,9 +106,11 @@ pub record Delivers (k : ℕ) (happened : List Happening) (old new : List Statio
   -- `held_for_socket`: the frames in the socket's queue, then those of the receive ring and of the receive packet buffer that go to it.
   pub given_is_kept : (socket : ℕ) → given k socket happened ++ held_for_socket h' socket (world_at new k)
       ≡ held_for_socket h socket (world_at old k) ++ kept h.kinds k socket happened
-  -- Each frame that reached it met the first fate that applies: illegal, filtered, missed as the receive packet buffer was full, stored.
-  -- `marks`: each frame that reached it, with its fate, and each time that the oldest frame left this buffer, in order. How full the buffer
-  -- is follows by counting: the frames in it at the beginning, plus those stored, minus those that left (`ReceivesRightly`).
+  -- Each frame that reached it met the first fate that applies: illegal (it has less than 60 or more than 1,518 bytes), filtered, missed as
+  -- the receive packet buffer was full, stored. None has the fate Off, as the receive side is enabled. The buffer is full if it has half as
+  -- many frames as its size in kilobytes. How many it has follows by counting (`ReceivesRightly`): the frames in it at the beginning, plus
+  -- those stored, minus those that left. `marks`: each frame that reached it, with its fate, and each time that the oldest frame left this
+  -- buffer, in order.
   pub fates_are_right : ReceivesRightly (world_at old k).adapter (marks k happened) (world_at new k).adapter
   -- missed frames are counted until a counter saturates
   pub misses_are_counted : CountsMisses h (world_at old k) (missed k happened) h' (world_at new k)
@@ -119,11 +124,11 @@ pub record CountsExactly (host : HostState) (world : World) : Type 0 where
   pub reads : host.driver.missed < greatest_count → IsTrue host.driver.exact
   pub counts : counted host world < greatest_count → IsExact host world
 
--- What holds of a host before and after each of its calls.
+-- What holds of a host before and after each event of its network.
 pub record HostStands (host : HostState) (world : World) : Type 0 where
   -- its driver knows its rings and buffers, and the frames that wait for its sockets are in them
   pub ready : HostReady host world
-  -- No work is forgotten: if a frame ends in its finished receive slots, RXT0 is recorded, and it is in the mask.
+  -- No work is forgotten: RXT0 is in the mask, and it is recorded if a frame ends in the finished receive slots.
   pub work : HasNoForgottenWork host.driver world
   -- No buffer is free, or all receive slots but one are outstanding.
   pub refilled : IsRefilled host.driver

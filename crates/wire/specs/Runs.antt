@@ -1,14 +1,15 @@
 -- What a run states, and one event with its reply: the contract of `Lan::run` (our choice). A word must be defined before it is used, so
--- read the parts from 6 back to 1. The equations are in specs/Equations. A word from another crate is explained at a field that uses it,
--- so that no other file need be opened.
+-- read the parts from 6 back to 1. The equations are in specs/Equations. A word from another crate is explained in one sentence at a field
+-- that uses it; its definition is in that crate. docs/CONTRACTS, "To review `Lan::run`", names the files of these definitions.
 --   6. A run: `RunsTo`, `StatesRun`.
 --   5. One event with its reply: `EventRuns`, whose fields are records of parts 4, 3 and 2.
 --   4. What the reply says of the event's atomic steps: `IsCallReply` for a call, `IsTickReply` for a tick by itself.
 --   3. What a host that is there answers: `IsSendAnswer`, `IsRecvAnswer`, `IsInterruptAnswer`.
 --   2. The atomic steps of an event, as every host finds them: `HostsGo`, `TicksAnswered`.
 --   1. What an event and its reply say of frames: `said`, `happenings`.
--- Part 7 is for `Lan::play` only. An atomic step is one access of a driver, one step of an adapter, one delivery, or a tick that finds
--- nothing to do. A station is an adapter with its host's memory (`world_at stations k`) and its end of its wire.
+-- Part 7 is for `Lan::play` only. An atomic step is one access of a driver, or one tick that isn't Go with its outcome. Such a tick is a
+-- step of an adapter or a delivery, and its outcome is Nothing if there was nothing to do. A station is an adapter with its host's memory
+-- (`world_at stations k`) and its end of its wire.
 use Rattle.std.specs.Prelude.{◌≡◌, ◌≢◌, ◌≤◌, ◌↔◌, ◌++◌, ◌∷◌, [], ℕ, All, List, Ok, Option, Result, Some, length, map, slice_get}
 use Rattle.adapter.specs.HostFrames.{frames_held}
 use Rattle.adapter.specs.declared.outcome.Outcome.TheVariants.{Nothing}
@@ -72,14 +73,14 @@ happenings (event ∷ events) (reply ∷ replies) = said event reply ++ happenin
 
 -- Each tick is answered by counting: the frames in the packet buffers, the offered slots, whether a piece is in progress, and what is
 -- pending at the EEPROM and the PHY. `counts_of` are these numbers of an adapter. `counts_at start steps k` are those of the k-th host
--- after the steps, computed from the state at the start.
+-- after the steps, computed from the state at the start: each outcome is applied, and each write of TDT or RDT, which offers slots.
 pub record TicksAnswered (steps : List AtomicStep) (old new : NetworkState) : Type 0 where
-  -- a tick's outcome follows from what is counted at the start, with the outcomes before it applied (`AreAnswered`, whose table is in
-  -- docs/DELIVERY, "Answers")
+  -- a tick's outcome follows from what is counted at the start, with the outcomes and the writes of TDT and RDT before it applied
+  -- (`AreAnswered`, whose table is in docs/DELIVERY, "Answers")
   pub there : (k : ℕ) (h : HostState) → IsHost old k h → AreAnswered k old.stations steps
   -- a host that isn't there has nothing to do (`OfEachTick`: for each tick that names the k-th host)
   pub absent : (k : ℕ) → length old.hosts ≤ k → OfEachTick k steps (λ before tick outcome. outcome ≡ Nothing)
-  -- what is counted at the end is what was counted at the start, with all outcomes applied
+  -- what is counted at the end is what was counted at the start, with all outcomes and all writes of TDT and RDT applied
   pub counts : (k : ℕ) (h : HostState) → IsHost old k h
       → counts_of (world_at new.stations k).adapter ≡ counts_at old.stations steps k
 
@@ -98,10 +99,12 @@ pub record HostsGo (caller : ℕ) (happened : List Happening) (steps : List Atom
 
 -- 3. What a call of a host that is there answers. What each result means, and which accesses it goes with, is the contract of the call
 -- itself: of `Network::send`, `recv_into` and `interrupt` (`SendResult`, `RecvResult`, `InterruptResult`, and `Makes..`, in
--- host_calls/specs/CallAnswers). These contracts have their own row in docs/CONTRACTS, "Where to begin", so they need not be opened here. A
--- `ConnectedHost` is a host with all stations; `(past_at host steps).accesses` are the accesses of the host's driver among the steps.
+-- host_calls/specs/CallAnswers). These contracts have their own row in docs/CONTRACTS, "Where to begin". A `ConnectedHost` is a host with
+-- all stations; `(past_at host steps).accesses` are the accesses of the host's driver among the steps.
 
--- The conditions of `SendResult` are those of the contract of `Network::send`: too short, too long, ring full, or accepted.
+-- TooShort if and only if the frame has less than 14 bytes. TooLong if and only if it has more than 1,518 bytes. RingFull only if the
+-- number of frames to be sent was one less than that of transmit slots when the call began. Otherwise Ok: the frame is accepted. If the
+-- frame is too short or too long, the host doesn't change, and no access is made.
 pub record IsSendAnswer (host : ℕ) (frame : List ℕ) (answer : FrameAnswer) (steps : List AtomicStep) (old new : ConnectedHost) : Type 0
   where
     pub result : SendAnswer
@@ -111,7 +114,8 @@ pub record IsSendAnswer (host : ℕ) (frame : List ℕ) (answer : FrameAnswer) (
     -- the accesses of its driver are exactly these, in order
     pub makes : MakesSend result frame old.host new.host (past_at host steps).accesses
 
--- The conditions of `RecvResult` are those of the contract of `Network::recv_into`: no such socket, no frame, or its oldest frame.
+-- NoSocket if and only if the host has no such socket. Empty if and only if it has the socket, and no frame waits in its queue. Otherwise
+-- Ok, with the oldest frame of the queue. In the first two cases the host doesn't change, and no access is made.
 pub record IsRecvAnswer (host socket : ℕ) (answer : FrameAnswer) (steps : List AtomicStep) (old new : ConnectedHost) : Type 0 where
   pub result : Result (List ℕ) RecvError
   pub is : answer ≡ Received result
@@ -120,7 +124,8 @@ pub record IsRecvAnswer (host socket : ℕ) (answer : FrameAnswer) (steps : List
   -- the accesses of its driver are exactly these, in order
   pub makes : MakesRecv result socket old.host new.host (past_at host steps).accesses
 
--- The frames taken were at the front of what the host held. Each socket's queue got those that go to it, in order, at its end.
+-- The frames that the handler took off the receive ring are the first of those that the host held when the call began, followed by those
+-- that the call's steps stored. Each socket's queue got those that go to it, in order, at its end.
 pub record TakesFrames (host : ℕ) (steps : List AtomicStep) (taken : List (List ℕ)) (old new : ConnectedHost) : Type 0 where
   -- `frames_held`: the frames of the receive ring, from the driver's oldest slot on, then those of the receive packet buffer. `stored` are
   -- the frames that the steps stored in this buffer.
@@ -130,8 +135,8 @@ pub record TakesFrames (host : ℕ) (steps : List AtomicStep) (taken : List (Lis
   pub queues : (socket : ℕ) → waiting_frames new.host socket (world_at new.stations host)
       ≡ waiting_frames old.host socket (world_at old.stations host) ++ socket_frames old.host.kinds socket taken
 
--- The conditions of `InterruptResult` are those of the contract of `Network::interrupt`: NotMine, or Handled with the number of frames
--- taken.
+-- NotMine if and only if the call's read of ICR returned no cause that a driver handles. Then the host doesn't change, and no frame is
+-- taken. Otherwise Handled, with the number of frames taken: at least as many as ended in finished slots when the call began.
 pub record IsInterruptAnswer (host : ℕ) (answer : FrameAnswer) (steps : List AtomicStep) (old new : ConnectedHost) : Type 0 where
   pub result : Handled
   pub is : answer ≡ Interrupted result
@@ -199,7 +204,8 @@ pub record IsTickReply (reply : Reply) (steps : List AtomicStep) (old new : Netw
 
 -- 5. One event with its reply.
 
--- The host whose call it is. A tick by itself is of no call, so any number would do here: `IsTickReply.accesses` excludes each access.
+-- The host whose call it is. A tick by itself belongs to no call, and makes no access (`accesses` of `IsTickReply`). So any number would do
+-- for it: `LeadsTo` uses this number only for accesses, and the answer of a tick doesn't depend on it.
 abbrev pub caller_of : Event → ℕ
 caller_of (Send host frame ticks) = host
 caller_of (Recv host socket ticks) = host

@@ -106,8 +106,8 @@ impl Lan {
     ///
     /// # Errors
     ///
-    /// Only if memory is refused, before an event. The events before that one were run and answered, and it changed
-    /// nothing.
+    /// If memory for the reply of an event is refused. The events before that one were run and answered, and it changed
+    /// nothing. A contract can't name the allocator's answers, so no clause states that this is the only reason.
     pub fn run(
         &mut self,
         alloc: Global,
