@@ -55,7 +55,7 @@ NAMES = ["A", "a.b", "x" * 16, "x" * 17, "/", "a/b", "#", "..", "\u00e9", "\0", 
 ADDRESSES = 5, ["02:00:00:00:00:05", "02:00:00:00:00:06", "02:00:00:00:00:07", "02:00:00:00:00:08", "fE:fF:fF:fF:fF:fF",
                 "02:00:00:00:00:01", "01:00:5e:00:00:01", "02-00-00-00-00-01", "02:00:00:00:00:1", "020000000001"]
 GROUPS = 2, ["01:00:5e:00:00:01", "fF:fF:fF:fF:fF:fF", "02:00:00:00:00:01", "01:00:5e:00:00"]
-WIRES = 1, ["w", "v-1", "W", "#"]
+WIRES = 1, ["w", "v-1", "W", "#", "/", "a/b", "n" * 250, "n" * 251, "b.0"]
 NUMBERS = 3, ["1", "2", "007", "0", "256", "4096", "65536", "+8", "-1", "8.", "0x8", "\u0661", "1" * 30,
               "0" * 30 + "8", "18446744073709551615", "18446744073709551616"]
 VLANS = 2, ["5", "4095", "4096", "65535", "65536", "x"]
@@ -86,7 +86,7 @@ def fed_fault(bench, path, given):
     return fault and (1, fault)
 
 
-def answer(bench, text, given):
+def answer(bench, text, given=b"", options=()):
     """The status, the fault or None, the files in OUTDIR, and the names of the hosts."""
     scenario = Scenario(text)
     if scenario.fault:
@@ -96,7 +96,7 @@ def answer(bench, text, given):
         fault = fed_fault(bench, path, given if path not in scenario.traces[:place] else b"")
         if fault:
             return *fault, [], []
-    files, is_stuck = scenario.files()
+    files, is_stuck = scenario.files("--wires" in options)
     if is_stuck:
         return 3, OPEN, files, []
     fault = scenario.plan_fault()
@@ -112,12 +112,12 @@ def held_bytes(path):
     return files
 
 
-def runs(bench, met, name, text, given=b""):
+def runs(bench, met, name, text, given=b"", options=()):
     """Runs a scenario, and compares the answer with the computed one."""
     path = folder(bench)
     bench.put("s.scenario", text)
-    status, fault, files, hosts = answer(bench, text, given)
-    ran = bench.run("run", "s.scenario", "outdir", given=given)
+    status, fault, files, hosts = answer(bench, text, given, options)
+    ran = bench.run("run", *options, "s.scenario", "outdir", given=given)
     held = held_bytes(path)
     told = [re.sub(rb" accepted \d+ put \d+ reached \d+ stored \d+ missed \d+ (exact|atleast) given \d+ unclaimed \d+$", b"", line)
             for line in ran.stdout.splitlines()]
@@ -134,7 +134,7 @@ def cut_texts(bench, met):
     """The text is cut at each byte of each line."""
     for size in range(len(BASE) + 1):
         runs(bench, met, f"cut after {size} bytes", BASE[:size])
-    bench.check("cut: the whole text is valid, and has a line of each kind", answer(bench, BASE, b"")[:2], (0, None))
+    bench.check("cut: the whole text is valid, and has a line of each kind", answer(bench, BASE)[:2], (0, None))
     firsts = {line.split()[0] for line in BASE.decode().splitlines() if line.strip()}
     bench.check("cut: kinds of lines", firsts, set(WORDS) | {"#"})
 
@@ -222,7 +222,7 @@ def random_lines(bench, met):
         lines += [random_line(drawn, drawn.choice(setup), hosts) for _ in range(drawn.randrange(5))]
         lines += [random_line(drawn, drawn.choice(events if drawn.random() < 0.98 else setup), hosts) for _ in range(drawn.randrange(5))]
         given = drawn.choice([b"", trace(packet(bytes.fromhex(FRAME))), b"x" * 30])
-        runs(bench, met, f"random lines {number}", "\n".join(lines).encode(), given)
+        runs(bench, met, f"random lines {number}", "\n".join(lines).encode(), given, drawn.choice([(), (), ("--wires",)]))
 
 
 def each_word(bench, met):
@@ -240,8 +240,10 @@ def each_word(bench, met):
     for kind in CALLS:
         lines += [f"{kind} a{words} / {tick}" for words in ("", " 00", " 0 0") for tick in ("", "go", "go / go", "/")]
     for line in lines:
-        for more in ("", "\nfly"):
-            runs(bench, met, "a word", "\n".join([*begin, line]).encode() + more.encode())
+        text = "\n".join([*begin, line])
+        for options in ((), ("--wires",)):
+            runs(bench, met, "a word", text.encode(), b"", options)
+        runs(bench, met, "a word, and a fault after it", f"{text}\nfly".encode())
 
 
 def full_hosts(bench, met):

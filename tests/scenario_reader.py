@@ -160,15 +160,16 @@ class Scenario:
         if kind == "feed":
             self.traces.append(words[1])
 
-    def files(self):
-        """The files of the sockets that are created, and whether one of them can't be."""
+    def files(self, has_wires):
+        """The files of sockets, and of wires if they are asked for, that are created; and whether one of them can't be."""
+        hosts = self.hosts.values()
+        names = [f"{host.name}.{place}.pcap" for host in hosts for place in range(len(host.has["socket"]))]
+        names += [f"{wire}.pcap" for wire in dict.fromkeys(host.wire for host in hosts)] if has_wires else []
         made = []
-        for host in self.hosts.values():
-            for place in range(len(host.has["socket"])):
-                name = f"{host.name}.{place}.pcap".encode()
-                if b"/" in name or b"\0" in name or len(name) > MOST_FILE_NAME:
-                    return made, True
-                made.append(name)
+        for name in map(str.encode, names):
+            if b"/" in name or b"\0" in name or len(name) > MOST_FILE_NAME:
+                return made, True
+            made.append(name)
         return made, False
 
     def plan_fault(self):
