@@ -6,7 +6,7 @@ import re
 import stat
 
 from bench import FILE_HEADER, packet, trace, written
-from scenario_reader import CALLS, MOST_BYTES, OPEN, READ, WORDS, Scenario, TraceRead
+from scenario_reader import CALLS, MOST_BYTES, OPEN, READ, SETUP, STEPS, WORDS, Scenario, TraceRead
 from scenarios import UNCHANGED, folder, refusal
 
 FRAME = "0200000000020200000000010800"
@@ -56,17 +56,21 @@ ADDRESSES = 5, ["02:00:00:00:00:05", "02:00:00:00:00:06", "02:00:00:00:00:07", "
                 "02:00:00:00:00:01", "01:00:5e:00:00:01", "02-00-00-00-00-01", "02:00:00:00:00:1", "020000000001"]
 GROUPS = 2, ["01:00:5e:00:00:01", "fF:fF:fF:fF:fF:fF", "02:00:00:00:00:01", "01:00:5e:00:00"]
 WIRES = 1, ["w", "v-1", "W", "#", "/", "a/b", "n" * 250, "n" * 251, "b.0"]
-NUMBERS = 3, ["1", "2", "007", "0", "256", "4096", "65536", "+8", "-1", "8.", "0x8", "\u0661", "1" * 30,
+NUMBERS = 3, ["1", "2", "007", "0", "256", "4096", "65536", "+8", "-1", "8.", "0x8", "1000001", "\u0661", "1" * 30,
               "0" * 30 + "8", "18446744073709551615", "18446744073709551616"]
 VLANS = 2, ["5", "4095", "4096", "65535", "65536", "x"]
 ETHER_TYPES = 4, ["all", "0800", "88b5", "fFfF", "800", "00800", "All", "+800", "0x08"]
 FRAMES = 6, [FRAME, "00", FRAME.upper(), "f" * 3036, "f" * 3038, "ff" * 4000, "ff" * 4001, "0", "0g", "-"]
-STEPS = ["txtake", "txput", "rxdata", "rxdone", "eeprom", "phy", "deliver"]
 BAD_TICKS = ["go:a", "Go", "txtake", ":a", "tick:a", "rxdata:", "rxdata:a:b", "phy:f", "/"]
 PATHS = 4, [TRACE, f"./{TRACE}", f"outdir/../{TRACE}", "-", "/", "outdir", "missing.pcap", "s.scenario", "bad.pcap", "/dev/null", "\0", "x" * 300]
-OPTIONS = {"rx": (2, ["8", "16", "12", "264", "65536"]), "tx": (3, ["8", "256", "64", "0", "x"]), "buffers": (2, ["16", "4096", "15", "4097", "65536"]),
-           "rxa": (3, ["2", "48", "6", "50", "3", "256"]), "link": (2, ["1", "2000", "2001", "0", "never", "65536", "Never"]), "promiscuous": (1, [""]),
-           "other": (1, ["", "8"])}
+HOST_OPTIONS = {
+    "rx": (2, ["8", "16", "12", "264", "65536"]), "tx": (3, ["8", "256", "64", "0", "x"]), "buffers": (2, ["16", "4096", "15", "4097", "65536"]),
+    "rxa": (3, ["2", "48", "6", "50", "3", "256"]), "link": (2, ["1", "2000", "2001", "0", "never", "65536", "Never"]), "promiscuous": (1, [""]),
+    "other": (1, ["", "8"])}
+# Lines that are made long: how they begin, and what then fills them.
+LONG_LINES = [("#", "x"), ("", " "), ("send a 00", " "), ("send a ", "0"), ("interrupt a /", "\t"), ("interrupt a / ", "go "), ("fly ", "y"), ("# ", "\u00e9"),
+              ("recv a ", "0"), ("host f 02:00:00:00:00:06 w", "\t"), ("feed a ", "x")]
+COUNTS = re.compile(rb" accepted \d+ put \d+ reached \d+ stored \d+ missed \d+ (exact|atleast) given \d+ unclaimed \d+$")
 
 
 def fed_fault(bench, path, given):
@@ -119,8 +123,7 @@ def runs(bench, met, name, text, given=b"", options=()):
     status, fault, files, hosts = answer(bench, text, given, options)
     ran = bench.run("run", *options, "s.scenario", "outdir", given=given)
     held = held_bytes(path)
-    told = [re.sub(rb" accepted \d+ put \d+ reached \d+ stored \d+ missed \d+ (exact|atleast) given \d+ unclaimed \d+$", b"", line)
-            for line in ran.stdout.splitlines()]
+    told = [COUNTS.sub(b"", line) for line in ran.stdout.splitlines()]
     if fault:
         met.add(fault.split(": ", 1)[1] if fault.startswith("line ") else fault)
         wanted = (status, refusal(fault), [], {file: b"" for file in files})
@@ -134,9 +137,11 @@ def cut_texts(bench, met):
     """The text is cut at each byte of each line."""
     for size in range(len(BASE) + 1):
         runs(bench, met, f"cut after {size} bytes", BASE[:size])
-    bench.check("cut: the whole text is valid, and has a line of each kind", answer(bench, BASE)[:2], (0, None))
-    firsts = {line.split()[0] for line in BASE.decode().splitlines() if line.strip()}
-    bench.check("cut: kinds of lines", firsts, set(WORDS) | {"#"})
+    bench.check("cut: the whole text is valid", answer(bench, BASE)[:2], (0, None))
+    bench.check("cut: kinds of lines", {line.split()[0] for line in BASE.decode().splitlines() if line.strip()}, set(WORDS) | {"#"})
+    faulty = [Scenario(BASE[:size]).fault or (0, "") for size in range(len(BASE))]
+    bench.check("cut: only the last line is invalid, and only if it is cut",
+                [size for size, (line, _) in enumerate(faulty) if line not in (0, BASE[:size].count(b"\n") + 1) or line and BASE[:size].endswith(b"\n")], [])
 
 
 def changed_texts(bench, met):
@@ -179,13 +184,13 @@ def pick(drawn, words):
 
 def random_options(drawn):
     words = []
-    for option in drawn.sample(list(OPTIONS)[:6 if drawn.random() < 0.95 else 7], drawn.choice([0, 0, 1, 2, 6])):
-        words += [option, pick(drawn, OPTIONS[option])]
+    for option in drawn.sample(list(HOST_OPTIONS)[:6 if drawn.random() < 0.95 else 7], drawn.choice([0, 0, 1, 2, 6])):
+        words += [option, pick(drawn, HOST_OPTIONS[option])]
     return [word for word in words if word]
 
 
 def random_ticks(drawn, hosts):
-    ticks = (len(hosts) * len(STEPS) + 1, ["go", *(f"{step}:{host}" for step in STEPS for host in hosts), *BAD_TICKS])
+    ticks = (len(hosts) * len(STEPS) + 1, ["go", *(f"{step}:{host}" for step in sorted(STEPS) for host in hosts), *BAD_TICKS])
     return [pick(drawn, ticks) for _ in range(drawn.randrange(5))]
 
 
@@ -214,7 +219,7 @@ def random_line(drawn, kind, hosts):
 def random_lines(bench, met):
     """Lines of words that are drawn from those of scenarios."""
     drawn = random.Random(4)
-    setup, events = ["host", "group", "vlan", "socket"], [kind for kind in WORDS if kind not in ("host", "group", "vlan", "socket")]
+    setup, events = sorted(SETUP), sorted(set(WORDS) - SETUP)
     begin = [line.decode() for line in BASE.split(b"\n")[1:5]]
     for number in range(4000):
         lines = begin[:drawn.choice([0, 2, 2, 2, 3, 3, 4])]
@@ -231,11 +236,11 @@ def each_word(bench, met):
     host = "host f 02:00:00:00:00:06 w"
     lines = [f"host {name} 02:00:00:00:00:06 w\nsocket {name} all\nsocket {name} 0800" for name in NAMES]
     lines += [f"host f {address} w" for address in ADDRESSES[1]] + [f"host f 02:00:00:00:00:06 {wire}" for wire in WIRES[1]]
-    lines += [f"{host} {option} {value}" for option, (_, values) in OPTIONS.items() for value in values]
+    lines += [f"{host} {option} {value}" for option, (_, values) in HOST_OPTIONS.items() for value in values]
     lines += [f"group a {group}" for group in GROUPS[1]] + [f"vlan a {vlan}" for vlan in VLANS[1]] + [f"socket a {word}" for word in ETHER_TYPES[1]]
     lines += [f"send a {frame}" for frame in FRAMES[1]] + [f"recv a {number}" for number in NUMBERS[1]] + [f"feed a {path}" for path in PATHS[1]]
     lines += [f"auto {number} 1" for number in NUMBERS[1]] + [f"auto 1 {number}" for number in NUMBERS[1]]
-    ticks = [*(f"{step}:{name}" for step in STEPS for name in ("a", "b", "f", "")), *BAD_TICKS]
+    ticks = [*(f"{step}:{name}" for step in sorted(STEPS) for name in ("a", "b", "f", "")), *BAD_TICKS]
     lines += [f"tick {tick}" for tick in ticks] + [f"interrupt a / go {tick} go" for tick in ticks]
     for kind in CALLS:
         lines += [f"{kind} a{words} / {tick}" for words in ("", " 00", " 0 0") for tick in ("", "go", "go / go", "/")]
@@ -262,14 +267,10 @@ def full_hosts(bench, met):
 def long_lines(bench, met):
     """Lines of about 8,192 bytes, with each end."""
     begin = b"\n".join(BASE.split(b"\n")[1:3]) + b"\n"
-    makes = [lambda size: b"#".ljust(size, b"x"), lambda size: b" " * size, lambda size: b"send a 00".ljust(size), lambda size: b"send a ".ljust(size, b"0"),
-             lambda size: b"interrupt a /".ljust(size - 1, b"\t") + b" go"[-1:], lambda size: (b"interrupt a / " + b"go " * size)[:size],
-             lambda size: b"fly ".ljust(size, b"y"), lambda size: "# \u00e9".encode().ljust(size, "\u00e9".encode()[:1]), lambda size: b"recv a 1".rjust(size),
-             lambda size: b"recv a ".ljust(size - 1, b"0") + b"1"]
-    for make in makes:
+    for first, fill in LONG_LINES:
         for size in [*range(MOST_BYTES - 3, MOST_BYTES + 4), 2 * MOST_BYTES, 20 * MOST_BYTES]:
             for end in (b"", b"\n", b"\r\n", b"\r", b"\r\r\n", b"\nfly"):
-                runs(bench, met, f"a line of {size} bytes", begin + make(size) + end)
+                runs(bench, met, f"a line of {size} bytes", begin + (first + fill * size).encode()[:size] + end)
 
 
 def other_texts(bench, met):
