@@ -2,8 +2,9 @@
 
    Of the calls of the function in FAIL, the one whose number, counted from 1, is in FAIL_AT fails, with the error EIO, or with EINTR if
    FAIL_INTERRUPTED is set. If FAIL_ON is set, all later calls on the same file fail, too. If a call failed, the library creates a file
-   with the name in FAILED. If SHORT_READ is set, each read transfers at most one byte; if SHORT_WRITE is set, each write. The program
-   calls no other functions for input and output than those below, close, lseek and isatty; failing_devices.py checks that. */
+   with the name in FAILED. If SHORT_READ is set, each read transfers at most one byte; if SHORT_WRITE is set, each write. From the read
+   on whose number is in END_AT, all reads report the end of the file, as if it had been cut after it was opened. The program calls no
+   other functions for input and output than those below, close, lseek and isatty; failing_devices.py checks that. */
 #define _GNU_SOURCE
 #include <dlfcn.h>
 #include <errno.h>
@@ -51,7 +52,12 @@ static size_t most(const char *variable, size_t size)
 
 ssize_t read(int file, void *bytes, size_t size)
 {
+    static long reads;
+    const char *end = getenv("END_AT");
+
     NEXT(ssize_t, int, void *, size_t);
+    if (end && ++reads >= atol(end))
+        return 0;
     return fails(__func__, file) ? -1 : next(file, bytes, most("SHORT_READ", size));
 }
 

@@ -183,6 +183,18 @@ def bytes_apart(failing, job):
             failing.bench.check(f"{job.name}: the read of byte {count + 1} fails", (got, is_failed), (wanted, True))
 
 
+def cut_inputs(failing, job, data):
+    """The input of `pass` ends earlier than when it was opened: the answer is that to the trace of these bytes."""
+    for size in [*places([data[:24], data[24:40]], len(data)), *range(25, len(data), 5)]:
+        if 0 <= size < len(data):
+            read = TraceRead(data[:size])
+            line, frames = read.passed()
+            for old in job.olds:
+                got, _ = job.play(failing, old, SHORT_READ="1", END_AT=str(size + 1))
+                refused = (1, b"", f"nicbench: {read.fault}\n".encode(), [old])
+                failing.bench.check(f"{job.name}: IN ends after {size} bytes", got, refused if read.fault else (0, line, b"", [written(frames)]))
+
+
 def errors(failing):
     """A write to standard error fails: the status is the same, and standard output is empty."""
     failing.bench.put("bad.pcap", b"x" * 24)
@@ -305,5 +317,7 @@ def all_cases(bench):
     for job in small + long:
         for part in [plays, reads, opens, writes, *([bytes_apart] if job in small else [])]:
             part(failing, job)
+    for job in small[:3]:
+        cut_inputs(failing, job, bench.get("small.pcap"))
     errors(failing)
     serves(failing)
