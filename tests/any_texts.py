@@ -6,7 +6,8 @@ import re
 import stat
 
 from bench import FILE_HEADER, packet, trace, written
-from scenario_reader import CALLS, MOST_BYTES, OPEN, READ, SETUP, STEPS, WORDS, Scenario, TraceRead
+from scenario_reader import (CALLS, LONGEST_FRAME, MOST_BYTES, MOST_CAPTURED, OPEN, READ, SETUP, SHORTEST_FRAME, STEPS, WORDS, Scenario,
+                             TraceRead)
 from scenarios import UNCHANGED, folder, refusal
 
 FRAME = "0200000000020200000000010800"
@@ -64,7 +65,7 @@ FRAMES = 6, [FRAME, "00", FRAME.upper(), "f" * 3036, "f" * 3038, "ff" * 4000, "f
 BAD_TICKS = ["go:a", "Go", "txtake", ":a", "tick:a", "rxdata:", "rxdata:a:b", "phy:f", "/"]
 PATHS = 4, [TRACE, f"./{TRACE}", f"outdir/../{TRACE}", "-", "/", "outdir", "missing.pcap", "s.scenario", "bad.pcap", "/dev/null", "\0", "x" * 300]
 HOST_OPTIONS = {
-    "rx": (2, ["8", "16", "12", "264", "65536"]), "tx": (3, ["8", "256", "64", "0", "x"]), "buffers": (2, ["16", "4096", "15", "4097", "65536"]),
+    "rx": (2, ["8", "16", "12", "264", "65536"]), "tx": (3, ["8", "256", "64", "0", "264", "65536"]), "buffers": (2, ["16", "4096", "15", "4097", "65536"]),
     "rxa": (3, ["2", "48", "6", "50", "3", "256"]), "link": (2, ["1", "2000", "2001", "0", "never", "65536", "Never"]), "promiscuous": (1, [""]),
     "other": (1, ["", "8"])}
 # Lines that are made long: how they begin, and what then fills them.
@@ -237,6 +238,8 @@ def each_word(bench, met):
     lines = [f"host {name} 02:00:00:00:00:06 w\nsocket {name} all\nsocket {name} 0800" for name in NAMES]
     lines += [f"host f {address} w" for address in ADDRESSES[1]] + [f"host f 02:00:00:00:00:06 {wire}" for wire in WIRES[1]]
     lines += [f"{host} {option} {value}" for option, (_, values) in HOST_OPTIONS.items() for value in values]
+    lines += [f"{host} {option} {values[0]} {option} {values[0]}" for option, (_, values) in HOST_OPTIONS.items()]
+    lines += [f"{host} rx {rx} buffers {buffers}" for rx in (248, 256, 264) for buffers in (rx - 1, rx, rx + 1)]
     lines += [f"group a {group}" for group in GROUPS[1]] + [f"vlan a {vlan}" for vlan in VLANS[1]] + [f"socket a {word}" for word in ETHER_TYPES[1]]
     lines += [f"send a {frame}" for frame in FRAMES[1]] + [f"recv a {number}" for number in NUMBERS[1]] + [f"feed a {path}" for path in PATHS[1]]
     lines += [f"auto {number} 1" for number in NUMBERS[1]] + [f"auto 1 {number}" for number in NUMBERS[1]]
@@ -304,6 +307,9 @@ def traces(bench):
     drawn = random.Random(6)
     data = trace(packet(bytes.fromhex(FRAME)), packet(bytes(range(70)), time=1))
     met = {passes(bench, "a trace", data)}
+    for length in (0, SHORTEST_FRAME - 1, SHORTEST_FRAME, 59, 60, 61, LONGEST_FRAME, LONGEST_FRAME + 1, MOST_CAPTURED, MOST_CAPTURED + 1):
+        for original in (0, length, length + 1):
+            met.add(passes(bench, f"{length} bytes of {original}", trace(packet(bytes(length), original), packet(bytes(60)))))
     for place in range(len(data)):
         for byte in {0, 1, 4, 0x7F, 0x80, 0xFF, data[place] ^ 1, data[place] + 1 & 0xFF, drawn.randrange(256)} - {data[place]}:
             met.add(passes(bench, f"byte {place} of a trace", data[:place] + bytes([byte]) + data[place + 1:]))
