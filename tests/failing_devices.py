@@ -33,6 +33,10 @@ class Job:
         # the answer of a run without a failure, and the number of bytes that it reads
         self.whole, self.read_bytes = None, 0
 
+    def with_files(self, old):
+        """A name for runs with these contents of the output files."""
+        return f"{self.name}, {'new' if old is None else 'existing'} files"
+
     def refusal(self, fault):
         """What standard error reports. If nothing was written, `run` reports that, too."""
         return f"nicbench: {fault}\n".encode() + (UNCHANGED if self.folders and fault != WRITE else b"")
@@ -63,10 +67,10 @@ class Job:
         for number in range(1, MOST_CALLS):
             got, is_failed = self.play(failing, old, FAIL=function, FAIL_AT=str(number), **environment)
             if not is_failed:
-                failing.bench.check(f"{self.name}: no {function} fails", got, self.whole)
+                failing.bench.check(f"{self.with_files(old)}: no {function} fails", got, self.whole)
                 return
             yield number, got
-        failing.bench.check(f"{self.name}: a run without a failing {function}", False, True)
+        failing.bench.check(f"{self.with_files(old)}: a run without a failing {function}", False, True)
 
 
 def long_trace(lengths):
@@ -119,8 +123,8 @@ def reads(failing, job):
     for old in job.olds:
         number = 0
         for number, got in job.in_turn(failing, "read", old):
-            failing.bench.check(f"{job.name}: read {number} fails", got, (3, b"", job.refusal(READ), [old] * len(job.outputs)))
-        failing.bench.check(f"{job.name}: reads failed", number > len(job.inputs), True)
+            failing.bench.check(f"{job.with_files(old)}: read {number} fails", got, (3, b"", job.refusal(READ), [old] * len(job.outputs)))
+        failing.bench.check(f"{job.with_files(old)}: reads failed", number > len(job.inputs), True)
     old = job.olds[0]
     results = [got == job.whole for _, got in job.in_turn(failing, "read", old, FAIL_INTERRUPTED="1")
                if got in (job.whole, (3, b"", job.refusal(READ), [old] * len(job.outputs)))]
@@ -140,7 +144,7 @@ def opens(failing, job):
         begun = [(job.refusal(WRITE), texts[:place] + untouched[place:]) for place in range(count)]
         for function, answers in [("open", wanted + created), ("statx", wanted + [refused] * job.folders + begun), ("ftruncate", begun)]:
             got = [got for _, got in job.in_turn(failing, function, old)]
-            failing.bench.check(f"{job.name}: each {function} fails", got, [(3, b"", *answer) for answer in answers])
+            failing.bench.check(f"{job.with_files(old)}: each {function} fails", got, [(3, b"", *answer) for answer in answers])
 
 
 def writes(failing, job):
@@ -152,10 +156,10 @@ def writes(failing, job):
                 texts, files = job.whole[3], got[3]
                 done = next((place for place, pair in enumerate(zip(texts, files)) if pair[0] != pair[1]), len(texts))
                 count = sum(map(len, texts[:done])) + len(got[1] if done == len(texts) else files[done] or b"")
-                failing.bench.check(f"{job.name}: write {number} fails, {environment}", got, job.cut(old, count))
-                failing.bench.check(f"{job.name}: write {number} fails: more bytes than before", counts[-1] < count < job.size(), True)
+                failing.bench.check(f"{job.with_files(old)}: write {number} fails, {environment}", got, job.cut(old, count))
+                failing.bench.check(f"{job.with_files(old)}: write {number} fails: more bytes than before", counts[-1] < count < job.size(), True)
                 counts.append(count)
-            failing.bench.check(f"{job.name}: writes failed", (len(counts) > 1 + len(job.outputs), counts[1]), (True, 0))
+            failing.bench.check(f"{job.with_files(old)}: writes failed", (len(counts) > 1 + len(job.outputs), counts[1]), (True, 0))
 
 
 def places(texts, last):
@@ -168,14 +172,14 @@ def bytes_apart(failing, job):
     """One byte at a time: the answer is the same. If a read or a write fails then, exactly the bytes before it went out."""
     for short in SHORT:
         for old in job.olds:
-            failing.bench.check(f"{job.name}: {short}", job.play(failing, old, **short), (job.whole, False))
+            failing.bench.check(f"{job.with_files(old)}: {short}", job.play(failing, old, **short), (job.whole, False))
     size = job.size()
     for count in places([*job.whole[3], job.whole[1]], size):
         for old in job.olds:
             if 0 <= count <= size:
                 got, is_failed = job.play(failing, old, SHORT_WRITE="1", FAIL="write", FAIL_AT=str(count + 1))
                 wanted = (job.cut(old, count), True) if count < size else (job.whole, False)
-                failing.bench.check(f"{job.name}: byte {count + 1} fails", (got, is_failed), wanted)
+                failing.bench.check(f"{job.with_files(old)}: byte {count + 1} fails", (got, is_failed), wanted)
     for count in places([], job.read_bytes):
         if 0 <= count < job.read_bytes:
             got, is_failed = job.play(failing, job.olds[-1], SHORT_READ="1", FAIL="read", FAIL_AT=str(count + 1))
@@ -192,7 +196,7 @@ def cut_inputs(failing, job, data):
             for old in job.olds:
                 got, _ = job.play(failing, old, SHORT_READ="1", END_AT=str(size + 1))
                 refused = (1, b"", f"nicbench: {read.fault}\n".encode(), [old])
-                failing.bench.check(f"{job.name}: IN ends after {size} bytes", got, refused if read.fault else (0, line, b"", [written(frames)]))
+                failing.bench.check(f"{job.with_files(old)}: IN ends after {size} bytes", got, refused if read.fault else (0, line, b"", [written(frames)]))
 
 
 def errors(failing):
