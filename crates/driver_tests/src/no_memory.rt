@@ -7,20 +7,28 @@ use arrayvec::ArrayVec;
 use bus::{Bus, HonestBus};
 use driver::{Handled, SendError};
 use packet_socket::{Host, RecvError, SocketKind};
-use solo_bus::SoloBus;
+use solo_bus::{SoloBus, SoloTick};
 use std::process::Abort;
 
 /// A frame to all hosts.
 const FRAME: [u8; 60] = [0xFF; 60];
 
-/// The host sends a frame, which the adapter puts on the wire. A frame that is too short is refused.
+/// Sends, and asserts the answer.
+fn send(rt: &impl Abort, host: &mut Host, bus: &mut SoloBus, frame: &[u8], wanted: Result<(), SendError>) {
+    assert!(rt; host.layout().size() <= bus.size());
+    let sent = host.send(bus, frame);
+    assert_eq!(rt; sent, wanted);
+}
+
+/// The host sends as many frames as its ring has room for, and the adapter puts one on the wire. Frames that are too
+/// short or too long are refused, and so is one more.
 fn sends(rt: &impl Abort, host: &mut Host, bus: &mut SoloBus) {
-    assert!(rt; host.layout().size() <= bus.size());
-    let refused = host.send(bus, &[0xFF; 13]);
-    assert_eq!(rt; refused, Err(SendError::TooShort));
-    assert!(rt; host.layout().size() <= bus.size());
-    let sent = host.send(bus, &FRAME);
-    assert_eq!(rt; sent, Ok(()));
+    send(rt, host, bus, &[0xFF; 13], Err(SendError::TooShort));
+    send(rt, host, bus, &[0xFF; 1519], Err(SendError::TooLong));
+    for _ in 0..7 {
+        send(rt, host, bus, &FRAME, Ok(()));
+    }
+    send(rt, host, bus, &FRAME, Err(SendError::RingFull));
     assert!(rt; bus.step(StepKind::TxTake) == Outcome::Took);
     assert!(rt; bus.step(StepKind::TxPut) == Outcome::Put(()));
     assert!(rt; bus.take_put().is_some());
@@ -32,8 +40,11 @@ fn receives(rt: &impl Abort, host: &mut Host, bus: &mut SoloBus) {
     bus.step(StepKind::RxData);
     bus.step(StepKind::RxDone);
     assert!(rt; bus.line());
-    assert!(rt; host.layout().size() <= bus.size());
-    assert!(rt; host.interrupt(bus) == Handled::Handled { taken: 1 });
+    for wanted in [Handled::Handled { taken: 1 }, Handled::NotMine] {
+        assert!(rt; host.layout().size() <= bus.size());
+        let handled = host.interrupt(bus);
+        assert_eq!(rt; handled, wanted);
+    }
     assert_eq!(rt; (host.waiting(0), host.unclaimed(), host.missed()), (1, 0, (0, true)));
     let mut bytes = [0; 1518];
     for wanted in [Ok(60), Err(RecvError::Empty)] {
@@ -56,4 +67,11 @@ fn calls_of_a_host_take_no_memory(rt: HostRuntime) {
     };
     sends(&rt, &mut host, &mut bus);
     receives(&rt, &mut host, &mut bus);
+    assert_eq!(rt; bus.waiting(), 0);
+    bus.play(&[SoloTick::Go, SoloTick::Step(StepKind::PhyTick)]);
+    assert_eq!(rt; bus.waiting(), 2);
+    bus.finish();
+    assert_eq!(rt; bus.waiting(), 0);
+    let (adapter, memory) = bus.into_parts();
+    assert!(rt; memory.size() == 22_528 && !adapter.line());
 }
