@@ -2,6 +2,7 @@
 
 import os
 import re
+import select
 import signal
 import subprocess
 import threading
@@ -40,11 +41,16 @@ def end_of(process):
     return process.returncode, errors
 
 
+def read_some(end, most):
+    """The next bytes of a pipe; none at its end, or if none come."""
+    return os.read(end, most) if select.select([end], [], [], LIMIT)[0] else b""
+
+
 def read_exactly(end, size):
     """This number of bytes of a pipe, or fewer at its end."""
     got = b""
     while len(got) < size:
-        more = os.read(end, size - len(got))
+        more = read_some(end, size - len(got))
         if not more:
             break
         got += more
@@ -209,7 +215,7 @@ def is_answered(talk, asked, told, count):
     writer.start()
     twice, place, left = told + told, 0, count * len(told)
     while left:
-        got = os.read(talk.answers, min(left, 1 << 16))
+        got = read_some(talk.answers, min(left, 1 << 16))
         if not got or twice[place:place + len(got)] != got:
             talk.process.kill()
             break
@@ -237,28 +243,32 @@ def many_requests(server):
 HEADING = "## Faults published of emulated e1000 adapters"
 
 
-def shown_sessions(text):
-    """The sessions of a page: the words of the command, the requests, and the lines that answer them.
-
-    A session is a command that prints requests into the server, with the answers below it; or requests with the answers next to them."""
-    for shown in re.findall(r"^```\n(.*?)^```$", text, re.M | re.S):
-        command = re.match(r"\$ printf '(.*)' \| \./nicbench serve(.*)\n", shown)
-        if command:
-            yield command[2].split(), command[1].replace("\\n", "\n").encode(), shown[command.end():].encode()
-            continue
-        begun = re.match(r"\$ \./nicbench serve(.*)\n", shown)
-        rows = [re.fullmatch(r"(\S.*?)?(?:  +(\S.*))?", row) for row in shown.splitlines()[1 if begun else 0:]]
-        asked, told = (lines(row[place] for row in rows if row[place]) for place in (1, 2))
-        yield begun[1].split() if begun else [], asked, told
+def plays_shown(server, shown):
+    """Plays a session of a page: a command that prints requests into the server, with the output below it, or requests with the answers next to them."""
+    begun = re.match(r"\$ ((?:printf .*? \| )?)\./nicbench serve([^\n]*)\n", shown, re.S)
+    server.check(f"page: a session begins with a command: {shown[:60]!r}", begun is not None, True)
+    if begun is None:
+        return
+    rest = shown[begun.end():]
+    if begun[1]:
+        ran = subprocess.run(f"{begun[1]}{server.program} serve{begun[2]}", shell=True, capture_output=True, timeout=LIMIT)
+        server.check(f"page: {begun[1][:60]!r}", (ran.returncode, ran.stdout.decode(), ran.stderr), (0, rest, b""))
+        return
+    rows = [re.fullmatch(r"(\S+(?: \S+)*)?(?:  +(\S+(?: \S+)*))?", row) for row in rest.splitlines()]
+    server.check(f"page: a row has a request, an answer or both: {rest[:60]!r}", None not in rows, True)
+    if None in rows:
+        return
+    asked, told = (lines(row[place] for row in rows if row[place]) for place in (1, 2))
+    server.answers(f"page: {asked[:60]!r}", asked, told, *begun[2].split())
 
 
 def page(server):
-    """The sessions of the second half of docs/FAULTS.md have the answers on the page."""
+    """The sessions of the second half of docs/FAULTS.md have the output on the page."""
     text = read_page("docs", "FAULTS.md").partition(HEADING)[2].partition("\n## ")[0]
-    sessions = list(shown_sessions(text))
-    server.check("page: there are sessions", len(sessions) > 15, True)
-    for words, asked, told in sessions:
-        server.answers(f"page: {asked[:60]!r}", asked, told, *words)
+    sessions = re.findall(r"^```\n(.*?)^```$", text, re.M | re.S)
+    server.check("page: there are sessions", len(sessions) > 20, True)
+    for shown in sessions:
+        plays_shown(server, shown)
 
 
 def all_cases(server):
