@@ -95,6 +95,19 @@ class Talk:
         return read_exactly(self.answers, len(told)) == told
 
 
+def byte_by_byte(server):
+    """The client writes one byte at a time: each answer comes after the LF of its request."""
+    talk = Talk(server)
+    for line, told in ACTIVE:
+        for byte in line:
+            os.write(talk.asks, bytes([byte]))
+        early = select.select([talk.answers], [], [], 0)[0]
+        server.check(f"byte by byte: {line!r:.60}", (early, talk.ask(b"", told)), ([], True))
+    os.close(talk.asks)
+    server.check("byte by byte: the end", (read_exactly(talk.answers, 1), *end_of(talk.process)), (b"", *ENDED))
+    os.close(talk.answers)
+
+
 def closes_between(server):
     """The client closes its ends after each answered request: both, or first the end of answers and then it sends more, or a part of a line."""
     for count in range(len(ACTIVE) + 1):
@@ -271,5 +284,5 @@ def page(server):
 
 
 def all_cases(server):
-    for part in [hostile_lines.all_cases, closes_answers, closes_between, kills, many_requests, page]:
+    for part in [hostile_lines.all_cases, byte_by_byte, closes_answers, closes_between, kills, many_requests, page]:
         part(server)
