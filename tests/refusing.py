@@ -1,4 +1,4 @@
-"""Makes allocations of a program fail; used by tests/run and tests/refused_allocations."""
+"""Makes allocations of a program fail; used by tests/run, tests/refused_allocations and tests/failing.py."""
 
 import os
 import shutil
@@ -17,11 +17,11 @@ def allocators_of(program):
         return set(file.read().split(b"\0")) & ALLOCATORS
 
 
-def build(folder):
-    """Compiles refuse.c into the folder: the path of the library to load, or None if there is no C compiler."""
+def build(folder, source=SOURCE):
+    """Compiles refuse.c, or another library, into the folder: the path of the library to load, or None if there is no C compiler."""
     cc = next((path for path in map(shutil.which, ["cc", "clang", "gcc"]) if path), None)
     if cc is None:
         return None
-    library = os.path.join(folder, "refuse.so")
-    subprocess.run([cc, "-shared", "-fPIC", "-O1", "-o", library, SOURCE, "-ldl"], check=True)
+    library = os.path.join(folder, os.path.basename(source).replace(".c", ".so"))
+    subprocess.run([cc, "-shared", "-fPIC", "-O1", "-o", library, source, "-ldl"], check=True)
     return library

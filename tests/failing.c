@@ -1,0 +1,92 @@
+/* A library that is loaded before the C library. It makes calls of functions for input and output fail, or transfer one byte.
+
+   Of the calls of the function in FAIL, the one whose number, counted from 1, is in FAIL_AT fails, with the error EIO, or with EINTR if
+   FAIL_INTERRUPTED is set. If FAIL_ON is set, all later calls on the same file fail, too. If a call failed, the library creates a file
+   with the name in FAILED. If SHORT_READ is set, each read transfers at most one byte; if SHORT_WRITE is set, each write. From the read
+   on whose number is in END_AT, all reads report the end of the file, as if it had been cut after it was opened. The program calls no
+   other functions for input and output than those below, close, lseek and isatty; failing_devices.py checks that. */
+#define _GNU_SOURCE
+#include <dlfcn.h>
+#include <errno.h>
+#include <fcntl.h>
+#include <stdarg.h>
+#include <stdlib.h>
+#include <string.h>
+#include <sys/stat.h>
+#include <unistd.h>
+
+/* Defines `next`, the function of the C library with the name of the one that it is used in. */
+#define NEXT(type, ...) \
+    static type (*next)(__VA_ARGS__); \
+    if (!next) \
+        next = dlsym(RTLD_NEXT, __func__)
+
+/* Whether this call of a function fails. `file` is the number of its open file, or -1. */
+static int fails(const char *function, int file)
+{
+    static long left = -1;
+    static int has_failed, failed;
+    const char *chosen = getenv("FAIL"), *number = getenv("FAIL_AT"), *sign = getenv("FAILED");
+
+    if (!chosen || !number || strcmp(chosen, function))
+        return 0;
+    if (left < 0)
+        left = atol(number);
+    if (left != 0 && --left == 0) {
+        has_failed = 1;
+        failed = file;
+    } else if (!has_failed || !getenv("FAIL_ON") || file != failed) {
+        return 0;
+    }
+    if (sign)
+        close(creat(sign, 0600));
+    errno = getenv("FAIL_INTERRUPTED") ? EINTR : EIO;
+    return 1;
+}
+
+/* How many bytes a call transfers at most. */
+static size_t most(const char *variable, size_t size)
+{
+    return size && getenv(variable) ? 1 : size;
+}
+
+ssize_t read(int file, void *bytes, size_t size)
+{
+    static long reads;
+    const char *end = getenv("END_AT");
+
+    NEXT(ssize_t, int, void *, size_t);
+    if (end && ++reads >= atol(end))
+        return 0;
+    return fails(__func__, file) ? -1 : next(file, bytes, most("SHORT_READ", size));
+}
+
+ssize_t write(int file, const void *bytes, size_t size)
+{
+    NEXT(ssize_t, int, const void *, size_t);
+    return fails(__func__, file) ? -1 : next(file, bytes, most("SHORT_WRITE", size));
+}
+
+int open(const char *path, int flags, ...)
+{
+    va_list rest;
+    mode_t mode;
+
+    NEXT(int, const char *, int, ...);
+    va_start(rest, flags);
+    mode = flags & O_CREAT ? va_arg(rest, mode_t) : 0;
+    va_end(rest);
+    return fails(__func__, -1) ? -1 : next(path, flags, mode);
+}
+
+int statx(int folder, const char *restrict path, int flags, unsigned mask, struct statx *restrict answer)
+{
+    NEXT(int, int, const char *, int, unsigned, struct statx *);
+    return fails(__func__, folder) ? -1 : next(folder, path, flags, mask, answer);
+}
+
+int ftruncate(int file, off_t length)
+{
+    NEXT(int, int, off_t);
+    return fails(__func__, file) ? -1 : next(file, length);
+}

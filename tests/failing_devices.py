@@ -1,0 +1,323 @@
+"""Files, standard input and standard output that fail, or that transfer one byte at a time."""
+
+import os
+
+from bench import FILE_HEADER, packet, trace, written
+from failing import FAILING, OTHERS, Failing, functions_of
+from scenario_reader import TraceRead
+from scenarios import EXAMPLE_FRAME, OF_D, TRAFFIC, TWO_WIRES, UNCHANGED
+
+READ, WRITE, OPEN = "E66 Read", "E67 Write", "E68 Open"
+# The contents of output files that existed before.
+OLD = b"old" * 1000
+# The most calls of a function in a run.
+MOST_CALLS = 10_000
+# The files that the scenario of `run` writes in OUTDIR, in order.
+SOCKET_FILES = ["outdir/b.0.pcap", "outdir/b.1.pcap", "outdir/d.0.pcap"]
+WIRE_FILES = ["outdir/w.pcap", "outdir/v.pcap"]
+SCENARIO = TWO_WIRES.replace(b"socket d", b"socket b 88b5\nsocket d") + TRAFFIC + b"feed a %s\nauto 300 1\ndrain b\ndrain d\n"
+SHORT = [{"SHORT_READ": "1"}, {"SHORT_WRITE": "1"}, {"SHORT_READ": "1", "SHORT_WRITE": "1"}]
+# What happens when a read is interrupted: a trace file fails, other inputs are read again. SOME: the first input is read again, the last one fails.
+FAILS, GOES_ON, SOME = range(3)
+
+
+class Job:
+    """A command, the files that it reads and those that it writes, in order, and the bytes of its standard input.
+
+    Before each run all files that it writes have the contents `old`, one of `olds`; None: there are no such files.
+    """
+
+    def __init__(self, name, words, inputs, outputs=(), given=b"", interrupted=FAILS, olds=(None, OLD)):
+        self.name, self.words, self.inputs, self.outputs, self.given, self.interrupted = name, words, inputs, list(outputs), given, interrupted
+        self.folders, self.olds = 1 if words[0] == "run" else 0, olds
+        # the answer of a run without a failure, and the number of bytes that it reads
+        self.whole, self.read_bytes = None, 0
+
+    def refusal(self, fault):
+        """What standard error reports. If nothing was written, `run` reports that, too."""
+        return f"nicbench: {fault}\n".encode() + (UNCHANGED if self.folders and fault != WRITE else b"")
+
+    def play(self, failing, old, **environment):
+        """Runs the command: the status, both outputs and the files; and whether a call failed."""
+        for file in self.outputs:
+            failing.bench.remove(file)
+            if old is not None:
+                failing.bench.put(file, old)
+        *got, is_failed = failing.run(self.words, self.given, **environment)
+        return (*got, [failing.bench.get(file) for file in self.outputs]), is_failed
+
+    def cut(self, old, count):
+        """The answer after this number of bytes was written, if then a write failed. The next file has lost its old contents."""
+        texts, files = self.whole[3], []
+        for text in texts:
+            files.append(text[:count] if count >= 0 else old or b"")
+            count -= len(text)
+        return 3, self.whole[1][:max(count, 0)], self.refusal(WRITE), files
+
+    def size(self):
+        """How many bytes it writes."""
+        return sum(map(len, self.whole[3])) + len(self.whole[1])
+
+    def in_turn(self, failing, function, old, **environment):
+        """Makes each call of a function fail in turn: pairs of a number, from 1, and the answer. At last a run without a failure is checked."""
+        for number in range(1, MOST_CALLS):
+            got, is_failed = self.play(failing, old, FAIL=function, FAIL_AT=str(number), **environment)
+            if not is_failed:
+                failing.bench.check(f"{self.name}: no {function} fails", got, self.whole)
+                return
+            yield number, got
+        failing.bench.check(f"{self.name}: a run without a failing {function}", False, True)
+
+
+def long_trace(lengths):
+    """A trace of different frames with these lengths."""
+    return trace(*(packet(bytes((n * 7 + k * k) % 251 for k in range(length))) for n, length in enumerate(lengths)))
+
+
+def jobs(bench):
+    """The commands, with files for them."""
+    small = trace(packet(EXAMPLE_FRAME), packet(OF_D), packet(bytes(13)), packet(EXAMPLE_FRAME, 100), packet(EXAMPLE_FRAME + bytes(range(200)))) + b"x"
+    big, wide = long_trace([1518, 1517] * 250), long_trace([60_000] * 12)
+    scenario, from_input = SCENARIO % b"small.pcap", SCENARIO % b"-"
+    for name, data in [("small.pcap", small), ("same.pcap", small), ("big.pcap", big), ("wide.pcap", wide), ("s.scenario", scenario),
+                       ("in.scenario", from_input)]:
+        bench.put(name, data)
+    os.makedirs(bench.path("outdir"), exist_ok=True)
+    out, run = ["out.pcap"], ["s.scenario", "small.pcap"]
+    return [
+        Job("pass", ["pass", "small.pcap", "out.pcap"], run[1:], out),
+        Job("pass, OUT is IN", ["pass", "same.pcap", "same.pcap"], ["same.pcap"], ["same.pcap"], olds=(small,)),
+        Job("pass -", ["pass", "-", "out.pcap"], [], out, small, GOES_ON),
+        Job("show", ["show", "small.pcap"], run[1:]),
+        Job("show -", ["show", "-"], [], [], small, GOES_ON),
+        Job("run", ["run", "s.scenario", "outdir"], run, SOCKET_FILES, b"", SOME),
+        Job("run --wires", ["run", "--wires", "s.scenario", "outdir"], run, SOCKET_FILES + WIRE_FILES, b"", SOME),
+        Job("run -", ["run", "--wires", "-", "outdir"], run[1:], SOCKET_FILES + WIRE_FILES, scenario, SOME),
+        Job("run, a trace from -", ["run", "in.scenario", "outdir"], ["in.scenario"], SOCKET_FILES, small, GOES_ON),
+    ], [
+        Job("pass, a long trace", ["pass", "big.pcap", "out.pcap"], ["big.pcap"], out),
+        Job("pass -, a long trace", ["pass", "-", "out.pcap"], [], out, big, GOES_ON),
+        Job("show, a long trace", ["show", "wide.pcap"], ["wide.pcap"]),
+    ]
+
+
+def plays(failing, job):
+    """Runs the command without a failure. Other tests check the contents of the files of `run`."""
+    read = job.given + b"".join(failing.bench.get(name) for name in job.inputs)
+    job.read_bytes = len(read)
+    job.whole, _ = job.play(failing, job.olds[0])
+    status, out, err, files = job.whole
+    failing.bench.check(f"{job.name}: without a failure", (status, err), (0, b""))
+    failing.bench.check(f"{job.name}: its files", [file and file[:len(FILE_HEADER)] for file in files], [FILE_HEADER] * len(files))
+    if job.words[0] == "pass":
+        line, frames = TraceRead(read).passed()
+        failing.bench.check(f"{job.name}: what is written", (out, files), (line, [written(frames)]))
+
+
+def reads(failing, job):
+    """Each read fails in turn: no byte is written."""
+    for old in job.olds:
+        number = 0
+        for number, got in job.in_turn(failing, "read", old):
+            failing.bench.check(f"{job.name}: read {number} fails", got, (3, b"", job.refusal(READ), [old] * len(job.outputs)))
+        failing.bench.check(f"{job.name}: reads failed", number > len(job.inputs), True)
+    old = job.olds[0]
+    results = [got == job.whole for _, got in job.in_turn(failing, "read", old, FAIL_INTERRUPTED="1")
+               if got in (job.whole, (3, b"", job.refusal(READ), [old] * len(job.outputs)))]
+    wanted = {FAILS: [False], GOES_ON: [True], SOME: [True, False]}[job.interrupted]
+    failing.bench.check(f"{job.name}: a read is interrupted", [good for n, good in enumerate(results) if n == 0 or good != results[n - 1]], wanted)
+    failing.bench.check(f"{job.name}: each interrupted read", len(results), number)
+
+
+def opens(failing, job):
+    """Each call of open, statx and ftruncate fails in turn."""
+    count, texts = len(job.outputs), job.whole[3]
+    for old in job.olds:
+        untouched = [old or b""] * count
+        refused = (job.refusal(OPEN), [old] * count)
+        wanted = [refused] * len(job.inputs)
+        created = [(job.refusal(OPEN), untouched[:place] + [old] * (count - place)) for place in range(count)]
+        begun = [(job.refusal(WRITE), texts[:place] + untouched[place:]) for place in range(count)]
+        for function, answers in [("open", wanted + created), ("statx", wanted + [refused] * job.folders + begun), ("ftruncate", begun)]:
+            got = [got for _, got in job.in_turn(failing, function, old)]
+            failing.bench.check(f"{job.name}: each {function} fails", got, [(3, b"", *answer) for answer in answers])
+
+
+def writes(failing, job):
+    """Each write fails in turn: the bytes before it were written, and no other ones."""
+    for environment in ({}, {"FAIL_ON": "1"}, {"FAIL_INTERRUPTED": "1"}):
+        for old in job.olds:
+            counts = [-1]
+            for number, got in job.in_turn(failing, "write", old, **environment):
+                texts, files = job.whole[3], got[3]
+                done = next((place for place, pair in enumerate(zip(texts, files)) if pair[0] != pair[1]), len(texts))
+                count = sum(map(len, texts[:done])) + len(got[1] if done == len(texts) else files[done] or b"")
+                failing.bench.check(f"{job.name}: write {number} fails, {environment}", got, job.cut(old, count))
+                failing.bench.check(f"{job.name}: write {number} fails: more bytes than before", counts[-1] < count < job.size(), True)
+                counts.append(count)
+            failing.bench.check(f"{job.name}: writes failed", (len(counts) > 1 + len(job.outputs), counts[1]), (True, 0))
+
+
+def places(texts, last):
+    """Numbers of bytes: before and after each boundary of these texts, and some others up to the last."""
+    ends = [sum(map(len, texts[:place])) for place in range(len(texts) + 1)]
+    return sorted({place for end in ends for place in (end - 1, end, end + 1)} | {last * part // 9 for part in range(10)})
+
+
+def bytes_apart(failing, job):
+    """One byte at a time: the answer is the same. If a read or a write fails then, exactly the bytes before it went out."""
+    for short in SHORT:
+        for old in job.olds:
+            failing.bench.check(f"{job.name}: {short}", job.play(failing, old, **short), (job.whole, False))
+    size = job.size()
+    for count in places([*job.whole[3], job.whole[1]], size):
+        for old in job.olds:
+            if 0 <= count <= size:
+                got, is_failed = job.play(failing, old, SHORT_WRITE="1", FAIL="write", FAIL_AT=str(count + 1))
+                wanted = (job.cut(old, count), True) if count < size else (job.whole, False)
+                failing.bench.check(f"{job.name}: byte {count + 1} fails", (got, is_failed), wanted)
+    for count in places([], job.read_bytes):
+        if 0 <= count < job.read_bytes:
+            got, is_failed = job.play(failing, job.olds[-1], SHORT_READ="1", FAIL="read", FAIL_AT=str(count + 1))
+            wanted = (3, b"", job.refusal(READ), [job.olds[-1]] * len(job.outputs))
+            failing.bench.check(f"{job.name}: the read of byte {count + 1} fails", (got, is_failed), (wanted, True))
+
+
+def cut_inputs(failing, job, data):
+    """The input of `pass` ends earlier than when it was opened: the answer is that to the trace of these bytes."""
+    for size in [*places([data[:24], data[24:40]], len(data)), *range(25, len(data), 5)]:
+        if 0 <= size < len(data):
+            read = TraceRead(data[:size])
+            line, frames = read.passed()
+            for old in job.olds:
+                got, _ = job.play(failing, old, SHORT_READ="1", END_AT=str(size + 1))
+                refused = (1, b"", f"nicbench: {read.fault}\n".encode(), [old])
+                failing.bench.check(f"{job.name}: IN ends after {size} bytes", got, refused if read.fault else (0, line, b"", [written(frames)]))
+
+
+def errors(failing):
+    """A write to standard error fails: the status is the same, and standard output is empty."""
+    failing.bench.put("bad.pcap", b"x" * 24)
+    failing.bench.put("bad.scenario", b"fly\n")
+    failing.bench.put("plan.scenario", b"host a 02:00:00:00:00:01 w\n")
+    for status, *words in [(1, "pass", "bad.pcap", "none.pcap"), (1, "show", "bad.pcap"), (1, "run", "bad.scenario", "outdir"),
+                           (1, "run", "plan.scenario", "outdir"), (2,), (2, "--help"), (2, "--version"), (2, "run", "a"),
+                           (2, "pass", "--vlan", "x", "a", "b"), (2, "serve", "a"), (3, "pass", "missing", "none.pcap"), (3, "run", "outdir", "outdir"),
+                           (4, "serve", "--memory", "18446744073709551615")]:
+        *whole, _ = failing.run(words)
+        failing.bench.check(f"errors: {words}", (whole[0], whole[1], whole[2] != b""), (status, b"", True))
+        lines = [whole[2]] if status == 2 else whole[2].splitlines(True)
+        for short in ({}, {"SHORT_WRITE": "1"}):
+            failing.bench.check(f"errors: {words} {short}", failing.run(words, **short), (*whole, False))
+            errors_in_turn(failing, words, status, lines, short)
+
+
+def errors_in_turn(failing, words, status, lines, short):
+    """A write to standard error fails: each line but one is whole, and of that one the beginning may be there."""
+    size = sum(map(len, lines))
+    for number in [place + 1 for place in places(lines, size) if place >= 0] if short else range(1, MOST_CALLS):
+        got, out, text, is_failed = failing.run(words, FAIL="write", FAIL_AT=str(number), **short)
+        if not is_failed:
+            break
+        possible = {b"".join([*lines[:place], line[:count], *lines[place + 1:]]) for place, line in enumerate(lines) for count in range(len(line))}
+        failing.bench.check(f"errors: {words} {short}: write {number} fails", (got, out, text in possible), (status, b"", True))
+    failing.bench.check(f"errors: {words} {short}: writes failed", number > 1, True)
+
+
+SENT = "020000000009020000000001080001020304"
+STEPS = ["txtake", "txput", "rxdata", "rxdone", "eeprom", "phy"]
+ZERO = "OK 0x" + 16 * "0"
+# Requests of each kind, each with the lines up to its answer.
+TALK = [
+    ("writel 0xFEB000D0 0x80", "OK"), ("writel 0xFEB000C8 0x80", "IRQ raise 0\nOK"), ("line", "OK 0x0000000000000001"),
+    ("readl 0xFEB000C0", "IRQ lower 0\nOK 0x0000000000000080"), ("write 0x1000 9000 0x" + 9000 * "5a", "OK"), ("read 0x1000 9000", "OK 0x" + 9000 * "5a"),
+    ("memset 0 65536 0", "OK"), ("log on", "OK"), ("read 0 2", "# read 0 2\nOK 0x0000"), ("step phy", "# step phy -> nothing\nOK nothing"),
+    ("arrive 00", "# arrive 00\nOK off"), ("settle", "".join(f"# step {step} -> nothing\n" for step in STEPS) + ZERO), ("log off", "OK"),
+    ("interleave 0", "OK"), ("endianness", "OK little"), ("", "FAIL unknown"), ("fly", "FAIL unknown"), ("readl", "ERR count"), ("readb x", "ERR value"),
+    ("read 0 65537", "ERR size"), ("readb 0x100000", "ERR address"), (f"write 0x800 18 0x{SENT}", "OK"),
+    ("write 0 16 0x00080000000000001200000900000000", "OK"), ("writel 0xFEB03808 128", "OK"), ("writel 0xFEB00400 0xA", "OK"), ("writel 0xFEB03818 1", "OK"),
+    ("step txtake", "OK took"), ("step txput", f"frame {SENT.ljust(120, '0')}\nOK put"), ("readw 0xFFFFE", ZERO)]
+# The last line has no LF.
+REQUESTS = "\n".join(request for request, _ in TALK).encode()
+
+
+def answers(count):
+    """The lines up to the answers to the first requests."""
+    return "".join(f"{told}\n" for _, told in TALK[:count]).encode()
+
+
+def answered(size):
+    """The answers to the lines that end in the first bytes of the input."""
+    return answers(REQUESTS[:size].count(b"\n"))
+
+
+def server_reads(failing):
+    """Each read of standard input fails in turn: requests whose lines were read are answered. An interrupted read is tried again."""
+    bench, error, possible = failing.bench, b"nicbench: E66 Read\n", [answers(count) for count in range(len(TALK) + 1)]
+    counts = []
+    for number in range(1, MOST_CALLS):
+        *got, is_failed = failing.run(["serve"], REQUESTS, FAIL="read", FAIL_AT=str(number))
+        if not is_failed:
+            break
+        bench.check(f"serve: read {number} fails", (got[0], got[1] in possible, got[2]), (3, True, error))
+        counts.append(len(got[1]))
+        bench.check(f"serve: read {number} is interrupted", failing.run(["serve"], REQUESTS, FAIL="read", FAIL_AT=str(number), FAIL_INTERRUPTED="1"),
+                    (0, possible[-1], b"", True))
+    bench.check("serve: reads failed", (len(counts) > 3, counts[:1], counts), (True, [0], sorted(counts)))
+    # the last line ends with the input; a read after that fails, too
+    size = len(REQUESTS)
+    for place in places([request.encode() + b"\n" for request, _ in TALK], size):
+        if 0 <= place <= size + 1:
+            wanted = answered(place) if place <= size else possible[-1]
+            bench.check(f"serve: the read of byte {place + 1} fails", failing.run(["serve"], REQUESTS, FAIL="read", FAIL_AT=str(place + 1), SHORT_READ="1"),
+                        (3, wanted, error, True))
+
+
+def server_writes(failing):
+    """Each write of an answer fails in turn, also if the server writes again when it ends."""
+    bench, error, whole = failing.bench, b"nicbench: E67 Write\n", answers(len(TALK))
+    lengths = []
+    for number in range(1, MOST_CALLS):
+        status, out, err, is_failed = failing.run(["serve"], REQUESTS, FAIL="write", FAIL_AT=str(number), FAIL_ON="1")
+        if not is_failed:
+            break
+        bench.check(f"serve: all writes fail from {number} on", (status, whole.startswith(out), err), (3, True, error))
+        lengths.append(len(out))
+        status, again, err, _ = failing.run(["serve"], REQUESTS, FAIL="write", FAIL_AT=str(number))
+        bench.check(f"serve: write {number} fails", (status, again.startswith(out) and whole.startswith(again), err), (3, True, error))
+        bench.check(f"serve: write {number} is interrupted", failing.run(["serve"], REQUESTS, FAIL="write", FAIL_AT=str(number), FAIL_INTERRUPTED="1"),
+                    (0, whole, b"", True))
+    bench.check("serve: writes failed", (lengths[:1], len(lengths) >= len(TALK), len(set(lengths)), lengths), ([0], True, len(lengths), sorted(lengths)))
+    told = [answers(count)[len(answers(count - 1)):] for count in range(1, len(TALK) + 1)]
+    for place in places(told, len(whole)):
+        if 0 <= place < len(whole):
+            asked = {"FAIL": "write", "FAIL_AT": str(place + 1), "SHORT_WRITE": "1"}
+            bench.check(f"serve: all bytes fail from {place + 1} on", failing.run(["serve"], REQUESTS, **asked, FAIL_ON="1"), (3, whole[:place], error, True))
+            status, out, err, _ = failing.run(["serve"], REQUESTS, **asked)
+            end = next(len(answers(count)) for count in range(len(TALK) + 1) if len(answers(count)) > place)
+            bench.check(f"serve: byte {place + 1} fails", (status, whole.startswith(out), place <= len(out) <= end, err), (3, True, True, error))
+
+
+def serves(failing):
+    whole = (0, answers(len(TALK)), b"", False)
+    failing.bench.check("serve: without a failure", failing.run(["serve"], REQUESTS), whole)
+    for short in SHORT:
+        failing.bench.check(f"serve: {short}", failing.run(["serve"], REQUESTS, **short), whole)
+    server_reads(failing)
+    server_writes(failing)
+
+
+def all_cases(bench):
+    failing = Failing(bench)
+    bench.check("devices: a C compiler is here", failing.library is not None, True)
+    if failing.library is None:
+        return
+    bench.check("devices: the program names the functions that fail, and no others", functions_of(bench.program), FAILING | OTHERS)
+    small, long = jobs(bench)
+    for job in small + long:
+        for part in [plays, reads, opens, writes, *([bytes_apart] if job in small else [])]:
+            part(failing, job)
+    for job in small[:3]:
+        cut_inputs(failing, job, bench.get("small.pcap"))
+    errors(failing)
+    serves(failing)
