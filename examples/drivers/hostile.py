@@ -64,7 +64,6 @@ class Watched(Adapter):
         self.wait_for(request)
         try:
             answer = super().answer(request)
-            self.awaited = None
             frames, self.wire = self.wire, []
             if frames and not request.startswith("step "):
                 raise Found(f"{request:.60}: there is {shown(frames)} on the wire")
@@ -73,16 +72,12 @@ class Watched(Adapter):
             raise Found(f"{request:.60}: the answer has an invalid form: {error}") from None
         return answer
 
-    def log_of_run(self):
-        """Returns the log, and the last request if it has no answer."""
-        return self.told + ([] if self.awaited is None else [f"# {self.awaited} -> not answered"])
-
     def end(self):
         """Ends the input. This must end the server, with exit status 0."""
         try:
             rest, _ = self.process.communicate(timeout=self.limit)
         except subprocess.TimeoutExpired:
-            raise Late(f"the server is running {self.limit} s after the end of its input") from None
+            raise Found(f"the server is still running {self.limit} s after the end of its input") from None
         if rest or self.process.returncode != 0:
             raise Found(f"the server ends with status {self.process.returncode} and the output {rest!r}")
 
@@ -102,8 +97,10 @@ def run(options, seed, counts):
             left -= worst.phase(left)
             adapter.ask_checked(worst.take())
         adapter.end()
-    except (Found, Late, Refused) as error:
-        return str(error), adapter.log_of_run()
+    except Found as error:
+        return str(error), adapter.told
+    except (Late, Refused) as error:
+        return str(error), [*adapter.told, f"# {adapter.awaited} -> not answered"]
     finally:
         adapter.kill()
         counts.update(witness.counts)

@@ -102,6 +102,8 @@ class Witness:
 
     def written(self, register, value):
         self.counts["writes"] += 1
+        self.counts["writes with a piece in progress"] += self.piece is not None
+        self.counts["writes with a frame to be put"] += len(self.taken) > 0
         if register == CTRL and value & RST:
             self.counts["resets with a piece in progress"] += self.piece is not None
             self.counts["resets with a frame to be put"] += len(self.taken) > 0
@@ -111,10 +113,10 @@ class Witness:
 
     def arrived(self, frame, fate):
         if fate not in FATES:
-            raise Found(f"a frame's fate is `{fate}`")
+            raise Found(f"arrive: the fate is {fate}")
         if fate == "stored":
             if not SHORTEST <= len(frame) <= LONGEST:
-                raise Found(f"a frame of {len(frame)} bytes is stored")
+                raise Found(f"arrive: a frame of {len(frame)} bytes is stored")
             self.waiting.append(frame)
         self.counts[f"arrive {fate}"] += 1
 

@@ -25,7 +25,7 @@ WORD = 0xFFFFFFFF
 
 TO_US, TO_ALL, TO_GROUP, SOURCE = "020000000001", "ffffffffffff", "01005e000001", "020000000009"
 VLAN_TAG, INTERNET = "81000005", "0800"
-# Each kind of step, as many times as it is in this list of every 24 steps
+# The kinds of steps, each as often as it is drawn in 24 steps on average
 STEPS = ["rxdata"] * 7 + ["rxdone"] * 5 + ["txtake"] * 5 + ["txput"] * 5 + ["eeprom", "phy"]
 # The number of acts before a step, and the least and the most steps between two initializations
 ACTS, LEAST_STEPS, MOST_STEPS = [0, 0, 0, 1, 1, 2, 3], 8, 44
