@@ -20,13 +20,13 @@ LIMIT = 600
 # Enough steps for 10,000 register writes.
 SEEDS, STEPS, WRITES = range(1, 11), 11_500, 10_000
 SIZE = 8192
-REGISTERS, CTRL, RCTL, RDBAL, RDBAH, RDH, TDH = 0xFEB00000, 0x0000, 0x0100, 0x2800, 0x2804, 0x2810, 0x3810
+REGISTERS, CTRL, RCTL, RDBAL, RDBAH, RDLEN, RDH, TDH = 0xFEB00000, 0x0000, 0x0100, 0x2800, 0x2804, 0x2808, 0x2810, 0x3810
 RST, EN = 1 << 26, 1 << 1
 
 
 def hostile(bench, program, *words):
-    """Runs hostile.py: the status, the lines of output, and the errors."""
-    ran = subprocess.run([sys.executable, HOSTILE, program, *words], cwd=bench.folder, capture_output=True, timeout=LIMIT)
+    """Runs hostile.py: the status, the lines of output, and the errors. An answer may take a minute unless words say otherwise."""
+    ran = subprocess.run([sys.executable, HOSTILE, program, "--limit", "60", *words], cwd=bench.folder, capture_output=True, timeout=LIMIT)
     return ran.returncode, ran.stdout.decode().splitlines(), ran.stderr
 
 
@@ -122,7 +122,7 @@ def finds(bench, name, error, *rule, words=()):
 
 
 READ = f"read 0 {SIZE}"
-OTHER_BYTE = "after it, byte {} of memory is 0x[0-9a-f]{{2}} instead of 0x[0-9a-f]{{2}}"
+OTHER_BYTE = r"after it, byte {} of memory is 0x[0-9a-f]{{2}} instead of 0x[0-9a-f]{{2}} \(wrong bytes: 1\)"
 
 
 def memory(bench):
@@ -143,7 +143,7 @@ def memory(bench):
                             ("arrive .*", "off"), ("write 0x.*", ""), ("memset .*", "")]:
         finds(bench, f"memory changes in {request} {answer}", f"{request[:-2]}.*: " + OTHER_BYTE.format("0x0"), request, answer, 3, "flip(b'b', 0)")
     finds(bench, "memory changes in a read of a register", ".*: " + OTHER_BYTE.format("0x0"), "readl .*", "", 500, "flip(b'b', 0)")
-    finds(bench, "several bytes change", "step rxdone: .*, and 2 others are wrong", "step rxdone", "done", 1, "[flip(b'b', 0x1ff0 + n) for n in range(3)]")
+    finds(bench, "several bytes change", r"step rxdone: after it, byte 0x1ff0 of memory is .* \(wrong bytes: 3\)", "step rxdone", "done", 1, "[flip(b'b', 0x1ff0 + n) for n in range(3)]")
 
 
 def replayed(bench, log):
@@ -182,15 +182,37 @@ def steps(bench):
     finds(bench, "a frame after another step", f"step rxdone: {put} instead of no frame", "step rxdone", "done", 1, action)
 
 
+# A fault of an adapter that uses the registers of the receive ring for a write-back: it also writes to where the descriptor would be now.
+PRESENT_RING = """low, high, length, head = [int(ask(b"readl %d" % register)[-1].split()[1], 16) for register in {registers}]
+    global slot, fetched
+    if request == b"step rxdata":
+        slot = (head - 1) % (length // 16)
+        fetched = (high << 32 | low) + 16 * slot
+    elif (high << 32 | low) != fetched - 16 * slot and (high << 32 | low) + 16 * slot + 16 <= {size}:
+        ask(b"write %d 8 %s" % ((high << 32 | low) + 16 * slot + 8, ask(b"read %d 8" % (fetched + 8))[-1].split()[1]))"""
+
+
+def moved_rings(bench):
+    """A write-back must go to the place where the descriptor was read, even if the ring was moved since then."""
+    action = PRESENT_RING.format(registers=[REGISTERS + register for register in (RDBAL, RDBAH, RDLEN, RDH)], size=SIZE)
+    log = finds(bench, "a write-back into the present ring", "step rxdone: after it, byte 0x.* of memory is .*", "step rx(data|done)",
+                "(part|moved|done)", 0, action, True)
+    later = log[max(place for place, line in enumerate(log) if line in ("# step rxdata -> part", "# step rxdata -> moved")):]
+    bases = tuple(f"# writel {REGISTERS + register:#x} " for register in (RDBAL, RDBAH))
+    bench.check("hostile: a write-back into the present ring: the ring was moved", any(line.startswith(bases) for line in later), True)
+    bench.check("hostile: a write-back into the present ring: the last step", [line for line in later if line.startswith("# step")][-1],
+                "# step rxdone -> done")
+
+
 def answers(bench):
     """A server that is late, ends, rejects a request or answers otherwise is found."""
-    short = ["--limit", "1"]
-    for kind in ["step rxdata", "step txput", READ, "readl .*"]:
-        log = finds(bench, f"no answer to {kind}", f"{kind}: no answer in 1 s", kind, "", 40, "signal.pause()", words=short)
+    short = ["--limit", "4"]
+    for kind in ["step rxdata", READ]:
+        log = finds(bench, f"no answer to {kind}", f"{kind}: no answer in 4 s", kind, "", 40, "signal.pause()", words=short)
         bench.check(f"hostile: no answer to {kind}: the log's end", re.fullmatch(f"# {kind} -> not answered", log[-1]) is not None, True)
-    log = finds(bench, "no answer at all", "log on: no answer in 1 s", "log on", "", 1, "signal.pause()", words=short)
+    log = finds(bench, "no answer at all", "log on: no answer in 4 s", "log on", "", 1, "signal.pause()", words=short)
     bench.check("hostile: no answer at all: the log", log, ["# log on -> not answered"])
-    finds(bench, "a server that doesn't end", "the server is still running 1 s after the end of its input", "step .*", "", 1, "last = signal.pause",
+    finds(bench, "a server that doesn't end", "the server is still running 4 s after the end of its input", "step .*", "", 1, "last = signal.pause",
           words=[*short, "--steps", "20"])
     finds(bench, "another exit status", "the server ends with status 5 and the output b''", "step .*", "", 1, "status = 5", words=["--steps", "20"])
     finds(bench, "an answer too many", "the server ends with status 0 and the output b'OK\\\\n'", "step .*", "", 1,
@@ -293,15 +315,14 @@ def used(bench):
     os.killpg(process.pid, signal.SIGINT)
     out, errors = process.communicate(timeout=LIMIT)
     lines = [*first, *out.decode().splitlines(True)]
-    form = r"seed (\d+): (\d+) writes, (\d+) steps, nothing found\n"
-    seeds = [re.fullmatch(form, line) for line in lines[:-1]]
-    bench.check("hostile: Ctrl-C: seeds", [found and int(found[1]) for found in seeds], list(range(1, len(seeds) + 1)))
-    end = re.fullmatch(r"(\d+) seeds?: (\d+) writes, (\d+) steps, nothing found\n", lines[-1])
+    seeds = [re.fullmatch(r"seed (\d+): (\d+) writes, (\d+) steps, nothing found\n", line) for line in lines[:-1]]
+    bench.check("hostile: Ctrl-C: seeds", [found and (int(found[1]), int(found[3])) for found in seeds], [(n + 1, 60) for n in range(len(seeds))])
+    end = re.fullmatch(r"(\d+) seeds: (\d+) writes, (\d+) steps, nothing found\n", lines[-1])
     bench.check("hostile: Ctrl-C", (process.returncode, errors, end is not None), (0, b"", True))
     if end and all(seeds):
-        sums = [sum(int(found[place]) for found in seeds) for place in (2, 3)]
-        seed, writes, steps_done = map(int, end.groups())
-        bench.check("hostile: Ctrl-C: its numbers", (seed - len(seeds) in (0, 1), writes >= sums[0], 0 <= steps_done - sums[1] <= 60), (True, True, True))
+        number, writes, steps_done = map(int, end.groups())
+        bench.check("hostile: Ctrl-C: its numbers", (number, writes >= sum(int(found[2]) for found in seeds), 0 <= steps_done - 60 * len(seeds) <= 60),
+                    (len(seeds) + 1, True, True))
     for words, told in [(["--seed", "-1"], b"--seed"), (["--steps", "0"], b"--steps"), (["--memory", "65537"], b"--memory"), (["--limit", "0"], b"--limit"),
                         (["--fast"], b"--fast")]:
         status, lines, errors = hostile(bench, bench.program, *words)
@@ -310,5 +331,5 @@ def used(bench):
 
 
 def all_cases(bench):
-    for part in [requests, memory, steps, answers, used, ten_seeds]:
+    for part in [requests, memory, steps, moved_rings, answers, used, ten_seeds]:
         part(bench)

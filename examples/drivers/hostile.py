@@ -87,13 +87,13 @@ class Watched(Adapter):
 
 
 def run(options, seed, counts):
-    """Runs a seed, and counts what happened. Returns None, or the error and the log."""
+    """Runs a seed until its last step or Ctrl-C, and counts what happened. Returns None, or the error and the log."""
     witness = Witness(options.memory)
     worst = Worst(Words(seed), witness)
     adapter = Watched(options.program, options.memory, options.limit)
     try:
         left = options.steps
-        while left:
+        while left and not options.is_stopped:
             left -= worst.phase(left)
             adapter.ask_checked(worst.take())
         adapter.end()
@@ -111,16 +111,16 @@ def run_all(options, total):
     """Runs seeds, and prints a line for each. Returns whether a run failed."""
     seed = 1 if options.seed is None else options.seed
     while True:
-        counts = Counter()
-        total["seeds"] += 1
-        try:
-            found = run(options, seed, counts)
-        finally:
-            total.update(counts)
+        counts = Counter(seeds=1)
+        found = run(options, seed, counts)
+        total.update(counts)
         if found:
             print(f"seed {seed}: {found[0]}\n\nSeed {seed}, its log:")
             print("\n".join(found[1]))
             return True
+        if options.is_stopped:
+            print(f"{total['seeds']} seed{'s' * (total['seeds'] != 1)}: {numbers_of(total)}")
+            return False
         print(f"seed {seed}: {numbers_of(counts)}", flush=True)
         if options.seed is not None:
             return False
@@ -161,12 +161,12 @@ def late(*_):
 
 
 def main():
-    options, total, found = options_of(sys.argv[1:]), Counter(), False
+    options, total = options_of(sys.argv[1:]), Counter()
+    options.is_stopped = False
+    # At Ctrl-C, the requests that were sent are still answered and checked.
+    signal.signal(signal.SIGINT, lambda *_: setattr(options, "is_stopped", True))
     signal.signal(signal.SIGALRM, late)
-    try:
-        found = run_all(options, total)
-    except KeyboardInterrupt:
-        print(f"{total['seeds']} seed{'s' * (total['seeds'] != 1)}: {numbers_of(total)}")
+    found = run_all(options, total)
     if options.counts:
         print("\n".join(f"{name}: {total[name]}" for name in sorted(total)))
     return 1 if found else 0

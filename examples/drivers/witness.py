@@ -94,9 +94,8 @@ class Witness:
         if len(seen) != len(self.memory):
             raise Found(f"{request:.60}: memory has {len(seen)} bytes after it")
         wrong = [place for place, byte in enumerate(self.memory) if seen[place] != byte]
-        others = f", and {len(wrong) - 1} others are wrong" if len(wrong) > 1 else ""
         raise Found(f"{request:.60}: after it, byte {wrong[0]:#x} of memory is {seen[wrong[0]]:#04x} instead of "
-                    f"{self.memory[wrong[0]]:#04x}{others}")
+                    f"{self.memory[wrong[0]]:#04x} (wrong bytes: {len(wrong)})")
 
     # Requests other than steps
 
