@@ -143,7 +143,8 @@ def memory(bench):
                             ("arrive .*", "off"), ("write 0x.*", ""), ("memset .*", "")]:
         finds(bench, f"memory changes in {request} {answer}", f"{request[:-2]}.*: " + OTHER_BYTE.format("0x0"), request, answer, 3, "flip(b'b', 0)")
     finds(bench, "memory changes in a read of a register", ".*: " + OTHER_BYTE.format("0x0"), "readl .*", "", 500, "flip(b'b', 0)")
-    finds(bench, "several bytes change", r"step rxdone: after it, byte 0x1ff0 of memory is .* \(wrong bytes: 3\)", "step rxdone", "done", 1, "[flip(b'b', 0x1ff0 + n) for n in range(3)]")
+    finds(bench, "several bytes change", r"step rxdone: after it, byte 0x1ff0 of memory is .* \(wrong bytes: 3\)", "step rxdone", "done", 1,
+          "[flip(b'b', 0x1ff0 + n) for n in range(3)]")
 
 
 def replayed(bench, log):
@@ -225,12 +226,19 @@ def answers(bench):
         ("memory that is no number", READ, "OK 0x" + "zz" * SIZE, f"{READ}: the answer has an invalid form: .*"),
         ("a byte of memory too few", READ, "OK 0x" + "00" * (SIZE - 1), "[^:]*: memory has 8191 bytes after it"),
         ("a byte of memory too many", READ, "OK 0x" + "00" * (SIZE + 1), "[^:]*: memory has 8193 bytes after it"),
-        ("a fate that there isn't", "arrive .*", "OK lost", "arrive: the fate is lost"),
     ]:
         finds(bench, name, error, request, "", 150, f"lines[-1] = b'{answer}\\n'")
-    finds(bench, "an illegal frame is stored", r"arrive: a frame of \d+ bytes is stored", "arrive .*", "illegal", 1, "lines[-1] = b'OK stored\\n'")
-    finds(bench, "a filtered frame is called stored", r"step rxdata: .*", "arrive .*", "filtered", 1, "lines[-1] = b'OK stored\\n'")
-    finds(bench, "a stored frame is called filtered", r"step rxdata: .*", "arrive .*", "stored", 1, "lines[-1] = b'OK filtered\\n'")
+
+
+def fates(bench):
+    """A wrong fate of a frame is found, at once or when the frame is or isn't moved."""
+    for fate, other, wanted in [("illegal", "stored", "illegal"), ("illegal", "off", "illegal"), ("off", "stored", "off"), ("off", "filtered", "off"),
+                                ("missed", "stored", "filtered or missed"), ("stored", "missed", "filtered or stored"),
+                                ("filtered", "illegal", "filtered or stored"), ("stored", "lost", "filtered or stored")]:
+        finds(bench, f"a frame is {other} instead of {fate}", f"arrive: the fate is {other} instead of {wanted}", "arrive .*", fate, 1,
+              f"lines[-1] = b'OK {other}\\n'")
+    finds(bench, "a filtered frame is called stored", "(step rxdata|arrive): .*", "arrive .*", "filtered", 1, "lines[-1] = b'OK stored\\n'")
+    finds(bench, "a stored frame is called filtered", "(step rxdata|arrive): .*", "arrive .*", "stored", 1, "lines[-1] = b'OK filtered\\n'")
 
 
 def recorded(bench, seed, count):
@@ -331,5 +339,5 @@ def used(bench):
 
 
 def all_cases(bench):
-    for part in [requests, memory, steps, moved_rings, answers, used, ten_seeds]:
+    for part in [requests, memory, steps, moved_rings, fates, answers, used, ten_seeds]:
         part(bench)

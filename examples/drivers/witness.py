@@ -1,16 +1,17 @@
 """What a program outside the adapter knows: which bytes memory must contain, and what each step must do.
 
-A `Witness` gets each request and its answer, in order. Before a step it gets the registers of both rings, and memory
-after every other request. docs/ADAPTER.md has the rules.
+A `Witness` gets each request and its answer, in order, and memory after each request. Before a step it gets the
+registers of both rings. docs/ADAPTER.md has the rules.
 """
 
 import struct
 from collections import Counter, deque
 
-from driver import CTRL, RCTL, RDBAH, RDBAL, RDH, RDLEN, RDT, TCTL, TDBAH, TDBAL, TDH, TDLEN, TDT
+from driver import CTRL, PBA, RCTL, RDBAH, RDBAL, RDH, RDLEN, RDT, TCTL, TDBAH, TDBAL, TDH, TDLEN, TDT
 
-# The registers that decide what the next step of either engine does. Reading them changes nothing.
-DECIDING = RCTL, RDBAL, RDBAH, RDLEN, RDH, RDT, TCTL, TDBAL, TDBAH, TDLEN, TDH, TDT
+# The registers that decide a frame's fate, and what the next step does. Reading them changes nothing.
+FOR_FRAMES = RCTL, PBA
+FOR_STEPS = RCTL, RDBAL, RDBAH, RDLEN, RDH, RDT, TCTL, TDBAL, TDBAH, TDLEN, TDH, TDT
 
 # Bits of CTRL, RCTL and TCTL
 RST, EN, PSP, BSEX = 1 << 26, 1 << 1, 1 << 3, 1 << 25
@@ -24,8 +25,6 @@ DONE, FRAME_ENDS = 1 << 0, 1 << 1
 DESCRIPTOR_BYTES, STATUS_PLACE, LENGTH_PLACE = 16, 12, 8
 # The lengths of frames in bytes, and the number of frames in a full transmit packet buffer
 SHORTEST, LONGEST, TRANSMIT_ROOM = 60, 1518, 4
-
-FATES = {"stored", "missed", "filtered", "illegal", "off"}
 
 
 class Found(Exception):
@@ -111,11 +110,16 @@ class Witness:
             self.is_rebased = True
 
     def arrived(self, frame, fate):
-        if fate not in FATES:
-            raise Found(f"arrive: the fate is {fate}")
+        """Checks a frame's fate. Whether the frame passes the filter isn't checked."""
+        if not self.registers[RCTL] & EN:
+            allowed = ["off"]
+        elif not SHORTEST <= len(frame) <= LONGEST:
+            allowed = ["illegal"]
+        else:
+            allowed = ["filtered", "stored" if len(self.waiting) < (self.registers[PBA] & 0xFFFF) // 2 else "missed"]
+        if fate not in allowed:
+            raise Found(f"arrive: the fate is {fate} instead of {' or '.join(allowed)}")
         if fate == "stored":
-            if not SHORTEST <= len(frame) <= LONGEST:
-                raise Found(f"arrive: a frame of {len(frame)} bytes is stored")
             self.waiting.append(frame)
         self.counts[f"arrive {fate}"] += 1
 

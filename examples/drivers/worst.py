@@ -6,7 +6,7 @@ from adapter import REGISTERS
 from driver import (
     CTRL, EERD, ICR, IMC, IMS, MDIC, MTA, PBA, RAL, RCTL, RDBAH, RDBAL, RDH, RDLEN, RDT, TCTL, TDBAH, TDBAL, TDH, TDLEN,
     TDT, VFTA)
-from witness import BSEX, BUFFER_SIZES, DECIDING, DESCRIPTOR_BYTES, EN, EXTENDED, PACKET_ENDS, RST
+from witness import BSEX, BUFFER_SIZES, DESCRIPTOR_BYTES, EN, EXTENDED, FOR_FRAMES, FOR_STEPS, PACKET_ENDS, RST
 
 # Registers that driver.py doesn't use, and the size of the area of all registers in bytes
 STATUS, VET, ICS, MPC, GPRC, GPTC, RNBC, AREA = 0x0008, 0x0038, 0x00C8, 0x4010, 0x4074, 0x4080, 0x40A0, 0x20000
@@ -171,7 +171,8 @@ class Worst:
         self.words, self.witness, self.size = words, witness, len(witness.memory)
         self.numbers = Numbers(words, self.size)
         self.asked = [("log on", lambda *_: None)]
-        self.reads = [(f"readl {REGISTERS + register:#x}", self.check_of_read(register)) for register in DECIDING]
+        self.before_frames = [self.reading(register) for register in FOR_FRAMES]
+        self.before_steps = [self.reading(register) for register in FOR_STEPS]
         self.acts = [act for weight, act in [
             (40, self.arrive), (10, self.move_tail), (8, self.write_ring), (6, self.write_control),
             (8, self.write_known), (5, self.write_table), (5, self.write_anywhere), (3, self.move_ring),
@@ -180,11 +181,11 @@ class Worst:
 
     # Requests
 
-    def check_of_read(self, register):
-        """Returns the check of a read before a step: it notes the value."""
+    def reading(self, register):
+        """Returns a read of a register, with its check: it notes the value."""
         def check(answer, _):
             self.witness.registers[register] = int(answer, 16)
-        return check
+        return f"readl {REGISTERS + register:#x}", check
 
     def look(self, request):
         """Reads memory after a request."""
@@ -206,7 +207,7 @@ class Worst:
     def step(self):
         """Plays a step of the adapter. The registers of both rings are read before it, and both heads after it."""
         kind = self.words.choose(STEPS)
-        self.asked += self.reads
+        self.asked += self.before_steps
         self.asked.append((f"step {kind}", lambda outcome, frames: self.witness.step(kind, outcome, frames)))
         self.asked.append((f"readl {REGISTERS + RDH:#x}", lambda answer, _: self.witness.head(RDH, int(answer, 16))))
         self.asked.append((f"readl {REGISTERS + TDH:#x}", lambda answer, _: self.witness.head(TDH, int(answer, 16))))
@@ -216,6 +217,7 @@ class Worst:
 
     def arrive(self):
         frame = self.numbers.frame()
+        self.asked += self.before_frames
         self.ask(f"arrive {frame.hex()}", lambda fate, _: self.witness.arrived(frame, fate))
 
     def move_tail(self):
