@@ -39,16 +39,16 @@ def counts_of(lines):
 LEAST = {
     "arrive filtered": 5000, "arrive illegal": 3500, "arrive missed": 6000, "arrive off": 7000, "arrive stored": 12000, "eeprom nothing": 3500,
     "eeprom ticked": 120, "frames taken while the rings overlap": 300, "phy nothing": 4000, "phy ticked": 80, "pieces over the transmit ring": 200,
-    "pieces over their own descriptors": 250, "resets with a frame to be put": 500, "resets with a piece in progress": 400, "rxdata fault": 1700,
+    "pieces over their own descriptors": 250, "resets with a frame in the transmit packet buffer": 500, "resets with a piece in progress": 400, "rxdata fault": 1700,
     "rxdata fault: BSEX": 130, "rxdata fault: buffer outside memory": 400, "rxdata fault: buffer partly outside memory": 80,
     "rxdata fault: buffer past 2^64": 11, "rxdata fault: descriptor outside memory": 200, "rxdata fault: descriptor past 2^64": 9,
-    "rxdata fault: head": 250, "rxdata fault: no descriptors": 250, "rxdata fault: tail": 200, "rxdata moved": 1900, "rxdata nothing": 23000,
+    "rxdata fault: head outside the ring": 250, "rxdata fault: no descriptors": 250, "rxdata fault: tail outside the ring": 200, "rxdata moved": 1900, "rxdata nothing": 23000,
     "rxdata part": 1000, "rxdone done": 2500, "rxdone nothing": 17000, "txput nothing": 16000, "txput put": 3000, "txtake fault": 1800,
     "txtake fault: buffer outside memory": 70, "txtake fault: buffer partly outside memory": 40, "txtake fault: buffer past 2^64": 20,
-    "txtake fault: command": 50, "txtake fault: descriptor outside memory": 200, "txtake fault: descriptor past 2^64": 10, "txtake fault: head": 200,
-    "txtake fault: length": 500, "txtake fault: no descriptors": 350, "txtake fault: tail": 200, "txtake nothing": 14000, "txtake took": 4000,
+    "txtake fault: command": 50, "txtake fault: descriptor outside memory": 200, "txtake fault: descriptor past 2^64": 10, "txtake fault: head outside the ring": 200,
+    "txtake fault: length": 500, "txtake fault: no descriptors": 350, "txtake fault: tail outside the ring": 200, "txtake nothing": 14000, "txtake took": 4000,
     "write-backs after a write of RDBAL or RDBAH": 350, "write-backs outside the receive ring": 300, "write-backs outside the transmit ring": 300,
-    "writes with a frame to be put": 9000, "writes with a piece in progress": 6000,
+    "writes with a frame in the transmit packet buffer": 9000, "writes with a piece in progress": 6000,
 }
 
 
@@ -281,12 +281,12 @@ def recounted(rows):
         if word == "writel":
             counts["writes"] += 1
             counts["writes with a piece in progress"] += piece
-            counts["writes with a frame to be put"] += taken > 0
+            counts["writes with a frame in the transmit packet buffer"] += taken > 0
             register, value = int(rest[0], 16) - REGISTERS, int(rest[1], 16)
             rebased = rebased or register in (RDBAL, RDBAH)
             if register == CTRL and value & RST:
                 counts["resets with a piece in progress"] += piece
-                counts["resets with a frame to be put"] += taken > 0
+                counts["resets with a frame in the transmit packet buffer"] += taken > 0
                 piece, taken = False, 0
     return counts
 
@@ -294,7 +294,7 @@ def recounted(rows):
 def requests(bench):
     """The requests of a seed: always the same, of all kinds, and counted rightly."""
     bench.check("hostile: random words", subprocess.run(
-        [sys.executable, "-B", "-c", "from worst import Words; w = Words(7); print([w.next() for _ in range(9)])"], cwd=DRIVERS, capture_output=True).stdout,
+        [sys.executable, "-B", "-c", "from random_requests import Words; w = Words(7); print([w.next() for _ in range(9)])"], cwd=DRIVERS, capture_output=True).stdout,
         f"{words_from(7, 9)}\n".encode())
     rows, counts = recorded(bench, 3, 2500)
     again, _ = recorded(bench, 3, 400)
@@ -304,7 +304,7 @@ def requests(bench):
     bench.check("hostile: the counts are those of the requests and answers", {name: counts[name] for name in told}, dict(told))
     bench.check("hostile: there are special counts", {name for name in told if name[0] in "wr" and told[name] > 0} >= {
         "writes with a piece in progress", "write-backs after a write of RDBAL or RDBAH", "resets with a piece in progress",
-        "resets with a frame to be put"}, True)
+        "resets with a frame in the transmit packet buffer"}, True)
     written = [(int(words[1], 16) - REGISTERS, int(words[2], 16)) for words in (request.split() for request, _ in rows) if words[0] == "writel"]
     offsets = {offset for offset, _ in written}
     bench.check("hostile: every offset is a word of the area", all(offset % 4 == 0 and 0 <= offset <= 0x1FFFC for offset in offsets), True)

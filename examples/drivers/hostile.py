@@ -23,15 +23,15 @@ from collections import Counter
 
 sys.dont_write_bytecode = True
 from adapter import Adapter, Refused  # noqa: E402
-from witness import Found, Witness, shown  # noqa: E402
-from worst import Words, Worst  # noqa: E402
+from expected import Expected, Found, shown  # noqa: E402
+from random_requests import RandomRequests, Words  # noqa: E402
 
 
 class Late(Exception):
     """An answer takes too long."""
 
 
-class Watched(Adapter):
+class CheckedAdapter(Adapter):
     """An adapter whose answers are checked one by one, and must come in time."""
 
     def __init__(self, program, size, limit):
@@ -88,14 +88,14 @@ class Watched(Adapter):
 
 def run(options, seed, counts):
     """Runs a seed until its last step or Ctrl-C, and counts what happened. Returns None, or the error and the log."""
-    witness = Witness(options.memory)
-    worst = Worst(Words(seed), witness)
-    adapter = Watched(options.program, options.memory, options.limit)
+    expected = Expected(options.memory)
+    requests = RandomRequests(Words(seed), expected)
+    adapter = CheckedAdapter(options.program, options.memory, options.limit)
     try:
         left = options.steps
         while left and not options.is_stopped:
-            left -= worst.phase(left)
-            adapter.ask_checked(worst.take())
+            left -= requests.phase(left)
+            adapter.ask_checked(requests.take())
         adapter.end()
     except Found as error:
         return str(error), adapter.told
@@ -103,7 +103,7 @@ def run(options, seed, counts):
         return str(error), [*adapter.told, f"# {adapter.awaited} -> not answered"]
     finally:
         adapter.kill()
-        counts.update(witness.counts)
+        counts.update(expected.counts)
     return None
 
 

@@ -1,7 +1,7 @@
-"""What a program outside the adapter knows: which bytes memory must contain, and what each step must do.
+"""Which bytes memory must contain after each request, and which outcome each step must have.
 
-A `Witness` gets each request and its answer, in order, and memory after each request. Before a step it gets the
-registers of both rings. docs/ADAPTER.md has the rules.
+`Expected` gets each request and its answer, in order, and memory after each request. Before a step it also gets the
+registers of both rings. docs/ADAPTER.md defines the rules.
 """
 
 import struct
@@ -13,10 +13,10 @@ from driver import CTRL, PBA, RCTL, RDBAH, RDBAL, RDH, RDLEN, RDT, TCTL, TDBAH, 
 FOR_FRAMES = RCTL, PBA
 FOR_STEPS = RCTL, RDBAL, RDBAH, RDLEN, RDH, RDT, TCTL, TDBAL, TDBAH, TDLEN, TDH, TDT
 
-# Bits of CTRL, RCTL and TCTL
-RST, EN, PSP, BSEX = 1 << 26, 1 << 1, 1 << 3, 1 << 25
-# The size of a receive buffer, by RCTL.BSIZE, bits 17:16
-BUFFER_SIZES = 2048, 1024, 512, 256
+# Bits of CTRL, RCTL and TCTL, and fields of RCTL and PBA
+RST, EN, PSP, BSEX, BSIZE, RXA = 1 << 26, 1 << 1, 1 << 3, 1 << 25, 3 << 16, 0xFFFF
+# The size of a receive buffer for each value of RCTL.BSIZE
+BUFFER_SIZES = {0 << 16: 2048, 1 << 16: 1024, 2 << 16: 512, 3 << 16: 256}
 # Bits in the command of a transmit descriptor: the packet ends; report its status; it isn't a legacy descriptor
 PACKET_ENDS, REPORT, EXTENDED = 1 << 0, 1 << 3, 1 << 5
 # Bits in the status of a finished descriptor: it is done; its frame ends
@@ -48,7 +48,9 @@ class Ring:
         return self.head + 1 if self.head + 1 < self.count else 0
 
 
-class Witness:
+class Expected:
+    """The adapter and its memory, as far as they are known from requests and answers."""
+
     def __init__(self, size):
         self.memory = bytearray(size)
         self.text = None  # memory in the form of an answer, or None if it has changed
@@ -63,7 +65,7 @@ class Witness:
         self.waiting = deque()  # the frames in the receive packet buffer
         self.moved = 0  # the number of bytes of the oldest one that were moved to memory
         self.piece = None  # the descriptor of the piece in progress, and its bytes from the length on
-        self.is_rebased = False  # whether the receive ring was moved since then
+        self.is_ring_moved = False  # whether RDBAL or RDBAH was written since then
         self.taken = deque()  # the frames in the transmit packet buffer, each with its descriptor and its command
         self.stopped = set()  # the steps whose engine a fault has stopped
 
@@ -101,13 +103,13 @@ class Witness:
     def written(self, register, value):
         self.counts["writes"] += 1
         self.counts["writes with a piece in progress"] += self.piece is not None
-        self.counts["writes with a frame to be put"] += len(self.taken) > 0
+        self.counts["writes with a frame in the transmit packet buffer"] += len(self.taken) > 0
         if register == CTRL and value & RST:
             self.counts["resets with a piece in progress"] += self.piece is not None
-            self.counts["resets with a frame to be put"] += len(self.taken) > 0
+            self.counts["resets with a frame in the transmit packet buffer"] += len(self.taken) > 0
             self.forget()
         elif register in (RDBAL, RDBAH):
-            self.is_rebased = True
+            self.is_ring_moved = True
 
     def arrived(self, frame, fate):
         """Checks a frame's fate. Whether the frame passes the filter isn't checked."""
@@ -116,7 +118,7 @@ class Witness:
         elif not SHORTEST <= len(frame) <= LONGEST:
             allowed = ["illegal"]
         else:
-            allowed = ["filtered", "stored" if len(self.waiting) < (self.registers[PBA] & 0xFFFF) // 2 else "missed"]
+            allowed = ["filtered", "stored" if len(self.waiting) < (self.registers[PBA] & RXA) // 2 else "missed"]
         if fate not in allowed:
             raise Found(f"arrive: the fate is {fate} instead of {' or '.join(allowed)}")
         if fate == "stored":
@@ -126,7 +128,7 @@ class Witness:
     # Steps
 
     def step(self, kind, outcome, frames):
-        """Checks the outcome of a step and the frames that went onto the wire, and notes what the step changes."""
+        """Checks the outcome of a step and the frames that it put on the wire, and notes what it must change."""
         receive, transmit = Ring(self.registers, RDBAL), Ring(self.registers, TDBAL)
         self.kind, self.heads = kind, {RDH: receive.head, TDH: transmit.head}
         allowed, reason = {"rxdata": self.of_rxdata, "rxdone": self.of_rxdone, "txtake": self.of_txtake,
@@ -163,7 +165,7 @@ class Witness:
         if not ring.count:
             return "no descriptors"
         if ring.head >= ring.count or ring.tail >= ring.count:
-            return "head" if ring.head >= ring.count else "tail"
+            return "head outside the ring" if ring.head >= ring.count else "tail outside the ring"
         lacks = self.lacks(ring.at_head, DESCRIPTOR_BYTES)
         return lacks and f"descriptor {lacks}"
 
@@ -208,7 +210,7 @@ class Witness:
 
     def next_piece(self):
         """Returns the bytes of the next piece, and whether it is the last of its frame."""
-        size = BUFFER_SIZES[self.registers[RCTL] >> 16 & 3]
+        size = BUFFER_SIZES[self.registers[RCTL] & BSIZE]
         frame = self.waiting[0]
         return frame[self.moved:self.moved + size], self.moved + size >= len(frame)
 
@@ -226,7 +228,7 @@ class Witness:
         buffer = self.buffer_at(ring.at_head)
         status = DONE | FRAME_ENDS if is_last else DONE
         self.piece = ring.at_head, struct.pack("<HHBBH", len(piece), 0, status, 0, 0)
-        self.is_rebased = False
+        self.is_ring_moved = False
         self.counts["pieces over their own descriptors"] += meet(buffer, len(piece), ring.at_head, DESCRIPTOR_BYTES)
         self.counts["pieces over the transmit ring"] += meet(buffer, len(piece), transmit.base, transmit.size)
         self.put(buffer, piece)
@@ -241,7 +243,7 @@ class Witness:
         descriptor, data = self.piece
         self.put(descriptor + LENGTH_PLACE, data)
         self.piece = None
-        self.counts["write-backs after a write of RDBAL or RDBAH"] += self.is_rebased
+        self.counts["write-backs after a write of RDBAL or RDBAH"] += self.is_ring_moved
         self.counts["write-backs outside the receive ring"] += not ring.has(descriptor)
 
     def take(self, receive, ring):

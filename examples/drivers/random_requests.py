@@ -1,4 +1,4 @@
-"""The requests of a driver that does its worst. They depend on a seed only, and never on an answer."""
+"""The requests of a hostile driver. They depend on the seed only, and never on an answer."""
 
 import struct
 
@@ -6,7 +6,7 @@ from adapter import REGISTERS
 from driver import (
     CTRL, EERD, ICR, IMC, IMS, MDIC, MTA, PBA, RAL, RCTL, RDBAH, RDBAL, RDH, RDLEN, RDT, TCTL, TDBAH, TDBAL, TDH, TDLEN,
     TDT, VFTA)
-from witness import BSEX, BUFFER_SIZES, DESCRIPTOR_BYTES, EN, EXTENDED, FOR_FRAMES, FOR_STEPS, PACKET_ENDS, RST
+from expected import BSEX, BUFFER_SIZES, DESCRIPTOR_BYTES, EN, EXTENDED, FOR_FRAMES, FOR_STEPS, PACKET_ENDS, RST
 
 # Registers that driver.py doesn't use, and the size of the area of all registers in bytes
 STATUS, VET, ICS, MPC, GPRC, GPTC, RNBC, AREA = 0x0008, 0x0038, 0x00C8, 0x4010, 0x4074, 0x4080, 0x40A0, 0x20000
@@ -29,10 +29,10 @@ VLAN_TAG, INTERNET = "81000005", "0800"
 STEPS = ["rxdata"] * 7 + ["rxdone"] * 5 + ["txtake"] * 5 + ["txput"] * 5 + ["eeprom", "phy"]
 # The number of acts before a step, and the least and the most steps between two initializations
 ACTS, LEAST_STEPS, MOST_STEPS = [0, 0, 0, 1, 1, 2, 3], 8, 44
-# The percentage of numbers that no correct driver has
-MALICE = [0, 2, 6, 25]
-# The most bytes that are stored at once, apart from a ring
-MOST_STORED = 600
+# The percentages of values that no correct driver uses
+PERCENTAGES = [0, 2, 6, 25]
+# The most bytes of a frame, and the most bytes that are stored at once, apart from a ring
+MOST_BYTES, MOST_STORED = 1600, 600
 
 
 class Words:
@@ -77,20 +77,24 @@ class Words:
         return self.choose([self.next(), self.next(), self.next() & 0xFFFF, 1 << self.below(32), 0, WORD])
 
 
-class Numbers:
+class RandomValues:
     """Draws addresses, lengths, descriptors and frames: those of a correct driver, and others at or past the limits."""
 
     def __init__(self, words, size):
         self.words, self.size = words, size
-        self.malice = 0  # the percentage of numbers that no correct driver has
+        self.wrong = 0  # the percentage of values that no correct driver uses
         self.rings = {RDBAL: (0, 8), TDBAL: (0, 8)}  # the last choice for each ring: a base and a number of descriptors
-        self.noise = b"".join(words.next().to_bytes(4, "little") for _ in range(1024))
+        self.stock = b"".join(words.next().to_bytes(4, "little") for _ in range(1024))
 
-    def is_bad(self):
-        return self.words.chance(self.malice)
+    def is_wrong(self):
+        return self.words.chance(self.wrong)
 
     def any_ring(self):
         return self.words.choose([RDBAL, TDBAL])
+
+    def any_bytes(self):
+        """Returns random bytes, no fewer than a frame can have."""
+        return self.stock[self.words.below(len(self.stock) - MOST_BYTES):]
 
     def near(self, address, distance):
         """Returns an address that is at most this far from another one."""
@@ -101,7 +105,7 @@ class Numbers:
         size, words = DESCRIPTOR_BYTES * count, self.words
         room = max(self.size - size, 0)
         base = words.below(room + 1)
-        if self.is_bad():
+        if self.is_wrong():
             base = words.choose([
                 room, room + words.below(size + 1), self.near(self.rings[self.any_ring()][0], size),
                 2**64 - 1 - words.below(size), words.word(), words.word() << 32, words.word() << 32 | base])
@@ -110,7 +114,7 @@ class Numbers:
     def address(self, length):
         """A buffer's address: in memory, or at its end, across its end, in a ring, near 2^64, and anywhere."""
         words, room = self.words, max(self.size - length, 0)
-        if not self.is_bad():
+        if not self.is_wrong():
             return words.below(room + 1)
         base, count = self.rings[self.any_ring()]
         return words.choose([
@@ -119,10 +123,10 @@ class Numbers:
 
     def slot(self, count):
         """An index of a descriptor, or the number of descriptors, and any number."""
-        return self.words.choose([count, self.words.word()]) if self.is_bad() else self.words.below(count)
+        return self.words.choose([count, self.words.word()]) if self.is_wrong() else self.words.below(count)
 
     def length_of_ring(self):
-        choices = [0, self.words.word()] if self.is_bad() else [128, 128, 128, 256, 256, 384, 512]
+        choices = [0, self.words.word()] if self.is_wrong() else [128, 128, 128, 256, 256, 384, 512]
         return self.words.choose(choices)
 
     def control(self, first):
@@ -131,7 +135,7 @@ class Numbers:
         word = words.next() | EN
         if words.chance(6):
             word &= ~EN
-        if first == TDBAL or self.is_bad():
+        if first == TDBAL or self.is_wrong():
             return word
         word |= words.choose([UPE | MPE | BAM, UPE | BAM, BAM, 0])
         return word & ~(BSEX if words.chance(90) else BSEX | VFE)
@@ -141,11 +145,11 @@ class Numbers:
         words = self.words
         high, low = words.next(), words.next()
         if first == RDBAL:
-            return struct.pack("<QII", self.address(words.choose([60, *BUFFER_SIZES])), high, low)
+            return struct.pack("<QII", self.address(words.choose([60, *BUFFER_SIZES.values()])), high, low)
         length = words.choose([words.below(1518) + 1, words.below(1518) + 1, 1, 14, 60, 1518])
         command = (high & 0xFF | PACKET_ENDS) & ~EXTENDED
         address = self.address(length)
-        if self.is_bad():
+        if self.is_wrong():
             others = (0, command), (1519, command), (0xFFFF, command), (low & 0xFFFF, command), (length, high & 0xFF)
             length, command = words.choose(others)
         return struct.pack("<QHBBI", address, length, high >> 8 & 0xFF, command, low)
@@ -156,20 +160,20 @@ class Numbers:
         others = f"{words.next():08x}{words.next() >> 16:04x}"
         to = words.choose([TO_US, TO_ALL, TO_ALL, TO_GROUP, others])
         kind = VLAN_TAG if words.chance(10) else INTERNET
-        body = self.noise[words.below(2400):]
+        body = self.any_bytes()
         if words.chance(20):
-            body = self.descriptor(self.any_ring()) * 100
-        odd = words.choose([1, 59, 256, 257, 1519, 1600])
-        length = words.choose([words.below(1600) + 1, words.below(1600) + 1, 60, 60, 1518, odd])
+            body = self.descriptor(self.any_ring()) * (MOST_BYTES // DESCRIPTOR_BYTES)
+        odd = words.choose([1, 59, 256, 257, 1519, MOST_BYTES])
+        length = words.choose([words.below(MOST_BYTES) + 1, words.below(MOST_BYTES) + 1, 60, 60, 1518, odd])
         return (bytes.fromhex(f"{to}{SOURCE}{kind}") + body)[:length]
 
 
-class Worst:
+class RandomRequests:
     """Draws requests, each with the check of its answer, and of the frames that came before the answer."""
 
-    def __init__(self, words, witness):
-        self.words, self.witness, self.size = words, witness, len(witness.memory)
-        self.numbers = Numbers(words, self.size)
+    def __init__(self, words, expected):
+        self.words, self.expected, self.size = words, expected, len(expected.memory)
+        self.values = RandomValues(words, self.size)
         self.asked = [("log on", lambda *_: None)]
         self.before_frames = [self.reading(register) for register in FOR_FRAMES]
         self.before_steps = [self.reading(register) for register in FOR_STEPS]
@@ -184,58 +188,58 @@ class Worst:
     def reading(self, register):
         """Returns a read of a register, with its check: it notes the value."""
         def check(answer, _):
-            self.witness.registers[register] = int(answer, 16)
+            self.expected.registers[register] = int(answer, 16)
         return f"readl {REGISTERS + register:#x}", check
 
     def look(self, request):
         """Reads memory after a request."""
-        self.asked.append((f"read 0 {self.size}", lambda answer, _: self.witness.look(request, answer)))
+        self.asked.append((f"read 0 {self.size}", lambda answer, _: self.expected.look(request, answer)))
 
     def ask(self, request, check):
         self.asked.append((request, check))
         self.look(request)
 
     def write(self, register, value):
-        self.ask(f"writel {REGISTERS + register:#x} {value:#x}", lambda *_: self.witness.written(register, value))
+        self.ask(f"writel {REGISTERS + register:#x} {value:#x}", lambda *_: self.expected.written(register, value))
 
     def store(self, address, data):
         """Stores bytes if memory contains all of them."""
         if address + len(data) <= self.size:
             request = f"write {address:#x} {len(data)} 0x{data.hex()}"
-            self.ask(request, lambda *_: self.witness.put(address, data))
+            self.ask(request, lambda *_: self.expected.put(address, data))
 
     def step(self):
         """Plays a step of the adapter. The registers of both rings are read before it, and both heads after it."""
         kind = self.words.choose(STEPS)
         self.asked += self.before_steps
-        self.asked.append((f"step {kind}", lambda outcome, frames: self.witness.step(kind, outcome, frames)))
-        self.asked.append((f"readl {REGISTERS + RDH:#x}", lambda answer, _: self.witness.head(RDH, int(answer, 16))))
-        self.asked.append((f"readl {REGISTERS + TDH:#x}", lambda answer, _: self.witness.head(TDH, int(answer, 16))))
+        self.asked.append((f"step {kind}", lambda outcome, frames: self.expected.step(kind, outcome, frames)))
+        self.asked.append((f"readl {REGISTERS + RDH:#x}", lambda answer, _: self.expected.head(RDH, int(answer, 16))))
+        self.asked.append((f"readl {REGISTERS + TDH:#x}", lambda answer, _: self.expected.head(TDH, int(answer, 16))))
         self.look(f"step {kind}")
 
     # What the driver does between steps
 
     def arrive(self):
-        frame = self.numbers.frame()
+        frame = self.values.frame()
         self.asked += self.before_frames
-        self.ask(f"arrive {frame.hex()}", lambda fate, _: self.witness.arrived(frame, fate))
+        self.ask(f"arrive {frame.hex()}", lambda fate, _: self.expected.arrived(frame, fate))
 
     def move_tail(self):
-        first = self.numbers.any_ring()
-        self.write(first + TAIL, self.numbers.slot(self.numbers.rings[first][1]))
+        first = self.values.any_ring()
+        self.write(first + TAIL, self.values.slot(self.values.rings[first][1]))
 
     def write_ring(self):
         """Writes one register of a ring."""
-        first = self.numbers.any_ring()
-        _, count = self.numbers.rings[first]
+        first = self.values.any_ring()
+        _, count = self.values.rings[first]
         place = self.words.choose([0, HIGH, LENGTH, HEAD, TAIL])
         high = 0 if self.words.chance(70) else self.words.word()
-        slot, length, low = self.numbers.slot(count), self.numbers.length_of_ring(), self.numbers.base(count) & WORD
+        slot, length, low = self.values.slot(count), self.values.length_of_ring(), self.values.base(count) & WORD
         self.write(first + place, {0: low, HIGH: high, LENGTH: length}.get(place, slot))
 
     def write_control(self):
-        first = self.numbers.any_ring()
-        self.write(RCTL if first == RDBAL else TCTL, self.numbers.control(first))
+        first = self.values.any_ring()
+        self.write(RCTL if first == RDBAL else TCTL, self.values.control(first))
 
     def write_known(self):
         """Writes a register of the adapter. This isn't a reset."""
@@ -260,10 +264,10 @@ class Worst:
 
     def move_ring(self):
         """Writes a ring's base, mostly without storing the ring's descriptors there."""
-        first = self.numbers.any_ring()
-        _, count = self.numbers.rings[first]
-        base = self.numbers.base(count)
-        self.numbers.rings[first] = base, count
+        first = self.values.any_ring()
+        _, count = self.values.rings[first]
+        base = self.values.base(count)
+        self.values.rings[first] = base, count
         self.write(first, base & WORD)
         self.write(first + HIGH, base >> 32)
         if self.words.chance(30):
@@ -274,32 +278,32 @@ class Worst:
 
     def store_slot(self):
         """Stores a descriptor of a ring, or the end of a descriptor."""
-        first = self.numbers.any_ring()
-        base, count = self.numbers.rings[first]
-        place, data = DESCRIPTOR_BYTES * self.words.below(count), self.numbers.descriptor(first)
+        first = self.values.any_ring()
+        base, count = self.values.rings[first]
+        place, data = DESCRIPTOR_BYTES * self.words.below(count), self.values.descriptor(first)
         begin = 0 if self.words.chance(80) else self.words.below(DESCRIPTOR_BYTES)
         self.store(base + place + begin, data[begin:])
 
     def store_ring(self, first):
         """Stores all descriptors of a ring. The buffers of some rings are the rings themselves."""
-        base, count = self.numbers.rings[first]
-        slots = [self.numbers.descriptor(first) for _ in range(count)]
+        base, count = self.values.rings[first]
+        slots = [self.values.descriptor(first) for _ in range(count)]
         if self.words.chance(8):
             slots = [base.to_bytes(8, "little") + slot[8:] for slot in slots]
         self.store(base, b"".join(slots))
 
-    def any_bytes(self):
-        """Returns the first address and the number of any bytes in memory."""
+    def any_area(self):
+        """Returns the address and the size of an area in memory."""
         begin = self.words.below(self.size + 1)
         return begin, self.words.below(min(self.size - begin, MOST_STORED) + 1)
 
     def store_bytes(self):
-        begin, size = self.any_bytes()
-        self.store(begin, self.numbers.noise[self.words.below(2400):][:size])
+        begin, size = self.any_area()
+        self.store(begin, self.values.any_bytes()[:size])
 
     def fill(self):
-        (begin, size), value = self.any_bytes(), self.words.next() & 0xFF
-        self.ask(f"memset {begin:#x} {size} {value:#x}", lambda *_: self.witness.put(begin, bytes([value]) * size))
+        (begin, size), value = self.any_area(), self.words.next() & 0xFF
+        self.ask(f"memset {begin:#x} {size} {value:#x}", lambda *_: self.expected.put(begin, bytes([value]) * size))
 
     def read_register(self):
         """Reads at any offset, mostly of a register."""
@@ -311,23 +315,23 @@ class Worst:
 
     def set_up(self, first):
         """Chooses a ring, stores its descriptors, and writes its registers, beginning with any of them."""
-        words, numbers = self.words, self.numbers
-        length = numbers.length_of_ring()
+        words, values = self.words, self.values
+        length = values.length_of_ring()
         count = length // DESCRIPTOR_BYTES if 128 <= length <= 512 else 8
-        base = numbers.base(count)
-        numbers.rings[first] = base, count
+        base = values.base(count)
+        values.rings[first] = base, count
         self.store_ring(first)
-        pairs = [(0, base & WORD), (HIGH, base >> 32), (LENGTH, length), (HEAD, numbers.slot(count)),
-                 (TAIL, numbers.slot(count))]
+        pairs = [(0, base & WORD), (HIGH, base >> 32), (LENGTH, length), (HEAD, values.slot(count)),
+                 (TAIL, values.slot(count))]
         begin = words.below(len(pairs))
         for place, word in pairs[begin:] + pairs[:begin]:
             self.write(first + place, word)
-        self.write(RCTL if first == RDBAL else TCTL, numbers.control(first))
+        self.write(RCTL if first == RDBAL else TCTL, values.control(first))
 
     def phase(self, most):
         """Sets up both rings, mostly after a reset, and then draws steps, at most this number. Returns their number."""
         words = self.words
-        self.numbers.malice = words.choose(MALICE)
+        self.values.wrong = words.choose(PERCENTAGES)
         if words.chance(80):
             self.reset()
         for first in words.choose([[RDBAL, TDBAL], [TDBAL, RDBAL]]):
