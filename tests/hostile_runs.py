@@ -118,10 +118,10 @@ sys.exit(ended if status is None else status)
 def proxy(bench, request, answer, which, action, always=False):
     """Creates the script that does this action at one of the answers of this form to requests of this form, or at all: its path."""
     text = PROXY.format(python=sys.executable, program=bench.program, request=request.encode(), answer=b"OK " + answer.encode() if answer else b"",
-                        which=which, action=action, always=always, record=bench.path("record"))
-    bench.put("proxy", text.encode())
-    os.chmod(bench.path("proxy"), 0o755)
-    return bench.path("proxy")
+                        which=which, action=action, always=always, record=bench.path("hostile-record"))
+    bench.put("hostile-proxy", text.encode())
+    os.chmod(bench.path("hostile-proxy"), 0o755)
+    return bench.path("hostile-proxy")
 
 
 def finds(bench, name, error, *rule, words=()):
@@ -259,7 +259,7 @@ def recorded(bench, seed, count):
     path = proxy(bench, "(?!read 0).*", "", 0, "record.write(request + b' => ' + lines[-1])", True)
     status, lines, errors = hostile(bench, path, "--seed", str(seed), "--steps", str(count), "--counts")
     bench.check(f"hostile: seed {seed}, recorded", (status, errors), (0, b""))
-    rows = [line.partition(" => OK")[::2] for line in bench.get("record").decode().splitlines()]
+    rows = [line.partition(" => OK")[::2] for line in bench.get("hostile-record").decode().splitlines()]
     return [(request, answer.strip()) for request, answer in rows], counts_of(lines[1:])
 
 
