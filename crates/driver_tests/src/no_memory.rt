@@ -14,7 +14,13 @@ use std::process::Abort;
 const FRAME: [u8; 60] = [0xFF; 60];
 
 /// Sends, and asserts the answer.
-fn send(rt: &impl Abort, host: &mut Host, bus: &mut SoloBus, frame: &[u8], wanted: Result<(), SendError>) {
+fn send(
+    rt: &impl Abort,
+    host: &mut Host,
+    bus: &mut SoloBus,
+    frame: &[u8],
+    wanted: Result<(), SendError>,
+) {
     assert!(rt; host.layout().size() <= bus.size());
     let sent = host.send(bus, frame);
     assert_eq!(rt; sent, wanted);
@@ -45,7 +51,10 @@ fn receives(rt: &impl Abort, host: &mut Host, bus: &mut SoloBus) {
         let handled = host.interrupt(bus);
         assert_eq!(rt; handled, wanted);
     }
-    assert_eq!(rt; (host.waiting(0), host.unclaimed(), host.missed()), (1, 0, (0, true)));
+    assert_eq!(rt;
+        (host.waiting(0), host.unclaimed(), host.missed()),
+        (1, 0, (0, true))
+    );
     let mut bytes = [0; 1518];
     for wanted in [Ok(60), Err(RecvError::Empty)] {
         assert!(rt; host.layout().size() <= bus.size());
