@@ -1,14 +1,18 @@
 /* A library that is loaded before the C library. It makes one allocation of a program fail: the one whose number, counted from 1,
-   is in the environment variable REFUSE. If it made an allocation fail, it creates a file with the name in REFUSED. The program's
-   allocator calls only malloc and realloc; the callers check that the program names no other function that allocates. */
+   is in the environment variable REFUSE. If REFUSE_ALL is set, each allocation after that one fails, too. If REFUSE_AFTER_WRITE is
+   set, each allocation after the first call of write fails. If the library made an allocation fail, it creates a file with the name
+   in REFUSED. The program's allocator calls only malloc and realloc; the callers check that the program names no other function
+   that allocates. */
 #define _GNU_SOURCE
 #include <dlfcn.h>
 #include <fcntl.h>
 #include <stddef.h>
 #include <stdlib.h>
+#include <sys/types.h>
 #include <unistd.h>
 
 static long left = -1;
+static int wrote;
 
 static int refused(void)
 {
@@ -16,8 +20,11 @@ static int refused(void)
         const char *number = getenv("REFUSE");
         left = number ? atol(number) : 0;
     }
-    if (left <= 0 || --left > 0)
-        return 0;
+    if (!wrote) {
+        if (left <= 0 || --left > 0)
+            return 0;
+        left = getenv("REFUSE_ALL") ? 1 : 0;
+    }
     const char *file = getenv("REFUSED");
     if (file)
         close(creat(file, 0600));
@@ -38,4 +45,14 @@ void *realloc(void *old, size_t size)
     if (!next)
         next = dlsym(RTLD_NEXT, "realloc");
     return refused() ? NULL : next(old, size);
+}
+
+ssize_t write(int file, const void *bytes, size_t size)
+{
+    static ssize_t (*next)(int, const void *, size_t);
+    if (!next)
+        next = dlsym(RTLD_NEXT, "write");
+    ssize_t count = next(file, bytes, size);
+    wrote = wrote || getenv("REFUSE_AFTER_WRITE");
+    return count;
 }

@@ -16,8 +16,10 @@ class Refused(Exception):
 class Adapter:
     """Registers and memory, an interrupt line, and a wire."""
 
-    def __init__(self, program, *options):
-        self.process = subprocess.Popen([program, "serve", *options], stdin=subprocess.PIPE, stdout=subprocess.PIPE)
+    def __init__(self, program, *options, **settings):
+        """Starts the server with these options of `serve`, and these settings of its process."""
+        self.process = subprocess.Popen([program, "serve", *options], stdin=subprocess.PIPE, stdout=subprocess.PIPE,
+                                        **settings)
         self.line = False  # whether the interrupt line is asserted
         self.wire = []  # the frames that were put onto the wire
         self.told = []  # the lines of the log

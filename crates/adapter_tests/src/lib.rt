@@ -20,6 +20,8 @@ mod mdic_phy_readme;
 #[cfg(test)]
 mod memory;
 #[cfg(test)]
+mod no_memory;
+#[cfg(test)]
 mod readme;
 #[cfg(test)]
 mod registers_readme;

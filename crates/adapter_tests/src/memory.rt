@@ -1,6 +1,10 @@
 //! Memory that may be refused, and the texts of refusals.
 
+use adapter::{Outcome, StepKind};
+use bus::StoredBytes;
 use dma_memory::{HostMemory, LayoutError, OutOfRange, Pool};
+use eeprom::Image;
+use solo_bus::sound_buses::{with_buffered_frame, with_work};
 use std::process::Abort;
 use std::test::Fail;
 
@@ -23,6 +27,21 @@ fn a_new_memory_is_zeros(rt: HostRuntime) {
 fn a_new_pool_has_all_numbers(rt: HostRuntime) {
     if let Ok(pool) = Pool::new(rt.alloc(), u16::MAX) {
         assert!(rt; pool.len() == u16::MAX);
+    }
+}
+
+/// And here.
+#[test]
+fn stored_bytes_and_sound_buses_are_made(rt: HostRuntime) {
+    if let Ok(stored) = StoredBytes::from_slice(rt.alloc(), &[1, 2, 3]) {
+        assert!(rt; stored.as_slice() == [1, 2, 3].as_slice());
+    }
+    let image = Image::with_address([0x02, 0, 0, 0, 0, 0x01]);
+    if let Ok(mut bus) = with_buffered_frame(rt.alloc(), &image) {
+        assert_eq!(rt; bus.step(StepKind::TxPut), Outcome::Put(()));
+    }
+    if let Ok(mut bus) = with_work(rt.alloc(), &image) {
+        assert_eq!(rt; bus.step(StepKind::RxDone), Outcome::Done);
     }
 }
 

@@ -49,7 +49,7 @@ pub(crate) struct FakeBus {
     /// The descriptors that are loaded first, in order.
     first: ArrayVec<[u8; 16], 8>,
     /// How many descriptors were loaded.
-    loaded: usize,
+    pub(crate) loaded: usize,
     descriptor: [u8; 16],
     /// How many registers were read.
     pub(crate) reads: u32,

@@ -5,10 +5,12 @@ use crate::buses::{FakeBus, config, good_bus};
 use adapter::StepKind;
 use adapter::offsets::ICS;
 use arrayvec::ArrayVec;
+use bitflags::Flags;
 use bring_up::InitError;
 use bus::{Bus, HonestBus};
 use driver::{Driver, Handled, Parts, Received, Receiver, SendError};
 use packet_socket::RecvError;
+use registers::Cause;
 use solo_bus::SoloBus;
 use std::process::Abort;
 use std::test::Fail;
@@ -165,13 +167,14 @@ fn lengths_that_no_frame_has_are_bad(rt: HostRuntime) -> Result<(), Fail> {
 /// What an interrupt over a device that lies brings: frames, their bytes, and bad runs.
 type Brought = (u64, u32, u64);
 
-/// Handles an interrupt over a device that lies: it finished these slots, and no others. Asserts what this brings.
+/// Handles an interrupt over a device that lies: each register reads as RXT0 does in ICR, and it finished these slots,
+/// and no others. Asserts what this brings.
 fn run_of(rt: &impl Abort, driver: &mut Driver, slots: &[[u8; 16]], wanted: Brought) {
     let mut first = ArrayVec::new();
     for slot in slots {
         let _ = first.try_push(*slot);
     }
-    let mut lying = FakeBus::with_first(u32::MAX, first, [0; 16]);
+    let mut lying = FakeBus::with_first(Cause::RXT0.bits(), first, [0; 16]);
     let mut keeper = new_keeper(false);
     let before = driver.bad();
     let handled = Handled::Handled { taken: wanted.0 };
@@ -192,6 +195,8 @@ fn runs_that_are_no_frame_are_bad(rt: HostRuntime) -> Result<(), Fail> {
     let faulty = receive_descriptor(256, 0x01, 0x01);
     for (slots, wanted) in [
         ([full, finished(1)].as_slice(), (1, 257, 0)),
+        (&[full, finished(238)], (1, 494, 0)),
+        (&[finished(59)], (0, 0, 1)),
         (
             &[full, full, full, full, full, finished(238)],
             (1, 1_518, 0),
@@ -218,12 +223,16 @@ fn runs_that_are_no_frame_are_bad(rt: HostRuntime) -> Result<(), Fail> {
     Ok(())
 }
 
-/// Sends a frame over a device whose descriptors are all this one, and asserts the answer.
+/// Sends a frame over a device whose descriptors are all this one, and asserts the answer. If the ring is full, the call
+/// loads descriptors only.
 fn send(rt: &impl Abort, driver: &mut Driver, descriptor: [u8; 16], wanted: Result<(), SendError>) {
     let mut lying = FakeBus::new(0, descriptor);
     assert!(rt; driver.layout().size() <= lying.size());
     let sent = driver.transmit(&mut lying, &[0xFF; 70]);
     assert_eq!(rt; sent, wanted);
+    if wanted.is_err() {
+        assert_eq!(rt; (lying.writes, lying.moves as usize), (0, lying.loaded));
+    }
 }
 
 /// No transmit slot is ever done: the ring runs full. Or each is done for ever: then a call frees each once.

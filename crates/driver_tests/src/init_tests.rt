@@ -91,7 +91,8 @@ fn wrong_image() -> Image {
     Image::from_words(words)
 }
 
-/// Tries to bring an adapter up, and asserts why that is refused, and behind how many accesses.
+/// Tries to bring an adapter up, and asserts why that is refused, and behind how many accesses. It is refused once more
+/// if it is tried again.
 fn attempt(
     rt: &impl Abort,
     alloc: Global,
@@ -102,6 +103,10 @@ fn attempt(
     let mut bus = lively_bus(alloc, image, link)?;
     let error = error_of(alloc, &mut bus);
     assert_eq!(rt; error.map(|error| (error, bus.accesses())), wanted);
+    if error.is_some() {
+        let again = error_of(alloc, &mut bus);
+        assert_eq!(rt; again, error);
+    }
     Ok(())
 }
 

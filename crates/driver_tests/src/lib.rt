@@ -10,6 +10,8 @@ mod calls;
 #[cfg(test)]
 mod init_tests;
 #[cfg(test)]
+mod no_memory;
+#[cfg(test)]
 mod packet_socket_readme;
 #[cfg(test)]
 mod readme;

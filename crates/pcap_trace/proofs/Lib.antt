@@ -10,4 +10,5 @@ mod Orders
 pub mod Packets
 pub mod Sent
 mod Unique
+mod Uses
 mod WrittenLaw

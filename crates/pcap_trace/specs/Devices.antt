@@ -14,6 +14,11 @@ AppendsFront before after bytes = (n : ℕ) × Appends before after (take n byte
 abbrev pub Receives : List ℕ → List ℕ → Option (List ℕ) → Option (List ℕ) → Type 0
 Receives old new before after = (got : List ℕ) × (new ≡ old ++ got) × Consumes before after got
 
+-- What is left of a source's bytes is an end of what was left before: none was lost or changed. (our choice)
+pub record Uses (before after : Option (List ℕ)) : Type 0 where
+  pub used : List ℕ
+  pub consumes : Consumes before after used
+
 -- At most so many of the bytes that a reader has left. (our choice)
 abbrev pub first_of : ℕ → Option (List ℕ) → Option (List ℕ)
 first_of limit bytes = option_map (take limit) bytes

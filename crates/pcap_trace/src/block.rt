@@ -2,7 +2,7 @@
 ghost use Rattle.std.specs.Prelude.{◌≡◌, ◌<◌, ◌≤◌, ◌+◌, ◌++◌, ◌⊎◌, ◌↔◌, [], List, ℕ, length, take, drop, slice_range};
 ghost use Rattle.std.specs.Prelude.{IsTrue, IfOk, OnOk, OnErr, MatchResult};
 ghost use Rattle.std.specs.Io.KnownBytes.{Consumes, IsAtEnd, Keeps, prepend_known};
-ghost use Rattle.pcap_trace.specs.Devices.{CountsFailures, Receives};
+ghost use Rattle.pcap_trace.specs.Devices.{CountsFailures, Receives, Uses};
 
 use crate::device::{DeviceError, Source};
 use std::alloc::{AllocError, Global};
@@ -44,6 +44,7 @@ fn read_behind<S: Source>(
     ensures fits { IfOk result (λ n. end + n ≤ length bytes.old) }
     ensures read { IfOk result
         (λ n. Consumes (S.left source.old) (S.left source.new) (slice_range bytes.new end (end + n))) }
+    ensures used { Uses (S.left source.old) (S.left source.new) }
     ensures at_end { IfOk result (λ n. n ≡ 0 → IsAtEnd (S.left source.new)) }
     ensures limit { IfOk result (λ n. S.most source.new + n ≤ S.most source.old) }
     ensures failures { CountsFailures result (S.failures source.old) (S.failures source.new) }
@@ -87,10 +88,12 @@ impl Block {
 
     /// Moves what it holds to the front of its memory, and reads once from a source behind it. There has to be room
     /// for a byte.
+    #[tactic(auto, using(crate::proofs::Uses::uses_kept, crate::proofs::Uses::uses_read))]
     fn read_more<S: Source>(&mut self, source: &mut S) -> Result<usize, DeviceError>
         requires countable { S.failures source.old < u64.MAX }
         requires room { length self.old < ROOM }
         ensures received { OnOk result (Receives self.old self.new (S.left source.old) (S.left source.new)) }
+        ensures used { Uses (S.left source.old) (S.left source.new) }
         ensures more { IfOk result (λ n. length self.new ≡ length self.old + n) }
         ensures at_end { IfOk result (λ n. n ≡ 0 → IsAtEnd (S.left source.new)) }
         ensures limit { IfOk result (λ n. S.most source.new + n ≤ S.most source.old) }
@@ -110,10 +113,12 @@ impl Block {
     /// # Errors
     ///
     /// [`DeviceError`] where the source fails.
+    #[tactic(auto, using(crate::proofs::Uses::uses_received))]
     pub fn fill<S: Source>(&mut self, source: &mut S, want: usize) -> Result<(), DeviceError>
         requires countable { S.failures source.old < u64.MAX }
         requires room { want ≤ ROOM }
         ensures received { OnOk result (Receives self.old self.new (S.left source.old) (S.left source.new)) }
+        ensures used { Uses (S.left source.old) (S.left source.new) }
         ensures filled { OnOk result ((want ≤ length self.new) ⊎ IsAtEnd (S.left source.new)) }
         ensures limit { OnOk result (length self.new + S.most source.new ≤ length self.old + S.most source.old) }
         ensures failures { CountsFailures result (S.failures source.old) (S.failures source.new) }

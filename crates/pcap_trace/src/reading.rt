@@ -2,6 +2,7 @@
 ghost use Rattle.std.specs.Prelude.{◌≡◌, ◌<◌, ◌≤◌, ◌+◌, length, IfOk, IfErr, IfSome, IfNone, OnOk, OnSome};
 ghost use Rattle.std.specs.Io.KnownBytes.{IsAtEnd, prepend_known};
 ghost use Rattle.pcap_trace.specs.Format.{IsBody, ending_of, captured_length, number_in, original_length};
+ghost use Rattle.pcap_trace.specs.Devices.{Uses};
 ghost use Rattle.pcap_trace.specs.Reading.{IsAnswer, IsOnlyAnswer, IsBodyFault, TellsFailure};
 
 use crate::block::Block;
@@ -56,6 +57,7 @@ fn read_body<T: ByteOrder, S: Source>(
         (λ e. IfSome (prepend_known block.old (S.left source.old)) (λ bytes. IsBodyFault T.number_of bytes e)) }
     ensures failure { TellsFailure result (S.failures source.old) (S.failures source.new) }
     ensures end { OnOk result (IsAtEnd (S.left source.new)) }
+    ensures used { Uses (S.left source.old) (S.left source.new) }
 {
     // It can give fewer than 2^64 bytes, and each skipped packet takes 16 of them, so that the count of these does
     // not overflow.
@@ -105,6 +107,7 @@ fn read_body_in<S: Source>(
         (λ e. IfSome (prepend_known block.old (S.left source.old)) (λ bytes. IsBodyFault (number_in order) bytes e)) }
     ensures failure { TellsFailure result (S.failures source.old) (S.failures source.new) }
     ensures end { OnOk result (IsAtEnd (S.left source.new)) }
+    ensures used { Uses (S.left source.old) (S.left source.new) }
 {
     match order {
         Endianness::Big => read_body::<BigEndian, S>(alloc, block, source),
@@ -124,7 +127,8 @@ impl Trace {
     /// [`Record`](ReadError::Record) comes where, behind whole packets, a whole packet header tells more than 262,144
     /// captured bytes, whatever stands behind it. E65 [`Memory`](ReadError::Memory) comes if memory is refused. A
     /// device's failure is E66 [`Read`](ReadError::Read) and never anything else. After an error some bytes of the
-    /// source are used up.
+    /// source are used up, and no other byte of it is lost.
+    #[tactic(auto, using(crate::proofs::Uses::uses_joined))]
     pub fn read<S: Source>(alloc: Global, source: &mut S) -> Result<Trace, ReadError>
         requires { S.failures source.old < u64.MAX }
 
@@ -135,6 +139,9 @@ impl Trace {
         // E66 comes exactly where the source failed.
         ensures failure { TellsFailure result (S.failures source.old) (S.failures source.new) }
         ensures end { OnOk result (IsAtEnd (S.left source.new)) }
+
+        // Whatever the result, the bytes that are left are an end of those before.
+        ensures used { Uses (S.left source.old) (S.left source.new) }
     {
         let mut block = Block::new(alloc)?;
         block.fill(source, FILE_HEADER)?;

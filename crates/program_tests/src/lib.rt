@@ -8,6 +8,8 @@ mod devices;
 #[cfg(test)]
 mod failing_sinks;
 #[cfg(test)]
+mod no_memory;
+#[cfg(test)]
 mod pcap_bench_readme;
 #[cfg(test)]
 mod pcap_trace_readme;

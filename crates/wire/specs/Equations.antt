@@ -71,8 +71,8 @@ pub record CountsUnclaimed (h : HostState) (a : World) (frames : ℕ) (h' : Host
   -- as many, if the count isn't saturated
   pub exactly : h'.unclaimed < most_counted → unclaimed_in h' b ≡ unclaimed_in h a + frames
 
--- What the plan fixes doesn't change: the wire, the sockets, the sizes of rings and pool, the filter, and the size of the receive packet
--- buffer. `wire_at stations k` is the number of the k-th host's wire, and `world_at stations k` is the k-th host's world.
+-- Of what the plan fixes, these don't change: the wire, the sockets, the sizes of rings and pool, the filter, and the size of the receive
+-- packet buffer. `wire_at stations k` is the number of the k-th host's wire, and `world_at stations k` is the k-th host's world.
 pub record KeepsPlan (k : ℕ) (old new : List StationState) (h h' : HostState) : Type 0 where
   pub wire : wire_at new k ≡ wire_at old k
   -- the table of sockets
@@ -95,15 +95,16 @@ pub record Delivers (k : ℕ) (happened : List Happening) (old new : List Statio
   -- the wire, the sockets, the filter and the sizes don't change
   pub plan_is_kept : KeepsPlan k old new h h'
   -- The frames put on the wire, then those still to be sent, are those that were to be sent, then those accepted, padded.
-  -- `frames_to_send`: the frames in the transmit packet buffer, then those of the descriptors from TDH to TDT, padded with zeros to 60
-  -- bytes.
+  -- `frames_to_send`: the frames in the transmit packet buffer, then those of the descriptors from TDH up to, but not including, TDT,
+  -- padded with zeros to 60 bytes.
   pub sent_is_accepted : put k happened ++ frames_to_send (world_at new k)
       ≡ frames_to_send (world_at old k) ++ map padded (accepted k happened)
   -- The frames that reached it, then those that still wait at its end of its wire (`backlog_at`), are those that waited, then those that
   -- other hosts put on its wire (`toward`).
   pub reached_is_put : reached k happened ++ backlog_at new k ≡ backlog_at old k ++ toward (wire_at old) k happened
   -- The frames that a socket gave, then those still held for it, are those that were held, then those stored that go to it.
-  -- `held_for_socket`: the frames in the socket's queue, then those of the receive ring and of the receive packet buffer that go to it.
+  -- `held_for_socket`: the frames in the socket's queue, then those frames of the receive ring and of the receive packet buffer that go to
+  -- it. A frame is in the ring if its last piece is in a finished slot or in progress; otherwise it is in the packet buffer, whole.
   pub given_is_kept : (socket : ℕ) → given k socket happened ++ held_for_socket h' socket (world_at new k)
       ≡ held_for_socket h socket (world_at old k) ++ kept h.kinds k socket happened
   -- Each frame that reached it met the first fate that applies: illegal (it has less than 60 or more than 1,518 bytes), filtered, missed as
@@ -119,16 +120,17 @@ pub record Delivers (k : ℕ) (happened : List Happening) (old new : List Statio
 
 -- 4. What holds of a network before and after each event.
 
--- What its driver read of MPC, and then the whole count of misses, is exact below MPC's greatest value.
+-- If the sum of what the driver read from MPC is below 0xFFFFFFFF, this sum is exact. If the whole count is, then the whole count is exact.
 pub record CountsExactly (host : HostState) (world : World) : Type 0 where
   pub reads : host.driver.missed < greatest_count → IsTrue host.driver.exact
   pub counts : counted host world < greatest_count → IsExact host world
 
 -- What holds of a host before and after each event of its network.
 pub record HostStands (host : HostState) (world : World) : Type 0 where
-  -- its driver knows its rings and buffers, and the frames that wait for its sockets are in them
+  -- its driver knows its rings and buffers, and the bytes of the frames in its sockets' queues are in its buffers
   pub ready : HostReady host world
-  -- No work is forgotten: RXT0 is in the mask, and it is recorded if a frame ends in the finished receive slots.
+  -- No work is forgotten: RXT0 is set in IMS. If a frame ends in the finished receive slots (DD is set, and the driver hasn't taken them
+  -- yet), RXT0 is set in ICR.
   pub work : HasNoForgottenWork host.driver world
   -- No buffer is free, or all receive slots but one are outstanding.
   pub refilled : IsRefilled host.driver

@@ -71,8 +71,10 @@ happenings (event ∷ events) (reply ∷ replies) = said event reply ++ happenin
 
 -- 2. The atomic steps of an event, as every host finds them.
 
--- Each tick is answered by counting: the frames in the packet buffers, the offered slots, whether a piece is in progress, and what is
--- pending at the EEPROM and the PHY. `counts_of` are these numbers of an adapter. `counts_at start steps k` are those of the k-th host
+-- The outcome of each tick follows by counting: the frames in the packet buffers, the bytes of each that are still to be moved, the offered
+-- slots, whether a piece is in progress, what is pending at the EEPROM and the PHY, and the frames that wait at the ends of the wires. The
+-- frame of Put or Delivered is the oldest one there (`sent_is_accepted` and `reached_is_put` of specs/Equations), and its fate is right
+-- (`fates_are_right`). `counts_of` are these numbers of an adapter. `counts_at start steps k` are those of the k-th host
 -- after the steps, computed from the state at the start: each outcome is applied, and each write of TDT or RDT, which offers slots.
 pub record TicksAnswered (steps : List AtomicStep) (old new : NetworkState) : Type 0 where
   -- a tick's outcome follows from what is counted at the start, with the outcomes and the writes of TDT and RDT before it applied
@@ -84,9 +86,10 @@ pub record TicksAnswered (steps : List AtomicStep) (old new : NetworkState) : Ty
   pub counts : (k : ℕ) (h : HostState) → IsHost old k h
       → counts_of (world_at new.stations k).adapter ≡ counts_at old.stations steps k
 
--- These atomic steps lead from one state to the other. Each host goes by the equations of delivery, and stands.
+-- These atomic steps lead from one state to the other. Each host satisfies the equations of delivery and `HostStands`.
 pub record HostsGo (caller : ℕ) (happened : List Happening) (steps : List AtomicStep) (old new : NetworkState) : Type 0 where
-  -- each step can happen, and leaves the stations exactly as the next finds them (`LeadsTo`); each access is the caller's
+  -- From the old stations on, each step is possible in the state that it finds. It changes the stations exactly as this access, this step
+  -- of an adapter or this delivery does, and nothing else (`LeadsTo`). Each access is one of the host that is called.
   pub leads : LeadsTo caller steps old.stations new.stations
   -- there are as many hosts as before
   pub hosts : length new.hosts ≡ length old.hosts
@@ -94,7 +97,7 @@ pub record HostsGo (caller : ℕ) (happened : List Happening) (steps : List Atom
   pub delivers : (k : ℕ) (h h' : HostState) → IsHost old k h → IsHost new k h' → Delivers k happened old.stations new.stations h h'
   -- each tick is answered by counting
   pub ticks : TicksAnswered steps old new
-  -- after it each host stands: one owner for each buffer, no forgotten work, refilled (specs/Equations)
+  -- after it `HostStands` holds for each host: one owner for each buffer, no forgotten work, and more (specs/Equations)
   pub stands : NetworkStands new
 
 -- 3. What a call of a host that is there answers. What each result means, and which accesses it goes with, is the contract of the call
@@ -102,9 +105,11 @@ pub record HostsGo (caller : ℕ) (happened : List Happening) (steps : List Atom
 -- host_calls/specs/CallAnswers). These contracts have their own row in docs/CONTRACTS, "Where to begin". A `ConnectedHost` is a host with
 -- all stations; `(past_at host steps).accesses` are the accesses of the host's driver among the steps.
 
--- TooShort if and only if the frame has less than 14 bytes. TooLong if and only if it has more than 1,518 bytes. RingFull only if the
--- number of frames to be sent was one less than that of transmit slots when the call began. Otherwise Ok: the frame is accepted. If the
--- frame is too short or too long, the host doesn't change, and no access is made.
+-- TooShort (E20) if and only if the frame has less than 14 bytes. TooLong (E21) if and only if it has more than 1,518 bytes. In both cases
+-- the host doesn't change, and no access is made. RingFull (E22) only if the number of frames to be sent was one less than that of transmit
+-- slots when the call began, and all transmit slots but one are outstanding when it ends. Right after the call's last load of a descriptor,
+-- no outstanding slot is written back. Otherwise Ok: the frame is accepted. A send changes of the host at most which transmit slots are
+-- outstanding.
 pub record IsSendAnswer (host : ℕ) (frame : List ℕ) (answer : FrameAnswer) (steps : List AtomicStep) (old new : ConnectedHost) : Type 0
   where
     pub result : SendAnswer
@@ -114,8 +119,9 @@ pub record IsSendAnswer (host : ℕ) (frame : List ℕ) (answer : FrameAnswer) (
     -- the accesses of its driver are exactly these, in order
     pub makes : MakesSend result frame old.host new.host (past_at host steps).accesses
 
--- NoSocket if and only if the host has no such socket. Empty if and only if it has the socket, and no frame waits in its queue. Otherwise
--- Ok, with the oldest frame of the queue. In the first two cases the host doesn't change, and no access is made.
+-- NoSocket (E31) if and only if the host has no such socket. Empty (E30) if and only if it has the socket, and no frame is in its queue. In
+-- both cases the host doesn't change, and no access is made. Otherwise Ok, with the oldest frame of the queue. This frame leaves the queue,
+-- the other queues don't change, and of the driver only the owners of buffers change.
 pub record IsRecvAnswer (host socket : ℕ) (answer : FrameAnswer) (steps : List AtomicStep) (old new : ConnectedHost) : Type 0 where
   pub result : Result (List ℕ) RecvError
   pub is : answer ≡ Received result
@@ -124,8 +130,9 @@ pub record IsRecvAnswer (host socket : ℕ) (answer : FrameAnswer) (steps : List
   -- the accesses of its driver are exactly these, in order
   pub makes : MakesRecv result socket old.host new.host (past_at host steps).accesses
 
--- The frames that the handler took off the receive ring are the first of those that the host held when the call began, followed by those
--- that the call's steps stored. Each socket's queue got those that go to it, in order, at its end.
+-- The frames that the handler took off the receive ring are the beginning of this list: the frames that the host held when the call
+-- began, then those that were stored during the call. Each socket's queue got those that go to it, in order, at its end. Those that go to
+-- no socket are counted (`states` of `IsInterruptAnswer`, `unclaimed_is_counted` of specs/Equations).
 pub record TakesFrames (host : ℕ) (steps : List AtomicStep) (taken : List (List ℕ)) (old new : ConnectedHost) : Type 0 where
   -- `frames_held`: the frames of the receive ring, from the driver's oldest slot on, then those of the receive packet buffer. `stored` are
   -- the frames that the steps stored in this buffer.
@@ -135,8 +142,9 @@ pub record TakesFrames (host : ℕ) (steps : List AtomicStep) (taken : List (Lis
   pub queues : (socket : ℕ) → waiting_frames new.host socket (world_at new.stations host)
       ≡ waiting_frames old.host socket (world_at old.stations host) ++ socket_frames old.host.kinds socket taken
 
--- NotMine if and only if the call's read of ICR returned no cause that a driver handles. Then the host doesn't change, and no frame is
--- taken. Otherwise Handled, with the number of frames taken: at least as many as ended in finished slots when the call began.
+-- NotMine if and only if the call's read of ICR returned none of TXDW, RXDMT0, RXO and RXT0. Then the host doesn't change, and no frame is
+-- taken. Otherwise Handled, with the number of frames taken: at least as many as ended in finished slots when the call began. Right after
+-- the last load of a descriptor, no frame ends in finished slots. The value that is read from MPC is added to the driver's sum.
 pub record IsInterruptAnswer (host : ℕ) (answer : FrameAnswer) (steps : List AtomicStep) (old new : ConnectedHost) : Type 0 where
   pub result : Handled
   pub is : answer ≡ Interrupted result
@@ -144,7 +152,7 @@ pub record IsInterruptAnswer (host : ℕ) (answer : FrameAnswer) (steps : List A
   pub taken : List (List HandedOut)
   -- what this result states of the host before and after the call
   pub states : InterruptResult host taken result steps old new
-  -- these frames, each with its pieces joined, went to the sockets
+  -- these frames, each with its pieces joined, went to the queues of their sockets
   pub takes : TakesFrames host steps (joined_frames taken) old new
   -- the accesses of its driver are exactly these, in order (`numbers_of`: the numbers of a frame's buffers)
   pub makes : MakesInterrupt result (map numbers_of taken) old.host new.host (past_at host steps).accesses
@@ -163,8 +171,8 @@ ticked host ticks = record { host = host; ticks = ticks }
 pub record IsCallReply (reply : Reply) (steps : List AtomicStep) (old new : NetworkState) (call : TickedCall) : Type 0 where
   -- The steps that aren't accesses are the ticks that aren't Go, in order. `tick_of` of an access is Go, so accesses are left out.
   pub played : without_go is_go (map tick_of steps) ≡ without_go is_go call.ticks
-  -- Each access is one of a driver that is up (`IsOfDriver`: a load, a store, a read of ICR or MPC, or a write of TDT or RDT), and only the
-  -- last may write a register.
+  -- Each access is one of an initialized driver (`IsOfDriver`: a load, a store, a read of ICR or MPC, or a write of TDT or RDT), and only
+  -- the last may write a register.
   pub accesses : (h : HostState) → IsHost old call.host h
       → All (IsOfDriver h.driver.layout) (past_at call.host steps).accesses × OnlyLastWrites (past_at call.host steps).accesses
   -- a call of a host that isn't there makes no access
@@ -173,12 +181,14 @@ pub record IsCallReply (reply : Reply) (steps : List AtomicStep) (old new : Netw
   pub no_host : reply.answer ≡ NoHost ↔ (length old.hosts ≤ call.host)
   -- The reply has the number of accesses (`counted_of`, from 0 on), at most the greatest u64.
   pub counted : reply.accesses ≡ counted_of 0 steps
-  -- It has the outcome of each tick, with the number of accesses before it (`noted_of`, from 0 accesses on).
+  -- It has the outcome of each tick that isn't Go, with the number of accesses before it (`noted_of`, from 0 accesses on).
   pub outcomes : reply.outcomes.list ≡ noted_of 0 steps
   -- An outcome's number is the lesser of its group's number and the number of accesses. Each Go ends a group; the first has number 0
-  -- (`numbers`). `noted_numbers` are the numbers in the outcomes.
+  -- (`numbers`). `noted_numbers` are the numbers in the outcomes. So the ticks of group i are played after exactly i accesses, that is,
+  -- right before the next access, or after the last access of the call if it makes no more than i.
   pub numbered : noted_numbers reply.outcomes.list ≡ numbers call.ticks 0 reply.accesses
-  -- of a host that isn't called neither driver nor queues change
+  -- A host that isn't called doesn't change: its driver, its queues and its count of frames without a socket. What ticks change of its
+  -- station is in `leads` of `HostsGo`.
   pub others : (k : ℕ) → k ≢ call.host → slice_get new.hosts k ≡ slice_get old.hosts k
 
 -- A tick that is played in no call: its outcome is that of its atomic step. A Go does nothing.
@@ -228,9 +238,9 @@ IsCallAnswer (Alone tick) answer = λ steps old new. answer ≡ Ticked
 
 -- An event and its reply lead from one state of a network to the next.
 pub record EventRuns (old : NetworkState) (event : Event) (reply : Reply) (new : NetworkState) : Type 0 where
-  -- before it each host stands: one owner for each buffer, no forgotten work, refilled (specs/Equations)
+  -- before it `HostStands` holds for each host: one owner for each buffer, no forgotten work, and more (specs/Equations)
   pub stood : NetworkStands old
-  -- by these atomic steps each host goes by the equations, each tick is answered, and each host stands again
+  -- by these atomic steps each host satisfies the equations, each tick has its outcome, and `HostStands` holds again
   pub steps : List AtomicStep
   pub go : HostsGo (caller_of event) (said event reply) steps old new
   -- what the reply says of the steps
@@ -270,7 +280,8 @@ pub record RunTold {O : Type 0} (ran : O → O → List Event → List Reply →
   pub told : ran from to events replies
   pub runs : RunsTo old events [] replies new
 
--- A run stopped before this event. The observer, told of all before it, refused to make room.
+-- A run stopped before this event. In its state `asked`, in which it was told of all before it, the observer may refuse to make room for it
+-- (`refuses`).
 pub record StopsAt {O : Type 0} (refuses : O → Event → Type 0) (next : Option Event) (Told : O → Type 0) : Type 0 where
   pub event : Event
   pub is : next ≡ Some event

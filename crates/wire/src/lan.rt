@@ -106,8 +106,9 @@ impl Lan {
     ///
     /// # Errors
     ///
-    /// If memory for the reply of an event is refused. The events before that one were run and answered, and it changed
-    /// nothing. A contract can't name the allocator's answers, so no clause states that this is the only reason.
+    /// If memory for the reply of an event is refused. The first `done` events were run and answered, and this event
+    /// changed nothing. A contract can't name the allocator's answers, so no clause states that this is the only
+    /// reason.
     pub fn run(
         &mut self,
         alloc: Global,

@@ -10,6 +10,8 @@ mod long_frames;
 #[cfg(test)]
 mod memory_tests;
 #[cfg(test)]
+mod no_memory;
+#[cfg(test)]
 mod outlet;
 #[cfg(test)]
 mod readme;

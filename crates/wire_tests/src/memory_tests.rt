@@ -1,6 +1,6 @@
 //! Memory is refused, one allocation in each run of this test.
 
-use crate::outlet::Taken;
+use crate::outlet::{Taken, TakenFrame};
 use crate::texts::events_of;
 use adapter::StepKind;
 use network_plan::{Plan, PlanError};
@@ -102,19 +102,43 @@ fn check_replies(rt: &impl Abort, replies: &[Reply], others: &[Reply]) {
     }
 }
 
-/// Asserts how many frames a host gives when it is drained, and by how many steps. Room for them may be refused, too,
-/// and then nothing is asserted.
-fn check_held(
+/// The frames that a host gives when it is drained, by so many steps. `None` if room for them is refused.
+fn drained(
     rt: &impl Abort,
     alloc: Global,
     lan: &mut Lan,
     host: usize,
-    frames: usize,
     steps: u64,
+) -> Option<Vec<TakenFrame>> {
+    let Ok(mut taken) = Taken::with_room(alloc, lan.drain_room(host)) else {
+        return None;
+    };
+    assert!(rt; lan.drain(host, &mut taken) == steps);
+    Some(taken.list)
+}
+
+/// Asserts that two networks gave the same frames, and so many. If room was refused, nothing is asserted.
+fn check_held(
+    rt: &impl Abort,
+    held: Option<Vec<TakenFrame>>,
+    others: Option<Vec<TakenFrame>>,
+    frames: usize,
 ) {
-    if let Ok(mut taken) = Taken::with_room(alloc, lan.drain_room(host)) {
-        assert!(rt; lan.drain(host, &mut taken) == steps);
-        assert!(rt; taken.list.len() == frames);
+    let (Some(held), Some(others)) = (held, others) else {
+        return;
+    };
+    assert!(rt; held.len() == frames && others.len() == frames);
+    for (one, other) in held.iter().zip(others.iter()) {
+        assert!(rt; one.socket == other.socket && one.frame.as_slice() == other.frame.as_slice());
+    }
+}
+
+/// Asserts that the logs of two networks are alike, and have two entries.
+fn check_logs(rt: &impl Abort, lan: &Lan, other: &Lan) {
+    let (log, others) = (lan.log(0), other.log(0));
+    assert!(rt; log.len() == 2 && others.len() == 2);
+    for (one, other) in log.iter().zip(others) {
+        assert!(rt; one.0 == other.0 && one.1.as_slice() == other.1.as_slice());
     }
 }
 
@@ -132,6 +156,10 @@ fn a_refused_allocation_is_memory(rt: HostRuntime) {
     let mut other = new_lan(&rt, alloc, &plan);
     let others = run_all(&rt, alloc, &mut other, &events);
     check_replies(&rt, &replies, &others);
-    check_held(&rt, alloc, &mut lan, 0, 0, 1);
-    check_held(&rt, alloc, &mut lan, 1, 1, 2);
+    check_logs(&rt, &lan, &other);
+    for (host, frames, steps) in [(0, 0, 1), (1, 1, 2)] {
+        let held = drained(&rt, alloc, &mut lan, host, steps);
+        let others = drained(&rt, alloc, &mut other, host, steps);
+        check_held(&rt, held, others, frames);
+    }
 }

@@ -4,6 +4,7 @@ use Rattle.std.specs.Io.KnownBytes.{prepend_known}
 use Rattle.pcap_trace.specs.Format.{captured_length, original_length}
 use Rattle.pcap_trace.proofs.Going.{GoesOnKnown-read, GoesOnKnown-kept, GoesOnKnown-skipped, word-read, ends_short, ends_cut}
 use Rattle.pcap_trace.proofs.Going.{ends_oversized}
+use Rattle.pcap_trace.proofs.Uses.{uses_joined}
 use Rattle.pcap_trace.proofs.reading.read_body.Goals as goal
 use Rattle.pcap_trace.proofs.reading.read_body.Goals.{then-lengths, else-lengths+in_ok-push, in_default}
 use Rattle.pcap_trace.proofs.reading.read_body.Goals.{in-Some+else-lengths-gt-MOST_CAPTURED+in_ok-fill-2+then-held-whole}
@@ -40,6 +41,7 @@ packets-preserved g c =
     let origin : c.in-Some.lengths.original ≡ original_length number all = c.in-Some.ensures.original
     ∙ ap (original_length number) c.held.ensures
     ∙ sym (word-read number first 12 held all left next (omega arith) c.in_ok-fill-2.ensures.received) in
+    let used = uses_joined (uses_joined c.packets.invariant.used c.in_ok-fill.ensures.used) c.in_ok-fill-2.ensures.used in
     let text : take (16 + n - 16) (drop 16 all) ≡ take n (drop 16 all) = ap (λ (k : ℕ). take k (drop 16 all)) (omega arith) in
     elim c.if-lengths.branch [
       | then-lengths w ↦ record {
@@ -55,6 +57,7 @@ packets-preserved g c =
           c.in_ok-fill-2.ensures.limit,
           c.packets.invariant.room,
         );
+        used = used;
         so_far = rw (c.skip.ensures, w.frames-is, w.skipped-is)
             (GoesOnKnown-skipped number first a next all c.packets.frames c.packets.skipped n told (omega arith)
             (omega (arith, ap length c.held-in-packets.ensures)) (omega (arith, w.if-lengths.true, origin)) so_far);
@@ -72,6 +75,7 @@ packets-preserved g c =
           c.in_ok-fill-2.ensures.limit,
           c.packets.invariant.room,
         );
+        used = used;
         so_far = rw (
           c.skip.ensures,
           w.frames-is,
@@ -115,4 +119,29 @@ returns-clause-ok g c =
           ends_cut number a next all c.packets.frames c.packets.skipped c.is_empty.result n is told
           (omega (arith, ap length w.in_ok-fill-2.ensures.received.1, length-append held w.in_ok-fill-2.ensures.received.0))
           (omega arith) (omega (arith, w.if-held-whole.true, ap length w.held-in-packets.ensures)) w.in_ok-fill-2.ensures.filled now
+    ]
+
+-- what is left of the source
+
+pub returns-in_err-fill-clause-used : goal.returns-in_err-fill-clause-used
+returns-in_err-fill-clause-used g c = uses_joined c.packets.invariant.used c.in_err-fill.ensures.used
+
+pub returns-then-lengths-gt-MOST_CAPTURED-clause-used : goal.returns-then-lengths-gt-MOST_CAPTURED-clause-used
+returns-then-lengths-gt-MOST_CAPTURED-clause-used g c = uses_joined c.packets.invariant.used c.in_ok-fill.ensures.used
+
+pub returns-in_err-fill-2-clause-used : goal.returns-in_err-fill-2-clause-used
+returns-in_err-fill-2-clause-used g c =
+    uses_joined (uses_joined c.packets.invariant.used c.in_ok-fill.ensures.used) c.in_err-fill-2.ensures.used
+
+pub returns-in_err-push-clause-used : goal.returns-in_err-push-clause-used
+returns-in_err-push-clause-used g c =
+    uses_joined (uses_joined c.packets.invariant.used c.in_ok-fill.ensures.used) c.in_ok-fill-2.ensures.used
+
+pub returns-clause-used : goal.returns-clause-used
+returns-clause-used g c =
+    let first = uses_joined c.packets.invariant.used c.in_ok-fill.ensures.used in
+    elim c.match-packet_lengths.branch [
+      | in_default w ↦ rw w.source-is first
+      | in-Some+else-lengths-gt-MOST_CAPTURED+in_ok-fill-2+then-held-whole w ↦
+          rw w.source-is (uses_joined first w.in_ok-fill-2.ensures.used)
     ]

@@ -4,6 +4,7 @@ use Rattle.pcap_trace.specs.Devices.{Receives}
 use Rattle.pcap_trace.specs.Format.{number_in}
 use Rattle.pcap_trace.specs.Reading.{header_fault, IsHeaderFault}
 use Rattle.pcap_trace.proofs.Answering.{fits_fault, fits_body, only_from_fits}
+use Rattle.pcap_trace.proofs.Uses.{uses_joined}
 use Rattle.pcap_trace.proofs.trace.Trace.read.Goals as goal
 
 pub returns-in_err-order-clause-fits : goal.returns-in_err-order-clause-fits
@@ -37,3 +38,6 @@ returns-clause-fits g c =
 
 pub returns-clause-only : goal.returns-clause-only
 returns-clause-only g c = only_from_fits (g.S.Source.left c.args.source.now) c.read_body_in.result (returns-clause-fits g c)
+
+pub returns-clause-used : goal.returns-clause-used
+returns-clause-used g c = uses_joined c.in_ok-fill.ensures.used c.read_body_in.ensures.used

@@ -1,0 +1,29 @@
+-- What is left of a source after a read, and after two uses.
+use Rattle.std.proofs.Common.{◌≡◌, ◌++◌, ◌∙◌, ℕ, List, [], Option, Some, None, ap, sym, refl}
+use Rattle.std.proofs.lemmas.List.{append_assoc}
+use Rattle.std.specs.Io.KnownBytes.{Consumes, Keeps}
+use Rattle.pcap_trace.specs.Devices.{Receives, Uses}
+
+-- a read that failed
+pub uses_kept : (a b : Option (List ℕ)) → Keeps a b → Uses a b
+uses_kept None b kept = record { used = []; consumes = tt }
+uses_kept (Some xs) None kept = absurd kept
+uses_kept (Some xs) (Some ys) kept = record { used = []; consumes = sym kept }
+
+-- a read that gave these bytes
+pub uses_read : (a b : Option (List ℕ)) (bytes : List ℕ) → Consumes a b bytes → Uses a b
+uses_read a b bytes consumes = record { used = bytes; consumes = consumes }
+
+-- reads that gave bytes
+pub uses_received : (old new : List ℕ) (a b : Option (List ℕ)) → Receives old new a b → Uses a b
+uses_received old new a b received = record { used = received.0; consumes = received.2 }
+
+-- one use after the other is one use
+pub uses_joined : {a b c : Option (List ℕ)} → Uses a b → Uses b c → Uses a c
+uses_joined {a = None} one two = record { used = []; consumes = tt }
+uses_joined {a = Some xs} {b = None} one two = absurd one.consumes
+uses_joined {a = Some xs} {b = Some ys} {c = None} one two = absurd two.consumes
+uses_joined {a = Some xs} {b = Some ys} {c = Some zs} one two = record {
+  used = one.used ++ two.used;
+  consumes = one.consumes ∙ ap (λ (t : List ℕ). one.used ++ t) two.consumes ∙ sym (append_assoc one.used two.used zs);
+}

@@ -1,0 +1,39 @@
+//! Calls that write, and take no memory. They succeed, even if every allocation fails after their arguments were made.
+
+use descriptors::Frame;
+use pcap_bench::Frames;
+use pcap_trace::{Trace, WriterSink};
+use std::alloc::{AllocError, Global};
+
+/// A frame of 60 bytes with its number.
+fn packets(alloc: Global) -> Result<Vec<(u64, Frame)>, AllocError> {
+    let mut packets = Vec::new(alloc);
+    packets.push((7, Frame::from_slice(&[0xA5; 60])))?;
+    Ok(packets)
+}
+
+/// The same as a trace.
+fn trace(alloc: Global) -> Result<Trace, AllocError> {
+    let mut frames = Frames::new(alloc);
+    frames.push(&[0xA5; 60])?;
+    Ok(Trace {
+        frames,
+        skipped: 0,
+        cut: false,
+    })
+}
+
+#[test]
+fn calls_that_write_take_no_memory(rt: HostRuntime) {
+    let (Ok(packets), Ok(trace)) = (packets(rt.alloc()), trace(rt.alloc())) else {
+        return;
+    };
+    let mut room = [0; 100];
+    let mut sink = WriterSink::new(&mut room[..]);
+    assert!(rt; Trace::write(&mut sink, &packets).is_ok());
+    assert!(rt; room.ends_with(&[0xA5; 60]));
+    let mut room = [0; 200];
+    let mut sink = WriterSink::new(&mut room[..]);
+    assert!(rt; pcap_bench::show(&trace, &mut sink).is_ok());
+    assert!(rt; room.starts_with(b"0 60 a5:a5:a5:a5:a5:a5"));
+}

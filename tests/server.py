@@ -1,0 +1,54 @@
+"""Runs of `nicbench serve`, for tests/serve and for modules with sessions."""
+
+import os
+import subprocess
+
+from bench import Bench
+
+ZERO = "OK 0x0000000000000000"
+ONE = "OK 0x0000000000000001"
+# How many bytes a line has at most.
+LONGEST = 131_200
+# What an answer may take, in seconds.
+LIMIT = 60
+
+
+def number(value):
+    """The answer that is a number."""
+    return f"OK 0x{value:016x}"
+
+
+def lines(texts):
+    """The bytes of these lines."""
+    return "".join(f"{text}\n" for text in texts).encode()
+
+
+class Server(Bench):
+    """Runs of `serve`."""
+
+    def serve(self, data, *words, env=None):
+        """Runs with these bytes of input: the status, the output and the errors."""
+        ran = subprocess.run([self.program, "serve", *words], input=data, cwd=self.folder, capture_output=True, timeout=LIMIT,
+                             env=None if env is None else {**os.environ, **env})
+        return ran.returncode, ran.stdout, ran.stderr
+
+    def answers(self, name, data, wanted, *words):
+        """Checks that a run with this input writes these bytes and succeeds."""
+        self.check(name, self.serve(data, *words), (0, wanted, b""))
+
+    def talks(self, name, talk, *words):
+        """Checks pairs of a request and the lines up to its answer, in one run."""
+        got = self.serve(lines(request for request, _ in talk), *words)
+        if got != (0, lines(line for _, told in talk for line in told.split("\n")), b""):
+            self.talk_apart(name, talk, got)
+        else:
+            self.passed += len(talk)
+
+    def talk_apart(self, name, talk, got):
+        """Prints the first difference of a session."""
+        left = got[1].decode(errors="replace").split("\n")
+        for request, told in talk:
+            wanted = told.split("\n")
+            self.check(f"{name}: {request!r:.80}", left[:len(wanted)], wanted)
+            left = left[len(wanted):]
+        self.check(f"{name}: its end", (got[0], left, got[2]), (0, [""], b""))

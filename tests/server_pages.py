@@ -1,0 +1,78 @@
+"""The sessions, the drivers and the code that pages and the help of `nicbench serve` show."""
+
+import os
+import re
+import shutil
+import subprocess
+
+from server import LIMIT, lines
+
+TOP = os.path.dirname(os.path.dirname(os.path.abspath(__file__)))
+
+
+def follow(text, shown):
+    """Whether a text is the shown text, in which `...` at the end of a line means any text up to the line that is shown next."""
+    first, *pieces = shown.split("...\n")
+    at = len(first) if text.startswith(first) else len(text) + 1
+    for piece in pieces[:-1]:
+        found = text.find(piece, at)
+        at = len(text) + 1 if found < 0 else found + len(piece)
+    return at <= len(text) and (text[at:].endswith(pieces[-1]) if pieces else text == first)
+
+
+def read_page(*names):
+    """The text of a page of the repository."""
+    with open(os.path.join(TOP, *names)) as file:
+        return file.read()
+
+
+def commands(server):
+    """The commands of drivers and sessions in all pages print the output below them, and succeed."""
+    shown = []
+    for names in (("examples", "drivers", "README.md"), ("docs", "SERVE.md"), ("README.md",)):
+        shown += re.findall(r"^```\n\$ ((?:python3|printf) [^\n]*)\n(.*?)^```$", read_page(*names), re.M | re.S)
+    words = ["python3", "python3", "python3", "printf", "python3", "python3", "printf"]
+    server.check("commands: these are shown", [command.split()[0] for command, _ in shown], words)
+    for command, wanted in shown:
+        command = command.replace(".build/nicbench", server.program).replace("./nicbench", server.program)
+        ran = subprocess.run(command, shell=True, cwd=TOP, capture_output=True, timeout=10 * LIMIT)
+        got = ran.stdout.decode()
+        server.check(f"commands: {command}", (follow(got, wanted), ran.returncode, ran.stderr), (True, 0, b""))
+
+
+def columns(server):
+    """The requests in the README of adapter_server have the answers next to them."""
+    block = re.search(r"^```\n(readl .*?)^```$", read_page("crates", "adapter_server", "README.md"), re.M | re.S)[1]
+    rows = [(row[:30].strip(), row[30:]) for row in block.splitlines()]
+    server.check("columns: there are some", len(rows) > 6, True)
+    server.answers("columns", lines(request for request, _ in rows if request), lines(told for _, told in rows))
+
+
+def page(server):
+    """The driver in C of docs/SERVE.md prints the output on the page."""
+    code, printed = re.search(r"```c\n(.*?)```.*?It prints\n\n```\n(.*?)```", read_page("docs", "SERVE.md"), re.S).groups()
+    cc = next((path for path in map(shutil.which, ["cc", "clang", "gcc"]) if path), None)
+    server.check("page: a C compiler is here", cc is not None, True)
+    if cc is None:
+        return
+    server.put("page.c", code.encode())
+    words = [cc, "-std=c99", "-D_POSIX_C_SOURCE=200809L", "-Wall", "-Wextra", "-Werror", "-o", "page", "page.c"]
+    built = subprocess.run(words, cwd=server.folder, capture_output=True)
+    server.check("page: its code is compiled", (built.returncode, built.stderr), (0, b""))
+    ran = subprocess.run([server.path("page"), server.program], cwd=server.folder, capture_output=True, timeout=LIMIT)
+    server.check("page: what its code prints", (ran.returncode, ran.stdout, ran.stderr), (0, printed.encode(), b""))
+
+
+def shown_in_help(server):
+    """The example in the help has the answers in the help."""
+    text = server.run("serve", "--help").stderr.decode()
+    found = re.search(r"^  \$ (.*) \| nicbench serve\n((?:  .*\n)+)", text, re.M)
+    server.check("help: there is an example", found is not None, True)
+    if found:
+        ran = subprocess.run(f"{found[1]} | {server.program} serve", shell=True, capture_output=True, timeout=LIMIT)
+        server.check("help: its example", ran.stdout.decode(), re.sub(r"^  ", "", found[2], flags=re.M))
+
+
+def all_cases(server):
+    for part in [commands, columns, page, shown_in_help]:
+        part(server)
