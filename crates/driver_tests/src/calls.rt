@@ -164,15 +164,18 @@ fn lengths_that_no_frame_has_are_bad(rt: HostRuntime) -> Result<(), Fail> {
     Ok(())
 }
 
+/// A finished receive slot: its length, status (0x01 is DD, 0x03 is DD and EOP) and errors.
+type Slot = (u16, u8, u8);
+
 /// What an interrupt over a device that lies brings: frames, their bytes, and bad runs.
 type Brought = (u64, u32, u64);
 
 /// Handles an interrupt over a device that lies: each register reads as RXT0 does in ICR, and it finished these slots,
 /// and no others. Asserts what this brings.
-fn run_of(rt: &impl Abort, driver: &mut Driver, slots: &[[u8; 16]], wanted: Brought) {
+fn run_of(rt: &impl Abort, driver: &mut Driver, slots: &[Slot], wanted: Brought) {
     let mut first = ArrayVec::new();
-    for slot in slots {
-        let _ = first.try_push(*slot);
+    for (length, status, errors) in slots {
+        let _ = first.try_push(receive_descriptor(*length, *status, *errors));
     }
     let mut lying = FakeBus::with_first(Cause::RXT0.bits(), first, [0; 16]);
     let mut keeper = new_keeper(false);
@@ -184,6 +187,36 @@ fn run_of(rt: &impl Abort, driver: &mut Driver, slots: &[[u8; 16]], wanted: Brou
     assert!(rt; driver.receiving() == 7);
 }
 
+/// A full piece, without EOP.
+const FULL: Slot = (256, 0x01, 0);
+
+/// Finished slots, and what they bring.
+const RUNS: [(&[Slot], Brought); 17] = [
+    (&[FULL, (1, 0x03, 0)], (1, 257, 0)),
+    (&[FULL, (238, 0x03, 0)], (1, 494, 0)),
+    (&[(59, 0x03, 0)], (0, 0, 1)),
+    (
+        &[FULL, FULL, FULL, FULL, FULL, (238, 0x03, 0)],
+        (1, 1_518, 0),
+    ),
+    (&[FULL, FULL, FULL, FULL, FULL, (239, 0x03, 0)], (0, 0, 1)),
+    (&[FULL, FULL, FULL, FULL, FULL, (256, 0x03, 0)], (0, 0, 1)),
+    (&[FULL, FULL, FULL, FULL, FULL, FULL], (0, 0, 1)),
+    (&[FULL, FULL, FULL, FULL, FULL], (0, 0, 0)),
+    (&[(255, 0x01, 0), (60, 0x03, 0)], (0, 0, 1)),
+    (&[(257, 0x01, 0), (60, 0x03, 0)], (0, 0, 1)),
+    (&[FULL, (0, 0x03, 0)], (0, 0, 1)),
+    (&[FULL, (257, 0x03, 0)], (0, 0, 1)),
+    (&[(257, 0x03, 0)], (0, 0, 1)),
+    (&[FULL, (60, 0x03, 0x01)], (0, 0, 1)),
+    (&[(256, 0x01, 0x01), (60, 0x03, 0)], (0, 0, 1)),
+    (&[(60, 0x03, 0x80), (60, 0x03, 0)], (1, 60, 1)),
+    (
+        &[(60, 0x03, 0), FULL, (59, 0x03, 0), (59, 0x03, 0)],
+        (2, 375, 1),
+    ),
+];
+
 /// A frame's pieces fill their buffers, except the last, which has 1 to 256 bytes; a frame has 60 to 1,518 bytes, and
 /// no slot of it has errors. A run that is no frame is one bad run, however many slots it has. Slots that aren't
 /// followed by one with EOP stay in the ring.
@@ -191,33 +224,7 @@ fn run_of(rt: &impl Abort, driver: &mut Driver, slots: &[[u8; 16]], wanted: Brou
 fn runs_that_are_no_frame_are_bad(rt: HostRuntime) -> Result<(), Fail> {
     let mut bus = good_bus(rt.alloc())?;
     let mut driver = Driver::init(rt.alloc(), &mut bus, &config())?;
-    let full = part(256);
-    let faulty = receive_descriptor(256, 0x01, 0x01);
-    for (slots, wanted) in [
-        ([full, finished(1)].as_slice(), (1, 257, 0)),
-        (&[full, finished(238)], (1, 494, 0)),
-        (&[finished(59)], (0, 0, 1)),
-        (
-            &[full, full, full, full, full, finished(238)],
-            (1, 1_518, 0),
-        ),
-        (&[full, full, full, full, full, finished(239)], (0, 0, 1)),
-        (&[full, full, full, full, full, finished(256)], (0, 0, 1)),
-        (&[full, full, full, full, full, full], (0, 0, 1)),
-        (&[full, full, full, full, full], (0, 0, 0)),
-        (&[part(255), finished(60)], (0, 0, 1)),
-        (&[part(257), finished(60)], (0, 0, 1)),
-        (&[full, finished(0)], (0, 0, 1)),
-        (&[full, finished(257)], (0, 0, 1)),
-        (&[finished(257)], (0, 0, 1)),
-        (&[full, with_errors(0x01)], (0, 0, 1)),
-        (&[faulty, finished(60)], (0, 0, 1)),
-        (&[with_errors(0x80), finished(60)], (1, 60, 1)),
-        (
-            &[finished(60), full, finished(59), finished(59)],
-            (2, 375, 1),
-        ),
-    ] {
+    for (slots, wanted) in RUNS {
         run_of(&rt, &mut driver, slots, wanted);
     }
     Ok(())
