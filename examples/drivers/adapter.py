@@ -1,6 +1,7 @@
 """An adapter behind `nicbench serve`, as a driver and a wire see it."""
 
 import subprocess
+from contextlib import contextmanager
 
 # Where the registers begin.
 REGISTERS = 0xFEB00000
@@ -23,6 +24,8 @@ class Adapter:
         self.line = False  # whether the interrupt line is asserted
         self.wire = []  # the frames that were put onto the wire
         self.told = []  # the lines of the log
+        self.handler = None  # if set, it is called as soon as the line is asserted, between any two requests
+        self.takes_interrupts = True  # whether the processor takes interrupts, so that the handler may be called
 
     def __enter__(self):
         return self
@@ -34,15 +37,21 @@ class Adapter:
     # Requests and answers
 
     def ask(self, *requests):
-        """Returns the answers to requests, each without its OK. Sends many before it reads the first answer, but a long one alone."""
+        """Returns the answers to requests, each without its OK. Sends many before it reads the first answer, but a long one alone.
+
+        If a handler is set, sends one at a time. So the handler may cut in between any two requests.
+        """
         answers, some, size = [], [], 0
         for request in requests:
-            if some and size + len(request) + 1 > MOST_AT_ONCE:
+            if some and (self.handler or size + len(request) + 1 > MOST_AT_ONCE):
                 answers += self.ask_at_once(some)
+                self.cut_in()
                 some, size = [], 0
             some.append(request)
             size += len(request) + 1
-        return answers + self.ask_at_once(some)
+        answers += self.ask_at_once(some)
+        self.cut_in()
+        return answers
 
     def ask_at_once(self, requests):
         """Sends these requests, then reads and returns their answers."""
@@ -68,6 +77,23 @@ class Adapter:
             else:
                 raise Refused(f"{request}: {word} {rest}")
         raise Refused(f"{request}: the server has ended")
+
+    # Interrupts
+
+    def cut_in(self):
+        """Calls the handler while the line is asserted and the processor takes interrupts. It takes none in the handler."""
+        while self.line and self.handler and self.takes_interrupts:
+            self.takes_interrupts = False
+            self.handler()
+            self.takes_interrupts = True
+
+    @contextmanager
+    def interrupts_off(self):
+        """In this block, the processor takes no interrupt. At its end, a handler that waits is called."""
+        before, self.takes_interrupts = self.takes_interrupts, False
+        yield
+        self.takes_interrupts = before
+        self.cut_in()
 
     # Accesses of a driver
 

@@ -1,33 +1,35 @@
 #!/usr/bin/env python3
 """Runs the driver over a sweep of seeds, as it should be and with each of its bugs.
 
-usage: sweep.py PROGRAM [SEEDS]          seeds 1 to SEEDS (default 100)
-       sweep.py PROGRAM --bug BUG SEED   one run, with its whole log
+usage: sweep.py PROGRAM [SEEDS]               seeds 1 to SEEDS (default 100)
+       sweep.py PROGRAM --bug BUG SEED        one run, with its whole log
+       sweep.py PROGRAM --tables [SEEDS]      the tables of README.md: the first seed of each bug that fails in each test
 
 PROGRAM is `nicbench`. Each run initializes an adapter, then lets frames arrive and sends some. A seed decides which steps the adapter
-takes between the accesses of the driver, so a seed that fails fails each time. The exit status of a sweep is 0 if the right driver
-passes and each bug is found. That of one run is 0 if it passes.
+takes between the accesses of the driver, so a seed that fails fails each time. BUG is a bug, or a driver without a bug.
+
+Without --test, a sweep runs the test `exchange` for the driver `right` and the bugs of the first table of README.md. With --test, it runs
+that test for all drivers. --without leaves a window out of the test `stages`.
+
+The exit status of a sweep is 0 if each driver without a bug passes and, without --test, each bug is found. That of one run is 0 if it passes.
+That of --tables is 0 if each bug is found by a test.
 """
 
+import argparse
 import sys
+from functools import partial
 
 sys.dont_write_bytecode = True
 from adapter import Adapter, Refused  # noqa: E402
-from driver import BUGS, DeviceError, Driver  # noqa: E402
+from driver import BUGS, MORE_BUGS, RIGHT, DeviceError, driver_of  # noqa: E402
+from stages import WINDOWS, cuts, stages  # noqa: E402
+from traffic import OTHER, SELF, STEPS, fault_of, frame_of, freed_fault  # noqa: E402
 
 ROUNDS = 6
 # The lengths of frames, in turn. The two that arrive in a round take at most seven receive buffers.
 LENGTHS = 60, 257, 1518, 60, 256, 1518
 # The number of frames that are sent after these without a pause.
 BURST = 8
-# The most steps that are played before an access.
-STEPS = 3
-SELF, OTHER = bytes.fromhex("020000000001"), bytes.fromhex("020000000009")
-
-
-def frame_of(number, to, source):
-    """Returns a frame whose length and bytes depend on the number."""
-    return (to + source + b"\x88\xb5").ljust(LENGTHS[number % len(LENGTHS)], bytes([number]))
 
 
 def handle(adapter, driver):
@@ -36,28 +38,16 @@ def handle(adapter, driver):
         driver.interrupt()
 
 
-def fault_of(name, wanted, got):
-    """Returns what is wrong with a list of frames, or None."""
-    for number, frame in enumerate(wanted):
-        if number == len(got):
-            return f"frame {number} was never {name}"
-        if len(got[number]) != len(frame):
-            return f"frame {number} was {name} with {len(got[number])} bytes instead of {len(frame)}"
-        if got[number] != frame:
-            return f"frame {number} was {name} with wrong bytes"
-    return None if len(got) == len(wanted) else f"a frame was {name} that never was"
-
-
 def arrive(adapter, number, came):
     """Lets a frame arrive, and notes it if the adapter stores it."""
-    frame = frame_of(number, SELF, OTHER)
+    frame = frame_of(number, SELF, OTHER, LENGTHS[number % len(LENGTHS)])
     if adapter.arrive(frame) == "stored":
         came.append(frame)
 
 
 def send(driver, number, sent):
     """Sends a frame, and notes it unless the ring is full."""
-    frame = frame_of(number, OTHER, SELF)
+    frame = frame_of(number, OTHER, SELF, LENGTHS[number % len(LENGTHS)])
     if driver.send(frame):
         sent.append(frame)
 
@@ -85,58 +75,115 @@ def burst(adapter, driver, sent):
     """Sends frames one after the other, after those already sent. Returns the first fault, or None."""
     for number in range(ROUNDS, ROUNDS + BURST):
         send(driver, number, sent)
-        if driver.sent > len(adapter.wire):
-            return f"the buffer of frame {driver.sent - 1} was freed before the frame was on the wire"
+        fault = freed_fault(driver, adapter)
+        if fault:
+            return fault
     adapter.settle()
     handle(adapter, driver)
     return fault_of("sent", sent, adapter.wire)
 
 
-def run(program, seed, bug=None):
-    """Runs the driver once. Returns the fault, or None, and the log. An error that the driver raises is the fault."""
+
+TESTS = {"exchange": exchange, "stages": stages, "cuts": cuts}
+# Bugs that every test finds or that only `cuts` can find aren't in the table of windows.
+WINDOW_BUGS = [bug for bug in (*BUGS, *MORE_BUGS) if bug not in ("eerd", "cuts")]
+
+
+def test_of(name, without=None):
+    """Returns a test, without one of the windows of `stages` if one is given."""
+    return partial(stages, without=without) if without else TESTS[name]
+
+
+def run(program, seed, name="right", test=exchange, has_log=True):
+    """Runs a driver once. Returns the fault, or None, and the log. An error that the driver raises is the fault."""
     with Adapter(program, "--seed", str(seed)) as adapter:
         try:
-            adapter.log(True)
+            adapter.log(has_log)
             adapter.interleave(STEPS)
-            driver = Driver(adapter, bug)
+            driver = driver_of(name, adapter)
             driver.bring_up()
-            fault = exchange(adapter, driver)
+            fault = test(adapter, driver)
         except (DeviceError, Refused) as error:
             fault = str(error)
         return fault, adapter.told
 
 
-def sweep(program, seeds, name, bug=None):
-    """Prints the first seed that fails, and returns it with the log of its run, or None if all pass."""
+def first_to_fail(program, seeds, name, test, has_log=True):
+    """Returns the first seed that fails, with the fault and the log of its run, or None if all pass."""
     for seed in range(1, seeds + 1):
-        fault, log = run(program, seed, bug)
+        fault, log = run(program, seed, name, test, has_log)
         if fault:
-            print(f"{name}: seed {seed}: {fault}")
-            return seed, log
-    print(f"{name}: seeds 1 to {seeds} pass")
+            return seed, fault, log
     return None
 
 
-def sweep_all(program, seeds):
-    """Prints the sweep of each driver, and then the logs. Returns whether the right one passes and each bug is found."""
-    found = {name: sweep(program, seeds, name, None if name == "right" else name) for name in ("right", *BUGS)}
+def sweep(program, seeds, name, test):
+    """Prints the first seed that fails, and returns it with its fault and its log, or None if all pass."""
+    failed = first_to_fail(program, seeds, name, test)
+    print(f"{name}: seed {failed[0]}: {failed[1]}" if failed else f"{name}: seeds 1 to {seeds} pass")
+    return failed
+
+
+def sweep_all(program, seeds, names, test):
+    """Prints the sweep of each driver, and then the logs. Returns the names of the drivers that fail."""
+    found = {name: sweep(program, seeds, name, test) for name in names}
     for name, failed in found.items():
         if failed:
-            print(f"\n{name}: {BUGS.get(name, 'the driver as it should be')}. Seed {failed[0]}, its log:")
-            print("\n".join(failed[1]))
-    return found.pop("right") is None and None not in found.values()
+            print(f"\n{name}: {(RIGHT | BUGS | MORE_BUGS)[name]}. Seed {failed[0]}, its log:")
+            print("\n".join(failed[2]))
+    return {name for name, failed in found.items() if failed}
+
+
+def row(program, seeds, head, runs):
+    """Prints a row of a table, with the first seed that fails in each of these pairs of a driver and a test. Returns these seeds."""
+    failed = [first_to_fail(program, seeds, name, test, False) for name, test in runs]
+    cells = [str(found[0]) if found else "none" for found in failed]
+    print(f"| {head} | {' | '.join(cells)} |", flush=True)
+    return cells
+
+
+def tables(program, seeds):
+    """Prints the table of tests and the table of windows. Returns whether each bug is found by a test."""
+    bugs = {bug: row(program, seeds, f"`{bug}`", [(bug, test) for test in TESTS.values()]) for bug in (*BUGS, *MORE_BUGS)}
+    print()
+    for window in WINDOWS:
+        row(program, seeds, f"`{window}`", [(bug, test_of("stages", window)) for bug in WINDOW_BUGS])
+    return all(set(cells) != {"none"} for cells in bugs.values())
+
+
+def options_of(words):
+    parser = argparse.ArgumentParser(prog="sweep.py", description=__doc__, usage=argparse.SUPPRESS,
+                                     formatter_class=argparse.RawDescriptionHelpFormatter)
+    parser.add_argument("program", metavar="PROGRAM")
+    parser.add_argument("seeds", type=int, nargs="?", default=100, metavar="SEEDS")
+    parser.add_argument("--bug", nargs=2, metavar=("BUG", "SEED"), help="run this driver once, and print the log")
+    parser.add_argument("--test", choices=TESTS, help="run this test (default exchange)")
+    parser.add_argument("--without", choices=WINDOWS, help="leave this window out of the test stages")
+    parser.add_argument("--tables", action="store_true", help="print the tables of README.md")
+    options = parser.parse_args(words)
+    if options.without and options.test != "stages":
+        parser.error("--without needs --test stages")
+    if options.bug and not (options.bug[0] in RIGHT | BUGS | MORE_BUGS and options.bug[1].isdecimal()):
+        parser.error("--bug needs the name of a driver and a seed")
+    return options
 
 
 def main():
-    program, *words = sys.argv[1:]
-    if words[:1] == ["--bug"]:
-        fault, log = run(program, int(words[2]), words[1])
+    options = options_of(sys.argv[1:])
+    program, test = options.program, test_of(options.test or "exchange", options.without)
+    if options.bug:
+        fault, log = run(program, int(options.bug[1]), options.bug[0], test)
         print("\n".join([*log, fault or "passes"]))
         return 0 if fault is None else 1
-    return 0 if sweep_all(program, int(words[0]) if words else 100) else 1
+    if options.tables:
+        return 0 if tables(program, options.seeds) else 1
+    if options.test:
+        return 1 if sweep_all(program, options.seeds, (RIGHT | BUGS | MORE_BUGS), test) & set(RIGHT) else 0
+    return 0 if sweep_all(program, options.seeds, ("right", *BUGS), test) == set(BUGS) else 1
 
 
-try:
-    sys.exit(main())
-except OSError as error:
-    sys.exit(f"sweep.py: {error}")
+if __name__ == "__main__":
+    try:
+        sys.exit(main())
+    except OSError as error:
+        sys.exit(f"sweep.py: {error}")

@@ -1,0 +1,180 @@
+"""Tests in which a step of the adapter, or the handler, can cut in where it matters.
+
+`stages` and `cuts` have the same interface as `exchange` in sweep.py. The README explains the windows of `stages`.
+"""
+
+from traffic import OTHER, SELF, STEPS, fault_of, frame_of, freed_fault
+
+# The windows of `stages` that can be left out
+WINDOWS = "work", "one-way", "dry", "full", "lengths"
+# A length for each number of receive buffers, from 1 to 6
+LENGTHS = 60, 257, 640, 1000, 1280, 1518
+# The EtherType of answers
+ANSWER = b"\x88\xb6"
+# The most frames that are sent until the transmit ring must be full
+MOST_IN_RING = 64
+# The most times that a handler is called, that the adapter settles, and that a frame is sent, before the test fails
+PATIENCE = 1000
+
+
+class Fault(Exception):
+    """Something is wrong with a run."""
+
+
+class Traffic:
+    """The frames of a run in both directions, and the requests of a test."""
+
+    def __init__(self, adapter, driver, without=None):
+        self.adapter, self.driver, self.without = adapter, driver, without
+        self.came, self.sent = [], []
+        self.number = 0  # the number of the newest frame
+
+    @staticmethod
+    def check(fault):
+        if fault:
+            raise Fault(fault)
+
+    def frame(self, to, source, slots):
+        """Returns the next frame. It takes this number of receive buffers."""
+        self.number += 1
+        return frame_of(self.number, to, source, LENGTHS[slots - 1])
+
+    def slots(self, count):
+        """Returns the number of receive buffers of a frame: `count`, or 1 if all frames have the same length."""
+        return 1 if self.without == "lengths" else count
+
+    def arrive(self, slots):
+        """Lets a frame arrive, and notes it if the adapter stores it."""
+        frame = self.frame(SELF, OTHER, slots)
+        if self.adapter.arrive(frame) == "stored":
+            self.came.append(frame)
+
+    def move(self, slots):
+        """Plays the steps that receive a frame in these slots, except the last one, which writes back the last descriptor."""
+        for kind in ["rxdata", "rxdone"] * (slots - 1) + ["rxdata"]:
+            self.adapter.step(kind)
+
+    def send(self, frame):
+        """Sends a frame. Returns whether the driver accepts it."""
+        is_accepted = self.driver.send(frame)
+        if is_accepted:
+            self.sent.append(frame)
+        self.check(freed_fault(self.driver, self.adapter))
+        return is_accepted
+
+    def send_next(self, slots=1):
+        return self.send(self.frame(OTHER, SELF, slots))
+
+    def handle(self):
+        """Calls the handler while the interrupt line is asserted."""
+        for _ in range(PATIENCE):
+            if not self.adapter.line:
+                return
+            self.driver.interrupt()
+        raise Fault(f"the line is still asserted after {PATIENCE} calls of the handler")
+
+    def finish(self):
+        """Lets the adapter do all that is left. Only interrupts call the handler. Then all frames must have come and gone."""
+        self.handle()
+        for _ in range(PATIENCE):
+            if self.adapter.settle() == 0:
+                break
+            self.handle()
+        self.check(fault_of("received", self.came, self.driver.received))
+        self.check(fault_of("sent", self.sent, self.adapter.wire))
+
+
+def work_is_left(run):
+    """In each round, the handler is called when a frame is finished and another is waiting, or is finished except for one step."""
+    for count in range(1, 7):
+        run.arrive(1)
+        run.adapter.settle()
+        run.arrive(run.slots(count))
+        if run.without == "one-way":
+            run.send_next()
+        if run.without == "work":
+            run.adapter.settle()
+        elif count % 2:
+            run.move(run.slots(count))
+        run.finish()
+
+
+def receive_ring_is_dry(run):
+    """The frames that arrive need 27 slots. When the adapter has used all offered slots, the other frames wait for more."""
+    for count in (1, 2, 3, 4, 5, 6, 1, 1, 1, 1, 1, 1):
+        run.arrive(run.slots(count))
+        if run.without == "one-way":
+            run.send_next()
+        if run.without == "dry":
+            run.finish()
+    run.adapter.settle()
+    run.finish()
+
+
+def transmit_ring_is_full(run):
+    """Frames are sent until the driver rejects one; the adapter takes no step. After that, each frame is sent until it is accepted."""
+    if run.without != "full":
+        run.adapter.interleave(0)
+        if all(run.send_next(run.slots(1 + count % 6)) for count in range(MOST_IN_RING)):
+            raise Fault(f"{MOST_IN_RING} frames were accepted, but no frame was taken")
+        run.adapter.interleave(STEPS)
+    for count in (1, 2, 3, 4, 5, 6, 1, 2, 3):
+        frame = run.frame(OTHER, SELF, run.slots(count))
+        for _ in range(PATIENCE):
+            run.handle()
+            if run.send(frame):
+                break
+        else:
+            raise Fault(f"a frame was rejected {PATIENCE} times")
+    run.finish()
+
+
+def stages(adapter, driver, without=None):
+    """Runs the stages, without one of the WINDOWS if one is given. Returns the first fault, or None."""
+    run = Traffic(adapter, driver, without)
+    try:
+        work_is_left(run)
+        receive_ring_is_dry(run)
+        transmit_ring_is_full(run)
+    except Fault as fault:
+        return str(fault)
+    return None
+
+
+class Answers(Traffic):
+    """Traffic in which the handler sends an answer to each received frame."""
+
+    def __init__(self, adapter, driver):
+        super().__init__(adapter, driver)
+        self.answers = []
+        driver.receiver = self.answer
+
+    def answer(self, frame):
+        answer = frame[6:12] + frame[:6] + ANSWER + frame[14:]
+        if self.driver.send(answer):
+            self.answers.append(answer)
+
+    def finish(self):
+        """Lets the adapter do all that is left. The frames of the test and the answers may be mixed on the wire."""
+        for _ in range(PATIENCE):
+            if self.adapter.settle() == 0:
+                break
+        self.check(fault_of("received", self.came, self.driver.received))
+        self.check(fault_of("sent", self.sent, [frame for frame in self.adapter.wire if frame[12:14] != ANSWER]))
+        self.check(fault_of("answered", self.answers, [frame for frame in self.adapter.wire if frame[12:14] == ANSWER]))
+
+
+def cuts(adapter, driver):
+    """The handler cuts in after any request that raises the line, also in `send`. Returns the first fault, or None."""
+    run = Answers(adapter, driver)
+    adapter.handler = run.handle
+    try:
+        for count in range(1, 7):
+            run.arrive(count)
+            run.move(count)
+            run.send_next(1)
+            run.send_next(7 - count)
+            run.finish()
+    except Fault as fault:
+        return str(fault)
+    return None
