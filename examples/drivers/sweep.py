@@ -3,16 +3,15 @@
 
 usage: sweep.py PROGRAM [SEEDS]               seeds 1 to SEEDS (default 100)
        sweep.py PROGRAM --bug BUG SEED        one run, with its whole log
-       sweep.py PROGRAM --tables [SEEDS]      the tables of README.md: the first seed of each bug that fails in each test
+       sweep.py PROGRAM SEEDS --tables        the tables of README.md: the first seed that fails, for each bug and each test
 
 PROGRAM is `nicbench`. Each run initializes an adapter, then lets frames arrive and sends some. A seed decides which steps the adapter
-takes between the accesses of the driver, so a seed that fails fails each time. BUG is a bug, or a driver without a bug.
+takes between the accesses of the driver, so a seed that fails fails each time. BUG may also be a driver without a bug.
 
-Without --test, a sweep runs the test `exchange` for the driver `right` and the bugs of the first table of README.md. With --test, it runs
-that test for all drivers. --without leaves a window out of the test `stages`.
+A sweep runs the test `exchange` with the driver `right` and five bugs. With --test, it runs this test with all drivers. --without leaves a
+window out of the test `stages`.
 
-The exit status of a sweep is 0 if each driver without a bug passes and, without --test, each bug is found. That of one run is 0 if it passes.
-That of --tables is 0 if each bug is found by a test.
+The exit status is 0 if the drivers without a bug pass and, except with --test, each bug is found. That of one run is 0 if it passes.
 """
 
 import argparse
@@ -85,6 +84,7 @@ def burst(adapter, driver, sent):
 
 
 TESTS = {"exchange": exchange, "stages": stages, "cuts": cuts}
+DRIVERS = {**RIGHT, **BUGS, **MORE_BUGS}
 # Bugs that every test finds or that only `cuts` can find aren't in the table of windows.
 WINDOW_BUGS = [bug for bug in (*BUGS, *MORE_BUGS) if bug not in ("eerd", "cuts")]
 
@@ -129,7 +129,7 @@ def sweep_all(program, seeds, names, test):
     found = {name: sweep(program, seeds, name, test) for name in names}
     for name, failed in found.items():
         if failed:
-            print(f"\n{name}: {(RIGHT | BUGS | MORE_BUGS)[name]}. Seed {failed[0]}, its log:")
+            print(f"\n{name}: {DRIVERS[name]}. Seed {failed[0]}, its log:")
             print("\n".join(failed[2]))
     return {name for name, failed in found.items() if failed}
 
@@ -143,19 +143,26 @@ def row(program, seeds, head, runs):
 
 
 def tables(program, seeds):
-    """Prints the table of tests and the table of windows. Returns whether each bug is found by a test."""
-    bugs = {bug: row(program, seeds, f"`{bug}`", [(bug, test) for test in TESTS.values()]) for bug in (*BUGS, *MORE_BUGS)}
+    """Prints the table of tests and the table of windows. Returns whether the drivers without a bug pass, and each bug is found."""
+    cells = {name: row(program, seeds, f"`{name}` | {text}", [(name, test) for test in TESTS.values()]) for name, text in DRIVERS.items()}
     print()
     for window in WINDOWS:
         row(program, seeds, f"`{window}`", [(bug, test_of("stages", window)) for bug in WINDOW_BUGS])
-    return all(set(cells) != {"none"} for cells in bugs.values())
+    return {name for name, found in cells.items() if set(found) == {"none"}} == set(RIGHT)
+
+
+def count(text):
+    """Reads a decimal number above 0."""
+    if not text.isdecimal() or int(text) == 0:
+        raise argparse.ArgumentTypeError(f"{text} isn't a decimal number above 0")
+    return int(text)
 
 
 def options_of(words):
     parser = argparse.ArgumentParser(prog="sweep.py", description=__doc__, usage=argparse.SUPPRESS,
                                      formatter_class=argparse.RawDescriptionHelpFormatter)
     parser.add_argument("program", metavar="PROGRAM")
-    parser.add_argument("seeds", type=int, nargs="?", default=100, metavar="SEEDS")
+    parser.add_argument("seeds", type=count, nargs="?", default=100, metavar="SEEDS")
     parser.add_argument("--bug", nargs=2, metavar=("BUG", "SEED"), help="run this driver once, and print the log")
     parser.add_argument("--test", choices=TESTS, help="run this test (default exchange)")
     parser.add_argument("--without", choices=WINDOWS, help="leave this window out of the test stages")
@@ -163,7 +170,7 @@ def options_of(words):
     options = parser.parse_args(words)
     if options.without and options.test != "stages":
         parser.error("--without needs --test stages")
-    if options.bug and not (options.bug[0] in RIGHT | BUGS | MORE_BUGS and options.bug[1].isdecimal()):
+    if options.bug and not (options.bug[0] in DRIVERS and options.bug[1].isdecimal()):
         parser.error("--bug needs the name of a driver and a seed")
     return options
 
@@ -178,7 +185,7 @@ def main():
     if options.tables:
         return 0 if tables(program, options.seeds) else 1
     if options.test:
-        return 1 if sweep_all(program, options.seeds, (RIGHT | BUGS | MORE_BUGS), test) & set(RIGHT) else 0
+        return 1 if sweep_all(program, options.seeds, DRIVERS, test) & set(RIGHT) else 0
     return 0 if sweep_all(program, options.seeds, ("right", *BUGS), test) == set(BUGS) else 1
 
 
