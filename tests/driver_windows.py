@@ -23,6 +23,8 @@ from adapter import REGISTERS  # noqa: E402
 SEEDS = 200
 # The seeds with which a driver without a bug passes each test
 RIGHT_SEEDS = 20
+# The frames that arrive in the stage `work`; in the stage `dry`, too, work is left when the handler is called
+FRAMES_OF_WORK = 12
 # The headings of the two tables
 TESTS_HEADING = f"| Name | Bug | {' | '.join(f'`{test}`' for test in sweep.TESTS)} |"
 WINDOWS_HEADING = f"| Without | {' | '.join(f'`{bug}`' for bug in sweep.WINDOW_BUGS)} |"
@@ -81,7 +83,9 @@ class Seen:
         self.waiting, self.unfinished, self.piece = 0, 0, None  # frames in the packet buffer, frames without DD and EOP, the piece in progress
         self.rx_used, self.rx_tail = 0, 0  # descriptors that the adapter used and that the driver offered, from the start
         self.taken, self.tx_tail, self.put = 0, 0, 0  # frames that the adapter took, that the driver offered, and on the wire
+        self.arrived = 0
         self.storing = False  # whether a frame to be sent is stored, but TDT isn't written
+        self.line = False  # whether the interrupt line is asserted
         self.had = set()
         self.slots = set()
         for line in log:
@@ -89,6 +93,8 @@ class Seen:
 
     def read(self, words):
         mark, request, *rest = words
+        if mark == "IRQ":
+            self.line = request == "raise"
         if mark == "#" and request in ("step", "arrive", "write", "readl", "writel"):
             getattr(self, request)(*rest)
 
@@ -105,6 +111,7 @@ class Seen:
         self.note()
 
     def arrive(self, frame):
+        self.arrived += 1
         self.waiting += 1
         self.unfinished += 1
         self.slots.add(-(-len(frame) // 2 // RECEIVE_BUFFER))
@@ -115,8 +122,9 @@ class Seen:
 
     def readl(self, address):
         if int(address, 0) - REGISTERS == ICR:
-            self.had |= {"work"} if self.unfinished else set()
+            self.had |= {"work"} if self.unfinished and self.arrived <= FRAMES_OF_WORK else set()
             self.had |= {"cut"} if self.storing else set()
+            self.had |= set() if self.line else {"a call without an interrupt"}
 
     def writel(self, address, value):
         register, value = int(address, 0) - REGISTERS, int(value, 0)
@@ -148,7 +156,7 @@ RINGS_WRAP = {"receive ring wraps", "transmit ring wraps"}
 EXPECTED = {
     "exchange": (RINGS_WRAP | {"work", "both"}, {1, 2, 6}),
     "stages": (RINGS_WRAP | {"work", "dry", "full"}, {1, 2, 3, 4, 5, 6}),
-    "stages without work": (RINGS_WRAP | {"work", "dry", "full"}, {1, 2, 3, 4, 5, 6}),
+    "stages without work": (RINGS_WRAP | {"dry", "full"}, {1, 2, 3, 4, 5, 6}),
     "stages without one-way": (RINGS_WRAP | {"work", "dry", "full", "both"}, {1, 2, 3, 4, 5, 6}),
     "stages without dry": (RINGS_WRAP | {"work", "full"}, {1, 2, 3, 4, 5, 6}),
     "stages without full": (RINGS_WRAP | {"work", "dry"}, {1, 2, 3, 4, 5, 6}),
