@@ -16,7 +16,7 @@ DRIVERS = os.path.join(TOP, "examples", "drivers")
 sys.path.append(DRIVERS)
 import stages  # noqa: E402
 import sweep  # noqa: E402
-from driver import CAUSES, ICR, IMS, RDT, RECEIVE_BUFFER, RIGHT, SLOTS, TDT, TRANSMIT_BUFFERS  # noqa: E402
+from driver import CAUSES, ICR, IMS, RDT, RECEIVE_BUFFER, RIGHT, SLOTS, TDT, TRANSMIT_BUFFERS, TRANSMIT_RING  # noqa: E402
 from adapter import REGISTERS  # noqa: E402
 
 # The seeds that a table with "none" promises
@@ -84,7 +84,7 @@ class Seen:
         self.rx_used, self.rx_tail = 0, 0  # descriptors that the adapter used and that the driver offered, from the start
         self.taken, self.tx_tail, self.put = 0, 0, 0  # frames that the adapter took, that the driver offered, and on the wire
         self.arrived = 0
-        self.storing = False  # whether a frame to be sent is stored, but TDT isn't written
+        self.sending = None  # the newest store of a frame to be sent, until TDT is written
         self.line = False  # whether the interrupt line is asserted
         self.had = set()
         self.slots = set()
@@ -118,12 +118,13 @@ class Seen:
         self.note()
 
     def write(self, address, *_):
-        self.storing |= int(address, 0) >= TRANSMIT_BUFFERS
+        if int(address, 0) >= TRANSMIT_RING:
+            self.sending = "data" if int(address, 0) >= TRANSMIT_BUFFERS else "descriptor"
 
     def readl(self, address):
         if int(address, 0) - REGISTERS == ICR:
             self.had |= {"work"} if self.unfinished and self.arrived <= FRAMES_OF_WORK else set()
-            self.had |= {"cut"} if self.storing else set()
+            self.had |= {f"cut after {self.sending}"} if self.sending else set()
             self.had |= set() if self.line else {"a call without an interrupt"}
 
     def writel(self, address, value):
@@ -132,7 +133,7 @@ class Seen:
             self.rx_tail += (value - self.rx_tail) % SLOTS
         elif register == TDT:
             self.tx_tail += (value - self.tx_tail) % SLOTS
-            self.storing = False
+            self.sending = None
         self.note()
 
     def note(self):
@@ -177,8 +178,9 @@ def windows_seen(server):
         server.check(f"windows: of cuts, seed {seed}", (fault, had - {"both"}, slots), (None, RINGS_WRAP | {"work"}, {1, 2, 3, 4, 5, 6}))
     for name in ("right", "cuts"):
         for test in ("exchange", "stages", "cuts"):
-            had = set().union(*(seen_in(server, sweep.TESTS[test], name, seed)[1] for seed in range(1, 6)))
-            server.check(f"windows: the handler of {name} cuts in, test {test}", "cut" in had, (name, test) == ("cuts", "cuts"))
+            had = set().union(*(seen_in(server, sweep.TESTS[test], name, seed)[1] for seed in range(1, 11)))
+            cuts = {"cut after data", "cut after descriptor"} if (name, test) == ("cuts", "cuts") else set()
+            server.check(f"windows: where the handler of {name} cuts in, test {test}", {window for window in had if window.startswith("cut")}, cuts)
 
 
 def same_again(server):
