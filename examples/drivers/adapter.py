@@ -37,9 +37,10 @@ class Adapter:
     # Requests and answers
 
     def ask(self, *requests):
-        """Returns the answers to requests, each without its OK. Sends many before it reads the first answer, but a long one alone.
+        """Returns the answers to requests, each without its OK.
 
-        If a handler is set, sends one at a time. So the handler may cut in between any two requests.
+        Sends many before it reads the first answer, but a long one alone. If a handler is set, sends each one alone. So
+        the handler may cut in between any two requests.
         """
         answers, some, size = [], [], 0
         for request in requests:
@@ -81,7 +82,7 @@ class Adapter:
     # Interrupts
 
     def cut_in(self):
-        """Calls the handler while the line is asserted and the processor takes interrupts. It takes none in the handler."""
+        """Calls the handler while the line is asserted, if the processor takes interrupts. It takes none meanwhile."""
         while self.line and self.handler and self.takes_interrupts:
             self.takes_interrupts = False
             self.handler()

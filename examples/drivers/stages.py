@@ -50,7 +50,7 @@ class Traffic:
             self.came.append(frame)
 
     def move(self, slots):
-        """Plays the steps that receive a frame in these slots, except the last one, which writes back the last descriptor."""
+        """Plays the steps that receive a frame in these slots, except the write-back of the last descriptor."""
         for kind in ["rxdata", "rxdone"] * (slots - 1) + ["rxdata"]:
             self.adapter.step(kind)
 
@@ -74,7 +74,7 @@ class Traffic:
         raise Fault(f"the line is still asserted after {PATIENCE} calls of the handler")
 
     def finish(self):
-        """Lets the adapter do all that is left. Only interrupts call the handler. Then all frames must have come and gone."""
+        """Lets the adapter do all that is left. Only interrupts call the handler. Then all frames must have arrived."""
         self.handle()
         for _ in range(PATIENCE):
             if self.adapter.settle() == 0:
@@ -85,7 +85,7 @@ class Traffic:
 
 
 def work_is_left(run):
-    """In each round, the handler is called when a frame is finished and another is waiting, or is finished except for one step."""
+    """In each round, the handler is called when one frame is finished, and another waits or lacks only one step."""
     for count in range(1, 7):
         run.arrive(1)
         run.adapter.settle()
@@ -100,7 +100,7 @@ def work_is_left(run):
 
 
 def receive_ring_is_dry(run):
-    """The frames that arrive need 27 slots. When the adapter has used all offered slots, the other frames wait for more."""
+    """The frames that arrive need 27 slots. When the adapter has used all offered slots, the other frames wait."""
     for count in (1, 2, 3, 4, 5, 6, 1, 1, 1, 1, 1, 1):
         run.arrive(run.slots(count))
         if run.without == "one-way":
@@ -112,7 +112,7 @@ def receive_ring_is_dry(run):
 
 
 def transmit_ring_is_full(run):
-    """Frames are sent until the driver rejects one; the adapter takes no step. After that, each frame is sent until it is accepted."""
+    """The adapter takes no step until a frame is rejected. After that, each frame is sent until it is accepted."""
     if run.without != "full":
         run.adapter.interleave(0)
         if all(run.send_next(run.slots(1 + count % 6)) for count in range(MOST_IN_RING)):
@@ -159,9 +159,12 @@ class Answers(Traffic):
         for _ in range(PATIENCE):
             if self.adapter.settle() == 0:
                 break
+        on_wire = {True: [], False: []}
+        for frame in self.adapter.wire:
+            on_wire[frame[12:14] == ANSWER].append(frame)
         self.check(fault_of("received", self.came, self.driver.received))
-        self.check(fault_of("sent", self.sent, [frame for frame in self.adapter.wire if frame[12:14] != ANSWER]))
-        self.check(fault_of("answered", self.answers, [frame for frame in self.adapter.wire if frame[12:14] == ANSWER]))
+        self.check(fault_of("sent", self.sent, on_wire[False]))
+        self.check(fault_of("sent as an answer", self.answers, on_wire[True]))
 
 
 def cuts(adapter, driver):

@@ -1,17 +1,19 @@
 #!/usr/bin/env python3
 """Runs the driver over a sweep of seeds, as it should be and with each of its bugs.
 
-usage: sweep.py PROGRAM [SEEDS]               seeds 1 to SEEDS (default 100)
-       sweep.py PROGRAM --bug BUG SEED        one run, with its whole log
-       sweep.py PROGRAM SEEDS --tables        the tables of README.md: the first seed that fails, for each bug and each test
+usage: sweep.py PROGRAM [SEEDS]          seeds 1 to SEEDS (default 100)
+       sweep.py PROGRAM --bug BUG SEED   one run, with its whole log
+       sweep.py PROGRAM SEEDS --tables   the first seed of each bug that fails in each test, as in README.md
 
-PROGRAM is `nicbench`. Each run initializes an adapter, then lets frames arrive and sends some. A seed decides which steps the adapter
-takes between the accesses of the driver, so a seed that fails fails each time. BUG may also be a driver without a bug.
+PROGRAM is `nicbench`. Each run initializes an adapter, then lets frames arrive and sends some. A seed decides which
+steps the adapter takes between the accesses of the driver, so a seed that fails fails each time. BUG may also be a
+driver without a bug.
 
-A sweep runs the test `exchange` with the driver `right` and five bugs. With --test, it runs this test with all drivers. --without leaves a
-window out of the test `stages`.
+A sweep runs the test `exchange` with the driver `right` and five bugs. With --test, it runs another test, or
+`exchange`, with all drivers. --without leaves a window out of the test `stages`.
 
-The exit status is 0 if the drivers without a bug pass and, except with --test, each bug is found. That of one run is 0 if it passes.
+The exit status is 0 if the drivers without a bug pass and, except with --test, each bug is found. That of one run is 0
+if it passes.
 """
 
 import argparse
@@ -135,7 +137,7 @@ def sweep_all(program, seeds, names, test):
 
 
 def row(program, seeds, head, runs):
-    """Prints a row of a table, with the first seed that fails in each of these pairs of a driver and a test. Returns these seeds."""
+    """Prints a row of a table: for each pair of a driver and a test, the first seed that fails. Returns these cells."""
     failed = [first_to_fail(program, seeds, name, test, False) for name, test in runs]
     cells = [str(found[0]) if found else "none" for found in failed]
     print(f"| {head} | {' | '.join(cells)} |", flush=True)
@@ -143,8 +145,10 @@ def row(program, seeds, head, runs):
 
 
 def tables(program, seeds):
-    """Prints the table of tests and the table of windows. Returns whether the drivers without a bug pass, and each bug is found."""
-    cells = {name: row(program, seeds, f"`{name}` | {text}", [(name, test) for test in TESTS.values()]) for name, text in DRIVERS.items()}
+    """Prints both tables. Returns whether the drivers without a bug pass all tests, and each bug is found by a test."""
+    cells = {}
+    for name, text in DRIVERS.items():
+        cells[name] = row(program, seeds, f"`{name}` | {text}", [(name, test) for test in TESTS.values()])
     print()
     for window in WINDOWS:
         row(program, seeds, f"`{window}`", [(bug, test_of("stages", window)) for bug in WINDOW_BUGS])
