@@ -1,6 +1,7 @@
 """An adapter behind `nicbench serve`, as a driver and a wire see it."""
 
 import subprocess
+import sys
 
 # Where the registers begin.
 REGISTERS = 0xFEB00000
@@ -13,23 +14,14 @@ class Refused(Exception):
     """A request was refused, or the server has ended."""
 
 
-class Adapter:
-    """Registers and memory, an interrupt line, and a wire."""
+class Client:
+    """Registers and memory, an interrupt line, and a wire, behind a stream of requests and a stream of answers."""
 
-    def __init__(self, program, *options, **settings):
-        """Starts the server with these options of `serve`, and these settings of its process."""
-        self.process = subprocess.Popen([program, "serve", *options], stdin=subprocess.PIPE, stdout=subprocess.PIPE,
-                                        **settings)
+    def __init__(self, requests, answers):
+        self.requests, self.answers = requests, answers
         self.line = False  # whether the interrupt line is asserted
         self.wire = []  # the frames that were put onto the wire
         self.told = []  # the lines of the log
-
-    def __enter__(self):
-        return self
-
-    def __exit__(self, *_):
-        """Ends the input, which ends the server."""
-        self.process.communicate()
 
     # Requests and answers
 
@@ -47,15 +39,15 @@ class Adapter:
     def ask_at_once(self, requests):
         """Sends these requests, then reads and returns their answers."""
         try:
-            self.process.stdin.write("".join(f"{request}\n" for request in requests).encode())
-            self.process.stdin.flush()
+            self.requests.write("".join(f"{request}\n" for request in requests).encode())
+            self.requests.flush()
         except BrokenPipeError:
             raise Refused(f"{requests[0]}: the server has ended") from None
         return [self.answer(request) for request in requests]
 
     def answer(self, request):
         """Returns the next answer. Lines before it report what happened."""
-        for line in self.process.stdout:
+        for line in self.answers:
             word, _, rest = line.decode().rstrip("\n").partition(" ")
             if word == "OK":
                 return rest
@@ -106,3 +98,25 @@ class Adapter:
     def log(self, on):
         """Turns the log of steps, accesses and arrivals on or off."""
         self.ask(f"log {'on' if on else 'off'}")
+
+
+class Adapter(Client):
+    """An adapter with a server of its own."""
+
+    def __init__(self, program, *options, **settings):
+        """Starts the server with these options of `serve`, and these settings of its process."""
+        self.process = subprocess.Popen([program, "serve", *options], stdin=subprocess.PIPE, stdout=subprocess.PIPE,
+                                        **settings)
+        super().__init__(self.process.stdin, self.process.stdout)
+
+    def __enter__(self):
+        return self
+
+    def __exit__(self, *_):
+        """Ends the input, which ends the server."""
+        self.process.communicate()
+
+
+def standard_streams():
+    """The adapter whose server reads this program's standard output, and writes its standard input."""
+    return Client(sys.stdout.buffer, sys.stdin.buffer)
