@@ -77,19 +77,18 @@ class Finder:
 
     def draw(self):
         """Draws schedules until one fails."""
-        began, answers = time.monotonic(), set()
-        for number in range(self.given["runs"]):
-            seed = self.given["seed"] + number
+        began, answers, line = time.monotonic(), set(), ""
+        for number in range(1, self.given["runs"] + 1):
+            seed = self.given["seed"] + number - 1
             run = self.target.run(draw=Uniform(seed, draws_holds=self.given["holds"]))
             answers.add(run.answers)
-            if run.fault or number + 1 == self.given["runs"] or sys.stderr.isatty():
-                rate = (number + 1) / (time.monotonic() - began)
-                line = f"{number + 1} runs, {rate:.0f} a second, {len(answers)} different lists of answers"
-                print(f"\r{line}", end="", file=sys.stderr, flush=True) if sys.stderr.isatty() else print(line)
+            line = f"{number} runs, {number / (time.monotonic() - began):.0f} a second, {len(answers)} different lists of answers"
+            if sys.stderr.isatty():
+                print(f"\r{line}", end="", file=sys.stderr, flush=True)
             if run.fault:
-                print(f"\nseed {seed}: {run.fault}")
+                print(f"{line}\nseed {seed}: {run.fault}")
                 return self.report(run)
-        print("\nno run fails")
+        print(f"{line}\nno run fails")
         return PASSES
 
     def explore(self):
@@ -129,12 +128,15 @@ class Finder:
     def show(self, run):
         """Prints a run's schedule, the end of its log, and its chart."""
         text = text_of(run.met, self.target.options, [" ".join(self.target.command), run.fault])
-        if self.given["out"]:
-            with open(self.given["out"], "w") as file:
-                file.write(text)
         lines = [row.line for row in run.rows][-LOG_LINES:]
         shown = "".join(f"{line if len(line) <= LONGEST_LINE else line[:LONGEST_LINE] + '..'}\n" for line in lines)
         print(f"\nThe schedule:\n{text}\nThe end of the log:\n{shown}\n{chart(run)}", end="")
+        if self.given["out"]:
+            try:
+                with open(self.given["out"], "w", encoding="utf-8", errors="surrogateescape") as file:
+                    file.write(text)
+            except OSError as error:
+                print(f"races: {self.given['out']}: {error.strerror}", file=sys.stderr)
 
     def replay(self, schedule):
         is_strict = not self.given["any-access"]

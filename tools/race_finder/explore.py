@@ -16,9 +16,13 @@ class Found(NamedTuple):
 
 
 def children(run, with_holds):
-    """Schedules with one deviation more than that of a run, which comes last. Each does something."""
-    last = run.met[-1] if run.met else None
-    for met in run.places:
+    """Schedules with one deviation more than that of a run, which comes last. Each does something.
+
+    Each is returned with the number of accesses from its first deviation to its last one.
+    """
+    last, first = (run.met[-1], run.met[0].place) if run.met else (None, None)
+    begin = next((at for at, met in enumerate(run.places) if met.place == first), None)
+    for at, met in enumerate(run.places):
         if last and met.place < last.place:
             continue
         actions = [*met.enabled, *(pair for pair, steps in PAIRS.items() if steps[0] in met.enabled)]
@@ -27,7 +31,7 @@ def children(run, with_holds):
         for action in actions:
             if last and met.place == last.place and not is_after(last.action, action):
                 continue
-            yield [*run.met, Deviation(met.place, action, met.name)]
+            yield 0 if begin is None else at - begin, [*run.met, Deviation(met.place, action, met.name)]
 
 
 def is_after(last, action):
@@ -36,12 +40,15 @@ def is_after(last, action):
 
 
 def explore(target, depth, with_holds=False, most=None, say=lambda line: None):
-    """Tries all schedules by their number of deviations, and ends at the first one that fails, or after `most`."""
-    level, counts, answers = [[]], [], set()
+    """Tries all schedules by their number of deviations, and ends at the first one that fails, or after `most`.
+
+    Of those of one size, schedules whose deviations are close together are tried first: a race is a matter of few accesses.
+    """
+    level, counts, answers = [(0, [])], [], set()
     for size in range(depth + 1):
         following = []
         counts.append(0)
-        for schedule in level:
+        for _, schedule in level:
             if most is not None and sum(counts) == most:
                 return Found(counts, None, False)
             run = target.run(schedule)
@@ -52,7 +59,7 @@ def explore(target, depth, with_holds=False, most=None, say=lambda line: None):
             if size < depth and len(run.met) == len(schedule):
                 following += children(run, with_holds)
         say(f"depth {size}: {counts[-1]} schedules, none fails, {len(answers)} different lists of answers")
-        level = following
+        level = sorted(following, key=lambda one: one[0])
     return Found(counts, None, True)
 
 

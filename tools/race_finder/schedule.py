@@ -86,7 +86,7 @@ def parse(text):
 
 def text_of(deviations, options=(), comments=()):
     """A schedule as a text that `parse` reads."""
-    lines = [f"# {comment}" for comment in comments]
+    lines = [" ".join(["#", *comment.split()]) for comment in comments]
     if options:
         lines.append(" ".join(["options", *options]))
     return "".join(f"{line}\n" for line in [*lines, *deviations])
