@@ -48,13 +48,13 @@ def cells_of(row):
     if words[0] == "IRQ":
         return {"adapter": "raises the line" if words[1] == "raise" else "lowers the line"}
     if words[0] == "frame":
-        return {"wire": f"<- {len(words[1]) // 2} bytes, ..{words[1][-4:]}"}
+        return {"wire": f"-> {len(words[1]) // 2} bytes, ..{words[1][-4:]}"}
     if words[1] == "step":
         if words[4] == "nothing":
             return None
         return {"adapter": f"{words[2]} {words[4]}", "memory": written(row)}
     if words[1] == "arrive":
-        return {"adapter": row.answer or "", "wire": f"-> {len(words[2]) // 2} bytes, ..{words[2][-4:]}"}
+        return {"adapter": row.answer or "", "wire": f"<- {len(words[2]) // 2} bytes, ..{words[2][-4:]}"}
     return {"adapter": row.line[2:]}
 
 

@@ -35,6 +35,7 @@ from race_finder.target import CannotRun, Target
 
 TOP = os.path.dirname(os.path.dirname(os.path.dirname(os.path.abspath(__file__))))
 PASSES, FOUND, USAGE, NOT_RUN = range(4)
+INTERRUPTED = 130
 LOG_LINES, LONGEST_LINE = 30, 110
 NUMBERS = {"runs": 1000, "seed": 1, "explore": None, "smaller": 1000, "seconds": 10}
 TEXTS = {"server": os.path.join(TOP, ".build", "nicbench"), "options": None, "out": None, "replay": None}
@@ -157,7 +158,7 @@ def call(words):
             with open(given["replay"], encoding="utf-8") as file:
                 stored, schedule = parse(file.read())
         except (OSError, UnicodeDecodeError) as error:
-            raise UsageError(f"{given['replay']}: {error}") from None
+            raise UsageError(f"{given['replay']}: {getattr(error, 'strerror', error)}") from None
         options = stored if options is None else options
     finder = Finder(given, Target(given["server"], command, options or (), given["seconds"]))
     if given["replay"]:
@@ -181,4 +182,7 @@ def main():
         print(error)
         return FOUND
     except KeyboardInterrupt:
-        return 130
+        return INTERRUPTED
+    except BrokenPipeError:
+        os.dup2(os.open(os.devnull, os.O_WRONLY), sys.stdout.fileno())  # nobody reads what is printed
+        return FOUND

@@ -12,7 +12,8 @@ class Uniform:
         self.random, self.chance, self.draws_holds = random.Random(seed), chance, draws_holds
 
     def actions(self):
-        order = self.random.sample(ENGINES, len(ENGINES))
+        # Of this generator, only the numbers of `random` are the same in all versions of Python.
+        order = sorted(ENGINES, key=lambda _: self.random.random())
         return [action for action in order if self.random.random() < self.chance]
 
     def holds(self):

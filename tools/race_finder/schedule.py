@@ -53,11 +53,11 @@ def steps_of(action):
 
 def deviation_of(line):
     """The deviation in a line without comment. Raises ScheduleError with what is wrong."""
-    words, _, before = line.partition(" before ")
-    place, _, action = words.strip().partition(" ")
-    found, action, before = PLACE.fullmatch(place), " ".join(action.split()), " ".join(before.split())
+    words = line.split()
+    end = words.index("before") if "before" in words else len(words)
+    found, action, before = PLACE.fullmatch(words[0]), " ".join(words[1:end]), " ".join(words[end + 1:])
     if not found or found[2].strip("0") == "":
-        raise ScheduleError(f"{place!r} isn't a place: use ROUND.ACCESS, such as 4.6, and count accesses from 1")
+        raise ScheduleError(f"{words[0]!r} isn't a place: use ROUND.ACCESS, such as 4.6, and count accesses from 1")
     if action not in ACTIONS:
         raise ScheduleError(f"{action!r} isn't a deviation: use {', '.join(ACTIONS[:-1])} or {ACTIONS[-1]}")
     if not ACCESS.fullmatch(before):
