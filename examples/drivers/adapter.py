@@ -1,7 +1,6 @@
 """An adapter behind `nicbench serve`, as a driver and a wire see it."""
 
 import subprocess
-import sys
 
 # Where the registers begin.
 REGISTERS = 0xFEB00000
@@ -14,14 +13,28 @@ class Refused(Exception):
     """A request was refused, or the server has ended."""
 
 
-class Client:
-    """Registers and memory, an interrupt line, and a wire, behind a stream of requests and a stream of answers."""
+class Adapter:
+    """Registers and memory, an interrupt line, and a wire."""
 
-    def __init__(self, requests, answers):
-        self.requests, self.answers = requests, answers
+    def __init__(self, program, *options, **settings):
+        """Starts the server with these options of `serve`, and these settings of its process."""
+        self.requests, self.answers = self.start(program, options, settings)
         self.line = False  # whether the interrupt line is asserted
         self.wire = []  # the frames that were put onto the wire
         self.told = []  # the lines of the log
+
+    def __enter__(self):
+        return self
+
+    def __exit__(self, *_):
+        """Ends the input, which ends the server."""
+        self.process.communicate()
+
+    def start(self, program, options, settings):
+        """Starts the server, and returns the stream of requests and the stream of answers."""
+        self.process = subprocess.Popen([program, "serve", *options], stdin=subprocess.PIPE, stdout=subprocess.PIPE,
+                                        **settings)
+        return self.process.stdin, self.process.stdout
 
     # Requests and answers
 
@@ -98,25 +111,3 @@ class Client:
     def log(self, on):
         """Turns the log of steps, accesses and arrivals on or off."""
         self.ask(f"log {'on' if on else 'off'}")
-
-
-class Adapter(Client):
-    """An adapter with a server of its own."""
-
-    def __init__(self, program, *options, **settings):
-        """Starts the server with these options of `serve`, and these settings of its process."""
-        self.process = subprocess.Popen([program, "serve", *options], stdin=subprocess.PIPE, stdout=subprocess.PIPE,
-                                        **settings)
-        super().__init__(self.process.stdin, self.process.stdout)
-
-    def __enter__(self):
-        return self
-
-    def __exit__(self, *_):
-        """Ends the input, which ends the server."""
-        self.process.communicate()
-
-
-def standard_streams():
-    """The adapter whose server reads this program's standard output, and writes its standard input."""
-    return Client(sys.stdout.buffer, sys.stdin.buffer)

@@ -3,8 +3,8 @@
 
 usage: exchange_test.py [BUG]
 
-Requests go to standard output, and answers come from standard input. The exit status is 0 if the driver passes; else it is 1, and a
-line on standard error has the fault. BUG is a bug of driver.py; without it, the driver is right.
+Requests go to standard output, and answers come from standard input. The exit status is 0 if the driver passes. Otherwise it is 1, and
+standard error has the fault. BUG is a bug of driver.py; without it, the driver is right.
 """
 
 import ast
@@ -12,15 +12,22 @@ import os
 import sys
 
 sys.dont_write_bytecode = True
-from adapter import Refused, standard_streams  # noqa: E402
+from adapter import Adapter, Refused  # noqa: E402
 from driver import DeviceError, Driver  # noqa: E402
 
 SWEEP = os.path.join(os.path.dirname(os.path.abspath(__file__)), "sweep.py")
 
 
+class Streams(Adapter):
+    """The adapter whose server reads this program's standard output, and writes its standard input."""
+
+    def start(self, *_):
+        return sys.stdout.buffer, sys.stdin.buffer
+
+
 def definitions(path):
-    """What a script defines, without its last statement, which runs it."""
-    with open(path) as file:
+    """Returns what a script defines. Its last statement isn't run, because this statement runs the sweep."""
+    with open(path, encoding="utf-8") as file:
         tree = ast.parse(file.read(), path)
     names = {"__name__": "definitions", "__file__": path}
     exec(compile(ast.Module(tree.body[:-1], []), path, "exec"), names)
@@ -28,11 +35,12 @@ def definitions(path):
 
 
 def main():
-    adapter = standard_streams()
-    driver = Driver(adapter, *sys.argv[1:2])
+    exchange = definitions(SWEEP)["exchange"]
+    adapter = Streams(None)
+    driver = Driver(adapter, *sys.argv[1:])
     try:
         driver.bring_up()
-        return definitions(SWEEP)["exchange"](adapter, driver)
+        return exchange(adapter, driver)
     except (DeviceError, Refused) as error:
         return str(error)
 
