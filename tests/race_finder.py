@@ -6,7 +6,7 @@ import subprocess
 import sys
 
 from server import LIMIT, lines
-from server_pages import TOP
+from server_pages import TOP, follow, read_page
 
 FINDER = [sys.executable, "-S", "-E", os.path.join(TOP, "tools", "races")]
 EXCHANGE = [sys.executable, "-S", "-E", os.path.join(TOP, "examples", "drivers", "exchange_test.py")]
@@ -98,6 +98,14 @@ def bugs(server):
         status, again, errors = replay(server, text, "--any-access", command=EXCHANGE)
         server.check(f"bugs: the right driver passes the schedule of {bug}", (status, again.splitlines()[-1], errors), (PASSES, "   The test passes.", ""))
         server.check(f"bugs: {bug} is a race", "no race: the test fails by itself" in out, most == 0)
+
+
+def page(server):
+    """The session on the page of the finder."""
+    command, wanted = re.search(r"^```\n\$ tools/races -- ([^\n]*)\n(.*?)^```$", read_page("tools", "race_finder", "README.md"), re.M | re.S).groups()
+    ran = subprocess.run([*FINDER, "--server", server.program, "--", *command.split()], cwd=TOP, capture_output=True, timeout=10 * LIMIT)
+    got = without_rate(ran.stdout.decode())
+    server.check("page: its session", (follow(got, without_rate(wanted)), ran.returncode, ran.stderr), (True, FOUND, b""))
 
 
 def right(server):
@@ -247,5 +255,5 @@ def talks(server):
 
 
 def all_cases(server):
-    for part in [talks, replays, errors, ends, explored, drawn, holds, bugs, right]:
+    for part in [talks, replays, errors, ends, explored, drawn, holds, bugs, page, right]:
         part(server)

@@ -13,7 +13,7 @@ import sys
 
 sys.dont_write_bytecode = True
 from adapter import Adapter, Refused  # noqa: E402
-from driver import DeviceError, Driver  # noqa: E402
+from driver import BUGS, DeviceError, Driver  # noqa: E402
 
 SWEEP = os.path.join(os.path.dirname(os.path.abspath(__file__)), "sweep.py")
 
@@ -35,9 +35,12 @@ def definitions(path):
 
 
 def main():
+    bugs = sys.argv[1:]
+    if len(bugs) > 1 or not set(bugs) <= set(BUGS):
+        return f"usage: exchange_test.py [{'|'.join(BUGS)}]"
     exchange = definitions(SWEEP)["exchange"]
     adapter = Streams(None)
-    driver = Driver(adapter, *sys.argv[1:])
+    driver = Driver(adapter, *bugs)
     try:
         driver.bring_up()
         return exchange(adapter, driver)
