@@ -53,6 +53,46 @@ CHART = """\
 """
 
 
+# Sends random requests; before each step of an engine, compares what the finder expects with what happens. Prints both, as numbers of steps.
+SHADOW = """
+import random, sys
+sys.dont_write_bytecode = True
+sys.path.insert(0, sys.argv[2])
+from race_finder.play import Play, Server
+from race_finder.schedule import ENGINES
+
+class Checked(Play):
+    right = wrong = 0
+    seen = set()
+
+    def hear(self, line, request):
+        if line.startswith("# step "):
+            _, _, kind, _, outcome = line.split(" ")
+            does = outcome != "nothing"
+            is_right = does == (kind in self.shadow.enabled()) if kind in ENGINES else getattr(self.shadow, kind) or not does
+            Checked.right, Checked.wrong = Checked.right + is_right, Checked.wrong + (not is_right)
+            Checked.seen.add(line[7:])
+        return super().hear(line, request)
+
+def requests(draw):
+    for _ in range(1500):
+        ring, slot = draw.choice((0x2800, 0x3800)), draw.randrange(8)
+        yield draw.choice((
+            f"step {draw.choice(ENGINES)}", f"step {draw.choice(ENGINES)}", f"step {draw.choice(ENGINES)}", f"step {draw.choice(('eeprom', 'phy'))}",
+            "arrive " + "ff" * draw.choice((59, 60, 600, 1518)), f"writel {0xFEB00000 + ring + draw.choice((0x10, 0x18)):#x} {slot}",
+            f"writel {0xFEB00000 + ring + 8:#x} {draw.choice((128, 128, 128, 0))}", f"writel {0xFEB00000 + ring:#x} {draw.choice((0, 0x800))}",
+            f"writel 0xFEB00100 {draw.choice((0, 0x8002, 0x38002, 0x38002)):#x}", f"writel 0xFEB00400 {draw.choice((0, 0xA, 0xA))}",
+            f"write {16 * slot:#x} 16 0x00100000000000004000000{draw.choice('189')}00000000",
+            f"writel 0xFEB00000 {draw.choice((0x40, 0x40, 0x40, 0x4000000)):#x}", "writel 0xFEB00020 0x04201200", "writel 0xFEB00014 1", "settle"))
+
+for seed in range(4):
+    server = Server(sys.argv[1], [])
+    Checked(server).feed(list(requests(random.Random(seed))))
+    server.end()
+print(len(Checked.seen), Checked.right > 1500, Checked.wrong)
+"""
+
+
 def find(server, *words, command):
     """Runs the finder with these options: its exit status, its output and its errors."""
     ran = subprocess.run([*FINDER, "--server", server.program, *words, "--", *command], cwd=server.folder, capture_output=True, timeout=5 * LIMIT)
@@ -217,7 +257,8 @@ def errors(server):
         server.check(f"errors: {words}", find(server, *words, command=["true"]), (USAGE, "", f"races: {wanted}{more}"))
     server.check("errors: no command", find(server, "--runs", "1", command=[]), (USAGE, "", f"races: no COMMAND after '--'{more}"))
     server.check("errors: a command that isn't there", find(server, command=["./nothing"]), (NOT_RUN, "", "races: ./nothing: No such file or directory\n"))
-    server.check("errors: a server that isn't there", find(server, "--server", "./none", command=["true"]), (NOT_RUN, "", "races: ./none: No such file or directory\n"))
+    wanted = (NOT_RUN, "", "races: ./none: No such file or directory\n")
+    server.check("errors: a server that isn't there", find(server, "--server", "./none", command=["true"]), wanted)
     status, out, told = find(server, "--options", "--rxa 3", command=["true"])
     server.check("errors: a server that ends", (status, out, told.splitlines()[-1:]), (NOT_RUN, "", ["races: the server has ended with exit status 2"]))
     helped = subprocess.run([*FINDER, "--help"], capture_output=True, timeout=LIMIT)
@@ -254,6 +295,12 @@ def talks(server):
     server.check("talks: no line is left", (len(got), got == wanted), (len(wanted), True))
 
 
+def shadow(server):
+    """The finder knows which steps would do something, also if a driver resets the adapter, moves rings, and stops engines."""
+    ran = subprocess.run([sys.executable, "-S", "-E", "-c", SHADOW, server.program, os.path.join(TOP, "tools")], capture_output=True, timeout=LIMIT)
+    server.check("shadow: steps that are expected", (ran.returncode, ran.stdout, ran.stderr), (0, b"15 True 0\n", b""))
+
+
 def all_cases(server):
-    for part in [talks, replays, errors, ends, explored, drawn, holds, bugs, page, right]:
+    for part in [talks, shadow, replays, errors, ends, explored, drawn, holds, bugs, page, right]:
         part(server)

@@ -3,8 +3,8 @@
 
 usage: exchange_test.py [BUG]
 
-Requests go to standard output, and answers come from standard input. The exit status is 0 if the driver passes. Otherwise it is 1, and
-standard error has the fault. BUG is a bug of driver.py; without it, the driver is right.
+Requests go to standard output, and answers come from standard input. The exit status is 0 if the driver passes. Otherwise it is
+1, and standard error has the fault. BUG is a bug of driver.py; without it, the driver is right.
 """
 
 import ast

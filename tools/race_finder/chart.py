@@ -31,7 +31,7 @@ def answer_to(access, words, answer):
 def access_cells(row):
     """The cells of an access: what the driver does, and a register, or memory."""
     words = words_of(row.line[2:])
-    access, name = access_of(words), row.name.partition(" ")[2]
+    access, name = access_of(row.line[2:]), row.name.partition(" ")[2]
     value, sign = (access.value, "=") if access.kind == "write" else (answer_to(access, words, row.answer), "->")
     driver = {"place": str(row.place), "driver": access.kind}
     if name[0].isupper() or name.startswith("register"):
@@ -63,8 +63,8 @@ def written(row):
     kind = row.line.split(" ")[2]
     if row.name is None:
         return ""
-    texts = {"rxdata": "buffer of {} is written", "rxdone": "{} is written back", "txtake": "{} is fetched", "txput": "{} is written back"}
-    return texts[kind].format(row.name)
+    done = {"rxdata": "written", "txtake": "fetched"}.get(kind, "written back")
+    return f"{'buffer of ' if kind == 'rxdata' else ''}{row.name} is {done}"
 
 
 def rows_of(run):

@@ -2,9 +2,9 @@
 
 usage: tools/races [OPTION..] -- COMMAND..
 
-COMMAND is a test of your driver. It writes requests of `nicbench serve` to its standard output, and reads the answers from its
-standard input. A run fails if the exit status of COMMAND isn't 0, or if COMMAND takes too long. A schedule that fails is made
-smaller, and printed with the end of the log and a chart.
+COMMAND is a test of your driver. It writes requests of `nicbench serve` to its standard output, and reads the answers
+from its standard input. A run fails if the exit status of COMMAND isn't 0, or if COMMAND takes too long. A schedule that
+fails is made smaller, and printed with the end of the log and a chart.
 
   --server PROGRAM     nicbench (default .build/nicbench of this repository)
   --options WORDS      options of `nicbench serve`, such as "--rxa 2 --link 5"
@@ -18,7 +18,8 @@ smaller, and printed with the end of the log and a chart.
   --any-access         --replay doesn't compare the names of accesses
   --seconds N          the time for a run, in seconds (default 10)
 
-Exit status: 0 nothing was found, 1 found, or the schedule fails, 2 invalid arguments, 3 COMMAND or the server couldn't be run.
+Exit status: 0 if no run fails, 1 if a run or the replay fails, 2 if an argument or the schedule is invalid, and 3 if COMMAND
+or the server couldn't be run.
 """
 
 import os
@@ -83,7 +84,8 @@ class Finder:
             seed = self.given["seed"] + number - 1
             run = self.target.run(draw=Uniform(seed, draws_holds=self.given["holds"]))
             answers.add(run.answers)
-            line = f"{number} runs, {number / (time.monotonic() - began):.0f} a second, {len(answers)} different lists of answers"
+            rate = number / (time.monotonic() - began)
+            line = f"{number} runs, {rate:.0f} a second, {len(answers)} different lists of answers"
             if sys.stderr.isatty():
                 print(f"\r{line}", end="", file=sys.stderr, flush=True)
             if run.fault:
@@ -105,7 +107,8 @@ class Finder:
         shrinker, drawn, runs = Shrinker(self.target), len(run.met), self.target.runs
         small = shrinker.shrink(run.met)
         if small is None:
-            print(f"The schedule of {drawn} deviations passes when it is played again. Does the test use a clock, threads or random numbers?")
+            print(f"The schedule of {drawn} deviations passes when it is played again."
+                  " Does the test use a clock, threads or random numbers?")
             return FOUND
         print(f"{drawn} deviations are shrunk to {len(small.met)} by {self.target.runs - runs} runs")
         if not small.met:

@@ -1,12 +1,14 @@
 """Names of registers, and accesses in requests."""
 
 import re
+from functools import lru_cache
 from typing import NamedTuple
 
 DEFAULT_REGISTERS, REGISTERS_SIZE = 0xFEB00000, 0x20000
 REGISTERS = {
-    0x0000: "CTRL", 0x0008: "STATUS", 0x0014: "EERD", 0x0020: "MDIC", 0x0038: "VET", 0x00C0: "ICR", 0x00C8: "ICS", 0x00D0: "IMS",
-    0x00D8: "IMC", 0x0100: "RCTL", 0x0400: "TCTL", 0x1000: "PBA", 0x4010: "MPC", 0x4074: "GPRC", 0x4080: "GPTC", 0x40A0: "RNBC",
+    0x0000: "CTRL", 0x0008: "STATUS", 0x0014: "EERD", 0x0020: "MDIC", 0x0038: "VET",
+    0x00C0: "ICR", 0x00C8: "ICS", 0x00D0: "IMS", 0x00D8: "IMC", 0x0100: "RCTL", 0x0400: "TCTL", 0x1000: "PBA",
+    0x4010: "MPC", 0x4074: "GPRC", 0x4080: "GPTC", 0x40A0: "RNBC",
     0x2800: "RDBAL", 0x2804: "RDBAH", 0x2808: "RDLEN", 0x2810: "RDH", 0x2818: "RDT",
     0x3800: "TDBAL", 0x3804: "TDBAH", 0x3808: "TDLEN", 0x3810: "TDH", 0x3818: "TDT",
     **{0x5200 + 4 * n: f"MTA[{n}]" for n in range(128)}, **{0x5600 + 4 * n: f"VFTA[{n}]" for n in range(128)},
@@ -40,9 +42,10 @@ def number_of(word):
     return value if value < 1 << 64 else None
 
 
-def access_of(words):
+@lru_cache(maxsize=4096)
+def access_of(request):
     """The access that a request makes, or None if the request isn't an access or has an invalid form."""
-    name, *rest = words or [""]
+    name, *rest = words_of(request) or [""]
     if name in ("read", "write", "memset"):
         return access_of_bytes(name, rest)
     kind, size = name[:-1], SIZES.get(name[-1:])

@@ -1,4 +1,4 @@
-"""Plays a schedule between a test and `nicbench serve`: takes requests of the test, and returns the lines that answer them."""
+"""Plays a schedule between a test and `nicbench serve`."""
 
 import hashlib
 import os
@@ -29,7 +29,8 @@ class Server:
 
     def __init__(self, program, options):
         try:
-            self.process = subprocess.Popen([program, "serve", *options], stdin=subprocess.PIPE, stdout=subprocess.PIPE, bufsize=0)
+            self.process = subprocess.Popen([program, "serve", *options], stdin=subprocess.PIPE, stdout=subprocess.PIPE,
+                                            bufsize=0)
         except OSError as error:
             raise ServerEnded(f"{program}: {error.strerror}") from None
         self.rest = b""
@@ -61,10 +62,11 @@ class Server:
 
 
 class Request(NamedTuple):
-    """A request on its way to the server: who made it, and of an access its place, its name and the ticks before it."""
+    """A request on its way to the server: who made it, and of an access its register (or None), its place, and so on."""
     text: str
     owner: str
     access: object = None
+    register: str = None
     place: Place = None
     name: str = None
     holds: tuple = ()
@@ -86,7 +88,15 @@ class Row:
         self.line, self.owner, self.place, self.name, self.answer = line, owner, place, name, None
 
 
+def is_interleave(words):
+    """Whether a request turns random steps on or off, and has a valid form."""
+    count = number_of(words[1]) if words[:1] == ["interleave"] and len(words) == 2 else None
+    return count is not None and count <= MOST_INTERLEAVED
+
+
 class Play:
+    """Takes requests of the test, and returns the lines that answer them."""
+
     def __init__(self, server, schedule=(), draw=None, is_strict=True, base=DEFAULT_REGISTERS):
         self.server, self.draw, self.is_strict = server, draw, is_strict
         self.left = {}  # deviations whose place isn't reached yet
@@ -128,7 +138,7 @@ class Play:
             row = heard if heard and not line.startswith("# step") else row
         if row:
             row.answer = line[3:]
-        if words_of(request.text)[:1] == ["arrive"] and line == "OK stored":
+        if line == "OK stored":
             self.shadow.waiting += 1
         if request.owner == TEST:
             self.out.append(line)
@@ -146,9 +156,8 @@ class Play:
         elif is_logged and request.access:
             row.place, row.name = request.place, request.name
             self.places.append(Met(request.place, request.name, tuple(self.shadow.enabled()), request.holds))
-            register = self.shadow.register(request.access)
-            if register and request.access.kind == "write":
-                self.shadow.write(register, request.access.value)
+            if request.register and request.access.kind == "write":
+                self.shadow.write(request.register, request.access.value)
         self.rows.append(row)
         if self.is_logged or not is_logged:
             self.out.append(line)
@@ -167,15 +176,16 @@ class Play:
         return lines
 
     def take(self, request):
-        words = words_of(request)
-        access = access_of(words)
+        access = access_of(request)
         if access:
             self.access(request, access)
-        elif words in (["log", "on"], ["log", "off"]):
+            return
+        words = words_of(request)
+        if words in (["log", "on"], ["log", "off"]):
             self.flush()
             self.is_logged = words == ["log", "on"]
             self.out.append("OK")
-        elif len(words) == 2 and words[0] == "interleave" and (number_of(words[1]) or 0) <= MOST_INTERLEAVED and number_of(words[1]) is not None:
+        elif is_interleave(words):
             self.flush()
             self.out.append("OK")  # the schedule takes the place of random steps
         else:
@@ -186,7 +196,8 @@ class Play:
     def access(self, request, access):
         """An access of the test, after what the schedule plays before it."""
         self.access_number += 1
-        place, name = Place(self.round, self.access_number), f"{access.kind} {self.shadow.name(access)}"
+        register = self.shadow.register(access)
+        place, name = Place(self.round, self.access_number), f"{access.kind} {register or self.shadow.memory(access)}"
         due = self.left.pop(place, ())
         for deviation in due:
             if self.is_strict and deviation.before != name:
@@ -200,8 +211,8 @@ class Play:
             for action in self.draw.actions():
                 if action in self.shadow.enabled():
                     self.play(Deviation(place, action, name))
-        self.queue(Request(request, TEST, access, place, name, holds))
-        if access.kind == "write" and self.shadow.register(access) in MATTER:
+        self.queue(Request(request, TEST, access, register, place, name, holds))
+        if access.kind == "write" and register in MATTER:
             self.flush()
 
     def tick(self, place, name, due):

@@ -8,7 +8,8 @@ TRANSMIT_ROOM = 4  # frames in the transmit packet buffer
 # The bits that a write stores, of registers that are kept here.
 KEPT = {"RCTL": 0x0607B33A, "TCTL": 0x003FFFFA}
 for ring in "RT":
-    KEPT |= {f"{ring}DBAL": 0xFFFFFFF0, f"{ring}DBAH": 0xFFFFFFFF, f"{ring}DLEN": 0x000FFF80, f"{ring}DH": 0xFFFF, f"{ring}DT": 0xFFFF}
+    KEPT |= {f"{ring}DBAL": 0xFFFFFFF0, f"{ring}DBAH": 0xFFFFFFFF, f"{ring}DLEN": 0x000FFF80}
+    KEPT |= {f"{ring}DH": 0xFFFF, f"{ring}DT": 0xFFFF}
 # A write of one of these may change what a later step does, or the name of a later access.
 MATTER = {*KEPT, "CTRL", "EERD", "MDIC"}
 
@@ -33,11 +34,8 @@ class Shadow:
             return None
         return REGISTERS.get(offset, f"register[{offset:#x}]")
 
-    def name(self, access):
-        """The name of what an access goes to: a register, a slot of a ring, or an address."""
-        register = self.register(access)
-        if register:
-            return register
+    def memory(self, access):
+        """The name of the memory that an access goes to: a slot of a ring, or an address."""
         for letter, ring in (("R", "rx"), ("T", "tx")):
             base = self.registers[f"{letter}DBAL"] | self.registers[f"{letter}DBAH"] << 32
             if 0 <= access.address - base < self.registers[f"{letter}DLEN"]:

@@ -55,18 +55,20 @@ class Target:
 
     def run_command(self, play, errors):
         try:
-            test = subprocess.Popen(self.command, stdin=subprocess.PIPE, stdout=subprocess.PIPE, stderr=errors, bufsize=0, start_new_session=True)
+            test = subprocess.Popen(self.command, stdin=subprocess.PIPE, stdout=subprocess.PIPE, stderr=errors, bufsize=0,
+                                    start_new_session=True)
         except OSError as error:
             raise CannotRun(f"{self.command[0]}: {error.strerror}") from None
-        end = time.monotonic() + self.seconds
+        end, is_late = time.monotonic() + self.seconds, True
         try:
             serve(test, play, end)
             test.stdin.close()
             status = test.wait(max(0, end - time.monotonic()))
+            is_late = False
         except (TooLong, subprocess.TimeoutExpired):
             return f"no end within {self.seconds:g} seconds"
         finally:
-            stop(test)
+            stop(test, is_late)
         if status == 0:
             return None
         errors.seek(0)
@@ -95,17 +97,19 @@ def write(sink, data, end):
     """Writes to the test. Returns False if the test no longer reads."""
     try:
         while data:
-            if not select.select([], [sink], [], max(0, end - time.monotonic()))[1]:
-                raise TooLong
-            data = data[os.write(sink, data):]
+            try:
+                data = data[os.write(sink, data):]
+            except BlockingIOError:
+                if not select.select([], [sink], [], max(0, end - time.monotonic()))[1]:
+                    raise TooLong from None
     except BrokenPipeError:
         return False
     return True
 
 
-def stop(test):
-    """Ends a test, and what it has started, if it still runs."""
-    if test.poll() is None:
+def stop(test, is_late):
+    """Ends a test that still runs, or whose children keep its streams open."""
+    if is_late:
         try:
             os.killpg(test.pid, signal.SIGKILL)
         except ProcessLookupError:
