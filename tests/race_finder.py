@@ -168,7 +168,7 @@ def explored(server):
     status, out, errors = find(server, "--explore", "2", "--out", "found", command=["sh", "small", "fails"])
     begin = "".join(wanted.splitlines(True)[:2])
     server.check("explored: a test that fails", (status, out.startswith(begin), errors), (FOUND, True, ""))
-    server.check("explored: it is smallest", "\nsmallest: all schedules with fewer deviations than 2 pass\n" in out, True)
+    server.check("explored: it is smallest", "\nsmallest: no schedule with fewer deviations fails\n" in out, True)
     schedule = (server.get("found") or b"").decode()
     server.check("explored: its schedule", schedule, f"# sh small fails\n# exit status 1: finished too late\n{SMALLEST}")
 
@@ -177,7 +177,7 @@ def drawn(server):
     """A race of two steps is drawn, made small, and printed with the end of the log and a chart."""
     status, out, errors = find(server, "--runs", "200", command=["sh", "small", "fails"])
     server.check("drawn: it is found", (status, errors), (FOUND, ""))
-    server.check("drawn: all smaller schedules were tried", "\nsmallest: all schedules with fewer deviations than 2 pass; 9 were tried\n" in out, True)
+    server.check("drawn: all smaller schedules were tried", "\n9 smaller schedules were tried, and pass\nsmallest: no schedule with fewer deviations fails\n" in out, True)
     log = [f"# {request}" for request in re.findall(r'ask "(.*?)"', SMALL)]
     log[4:] = [f"# arrive {FRAME}"[:110] + "..", log[5], "# step rxdata -> moved", *log[6:8], "# step rxdone -> done", log[8]]
     wanted = f"\nThe schedule:\n# sh small fails\n# exit status 1: finished too late\n{SMALLEST}\nThe end of the log:\n"
@@ -186,7 +186,7 @@ def drawn(server):
     server.check("drawn: a seed decides", (once[0] == once[1], once[0].startswith("40 runs, ")), (True, True))
     server.check("drawn: no more than two runs of a test that fails by itself",
                  without_rate(find(server, command=["sh", "-c", "exit 7"])[1]).splitlines()[:4],
-                 ["1 runs, 1 different lists of answers", "seed 1: exit status 7", "0 deviations are shrunk to 0 by 1 runs",
+                 ["1 runs, 1 different lists of answers", "seed 1: exit status 7", "0 deviations shrunk to 0 by 1 runs",
                   "no race: the test fails by itself, without any deviation"])
 
 

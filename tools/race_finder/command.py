@@ -71,6 +71,16 @@ def arguments_of(words):
     return given, words[1:]
 
 
+def deviations(count):
+    return f"{count} deviation" + ("" if count == 1 else "s")
+
+
+def progress(line):
+    """Shows a line on a terminal until the next line is printed."""
+    if sys.stderr.isatty():
+        print(f"\r{line}\033[K\r", end="", file=sys.stderr, flush=True)
+
+
 class Finder:
     """One call of the command."""
 
@@ -86,8 +96,7 @@ class Finder:
             answers.add(run.answers)
             rate = number / (time.monotonic() - began)
             line = f"{number} runs, {rate:.0f} a second, {len(answers)} different lists of answers"
-            if sys.stderr.isatty():
-                print(f"\r{line}", end="", file=sys.stderr, flush=True)
+            progress(line)
             if run.fault:
                 print(f"{line}\nseed {seed}: {run.fault}")
                 return self.report(run)
@@ -95,7 +104,7 @@ class Finder:
         return PASSES
 
     def explore(self):
-        found = explore(self.target, self.given["explore"], self.given["holds"], say=print)
+        found = explore(self.target, self.given["explore"], self.given["holds"], say=print, progress=progress)
         if found.run is None:
             print(f"none of {sum(found.counts)} schedules fails")
             return PASSES
@@ -107,27 +116,29 @@ class Finder:
         shrinker, drawn, runs = Shrinker(self.target), len(run.met), self.target.runs
         small = shrinker.shrink(run.met)
         if small is None:
-            print(f"The schedule of {drawn} deviations passes when it is played again."
+            print(f"The schedule of {deviations(drawn)} passes when it is played again."
                   " Does the test use a clock, threads or random numbers?")
             return FOUND
-        print(f"{drawn} deviations are shrunk to {len(small.met)} by {self.target.runs - runs} runs")
+        print(f"{deviations(drawn)} shrunk to {len(small.met)} by {self.target.runs - runs} runs")
+        is_smallest = is_smallest or len(small.met) == 1
+        if small.met and not is_smallest:
+            small, is_smallest = self.smaller(shrinker, small)
         if not small.met:
             print("no race: the test fails by itself, without any deviation")
-        elif is_smallest or len(small.met) == 1:
-            print(f"smallest: all schedules with fewer deviations than {len(small.met)} pass")
-        else:
-            small = self.smaller(shrinker, small)
+        elif is_smallest:
+            print("smallest: no schedule with fewer deviations fails")
         self.show(small)
         return FOUND
 
     def smaller(self, shrinker, run):
         """Looks for a schedule with fewer deviations, and prints what was searched."""
-        found, tried, is_complete = smallest(shrinker, run, self.given["holds"], self.given["smaller"])
-        if is_complete:
-            print(f"smallest: all schedules with fewer deviations than {len(found.met)} pass; {tried} were tried")
+        found, tried, is_complete = smallest(shrinker, run, self.given["holds"], self.given["smaller"], progress)
+        end = "" if is_complete else "; another one may fail"
+        if len(found.met) < len(run.met):
+            print(f"{tried} smaller schedules were tried: one with {deviations(len(found.met))} fails")
         else:
-            print(f"{tried} schedules with fewer deviations were tried, and pass; another one may fail")
-        return found
+            print(f"{tried} smaller schedules were tried, and pass{end}")
+        return found, is_complete
 
     def show(self, run):
         """Prints a run's schedule, the end of its log, and its chart."""

@@ -39,7 +39,7 @@ def is_after(last, action):
     return ACTORS[last] <= ACTORS[action] and (last, action) not in PAIRS.values()
 
 
-def explore(target, depth, with_holds=False, most=None, say=lambda line: None):
+def explore(target, depth, with_holds=False, most=None, say=lambda line: None, progress=lambda line: None):
     """Tries all schedules by their number of deviations, and ends at the first one that fails, or after `most`.
 
     Of those of one size, schedules whose deviations are close together are tried first: a race is a matter of few accesses.
@@ -53,6 +53,7 @@ def explore(target, depth, with_holds=False, most=None, say=lambda line: None):
                 return Found(counts, None, False)
             run = target.run(schedule)
             counts[-1] += 1
+            progress(f"depth {size}: {counts[-1]} of {len(level)} schedules")
             answers.add(run.answers)
             if run.fault:
                 return Found(counts, run, False)
@@ -63,12 +64,12 @@ def explore(target, depth, with_holds=False, most=None, say=lambda line: None):
     return Found(counts, None, True)
 
 
-def smallest(shrinker, run, with_holds, most):
+def smallest(shrinker, run, with_holds, most, progress):
     """Looks for a smaller schedule. Returns its run, or the given one; how many were tried; whether none is smaller."""
     if len(run.met) < 2:
         return run, 0, True
     with_holds = with_holds or any(deviation.action in HOLDS for deviation in run.met)
-    found = explore(shrinker.target, len(run.met) - 1, with_holds, most)
+    found = explore(shrinker.target, len(run.met) - 1, with_holds, most, progress=progress)
     tried = sum(found.counts)
     if found.run is None:
         return run, tried, found.is_complete

@@ -8,7 +8,7 @@ import tempfile
 import time
 
 from race_finder.names import DEFAULT_REGISTERS, number_of
-from race_finder.play import Mismatch, Play, Server
+from race_finder.play import Play, Server
 
 
 class CannotRun(Exception):
@@ -82,7 +82,8 @@ def serve(test, play, end):
     source, sink, rest = test.stdout.fileno(), test.stdin.fileno(), b""
     os.set_blocking(sink, False)
     while True:
-        if not select.select([source], [], [], max(0, end - time.monotonic()))[0]:
+        left = end - time.monotonic()
+        if left < 0 or not select.select([source], [], [], left)[0]:
             raise TooLong
         data = os.read(source, 65536)
         *lines, rest = (rest + data).split(b"\n")
