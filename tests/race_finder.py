@@ -53,11 +53,13 @@ CHART = """\
 """
 
 
-# Sends random requests; before each step of an engine, compares what the finder expects with what happens. Prints both, as numbers of steps.
+# Sends random requests. At each step, compares what the finder expects with what happens. Then sends the same requests in parts of other sizes, with
+# drawn steps: what the finder records must be the same. Prints the number of kinds and outcomes, and the results of the comparisons.
 SHADOW = """
 import random, sys
 sys.dont_write_bytecode = True
 sys.path.insert(0, sys.argv[2])
+from race_finder.draw import Uniform
 from race_finder.play import Play, Server
 from race_finder.schedule import ENGINES
 
@@ -85,11 +87,19 @@ def requests(draw):
             f"write {16 * slot:#x} 16 0x00100000000000004000000{draw.choice('189')}00000000",
             f"writel 0xFEB00000 {draw.choice((0x40, 0x40, 0x40, 0x4000000)):#x}", "writel 0xFEB00020 0x04201200", "writel 0xFEB00014 1", "settle"))
 
-for seed in range(4):
+def played(asked, size, draw=None):
     server = Server(sys.argv[1], [])
-    Checked(server).feed(list(requests(random.Random(seed))))
+    play = Checked(server, draw=draw)
+    lines = [line for at in range(0, len(asked), size) for line in play.feed(asked[at:at + size])]
     server.end()
+    return lines, play.met, play.places, [(row.line, row.owner, row.place, row.name, row.answer) for row in play.rows]
+
+for seed in range(4):
+    played(list(requests(random.Random(seed))), 1500)
 print(len(Checked.seen), Checked.right > 1500, Checked.wrong)
+asked = list(requests(random.Random(4)))
+some = [played(asked, size, Uniform(1, draws_holds=True)) for size in (1, 10, 1500)]
+print(some[0] == some[1] == some[2], len(some[0][1]) > 100)
 """
 
 
@@ -175,9 +185,11 @@ def explored(server):
 
 def drawn(server):
     """A race of two steps is drawn, made small, and printed with the end of the log and a chart."""
+    server.put("small", SMALL.encode())
     status, out, errors = find(server, "--runs", "200", command=["sh", "small", "fails"])
     server.check("drawn: it is found", (status, errors), (FOUND, ""))
-    server.check("drawn: all smaller schedules were tried", "\n9 smaller schedules were tried, and pass\nsmallest: no schedule with fewer deviations fails\n" in out, True)
+    wanted = "\n9 smaller schedules were tried, and pass\nsmallest: no schedule with fewer deviations fails\n"
+    server.check("drawn: all smaller schedules were tried", wanted in out, True)
     log = [f"# {request}" for request in re.findall(r'ask "(.*?)"', SMALL)]
     log[4:] = [f"# arrive {FRAME}"[:110] + "..", log[5], "# step rxdata -> moved", *log[6:8], "# step rxdone -> done", log[8]]
     wanted = f"\nThe schedule:\n# sh small fails\n# exit status 1: finished too late\n{SMALLEST}\nThe end of the log:\n"
@@ -296,9 +308,12 @@ def talks(server):
 
 
 def shadow(server):
-    """The finder knows which steps would do something, also if a driver resets the adapter, moves rings, and stops engines."""
+    """The finder knows which steps would do something, also if a driver resets the adapter, moves rings, and stops engines.
+
+    It doesn't matter how many requests a test sends at once.
+    """
     ran = subprocess.run([sys.executable, "-S", "-E", "-c", SHADOW, server.program, os.path.join(TOP, "tools")], capture_output=True, timeout=LIMIT)
-    server.check("shadow: steps that are expected", (ran.returncode, ran.stdout, ran.stderr), (0, b"15 True 0\n", b""))
+    server.check("shadow: steps that are expected, and requests in parts", (ran.returncode, ran.stdout, ran.stderr), (0, b"15 True 0\nTrue True\n", b""))
 
 
 def all_cases(server):

@@ -191,6 +191,7 @@ class Play:
         else:
             self.queue(Request(request, TEST))
             if words[:1] and words[0] in ROUNDS:
+                self.flush()  # so the same steps follow, however many requests are sent at once
                 self.round, self.access_number = self.round + 1, 0
 
     def access(self, request, access):

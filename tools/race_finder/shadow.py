@@ -1,4 +1,4 @@
-"""What the log of the server tells about the adapter: names of accesses, and steps that would do something."""
+"""What the log of the server shows of the adapter: names of accesses, and steps that would do something."""
 
 from race_finder.names import DEFAULT_REGISTERS, REGISTERS, REGISTERS_SIZE
 

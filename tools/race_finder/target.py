@@ -1,4 +1,4 @@
-"""Runs the command that is tested, with a server behind it, and plays a schedule in each run."""
+"""Runs the command that is tested, with a server, and plays a schedule in each run."""
 
 import os
 import select
