@@ -19,8 +19,7 @@ class Adapter:
 
     def __init__(self, program, *options, **settings):
         """Starts the server with these options of `serve`, and these settings of its process."""
-        self.process = subprocess.Popen([program, "serve", *options], stdin=subprocess.PIPE, stdout=subprocess.PIPE,
-                                        **settings)
+        self.requests, self.answers = self.start(program, options, settings)
         self.line = False  # whether the interrupt line is asserted
         self.wire = []  # the frames that were put onto the wire
         self.told = []  # the lines of the log
@@ -33,6 +32,12 @@ class Adapter:
     def __exit__(self, *_):
         """Ends the input, which ends the server."""
         self.process.communicate()
+
+    def start(self, program, options, settings):
+        """Starts the server, and returns the stream of requests and the stream of answers."""
+        self.process = subprocess.Popen([program, "serve", *options], stdin=subprocess.PIPE, stdout=subprocess.PIPE,
+                                        **settings)
+        return self.process.stdin, self.process.stdout
 
     # Requests and answers
 
@@ -57,15 +62,15 @@ class Adapter:
     def ask_at_once(self, requests):
         """Sends these requests, then reads and returns their answers."""
         try:
-            self.process.stdin.write("".join(f"{request}\n" for request in requests).encode())
-            self.process.stdin.flush()
+            self.requests.write("".join(f"{request}\n" for request in requests).encode())
+            self.requests.flush()
         except BrokenPipeError:
             raise Refused(f"{requests[0]}: the server has ended") from None
         return [self.answer(request) for request in requests]
 
     def answer(self, request):
         """Returns the next answer. Lines before it report what happened."""
-        for line in self.process.stdout:
+        for line in self.answers:
             word, _, rest = line.decode().rstrip("\n").partition(" ")
             if word == "OK":
                 return rest

@@ -1,0 +1,1 @@
+"""A finder of races between a driver and the modelled adapter; `tools/races` is its command."""

@@ -1,0 +1,202 @@
+"""Finds races between a driver and the modelled adapter.
+
+usage: tools/races [OPTION..] -- COMMAND..
+
+COMMAND is a test of your driver. It writes requests of `nicbench serve` to its standard output, and reads the answers
+from its standard input. A run fails if the exit status of COMMAND isn't 0, or if COMMAND takes too long. A schedule that
+fails is made smaller, and printed with the end of the log and a chart.
+
+  --server PROGRAM     nicbench (default .build/nicbench of this repository)
+  --options WORDS      options of `nicbench serve`, such as "--rxa 2 --link 5"
+  --runs N             draws N schedules (default 1000)
+  --seed N             the seed of the first one (default 1); the next ones have the next seeds
+  --explore DEPTH      tries all schedules of up to DEPTH deviations instead
+  --holds              also leaves out steps of the EEPROM and the PHY
+  --smaller N          after shrinking, tries at most N schedules to find a smaller one (default 1000)
+  --out FILE           stores the schedule that was found
+  --replay FILE        plays one schedule
+  --any-access         --replay doesn't compare the names of accesses
+  --seconds N          the time for a run, in seconds (default 10)
+
+Exit status: 0 if no run fails, 1 if a run or the replay fails, 2 if an argument or the schedule is invalid, and 3 if COMMAND
+or the server couldn't be run.
+"""
+
+import os
+import sys
+import time
+
+from race_finder.chart import chart
+from race_finder.draw import Uniform
+from race_finder.explore import explore, smallest
+from race_finder.play import Mismatch, ServerEnded
+from race_finder.schedule import ScheduleError, parse, text_of
+from race_finder.shrink import Shrinker
+from race_finder.target import CannotRun, Target
+
+TOP = os.path.dirname(os.path.dirname(os.path.dirname(os.path.abspath(__file__))))
+PASSES, FOUND, USAGE, NOT_RUN = range(4)
+INTERRUPTED = 130
+LOG_LINES, LONGEST_LINE = 30, 110
+NUMBERS = {"runs": 1000, "seed": 1, "explore": None, "smaller": 1000, "seconds": 10}
+TEXTS = {"server": os.path.join(TOP, ".build", "nicbench"), "options": None, "out": None, "replay": None}
+FLAGS = ("holds", "any-access")
+
+
+class UsageError(Exception):
+    """The arguments are invalid."""
+
+
+def arguments_of(words):
+    """The values of all options, and the command."""
+    given = {**NUMBERS, **TEXTS, **dict.fromkeys(FLAGS, False)}
+    words = list(words)
+    while words and words[0] != "--":
+        option, separator, value = words.pop(0).partition("=")
+        name = option.removeprefix("--")
+        if not option.startswith("--") or name not in given:
+            raise UsageError(f"unexpected argument {option!r}")
+        if name in FLAGS:
+            given[name] = True
+            continue
+        if not separator:
+            if not words or words[0] == "--":
+                raise UsageError(f"{option} has no value")
+            value = words.pop(0)
+        if name in NUMBERS and not (value.isascii() and value.isdigit() and len(value) < 10):
+            raise UsageError(f"{option}: {value!r} isn't a number below 1,000,000,000")
+        given[name] = int(value) if name in NUMBERS else value
+    if len(words) < 2:
+        raise UsageError("no COMMAND after '--'")
+    return given, words[1:]
+
+
+def deviations(count):
+    return f"{count} deviation" + ("" if count == 1 else "s")
+
+
+def progress(line):
+    """Shows a line on a terminal until the next line is printed."""
+    if sys.stderr.isatty():
+        print(f"\r{line}\033[K\r", end="", file=sys.stderr, flush=True)
+
+
+class Finder:
+    """One call of the command."""
+
+    def __init__(self, given, target):
+        self.given, self.target = given, target
+
+    def draw(self):
+        """Draws schedules until one fails."""
+        began, answers, line = time.monotonic(), set(), ""
+        for number in range(1, self.given["runs"] + 1):
+            seed = self.given["seed"] + number - 1
+            run = self.target.run(draw=Uniform(seed, draws_holds=self.given["holds"]))
+            answers.add(run.answers)
+            rate = number / (time.monotonic() - began)
+            line = f"{number} runs, {rate:.0f} a second, {len(answers)} different lists of answers"
+            progress(line)
+            if run.fault:
+                print(f"{line}\nseed {seed}: {run.fault}")
+                return self.report(run)
+        print(f"{line}\nno run fails")
+        return PASSES
+
+    def explore(self):
+        found = explore(self.target, self.given["explore"], self.given["holds"], say=print, progress=progress)
+        if found.run is None:
+            print(f"none of {sum(found.counts)} schedules fails")
+            return PASSES
+        print(f"depth {len(found.run.met)}: schedule {found.counts[-1]} fails: {found.run.fault}")
+        return self.report(found.run, is_smallest=True)
+
+    def report(self, run, is_smallest=False):
+        """Makes a schedule smaller, and prints what is left."""
+        shrinker, drawn, runs = Shrinker(self.target), len(run.met), self.target.runs
+        small = shrinker.shrink(run.met)
+        if small is None:
+            print(f"The schedule of {deviations(drawn)} passes when it is played again."
+                  " Does the test use a clock, threads or random numbers?")
+            return FOUND
+        print(f"{deviations(drawn)} shrunk to {len(small.met)} by {self.target.runs - runs} runs")
+        is_smallest = is_smallest or len(small.met) == 1
+        if small.met and not is_smallest:
+            small, is_smallest = self.smaller(shrinker, small)
+        if not small.met:
+            print("no race: the test fails by itself, without any deviation")
+        elif is_smallest:
+            print("smallest: no schedule with fewer deviations fails")
+        self.show(small)
+        return FOUND
+
+    def smaller(self, shrinker, run):
+        """Looks for a schedule with fewer deviations, and prints what was searched."""
+        found, tried, is_complete = smallest(shrinker, run, self.given["holds"], self.given["smaller"], progress)
+        end = "" if is_complete else "; another one may fail"
+        if len(found.met) < len(run.met):
+            print(f"{tried} smaller schedules were tried: one with {deviations(len(found.met))} fails")
+        else:
+            print(f"{tried} smaller schedules were tried, and pass{end}")
+        return found, is_complete
+
+    def show(self, run):
+        """Prints a run's schedule, the end of its log, and its chart."""
+        text = text_of(run.met, self.target.options, [" ".join(self.target.command), run.fault])
+        lines = [row.line for row in run.rows][-LOG_LINES:]
+        shown = "".join(f"{line if len(line) <= LONGEST_LINE else line[:LONGEST_LINE] + '..'}\n" for line in lines)
+        print(f"\nThe schedule:\n{text}\nThe end of the log:\n{shown}\n{chart(run)}", end="")
+        if self.given["out"]:
+            try:
+                with open(self.given["out"], "w", encoding="utf-8", errors="surrogateescape") as file:
+                    file.write(text)
+            except OSError as error:
+                print(f"races: {self.given['out']}: {error.strerror}", file=sys.stderr)
+
+    def replay(self, schedule):
+        is_strict = not self.given["any-access"]
+        run = self.target.run(schedule, is_strict=is_strict)
+        for deviation in run.idle:
+            print(f"{deviation}: it did nothing")
+        for deviation in run.unreached:
+            print(f"{deviation}: the run doesn't reach this place")
+        print(chart(run), end="")
+        return FOUND if run.fault or is_strict and run.unreached else PASSES
+
+
+def call(words):
+    given, command = arguments_of(words)
+    options, schedule = given["options"] and given["options"].split(), []
+    if given["replay"]:
+        try:
+            with open(given["replay"], encoding="utf-8") as file:
+                stored, schedule = parse(file.read())
+        except (OSError, UnicodeDecodeError) as error:
+            raise UsageError(f"{given['replay']}: {getattr(error, 'strerror', error)}") from None
+        options = stored if options is None else options
+    finder = Finder(given, Target(given["server"], command, options or (), given["seconds"]))
+    if given["replay"]:
+        return finder.replay(schedule)
+    return finder.draw() if given["explore"] is None else finder.explore()
+
+
+def main():
+    if sys.argv[1:] in ([], ["--help"]):
+        print(__doc__.strip(), file=sys.stdout if sys.argv[1:] else sys.stderr)
+        return PASSES if sys.argv[1:] else USAGE
+    try:
+        return call(sys.argv[1:])
+    except (UsageError, ScheduleError) as error:
+        print(f"races: {error}\nFor more information, try '--help'.", file=sys.stderr)
+        return USAGE
+    except (CannotRun, ServerEnded) as error:
+        print(f"races: {error}", file=sys.stderr)
+        return NOT_RUN
+    except Mismatch as error:
+        print(error)
+        return FOUND
+    except KeyboardInterrupt:
+        return INTERRUPTED
+    except BrokenPipeError:
+        os.dup2(os.open(os.devnull, os.O_WRONLY), sys.stdout.fileno())  # nobody reads what is printed
+        return FOUND

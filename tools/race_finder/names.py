@@ -1,0 +1,80 @@
+"""Names of registers, and accesses in requests."""
+
+import re
+from functools import lru_cache
+from typing import NamedTuple
+
+DEFAULT_REGISTERS, REGISTERS_SIZE = 0xFEB00000, 0x20000
+REGISTERS = {
+    0x0000: "CTRL", 0x0008: "STATUS", 0x0014: "EERD", 0x0020: "MDIC", 0x0038: "VET",
+    0x00C0: "ICR", 0x00C8: "ICS", 0x00D0: "IMS", 0x00D8: "IMC", 0x0100: "RCTL", 0x0400: "TCTL", 0x1000: "PBA",
+    0x4010: "MPC", 0x4074: "GPRC", 0x4080: "GPTC", 0x40A0: "RNBC",
+    0x2800: "RDBAL", 0x2804: "RDBAH", 0x2808: "RDLEN", 0x2810: "RDH", 0x2818: "RDT",
+    0x3800: "TDBAL", 0x3804: "TDBAH", 0x3808: "TDLEN", 0x3810: "TDH", 0x3818: "TDT",
+    **{0x5200 + 4 * n: f"MTA[{n}]" for n in range(128)}, **{0x5600 + 4 * n: f"VFTA[{n}]" for n in range(128)},
+    **{0x5400 + 8 * n: f"RAL[{n}]" for n in range(16)}, **{0x5404 + 8 * n: f"RAH[{n}]" for n in range(16)},
+}
+CAUSES = {0: "TXDW", 1: "TXQE", 2: "LSC", 4: "RXDMT0", 6: "RXO", 7: "RXT0", 9: "MDAC"}
+SIZES = {"b": 1, "w": 2, "l": 4, "q": 8}
+NUMBER = re.compile(r"0x[0-9a-fA-F]+|[0-9]+")
+HEX = re.compile(r"0x((?:[0-9a-fA-F]{2})*)")
+MOST_BYTES = 65536
+
+
+class Access(NamedTuple):
+    """An access: 'read' or 'write', its bytes, and what it writes, as a number (None if it reads)."""
+    kind: str
+    address: int
+    size: int
+    value: int
+
+
+def words_of(request):
+    """The words of a request, which only spaces and tabs separate."""
+    return [word for word in re.split("[ \t]", request) if word]
+
+
+def number_of(word):
+    """The number that a word is, or None."""
+    if not NUMBER.fullmatch(word) or len(word) > 64:
+        return None
+    value = int(word, 0) if word.startswith("0x") else int(word)
+    return value if value < 1 << 64 else None
+
+
+@lru_cache(maxsize=4096)
+def access_of(request):
+    """The access that a request makes, or None if the request isn't an access or has an invalid form."""
+    name, *rest = words_of(request) or [""]
+    if name in ("read", "write", "memset"):
+        return access_of_bytes(name, rest)
+    kind, size = name[:-1], SIZES.get(name[-1:])
+    if kind not in ("read", "write") or size is None or len(rest) != (1 if kind == "read" else 2):
+        return None
+    address, value = number_of(rest[0]), number_of(rest[1]) if kind == "write" else 0
+    if None in (address, value) or value >= 1 << 8 * size:
+        return None
+    return Access(kind, address, size, value if kind == "write" else None)
+
+
+def access_of_bytes(name, words):
+    """The access of a request `read`, `write` or `memset`, or None if it has an invalid form."""
+    if len(words) != (2 if name == "read" else 3):
+        return None
+    address, size = map(number_of, words[:2])
+    if None in (address, size) or size > MOST_BYTES:
+        return None
+    if name == "read":
+        return Access("read", address, size, None)
+    if name == "memset":
+        byte = number_of(words[2])
+        data = None if byte is None or byte > 255 else bytes([byte]) * size
+    else:
+        found = HEX.fullmatch(words[2])
+        data = bytes.fromhex(found[1]) if found and len(found[1]) == 2 * size else None
+    return None if data is None else Access("write", address, size, int.from_bytes(data, "little"))
+
+
+def causes_of(word):
+    """The names of the interrupt causes in a word."""
+    return [name for bit, name in CAUSES.items() if word >> bit & 1]

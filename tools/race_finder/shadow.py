@@ -1,0 +1,94 @@
+"""What the log of the server shows of the adapter: names of accesses, and steps that would do something."""
+
+from race_finder.names import DEFAULT_REGISTERS, REGISTERS, REGISTERS_SIZE
+
+RESET, START, ENABLE = 1 << 26, 1, 1 << 1  # CTRL.RST; the start bit of EERD; RCTL.EN and TCTL.EN
+DESCRIPTOR = 16
+TRANSMIT_ROOM = 4  # frames in the transmit packet buffer
+# The bits that a write stores, of registers that are kept here.
+KEPT = {"RCTL": 0x0607B33A, "TCTL": 0x003FFFFA}
+for ring in "RT":
+    KEPT |= {f"{ring}DBAL": 0xFFFFFFF0, f"{ring}DBAH": 0xFFFFFFFF, f"{ring}DLEN": 0x000FFF80}
+    KEPT |= {f"{ring}DH": 0xFFFF, f"{ring}DT": 0xFFFF}
+# A write of one of these may change what a later step does, or the name of a later access.
+MATTER = {*KEPT, "CTRL", "EERD", "MDIC"}
+
+
+class Shadow:
+    def __init__(self, base=DEFAULT_REGISTERS):
+        self.base = base
+        self.eeprom = self.phy = False  # whether a step of it may have work
+        self.reset()
+
+    def reset(self):
+        self.registers = dict.fromkeys(KEPT, 0)
+        self.waiting = 0  # frames in the receive packet buffer
+        self.taken = []  # the slots of the frames in the transmit packet buffer
+        self.piece = None  # the slot of the piece in progress
+        self.stopped = set()  # engines that a fault has stopped
+
+    def register(self, access):
+        """The name of the register that an access goes to, or None if it goes to memory."""
+        offset = access.address - self.base
+        if access.size != 4 or offset % 4 or not 0 <= offset < REGISTERS_SIZE:
+            return None
+        return REGISTERS.get(offset, f"register[{offset:#x}]")
+
+    def memory(self, access):
+        """The name of the memory that an access goes to: a slot of a ring, or an address."""
+        for letter, ring in (("R", "rx"), ("T", "tx")):
+            base = self.registers[f"{letter}DBAL"] | self.registers[f"{letter}DBAH"] << 32
+            if 0 <= access.address - base < self.registers[f"{letter}DLEN"]:
+                slot, byte = divmod(access.address - base, DESCRIPTOR)
+                return f"{ring}[{slot}]" + (f"+{byte}" if byte else "")
+        return f"{access.address:#x}"
+
+    def write(self, register, value):
+        """A register was written."""
+        if register == "CTRL" and value & RESET:
+            self.reset()
+        elif register in KEPT:
+            self.registers[register] = value & KEPT[register]
+        elif register == "EERD":
+            self.eeprom = bool(value & START)
+        elif register == "MDIC":
+            self.phy = True
+
+    def advance(self, letter):
+        """The head of a ring advances; returns the slot that it was at."""
+        slot = self.registers[f"{letter}DH"]
+        self.registers[f"{letter}DH"] = (slot + 1) % max(1, self.registers[f"{letter}DLEN"] // DESCRIPTOR)
+        return slot
+
+    def step(self, kind, outcome):
+        """A step was taken. Returns the slot that it used, such as rx[3], or None."""
+        slot = None
+        if outcome == "fault":
+            self.stopped.add(kind[:2])
+        elif outcome in ("part", "moved"):
+            slot = self.piece = self.advance("R")
+            self.waiting -= outcome == "moved"
+        elif outcome == "done":
+            slot, self.piece = self.piece, None
+        elif outcome == "took":
+            slot = self.advance("T")
+            self.taken.append(slot)
+        elif outcome == "put":
+            slot = self.taken.pop(0) if self.taken else None
+        elif kind == "eeprom" or kind == "phy" and outcome == "nothing":
+            setattr(self, kind, False)
+        return None if slot is None else f"{kind[:2]}[{slot}]"
+
+    def enabled(self):
+        """The steps of engines that would do something now."""
+        found, has = [], self.registers
+        if has["TCTL"] & ENABLE and "tx" not in self.stopped and len(self.taken) < TRANSMIT_ROOM and has["TDH"] != has["TDT"]:
+            found.append("txtake")
+        if self.taken:
+            found.append("txput")
+        is_free = self.piece is None and "rx" not in self.stopped
+        if has["RCTL"] & ENABLE and is_free and self.waiting and has["RDH"] != has["RDT"]:
+            found.append("rxdata")
+        if self.piece is not None:
+            found.append("rxdone")
+        return found

@@ -1,0 +1,120 @@
+"""Runs the command that is tested, with a server, and plays a schedule in each run."""
+
+import os
+import select
+import signal
+import subprocess
+import tempfile
+import time
+
+from race_finder.names import DEFAULT_REGISTERS, number_of
+from race_finder.play import Play, Server
+
+
+class CannotRun(Exception):
+    """The command couldn't be run."""
+
+
+class TooLong(Exception):
+    """A run didn't end in time."""
+
+
+class Run:
+    """What a run showed: its fault (None if the test passed), and what was played."""
+
+    def __init__(self, fault, play):
+        self.fault, self.met, self.idle, self.unreached = fault, play.met, play.idle, play.unreached()
+        self.places, self.rows, self.answers = play.places, play.rows, play.answers.digest()
+
+
+def base_of(options):
+    """The address of the first register, by the options of the server."""
+    words = " ".join(options).replace("=", " ").split()
+    if "--registers" in words[:-1]:
+        base = number_of(words[words.index("--registers") + 1])
+        return DEFAULT_REGISTERS if base is None else base
+    return DEFAULT_REGISTERS
+
+
+class Target:
+    def __init__(self, server, command, options=(), seconds=10.0):
+        self.server, self.command, self.options, self.seconds = server, command, tuple(options), seconds
+        self.runs = 0
+
+    def run(self, schedule=(), draw=None, is_strict=False):
+        """Runs the command once. Raises CannotRun, ServerEnded or Mismatch."""
+        self.runs += 1
+        server = Server(self.server, self.options)
+        try:
+            play = Play(server, schedule, draw, is_strict, base_of(self.options))
+            with tempfile.TemporaryFile() as errors:
+                fault = self.run_command(play, errors)
+        finally:
+            server.end()
+        return Run(fault, play)
+
+    def run_command(self, play, errors):
+        try:
+            test = subprocess.Popen(self.command, stdin=subprocess.PIPE, stdout=subprocess.PIPE, stderr=errors, bufsize=0,
+                                    start_new_session=True)
+        except OSError as error:
+            raise CannotRun(f"{self.command[0]}: {error.strerror}") from None
+        end, is_late = time.monotonic() + self.seconds, True
+        try:
+            serve(test, play, end)
+            test.stdin.close()
+            status = test.wait(max(0, end - time.monotonic()))
+            is_late = False
+        except (TooLong, subprocess.TimeoutExpired):
+            return f"no end within {self.seconds:g} seconds"
+        finally:
+            stop(test, is_late)
+        if status == 0:
+            return None
+        errors.seek(0)
+        lines = errors.read().decode(errors="replace").strip().splitlines()
+        kind = f"exit status {status}" if status > 0 else f"ended by {signal.Signals(-status).name}"
+        return f"{kind}: {lines[-1]}" if lines else kind
+
+
+def serve(test, play, end):
+    """Answers the requests of a test until its standard output ends."""
+    source, sink, rest = test.stdout.fileno(), test.stdin.fileno(), b""
+    os.set_blocking(sink, False)
+    while True:
+        left = end - time.monotonic()
+        if left < 0 or not select.select([source], [], [], left)[0]:
+            raise TooLong
+        data = os.read(source, 65536)
+        *lines, rest = (rest + data).split(b"\n")
+        if not data and rest:
+            lines, rest = [rest], b""
+        out = "".join(f"{line}\n" for line in play.feed([line.decode(errors="surrogateescape") for line in lines]))
+        if not write(sink, out.encode(errors="surrogateescape"), end) or not data:
+            return
+
+
+def write(sink, data, end):
+    """Writes to the test. Returns False if the test no longer reads."""
+    try:
+        while data:
+            try:
+                data = data[os.write(sink, data):]
+            except BlockingIOError:
+                if not select.select([], [sink], [], max(0, end - time.monotonic()))[1]:
+                    raise TooLong from None
+    except BrokenPipeError:
+        return False
+    return True
+
+
+def stop(test, is_late):
+    """Ends a test that still runs, or whose children keep its streams open."""
+    if is_late:
+        try:
+            os.killpg(test.pid, signal.SIGKILL)
+        except ProcessLookupError:
+            pass
+        test.wait()
+    for stream in (test.stdin, test.stdout):
+        stream.close()
