@@ -1,21 +1,18 @@
 #!/usr/bin/env python3
 """Runs the exchange of sweep.py once, as a test for `tools/races`.
 
-usage: exchange_test.py [BUG]
+usage: exchange_test.py [NAME]
 
-Requests go to standard output, and answers come from standard input. The exit status is 0 if the driver passes. Otherwise it is
-1, and standard error has the fault. BUG is a bug of driver.py; without it, the driver is right.
+Requests go to standard output, and answers come from standard input. The exit status is 0 if the driver passes. Otherwise
+it is 1, and standard error has the fault. NAME is a driver or a bug of driver.py (default: right).
 """
 
-import ast
-import os
 import sys
 
 sys.dont_write_bytecode = True
 from adapter import Adapter, Refused  # noqa: E402
-from driver import BUGS, DeviceError, Driver  # noqa: E402
-
-SWEEP = os.path.join(os.path.dirname(os.path.abspath(__file__)), "sweep.py")
+from driver import DeviceError, driver_of  # noqa: E402
+from sweep import DRIVERS, exchange  # noqa: E402
 
 
 class Streams(Adapter):
@@ -25,22 +22,12 @@ class Streams(Adapter):
         return sys.stdout.buffer, sys.stdin.buffer
 
 
-def definitions(path):
-    """Returns what a script defines. Its last statement isn't run, because this statement runs the sweep."""
-    with open(path, encoding="utf-8") as file:
-        tree = ast.parse(file.read(), path)
-    names = {"__name__": "definitions", "__file__": path}
-    exec(compile(ast.Module(tree.body[:-1], []), path, "exec"), names)
-    return names
-
-
 def main():
-    bugs = sys.argv[1:]
-    if len(bugs) > 1 or not set(bugs) <= set(BUGS):
-        return f"usage: exchange_test.py [{'|'.join(BUGS)}]"
-    exchange = definitions(SWEEP)["exchange"]
+    names = sys.argv[1:] or ["right"]
+    if len(names) > 1 or names[0] not in DRIVERS:
+        return f"usage: exchange_test.py [{'|'.join(DRIVERS)}]"
     adapter = Streams(None)
-    driver = Driver(adapter, *bugs)
+    driver = driver_of(names[0], adapter)
     try:
         driver.bring_up()
         return exchange(adapter, driver)
