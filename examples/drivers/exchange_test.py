@@ -10,29 +10,15 @@ it is 1, and standard error has the fault. NAME is a driver or a bug of driver.p
 import sys
 
 sys.dont_write_bytecode = True
-from adapter import Adapter, Refused  # noqa: E402
-from driver import DeviceError, driver_of  # noqa: E402
+from streams import fault_of_run  # noqa: E402
 from sweep import DRIVERS, exchange  # noqa: E402
-
-
-class Streams(Adapter):
-    """The adapter whose server reads this program's standard output, and writes its standard input."""
-
-    def start(self, *_):
-        return sys.stdout.buffer, sys.stdin.buffer
 
 
 def main():
     names = sys.argv[1:] or ["right"]
     if len(names) > 1 or names[0] not in DRIVERS:
         return f"usage: exchange_test.py [{'|'.join(DRIVERS)}]"
-    adapter = Streams(None)
-    driver = driver_of(names[0], adapter)
-    try:
-        driver.bring_up()
-        return exchange(adapter, driver)
-    except (DeviceError, Refused) as error:
-        return str(error)
+    return fault_of_run(exchange, names[0])
 
 
 sys.exit(main())

@@ -13,6 +13,8 @@ LENGTHS = 60, 257, 640, 1000, 1280, 1518
 ANSWER = b"\x88\xb6"
 # The most frames that are sent until the transmit ring must be full
 MOST_IN_RING = 64
+# The frames that are sent instead if a schedule may play steps meanwhile: one more than the ring of driver.py holds
+SCHEDULED_IN_RING = 8
 # The most times that a handler is called, that the adapter settles, and that a frame is sent, before the test fails
 PATIENCE = 1000
 
@@ -24,8 +26,8 @@ class Fault(Exception):
 class Traffic:
     """The frames of a run in both directions, and the requests of a test."""
 
-    def __init__(self, adapter, driver, without=None):
-        self.adapter, self.driver, self.without = adapter, driver, without
+    def __init__(self, adapter, driver, without=None, is_scheduled=False):
+        self.adapter, self.driver, self.without, self.is_scheduled = adapter, driver, without, is_scheduled
         self.came, self.sent = [], []
         self.number = 0  # the number of the newest frame
 
@@ -52,6 +54,11 @@ class Traffic:
     def move(self, slots):
         """Plays the steps that receive a frame in these slots, except the write-back of the last descriptor."""
         for kind in ["rxdata", "rxdone"] * (slots - 1) + ["rxdata"]:
+            self.adapter.step(kind)
+
+    def put_one(self):
+        """Plays the steps that put a frame onto the wire."""
+        for kind in "txtake", "txput":
             self.adapter.step(kind)
 
     def send(self, frame):
@@ -111,27 +118,39 @@ def receive_ring_is_dry(run):
     run.finish()
 
 
+def fill_transmit_ring(run):
+    """Sends frames until one is rejected. The adapter takes no step meanwhile, unless a schedule plays it."""
+    run.adapter.interleave(0)
+    most = SCHEDULED_IN_RING if run.is_scheduled else MOST_IN_RING
+    is_full = not all(run.send_next(run.slots(1 + count % 6)) for count in range(most))
+    if not is_full and not run.is_scheduled:
+        raise Fault(f"{most} frames were accepted, but no frame was taken")
+    run.adapter.interleave(STEPS)
+
+
 def transmit_ring_is_full(run):
-    """The adapter takes no step until a frame is rejected. After that, each frame is sent until it is accepted."""
+    """The transmit ring is filled. After that, each frame is sent until it is accepted."""
     if run.without != "full":
-        run.adapter.interleave(0)
-        if all(run.send_next(run.slots(1 + count % 6)) for count in range(MOST_IN_RING)):
-            raise Fault(f"{MOST_IN_RING} frames were accepted, but no frame was taken")
-        run.adapter.interleave(STEPS)
+        fill_transmit_ring(run)
     for count in (1, 2, 3, 4, 5, 6, 1, 2, 3):
         frame = run.frame(OTHER, SELF, run.slots(count))
         for _ in range(PATIENCE):
             run.handle()
             if run.send(frame):
                 break
+            if run.is_scheduled:
+                run.put_one()
         else:
             raise Fault(f"a frame was rejected {PATIENCE} times")
     run.finish()
 
 
-def stages(adapter, driver, without=None):
-    """Runs the stages, without one of the WINDOWS if one is given. Returns the first fault, or None."""
-    run = Traffic(adapter, driver, without)
+def stages(adapter, driver, without=None, is_scheduled=False):
+    """Runs the stages, without one of the WINDOWS if one is given. Returns the first fault, or None.
+
+    With `is_scheduled`, only the test and a schedule of tools/races play steps, and no random steps are played.
+    """
+    run = Traffic(adapter, driver, without, is_scheduled)
     try:
         work_is_left(run)
         receive_ring_is_dry(run)
