@@ -3,8 +3,8 @@
 
 usage: staged_test.py stages|cuts [NAME]
 
-Requests go to standard output, and answers come from standard input. The exit status is 0 if the driver passes. Otherwise
-it is 1, and standard error has the fault. NAME is a driver or a bug of driver.py (default: right).
+Requests go to standard output, and answers come from standard input. The exit status is 0 if the driver passes.
+Otherwise it is 1, and standard error has the fault. NAME is a driver or a bug of driver.py (default: right).
 """
 
 import sys

@@ -1,4 +1,7 @@
-"""Runs a test once as a command of `tools/races`: requests go to standard output, and answers come from standard input."""
+"""Runs a test once, as a command of `tools/races`.
+
+Requests go to standard output, and answers come from standard input.
+"""
 
 import sys
 
