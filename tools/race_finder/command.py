@@ -10,6 +10,7 @@ fails is made smaller, and printed with the end of the log and a chart.
   --options WORDS      options of `nicbench serve`, such as "--rxa 2 --link 5"
   --runs N             draws N schedules (default 1000)
   --seed N             the seed of the first one (default 1); the next ones have the next seeds
+  --jobs N             draws with N runs at once, at most 64 (default: the number of processors)
   --explore DEPTH      tries all schedules of up to DEPTH deviations instead
   --holds              also leaves out steps of the EEPROM and the PHY
   --smaller N          after shrinking, tries at most N schedules to find a smaller one (default 1000)
@@ -25,10 +26,12 @@ or the server couldn't be run.
 import os
 import sys
 import time
+from contextlib import closing
 
 from race_finder.chart import chart
 from race_finder.draw import Uniform
 from race_finder.explore import explore, smallest
+from race_finder.jobs import MOST_JOBS, in_order, processors
 from race_finder.play import Mismatch, ServerEnded
 from race_finder.schedule import ScheduleError, parse, text_of
 from race_finder.shrink import Shrinker
@@ -38,7 +41,7 @@ TOP = os.path.dirname(os.path.dirname(os.path.dirname(os.path.abspath(__file__))
 PASSES, FOUND, USAGE, NOT_RUN = range(4)
 INTERRUPTED = 130
 LOG_LINES, LONGEST_LINE = 30, 110
-NUMBERS = {"runs": 1000, "seed": 1, "explore": None, "smaller": 1000, "seconds": 10}
+NUMBERS = {"runs": 1000, "seed": 1, "explore": None, "smaller": 1000, "seconds": 10, "jobs": processors()}
 TEXTS = {"server": os.path.join(TOP, ".build", "nicbench"), "options": None, "out": None, "replay": None}
 FLAGS = ("holds", "any-access")
 
@@ -66,6 +69,8 @@ def arguments_of(words):
         if name in NUMBERS and not (value.isascii() and value.isdigit() and len(value) < 10):
             raise UsageError(f"{option}: {value!r} isn't a number below 1,000,000,000")
         given[name] = int(value) if name in NUMBERS else value
+    if not 1 <= given["jobs"] <= MOST_JOBS:
+        raise UsageError(f"--jobs: use a number from 1 to {MOST_JOBS}")
     if len(words) < 2:
         raise UsageError("no COMMAND after '--'")
     return given, words[1:]
@@ -89,18 +94,21 @@ class Finder:
 
     def draw(self):
         """Draws schedules until one fails."""
-        began, answers, line = time.monotonic(), set(), ""
-        for number in range(1, self.given["runs"] + 1):
-            seed = self.given["seed"] + number - 1
-            run = self.target.run(draw=Uniform(seed, draws_holds=self.given["holds"]))
-            answers.add(run.answers)
-            rate = number / (time.monotonic() - began)
-            line = f"{number} runs, {rate:.0f} a second, {len(answers)} different lists of answers"
-            progress(line)
-            if run.fault:
-                print(f"{line}\nseed {seed}: {run.fault}")
-                return self.report(run)
-        print(f"{line}\nno run fails")
+        began, answers, line, run = time.monotonic(), set(), "", None
+        seeds = range(self.given["seed"], self.given["seed"] + self.given["runs"])
+        draws = (Uniform(seed, draws_holds=self.given["holds"]) for seed in seeds)
+        with closing(in_order(self.target, draws, self.given["jobs"])) as runs:
+            for number, (seed, run) in enumerate(zip(seeds, runs), 1):
+                answers.add(self.target.count(run).answers)
+                rate = number / (time.monotonic() - began)
+                line = f"{number} runs, {rate:.0f} a second, {len(answers)} different lists of answers"
+                progress(line)
+                if run.fault:
+                    break
+        if run and run.fault:
+            print(f"{line}\nseed {seed}: {run.fault}")
+            return self.report(run)
+        print(f"{line}\nno run fails" if line else "no run fails")
         return PASSES
 
     def explore(self):
