@@ -1,12 +1,13 @@
-"""What the finder of races prints: the same for each number of runs at once."""
+"""What the finder of races prints: the same for each number of runs at once; and what the runs reached."""
 
 import os
+import re
 import subprocess
 import sys
 
-from race_finder import EXCHANGE, FOUND, PASSES, SMALL, USAGE, find, without_rate
-from server import LIMIT
-from server_pages import TOP
+from race_finder import EXCHANGE, FOUND, FRAME, PASSES, SMALL, USAGE, find, replay, without_rate, without_reached
+from server import LIMIT, lines
+from server_pages import TOP, follow, read_page
 
 # Run 5 waits until run 7 has ended, and runs from 9 on until runs are stopped. Then two real runs, of a test that never ends, are stopped.
 ORDER = """
@@ -53,6 +54,57 @@ print(target.run().fault, target.runs)
 """
 
 
+REACHED = """\
+reached:
+  registers read: %s
+  registers written: %s
+  causes read from ICR: %s
+  steps of the adapter: %s
+  fates of arrivals: %s
+"""
+NEVER = REACHED.replace("reached:", "never:")
+# The registers by offset; which a read or a write can't do anything to; the causes, and so on.
+REGISTERS = {
+    "CTRL": 0x0, "STATUS": 0x8, "EERD": 0x14, "MDIC": 0x20, "VET": 0x38, "ICR": 0xC0, "ICS": 0xC8, "IMS": 0xD0, "IMC": 0xD8, "RCTL": 0x100, "TCTL": 0x400,
+    "PBA": 0x1000, "MPC": 0x4010, "GPRC": 0x4074, "GPTC": 0x4080, "RNBC": 0x40A0, "RDBAL": 0x2800, "RDBAH": 0x2804, "RDLEN": 0x2808, "RDH": 0x2810,
+    "RDT": 0x2818, "TDBAL": 0x3800, "TDBAH": 0x3804, "TDLEN": 0x3808, "TDH": 0x3810, "TDT": 0x3818, "MTA": 0x5204, "VFTA": 0x57FC, "RAL": 0x5408,
+    "RAH": 0x547C,
+}
+READ = [name for name in REGISTERS if name not in ("ICS", "IMC")]
+WRITTEN = [name for name in REGISTERS if name not in ("STATUS", "MPC", "GPRC", "GPTC", "RNBC")]
+CAUSES = ["TXDW", "TXQE", "LSC", "RXDMT0", "RXO", "RXT0", "MDAC"]
+STEPS = ["txtake took", "txtake fault", "txput put", "rxdata part", "rxdata moved", "rxdata fault", "rxdone done", "eeprom ticked", "phy ticked"]
+FATES = ["stored", "missed", "filtered", "illegal", "off"]
+ALL = [READ, WRITTEN, CAUSES, STEPS, FATES]
+
+
+def write(name, value):
+    return f"writel {0xFEB00000 + REGISTERS[name]:#x} {value:#x}"
+
+
+def read(name):
+    return f"readl {0xFEB00000 + REGISTERS[name]:#x}"
+
+
+def shown(form, tables):
+    return form % tuple(", ".join(names) or "none" for names in tables)
+
+
+def whole():
+    """Requests that reach everything, and memory and an offset without a register."""
+    other = f"{FRAME[:10]}00{FRAME[12:]}".replace("ff", "02", 1)  # to another address
+    yield f"arrive {FRAME}"  # off
+    yield from (write(name, 0) for name in WRITTEN if name not in ("EERD", "MDIC"))
+    # An EEPROM read; the PHY resets its link, with an interrupt; causes of both rings; a piece and a whole frame, and then a full packet buffer.
+    yield from [write("CTRL", 0x40), write("EERD", 1), read("EERD"), write("MDIC", 0x24201200), read("MDIC"), read("MDIC")]
+    yield from [write("RDLEN", 128), write("RDT", 7), "writeq 0 0x800", "writeq 16 0x800", "writeq 32 0x800", "writeq 48 0x800", write("RCTL", 0x38002)]
+    yield from ["arrive 00", f"arrive {other}", f"arrive {FRAME.ljust(1200, '0')}", "settle", write("PBA", 2), *[f"arrive {FRAME}"] * 2]
+    yield from [write("RDT", 3), "settle"]
+    yield from [write("TDBAL", 0x400), write("TDLEN", 128), "write 0x400 16 0x00100000000000004000000900000000", write("TDT", 1), write("TCTL", 0xA), "settle"]
+    yield from [write("TDH", 8), "step txtake", "readb 0x400", write("RDH", 8), f"arrive {FRAME}", "step rxdata"]
+    yield from map(read, READ)
+
+
 def script(server, text):
     """Runs a script that uses the finder's modules: its exit status, its output and its errors."""
     words = [sys.executable, "-S", "-E", "-c", text, server.program, os.path.join(TOP, "tools")]
@@ -74,9 +126,37 @@ def jobs(server):
     wanted = (USAGE, "", "races: --jobs: use a number from 1 to 64\nFor more information, try '--help'.\n")
     for count in ("0", "65"):
         server.check(f"jobs: {count} of them", find(server, "--jobs", count, command=["true"]), wanted)
-    server.check("jobs: no run", find(server, "--runs", "0", command=["false"]), (PASSES, "no run fails\n", ""))
+    status, out, errors = find(server, "--runs", "0", command=["false"])
+    server.check("jobs: no run", (status, without_reached(out), errors), (PASSES, "no run fails\n", ""))
+
+
+def reached_by(server, requests, *words):
+    """What a test that sends these requests reaches."""
+    server.put("requests", lines(requests))
+    status, out, errors = replay(server, "", "--reached", *words, command=["sh", "-c", "exec 3<&0; cat requests & exec cat <&3 >answers"])
+    return status, out[out.find("reached:\n"):], errors
+
+
+def reached(server):
+    """What the runs reached, and what they never did."""
+    requests = list(whole())
+    server.check("reached: all", reached_by(server, requests), (PASSES, shown(REACHED, ALL) + shown(NEVER, [[]] * 5), ""))
+    for at, name, request in [(0, "MPC", read("MPC")), (0, "RAH", read("RAH")), (1, "VFTA", write("VFTA", 0)), (3, "txtake fault", "step txtake"),
+                              (3, "rxdata fault", "step rxdata"), (4, "illegal", "arrive 00"), (4, "off", requests[0])]:
+        never = [[name] if at == key else [] for key in range(5)]
+        requests.remove(request)
+        did = [[one for one in names if [one] != without] for names, without in zip(ALL, never)]
+        server.check(f"reached: without {name}", reached_by(server, requests), (PASSES, shown(REACHED, did) + shown(NEVER, never), ""))
+        requests = list(whole())
+
+
+def page(server):
+    """What the right driver of the examples never reaches is on the page of the finder."""
+    wanted = re.search(r"^```\n(never:\n.*?)^```$", read_page("tools", "race_finder", "README.md"), re.M | re.S)[1]
+    status, out, errors = find(server, "--runs", "20", command=EXCHANGE)
+    server.check("page: what is never reached", (status, follow(out[out.find("never:\n"):], wanted), errors), (PASSES, True, ""))
 
 
 def all_cases(server):
-    for part in [jobs]:
+    for part in [jobs, reached, page]:
         part(server)

@@ -16,6 +16,7 @@ fails is made smaller, and printed with the end of the log and a chart.
   --smaller N          after shrinking, tries at most N schedules to find a smaller one (default 1000)
   --out FILE           stores the schedule that was found
   --replay FILE        plays one schedule
+  --reached            prints what the runs reached and what they never did, also if one fails
   --any-access         --replay doesn't compare the names of accesses
   --seconds N          the time for a run, in seconds (default 10)
 
@@ -33,6 +34,7 @@ from race_finder.draw import Uniform
 from race_finder.explore import explore, smallest
 from race_finder.jobs import MOST_JOBS, in_order, processors
 from race_finder.play import Mismatch, ServerEnded
+from race_finder.reached import lines_of
 from race_finder.schedule import ScheduleError, parse, text_of
 from race_finder.shrink import Shrinker
 from race_finder.target import CannotRun, Target
@@ -43,7 +45,7 @@ INTERRUPTED = 130
 LOG_LINES, LONGEST_LINE = 30, 110
 NUMBERS = {"runs": 1000, "seed": 1, "explore": None, "smaller": 1000, "seconds": 10, "jobs": processors()}
 TEXTS = {"server": os.path.join(TOP, ".build", "nicbench"), "options": None, "out": None, "replay": None}
-FLAGS = ("holds", "any-access")
+FLAGS = ("holds", "any-access", "reached")
 
 
 class UsageError(Exception):
@@ -161,6 +163,11 @@ class Finder:
             except OSError as error:
                 print(f"races: {self.given['out']}: {error.strerror}", file=sys.stderr)
 
+    def show_reached(self, status):
+        """Prints what the runs reached, if a search found nothing, or on request."""
+        if self.given["reached"] or status == PASSES and not self.given["replay"]:
+            print(*lines_of(self.target.reached), sep="\n")
+
     def replay(self, schedule):
         is_strict = not self.given["any-access"]
         run = self.target.run(schedule, is_strict=is_strict)
@@ -184,8 +191,11 @@ def call(words):
         options = stored if options is None else options
     finder = Finder(given, Target(given["server"], command, options or (), given["seconds"]))
     if given["replay"]:
-        return finder.replay(schedule)
-    return finder.draw() if given["explore"] is None else finder.explore()
+        status = finder.replay(schedule)
+    else:
+        status = finder.draw() if given["explore"] is None else finder.explore()
+    finder.show_reached(status)
+    return status
 
 
 def main():

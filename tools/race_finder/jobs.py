@@ -15,7 +15,10 @@ def processors():
 
 
 def in_order(target, draws, jobs):
-    """Yields the runs of these draws in their order, also if a later run ends first. Close it to end the runs in progress."""
+    """Yields the runs of these draws in their order, also if a later run ends first.
+
+    The caller closes the generator, which ends the runs in progress.
+    """
     begun, pool = deque(), ThreadPoolExecutor(jobs)
     try:
         for draw in draws:

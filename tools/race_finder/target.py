@@ -9,6 +9,7 @@ import time
 
 from race_finder.names import DEFAULT_REGISTERS, number_of
 from race_finder.play import Play, Server
+from race_finder.reached import reached_by
 
 
 class CannotRun(Exception):
@@ -29,6 +30,7 @@ class Run:
     def __init__(self, fault, play):
         self.fault, self.met, self.idle, self.unreached = fault, play.met, play.idle, play.unreached()
         self.places, self.rows, self.answers = play.places, play.rows, play.answers.digest()
+        self.reached = reached_by(play.rows)
 
 
 def base_of(options):
@@ -43,7 +45,7 @@ def base_of(options):
 class Target:
     def __init__(self, server, command, options=(), seconds=10.0):
         self.server, self.command, self.options, self.seconds = server, command, tuple(options), seconds
-        self.runs = 0
+        self.runs, self.reached = 0, set()  # of the runs that are counted
         self.wake = os.pipe()  # holds a byte while runs must end
 
     def run(self, schedule=(), draw=None, is_strict=False):
@@ -52,6 +54,7 @@ class Target:
 
     def count(self, run):
         self.runs += 1
+        self.reached |= run.reached
         return run
 
     def stop(self):
