@@ -1,11 +1,12 @@
-"""What the finder of races prints: the same for each number of runs at once; and what the runs reached."""
+"""What the finder of races prints: the same for each number of runs at once, what the runs reached, and JSON."""
 
+import json
 import os
 import re
 import subprocess
 import sys
 
-from race_finder import EXCHANGE, FOUND, FRAME, PASSES, SMALL, USAGE, find, replay, without_rate, without_reached
+from race_finder import EXCHANGE, FOUND, FRAME, NOT_RUN, PASSES, SMALL, SMALLEST, USAGE, find, replay, without_rate, without_reached
 from server import LIMIT, lines
 from server_pages import TOP, follow, read_page
 
@@ -150,6 +151,65 @@ def reached(server):
         requests = list(whole())
 
 
+def json_of(got):
+    """The exit status, the object on standard output except for what was reached, the same as lists, and the errors."""
+    status, out, errors = got
+    result = json.loads(out)
+    tables = [None if result[key] is None else list(result[key].values()) for key in ("reached", "never")]
+    return status, {key: value for key, value in result.items() if key not in ("reached", "never")}, tables, errors
+
+
+FAULT, FAILS = "exit status 1: finished too late", ["sh", "small", "fails"]
+NOTHING = [[[]] * 5, ALL]
+
+
+def small_tables():
+    """What SMALL reaches if both steps of its frame are played, and what it doesn't reach."""
+    did = [["RDH"], ["RCTL", "RDLEN", "RDT"], [], ["rxdata moved", "rxdone done"], ["stored"]]
+    return [did, [[one for one in names if one not in some] for names, some in zip(ALL, did)]]
+
+
+def json_found(server):
+    """What searches find, as JSON."""
+    server.put("small", SMALL.encode())
+    found = re.search(r"seed (\d+): ", find(server, "--runs", "200", "--smaller", "0", command=FAILS)[1])
+    seed = int(found[1]) if found else 0
+    status, result, got, errors = json_of(find(server, "--json", "--runs", "200", "--smaller", "0", "--jobs", "4", command=FAILS))
+    runs = result.pop("runs")
+    server.check("json: what is drawn", (status, result, got, errors), (
+        FOUND, {"result": "fails", "seed": seed, "fault": FAULT, "schedule": SMALLEST.splitlines()}, small_tables(), ""))
+    server.check("json: its runs", runs > seed > 0, True)
+    once = ["sh", "-c", "test -e been && exit 0; touch been; exit 1"]
+    for name, words, command, wanted in [
+        ("nothing is drawn", ["--runs", "3"], ["true"], (PASSES, "passes", None, None, 3)),
+        ("nothing is explored", ["--explore", "2"], ["true"], (PASSES, "passes", None, None, 1)),
+        ("it fails by itself", ["--explore", "2"], ["false"], (FOUND, "fails", None, "exit status 1", 2)),
+        ("it fails once", ["--jobs", "1"], once, (FOUND, "unrepeatable", 1, "exit status 1", 2)),
+    ]:
+        status, kind, seed, fault, count = wanted
+        result = {"result": kind, "seed": seed, "fault": fault, "schedule": [], "runs": count}
+        server.check(f"json: {name}", json_of(find(server, "--json", *words, command=command)), (status, result, NOTHING, ""))
+    server.check("json: a command that isn't there", find(server, "--json", command=["./nothing"]), (
+        NOT_RUN, "", "races: ./nothing: No such file or directory\n"))
+
+
+def json_replayed(server):
+    """What replays show, as JSON."""
+    server.put("small", SMALL.encode())
+    other, late = "1.3 rx before read RDH", "1.5 rx before read ICR"
+    for name, text, words, command, wanted in [
+        ("passes", "", [], ["true"], (PASSES, None, [], 1, NOTHING)),
+        ("fails", f"options --rxa 2\n{SMALLEST}", [], FAILS, (FOUND, FAULT, ["options --rxa 2", *SMALLEST.splitlines()], 1, small_tables())),
+        ("mismatch", other, [], FAILS, (FOUND, f"{other}: at this place, the test makes another access: read rx[0]+12", [other], 0, [None, None])),
+        ("mismatch", late, [], ["true"], (FOUND, f"{late}: the run doesn't reach this place", [late], 1, NOTHING)),
+        ("passes", late, ["--any-access"], ["true"], (PASSES, None, [late], 1, NOTHING)),
+    ]:
+        status, fault, schedule, count, reaches = wanted
+        result = {"result": name, "seed": None, "fault": fault, "schedule": schedule, "runs": count}
+        got = json_of(replay(server, text, "--json", *words, command=command))
+        server.check(f"json: replay of {text!r} {name}", got, (status, result, reaches, ""))
+
+
 def page(server):
     """What the right driver of the examples never reaches is on the page of the finder."""
     wanted = re.search(r"^```\n(never:\n.*?)^```$", read_page("tools", "race_finder", "README.md"), re.M | re.S)[1]
@@ -158,5 +218,5 @@ def page(server):
 
 
 def all_cases(server):
-    for part in [jobs, reached, page]:
+    for part in [jobs, reached, json_found, json_replayed, page]:
         part(server)

@@ -17,6 +17,7 @@ fails is made smaller, and printed with the end of the log and a chart.
   --out FILE           stores the schedule that was found
   --replay FILE        plays one schedule
   --reached            prints what the runs reached and what they never did, also if one fails
+  --json               prints one JSON object instead of the text
   --any-access         --replay doesn't compare the names of accesses
   --seconds N          the time for a run, in seconds (default 10)
 
@@ -24,6 +25,7 @@ Exit status: 0 if no run fails, 1 if a run or the replay fails, 2 if an argument
 or the server couldn't be run.
 """
 
+import json
 import os
 import sys
 import time
@@ -34,7 +36,7 @@ from race_finder.draw import Uniform
 from race_finder.explore import explore, smallest
 from race_finder.jobs import MOST_JOBS, in_order, processors
 from race_finder.play import Mismatch, ServerEnded
-from race_finder.reached import lines_of
+from race_finder.reached import lines_of, tables_of
 from race_finder.schedule import ScheduleError, parse, text_of
 from race_finder.shrink import Shrinker
 from race_finder.target import CannotRun, Target
@@ -45,7 +47,7 @@ INTERRUPTED = 130
 LOG_LINES, LONGEST_LINE = 30, 110
 NUMBERS = {"runs": 1000, "seed": 1, "explore": None, "smaller": 1000, "seconds": 10, "jobs": processors()}
 TEXTS = {"server": os.path.join(TOP, ".build", "nicbench"), "options": None, "out": None, "replay": None}
-FLAGS = ("holds", "any-access", "reached")
+FLAGS = ("holds", "any-access", "reached", "json")
 
 
 class UsageError(Exception):
@@ -93,6 +95,14 @@ class Finder:
 
     def __init__(self, given, target):
         self.given, self.target = given, target
+        self.say = (lambda *words, **options: None) if given["json"] else print
+        self.result = {"result": "passes", "seed": None}  # what --json prints
+        self.note("passes", None, [])
+
+    def note(self, result, fault, schedule):
+        """Keeps a result for --json."""
+        lines = text_of(schedule, self.target.options).splitlines()
+        self.result.update(result=result, fault=fault, schedule=lines)
 
     def draw(self):
         """Draws schedules until one fails."""
@@ -108,17 +118,18 @@ class Finder:
                 if run.fault:
                     break
         if run and run.fault:
-            print(f"{line}\nseed {seed}: {run.fault}")
+            self.say(f"{line}\nseed {seed}: {run.fault}")
+            self.result["seed"] = seed
             return self.report(run)
-        print(f"{line}\nno run fails" if line else "no run fails")
+        self.say(f"{line}\nno run fails" if line else "no run fails")
         return PASSES
 
     def explore(self):
-        found = explore(self.target, self.given["explore"], self.given["holds"], say=print, progress=progress)
+        found = explore(self.target, self.given["explore"], self.given["holds"], say=self.say, progress=progress)
         if found.run is None:
-            print(f"none of {sum(found.counts)} schedules fails")
+            self.say(f"none of {sum(found.counts)} schedules fails")
             return PASSES
-        print(f"depth {len(found.run.met)}: schedule {found.counts[-1]} fails: {found.run.fault}")
+        self.say(f"depth {len(found.run.met)}: schedule {found.counts[-1]} fails: {found.run.fault}")
         return self.report(found.run, is_smallest=True)
 
     def report(self, run, is_smallest=False):
@@ -126,17 +137,19 @@ class Finder:
         shrinker, drawn, runs = Shrinker(self.target), len(run.met), self.target.runs
         small = shrinker.shrink(run.met)
         if small is None:
-            print(f"The schedule of {deviations(drawn)} passes when it is played again."
-                  " Does the test use a clock, threads or random numbers?")
+            self.say(f"The schedule of {deviations(drawn)} passes when it is played again."
+                     " Does the test use a clock, threads or random numbers?")
+            self.note("unrepeatable", run.fault, run.met)
             return FOUND
-        print(f"{deviations(drawn)} shrunk to {len(small.met)} by {self.target.runs - runs} runs")
+        self.say(f"{deviations(drawn)} shrunk to {len(small.met)} by {self.target.runs - runs} runs")
         is_smallest = is_smallest or len(small.met) == 1
         if small.met and not is_smallest:
             small, is_smallest = self.smaller(shrinker, small)
         if not small.met:
-            print("no race: the test fails by itself, without any deviation")
+            self.say("no race: the test fails by itself, without any deviation")
         elif is_smallest:
-            print("smallest: no schedule with fewer deviations fails")
+            self.say("smallest: no schedule with fewer deviations fails")
+        self.note("fails", small.fault, small.met)
         self.show(small)
         return FOUND
 
@@ -145,9 +158,9 @@ class Finder:
         found, tried, is_complete = smallest(shrinker, run, self.given["holds"], self.given["smaller"], progress)
         end = "" if is_complete else "; another one may fail"
         if len(found.met) < len(run.met):
-            print(f"{tried} smaller schedules were tried: one with {deviations(len(found.met))} fails")
+            self.say(f"{tried} smaller schedules were tried: one with {deviations(len(found.met))} fails")
         else:
-            print(f"{tried} smaller schedules were tried, and pass{end}")
+            self.say(f"{tried} smaller schedules were tried, and pass{end}")
         return found, is_complete
 
     def show(self, run):
@@ -155,7 +168,7 @@ class Finder:
         text = text_of(run.met, self.target.options, [" ".join(self.target.command), run.fault])
         lines = [row.line for row in run.rows][-LOG_LINES:]
         shown = "".join(f"{line if len(line) <= LONGEST_LINE else line[:LONGEST_LINE] + '..'}\n" for line in lines)
-        print(f"\nThe schedule:\n{text}\nThe end of the log:\n{shown}\n{chart(run)}", end="")
+        self.say(f"\nThe schedule:\n{text}\nThe end of the log:\n{shown}\n{chart(run)}", end="")
         if self.given["out"]:
             try:
                 with open(self.given["out"], "w", encoding="utf-8", errors="surrogateescape") as file:
@@ -163,20 +176,35 @@ class Finder:
             except OSError as error:
                 print(f"races: {self.given['out']}: {error.strerror}", file=sys.stderr)
 
-    def show_reached(self, status):
-        """Prints what the runs reached, if a search found nothing, or on request."""
-        if self.given["reached"] or status == PASSES and not self.given["replay"]:
-            print(*lines_of(self.target.reached), sep="\n")
+    def end(self, status):
+        """Prints what the runs reached, if a search found nothing or on request; or everything as JSON. Returns the status."""
+        reached = self.target.reached
+        if self.given["json"]:
+            tables = tables_of(reached) if self.target.runs else (None, None)
+            print(json.dumps({**self.result, "runs": self.target.runs, **dict(zip(("reached", "never"), tables))}))
+        elif self.target.runs and (self.given["reached"] or status == PASSES and not self.given["replay"]):
+            print(*lines_of(reached), sep="\n")
+        return status
 
     def replay(self, schedule):
         is_strict = not self.given["any-access"]
-        run = self.target.run(schedule, is_strict=is_strict)
+        self.note("passes", None, schedule)
+        try:
+            run = self.target.run(schedule, is_strict=is_strict)
+        except Mismatch as error:
+            self.say(error)
+            self.note("mismatch", str(error), schedule)
+            return FOUND
         for deviation in run.idle:
-            print(f"{deviation}: it did nothing")
+            self.say(f"{deviation}: it did nothing")
         for deviation in run.unreached:
-            print(f"{deviation}: the run doesn't reach this place")
-        print(chart(run), end="")
-        return FOUND if run.fault or is_strict and run.unreached else PASSES
+            self.say(f"{deviation}: the run doesn't reach this place")
+        self.say(chart(run), end="")
+        if run.fault:
+            self.note("fails", run.fault, schedule)
+        elif is_strict and run.unreached:
+            self.note("mismatch", f"{run.unreached[0]}: the run doesn't reach this place", schedule)
+        return PASSES if self.result["result"] == "passes" else FOUND
 
 
 def call(words):
@@ -191,11 +219,8 @@ def call(words):
         options = stored if options is None else options
     finder = Finder(given, Target(given["server"], command, options or (), given["seconds"]))
     if given["replay"]:
-        status = finder.replay(schedule)
-    else:
-        status = finder.draw() if given["explore"] is None else finder.explore()
-    finder.show_reached(status)
-    return status
+        return finder.end(finder.replay(schedule))
+    return finder.end(finder.draw() if given["explore"] is None else finder.explore())
 
 
 def main():
@@ -210,9 +235,6 @@ def main():
     except (CannotRun, ServerEnded) as error:
         print(f"races: {error}", file=sys.stderr)
         return NOT_RUN
-    except Mismatch as error:
-        print(error)
-        return FOUND
     except KeyboardInterrupt:
         return INTERRUPTED
     except BrokenPipeError:
