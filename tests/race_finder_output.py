@@ -1,4 +1,4 @@
-"""What the finder of races prints: the same for each number of runs at once, what the runs reached, and JSON."""
+"""What the finder of races prints: the same for each number of runs at once, what the runs reached, JSON, and shards."""
 
 import json
 import os
@@ -210,6 +210,59 @@ def json_replayed(server):
         server.check(f"json: replay of {text!r} {name}", got, (status, result, reaches, ""))
 
 
+SHARDS = """
+import sys
+sys.dont_write_bytecode = True
+sys.path.insert(0, sys.argv[2])
+from race_finder.explore import explore
+from race_finder.target import Target
+
+class Recording(Target):
+    def run(self, schedule=(), draw=None, is_strict=False):
+        self.schedules.append(tuple(map(str, schedule)))
+        return super().run(schedule, draw, is_strict)
+
+def schedules_of(shard):
+    target = Recording(sys.argv[1], ["sh", "small"])
+    target.schedules = []
+    found = explore(target, 2, shard=shard)
+    assert len(target.schedules) == sum(found.counts) and len({len(one) for one in target.schedules}) == 3
+    return [{one for one in target.schedules if is_last == (len(one) == 2)} for is_last in (False, True)]
+
+lower, last = schedules_of((1, 1))
+shards = [schedules_of((k, 2)) for k in (1, 2)]
+print(len(lower), len(last), *(len(shard[1]) for shard in shards))
+print(all(shard[0] == lower for shard in shards), shards[0][1] | shards[1][1] == last, shards[0][1] & shards[1][1] == set())
+"""
+
+
+def shards(server):
+    """Two shards of an exploration are the whole; of drawn runs, each shard has its seeds."""
+    server.put("small", SMALL.encode())
+    server.check("shards: two of an exploration", script(server, SHARDS), (0, "9 6 3 3\nTrue True True\n", ""))
+    lower = ("depth 0: 1 schedules, none fails, 1 different lists of answers\n"
+             "depth 1: 8 schedules, none fails, 7 different lists of answers\n")
+    for shard, count in [("1/4", 2), ("2/4", 2), ("3/4", 1), ("4/4", 1), ("7/9", 0)]:
+        status, out, errors = find(server, "--explore", "2", "--shard", shard, command=["sh", "small"])
+        out = re.sub(r"(depth 2.*), \d+ different lists of answers", r"\1", without_reached(out))
+        wanted = f"{lower}depth 2: {count} of 6 schedules, none fails\nnone of {9 + count} schedules fails\n"
+        server.check(f"shards: {shard} of an exploration", (status, out, errors), (PASSES, wanted, ""))
+    for shard, count in [("1/3", 4), ("2/3", 3), ("3/3", 3), ("11/11", 0)]:
+        out = find(server, "--runs", "10", "--json", "--shard", shard, command=["true"])[1]
+        server.check(f"shards: {shard} of the runs", json.loads(out)["runs"], count)
+    words, begin, end = ["--json", "--smaller", "0"], 26, 34
+    failing = [seed for seed in range(begin, end) if find(server, *words, "--runs", "1", "--seed", str(seed), command=FAILS)[0] == FOUND]
+    server.check("shards: seeds that fail alone", failing, [26, 27, 29, 33])
+    for first, wanted in [(1, 26), (2, 27), (3, None)]:
+        out = find(server, *words, "--seed", str(begin), "--runs", str(end - begin), f"--shard={first}/3", command=FAILS)[1]
+        server.check(f"shards: the seed that {first}/3 finds", json.loads(out)["seed"], wanted)
+    out = find(server, *words, "--seed", str(begin), "--runs", str(end - begin), "--shard=8/8", command=FAILS)[1]
+    server.check("shards: the seed that 8/8 finds", json.loads(out)["seed"], 33)
+    for text in ("0/2", "3/2", "1", "1/", "x/2", "1/-2", "1/0"):
+        server.check(f"shards: {text!r}", find(server, "--shard", text, command=["true"]), (
+            USAGE, "", f"races: --shard: {text!r} isn't K/N with K from 1 to N\nFor more information, try '--help'.\n"))
+
+
 def page(server):
     """What the right driver of the examples never reaches is on the page of the finder."""
     wanted = re.search(r"^```\n(never:\n.*?)^```$", read_page("tools", "race_finder", "README.md"), re.M | re.S)[1]
@@ -218,5 +271,5 @@ def page(server):
 
 
 def all_cases(server):
-    for part in [jobs, reached, json_found, json_replayed, page]:
+    for part in [jobs, reached, json_found, json_replayed, shards, page]:
         part(server)

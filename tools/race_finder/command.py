@@ -12,6 +12,7 @@ fails is made smaller, and printed with the end of the log and a chart.
   --seed N             the seed of the first one (default 1); the next ones have the next seeds
   --jobs N             draws with N runs at once, at most 64 (default: the number of processors)
   --explore DEPTH      tries all schedules of up to DEPTH deviations instead
+  --shard K/N          only each Nth of these runs, or of the schedules with DEPTH deviations, from the Kth on
   --holds              also leaves out steps of the EEPROM and the PHY
   --smaller N          after shrinking, tries at most N schedules to find a smaller one (default 1000)
   --out FILE           stores the schedule that was found
@@ -27,6 +28,7 @@ or the server couldn't be run.
 
 import json
 import os
+import re
 import sys
 import time
 from contextlib import closing
@@ -46,7 +48,8 @@ PASSES, FOUND, USAGE, NOT_RUN = range(4)
 INTERRUPTED = 130
 LOG_LINES, LONGEST_LINE = 30, 110
 NUMBERS = {"runs": 1000, "seed": 1, "explore": None, "smaller": 1000, "seconds": 10, "jobs": processors()}
-TEXTS = {"server": os.path.join(TOP, ".build", "nicbench"), "options": None, "out": None, "replay": None}
+TEXTS = {"server": os.path.join(TOP, ".build", "nicbench"), "options": None, "out": None, "replay": None,
+         "shard": "1/1"}
 FLAGS = ("holds", "any-access", "reached", "json")
 
 
@@ -75,9 +78,19 @@ def arguments_of(words):
         given[name] = int(value) if name in NUMBERS else value
     if not 1 <= given["jobs"] <= MOST_JOBS:
         raise UsageError(f"--jobs: use a number from 1 to {MOST_JOBS}")
+    given["shard"] = shard_of(given["shard"])
     if len(words) < 2:
         raise UsageError("no COMMAND after '--'")
     return given, words[1:]
+
+
+def shard_of(text):
+    """The pair (K, N) of a text K/N."""
+    found = re.fullmatch("([0-9]{1,9})/([0-9]{1,9})", text)
+    shard = (int(found[1]), int(found[2])) if found else (0, 0)
+    if not 1 <= shard[0] <= shard[1]:
+        raise UsageError(f"--shard: {text!r} isn't K/N with K from 1 to N")
+    return shard
 
 
 def deviations(count):
@@ -107,7 +120,8 @@ class Finder:
     def draw(self):
         """Draws schedules until one fails."""
         began, answers, line, run = time.monotonic(), set(), "", None
-        seeds = range(self.given["seed"], self.given["seed"] + self.given["runs"])
+        first, step = self.given["shard"]
+        seeds = range(self.given["seed"] + first - 1, self.given["seed"] + self.given["runs"], step)
         draws = (Uniform(seed, draws_holds=self.given["holds"]) for seed in seeds)
         with closing(in_order(self.target, draws, self.given["jobs"])) as runs:
             for number, (seed, run) in enumerate(zip(seeds, runs), 1):
@@ -125,7 +139,8 @@ class Finder:
         return PASSES
 
     def explore(self):
-        found = explore(self.target, self.given["explore"], self.given["holds"], say=self.say, progress=progress)
+        found = explore(self.target, self.given["explore"], self.given["holds"], say=self.say, progress=progress,
+                        shard=self.given["shard"])
         if found.run is None:
             self.say(f"none of {sum(found.counts)} schedules fails")
             return PASSES
