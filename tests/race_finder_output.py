@@ -117,7 +117,7 @@ def jobs(server):
     """The number of runs at once doesn't change what is found and printed, only the rate."""
     server.put("small", SMALL.encode())
     for name, words, command, status in [("a bug", ["--seed", "10", "--smaller", "0"], [*EXCHANGE, "late"], FOUND),
-                                         ("a small test", ["--runs", "200"], ["sh", "small", "fails"], FOUND),
+                                         ("a small test", ["--seed", "20", "--runs", "20"], ["sh", "small", "fails"], FOUND),
                                          ("no bug", ["--runs", "30"], ["sh", "small"], PASSES)]:
         got = [find(server, *words, "--jobs", count, command=command) for count in ("1", "4")]
         one, four = [(code, without_rate(out), errors) for code, out, errors in got]
@@ -266,7 +266,7 @@ def shards(server):
 def page(server):
     """What the right driver of the examples never reaches is on the page of the finder."""
     wanted = re.search(r"^```\n(never:\n.*?)^```$", read_page("tools", "race_finder", "README.md"), re.M | re.S)[1]
-    status, out, errors = find(server, "--runs", "20", command=EXCHANGE)
+    status, out, errors = find(server, "--runs", "10", command=EXCHANGE)
     server.check("page: what is never reached", (status, follow(out[out.find("never:\n"):], wanted), errors), (PASSES, True, ""))
 
 
