@@ -115,6 +115,11 @@ def replay(server, text, *words, command):
     return find(server, "--replay", "played", *words, command=command)
 
 
+def without_reached(text):
+    """The text before the list of what was reached."""
+    return text.partition("reached:\n")[0]
+
+
 def without_rate(text):
     return re.sub(r", \d+ a second", "", text)
 
@@ -161,7 +166,7 @@ def page(server):
 def right(server):
     """The right driver fails in no run."""
     status, out, errors = find(server, "--runs", "150", command=EXCHANGE)
-    found = re.fullmatch(r"150 runs, \d+ a second, (\d+) different lists of answers\nno run fails\n", out)
+    found = re.fullmatch(r"150 runs, \d+ a second, (\d+) different lists of answers\nno run fails\n", without_reached(out))
     server.check("right: no run fails", (status, found is not None, errors), (PASSES, True, ""))
     server.check("right: runs differ", found is not None and int(found[1]) > 100, True)
 
@@ -174,7 +179,8 @@ def explored(server):
               "depth 2: 6 schedules, none fails, 9 different lists of answers\n"  # `rxdata` before one, and `rxdone` before a later one
               "depth 3: 0 schedules, none fails, 9 different lists of answers\n"
               "none of 15 schedules fails\n")
-    server.check("explored: a test that passes", find(server, "--explore", "3", command=["sh", "small"]), (PASSES, wanted, ""))
+    status, out, errors = find(server, "--explore", "3", command=["sh", "small"])
+    server.check("explored: a test that passes", (status, without_reached(out), errors), (PASSES, wanted, ""))
     status, out, errors = find(server, "--explore", "2", "--out", "found", command=["sh", "small", "fails"])
     begin = "".join(wanted.splitlines(True)[:2])
     server.check("explored: a test that fails", (status, out.startswith(begin), errors), (FOUND, True, ""))
@@ -207,7 +213,8 @@ def holds(server):
     server.put("hasty", HASTY.encode())
     command = ["sh", "hasty"]
     out = find(server, "--runs", "20", command=command)
-    server.check("holds: none without the option", (out[0], without_rate(out[1])), (PASSES, "20 runs, 1 different lists of answers\nno run fails\n"))
+    server.check("holds: none without the option", (out[0], without_rate(without_reached(out[1]))),
+                 (PASSES, "20 runs, 1 different lists of answers\nno run fails\n"))
     server.check("holds: none is explored without the option", find(server, "--explore", "2", command=command)[0], PASSES)
     for name, words in [("drawn", ["--runs", "20"]), ("explored", ["--explore", "1"])]:
         status, _, errors = find(server, *words, "--holds", "--out", "found", command=command)

@@ -10,11 +10,15 @@ fails is made smaller, and printed with the end of the log and a chart.
   --options WORDS      options of `nicbench serve`, such as "--rxa 2 --link 5"
   --runs N             draws N schedules (default 1000)
   --seed N             the seed of the first one (default 1); the next ones have the next seeds
+  --jobs N             draws with N runs at once, at most 64 (default: the number of processors)
   --explore DEPTH      tries all schedules of up to DEPTH deviations instead
+  --shard K/N          only each Nth of these runs, or of the schedules with DEPTH deviations, from the Kth on
   --holds              also leaves out steps of the EEPROM and the PHY
   --smaller N          after shrinking, tries at most N schedules to find a smaller one (default 1000)
   --out FILE           stores the schedule that was found
   --replay FILE        plays one schedule
+  --reached            prints what the runs reached and what they never did, also if one fails
+  --json               prints one JSON object instead of the text
   --any-access         --replay doesn't compare the names of accesses
   --seconds N          the time for a run, in seconds (default 10)
 
@@ -22,14 +26,19 @@ Exit status: 0 if no run fails, 1 if a run or the replay fails, 2 if an argument
 or the server couldn't be run.
 """
 
+import json
 import os
+import re
 import sys
 import time
+from contextlib import closing
 
 from race_finder.chart import chart
 from race_finder.draw import Uniform
 from race_finder.explore import explore, smallest
+from race_finder.jobs import MOST_JOBS, in_order, processors
 from race_finder.play import Mismatch, ServerEnded
+from race_finder.reached import lines_of, tables_of
 from race_finder.schedule import ScheduleError, parse, text_of
 from race_finder.shrink import Shrinker
 from race_finder.target import CannotRun, Target
@@ -38,9 +47,10 @@ TOP = os.path.dirname(os.path.dirname(os.path.dirname(os.path.abspath(__file__))
 PASSES, FOUND, USAGE, NOT_RUN = range(4)
 INTERRUPTED = 130
 LOG_LINES, LONGEST_LINE = 30, 110
-NUMBERS = {"runs": 1000, "seed": 1, "explore": None, "smaller": 1000, "seconds": 10}
-TEXTS = {"server": os.path.join(TOP, ".build", "nicbench"), "options": None, "out": None, "replay": None}
-FLAGS = ("holds", "any-access")
+NUMBERS = {"runs": 1000, "seed": 1, "explore": None, "smaller": 1000, "seconds": 10, "jobs": processors()}
+TEXTS = {"server": os.path.join(TOP, ".build", "nicbench"), "options": None, "out": None, "replay": None,
+         "shard": "1/1"}
+FLAGS = ("holds", "any-access", "reached", "json")
 
 
 class UsageError(Exception):
@@ -66,9 +76,21 @@ def arguments_of(words):
         if name in NUMBERS and not (value.isascii() and value.isdigit() and len(value) < 10):
             raise UsageError(f"{option}: {value!r} isn't a number below 1,000,000,000")
         given[name] = int(value) if name in NUMBERS else value
+    if not 1 <= given["jobs"] <= MOST_JOBS:
+        raise UsageError(f"--jobs: use a number from 1 to {MOST_JOBS}")
+    given["shard"] = shard_of(given["shard"])
     if len(words) < 2:
         raise UsageError("no COMMAND after '--'")
     return given, words[1:]
+
+
+def shard_of(text):
+    """The pair (K, N) of a text K/N."""
+    found = re.fullmatch("([0-9]{1,9})/([0-9]{1,9})", text)
+    shard = (int(found[1]), int(found[2])) if found else (0, 0)
+    if not 1 <= shard[0] <= shard[1]:
+        raise UsageError(f"--shard: {text!r} isn't K/N with K from 1 to N")
+    return shard
 
 
 def deviations(count):
@@ -86,29 +108,43 @@ class Finder:
 
     def __init__(self, given, target):
         self.given, self.target = given, target
+        self.say = (lambda *words, **options: None) if given["json"] else print
+        self.result = {"result": "passes", "seed": None}  # what --json prints
+        self.note("passes", None, [])
+
+    def note(self, result, fault, schedule):
+        """Keeps a result for --json."""
+        lines = text_of(schedule, self.target.options).splitlines()
+        self.result.update(result=result, fault=fault, schedule=lines)
 
     def draw(self):
         """Draws schedules until one fails."""
-        began, answers, line = time.monotonic(), set(), ""
-        for number in range(1, self.given["runs"] + 1):
-            seed = self.given["seed"] + number - 1
-            run = self.target.run(draw=Uniform(seed, draws_holds=self.given["holds"]))
-            answers.add(run.answers)
-            rate = number / (time.monotonic() - began)
-            line = f"{number} runs, {rate:.0f} a second, {len(answers)} different lists of answers"
-            progress(line)
-            if run.fault:
-                print(f"{line}\nseed {seed}: {run.fault}")
-                return self.report(run)
-        print(f"{line}\nno run fails")
+        began, answers, line, run = time.monotonic(), set(), "", None
+        first, step = self.given["shard"]
+        seeds = range(self.given["seed"] + first - 1, self.given["seed"] + self.given["runs"], step)
+        draws = (Uniform(seed, draws_holds=self.given["holds"]) for seed in seeds)
+        with closing(in_order(self.target, draws, self.given["jobs"])) as runs:
+            for number, (seed, run) in enumerate(zip(seeds, runs), 1):
+                answers.add(self.target.count(run).answers)
+                rate = number / (time.monotonic() - began)
+                line = f"{number} runs, {rate:.0f} a second, {len(answers)} different lists of answers"
+                progress(line)
+                if run.fault:
+                    break
+        if run and run.fault:
+            self.say(f"{line}\nseed {seed}: {run.fault}")
+            self.result["seed"] = seed
+            return self.report(run)
+        self.say(f"{line}\nno run fails" if line else "no run fails")
         return PASSES
 
     def explore(self):
-        found = explore(self.target, self.given["explore"], self.given["holds"], say=print, progress=progress)
+        found = explore(self.target, self.given["explore"], self.given["holds"], say=self.say, progress=progress,
+                        shard=self.given["shard"])
         if found.run is None:
-            print(f"none of {sum(found.counts)} schedules fails")
+            self.say(f"none of {sum(found.counts)} schedules fails")
             return PASSES
-        print(f"depth {len(found.run.met)}: schedule {found.counts[-1]} fails: {found.run.fault}")
+        self.say(f"depth {len(found.run.met)}: schedule {found.counts[-1]} fails: {found.run.fault}")
         return self.report(found.run, is_smallest=True)
 
     def report(self, run, is_smallest=False):
@@ -116,17 +152,19 @@ class Finder:
         shrinker, drawn, runs = Shrinker(self.target), len(run.met), self.target.runs
         small = shrinker.shrink(run.met)
         if small is None:
-            print(f"The schedule of {deviations(drawn)} passes when it is played again."
-                  " Does the test use a clock, threads or random numbers?")
+            self.say(f"The schedule of {deviations(drawn)} passes when it is played again."
+                     " Does the test use a clock, threads or random numbers?")
+            self.note("unrepeatable", run.fault, run.met)
             return FOUND
-        print(f"{deviations(drawn)} shrunk to {len(small.met)} by {self.target.runs - runs} runs")
+        self.say(f"{deviations(drawn)} shrunk to {len(small.met)} by {self.target.runs - runs} runs")
         is_smallest = is_smallest or len(small.met) == 1
         if small.met and not is_smallest:
             small, is_smallest = self.smaller(shrinker, small)
         if not small.met:
-            print("no race: the test fails by itself, without any deviation")
+            self.say("no race: the test fails by itself, without any deviation")
         elif is_smallest:
-            print("smallest: no schedule with fewer deviations fails")
+            self.say("smallest: no schedule with fewer deviations fails")
+        self.note("fails", small.fault, small.met)
         self.show(small)
         return FOUND
 
@@ -135,9 +173,9 @@ class Finder:
         found, tried, is_complete = smallest(shrinker, run, self.given["holds"], self.given["smaller"], progress)
         end = "" if is_complete else "; another one may fail"
         if len(found.met) < len(run.met):
-            print(f"{tried} smaller schedules were tried: one with {deviations(len(found.met))} fails")
+            self.say(f"{tried} smaller schedules were tried: one with {deviations(len(found.met))} fails")
         else:
-            print(f"{tried} smaller schedules were tried, and pass{end}")
+            self.say(f"{tried} smaller schedules were tried, and pass{end}")
         return found, is_complete
 
     def show(self, run):
@@ -145,7 +183,7 @@ class Finder:
         text = text_of(run.met, self.target.options, [" ".join(self.target.command), run.fault])
         lines = [row.line for row in run.rows][-LOG_LINES:]
         shown = "".join(f"{line if len(line) <= LONGEST_LINE else line[:LONGEST_LINE] + '..'}\n" for line in lines)
-        print(f"\nThe schedule:\n{text}\nThe end of the log:\n{shown}\n{chart(run)}", end="")
+        self.say(f"\nThe schedule:\n{text}\nThe end of the log:\n{shown}\n{chart(run)}", end="")
         if self.given["out"]:
             try:
                 with open(self.given["out"], "w", encoding="utf-8", errors="surrogateescape") as file:
@@ -153,15 +191,35 @@ class Finder:
             except OSError as error:
                 print(f"races: {self.given['out']}: {error.strerror}", file=sys.stderr)
 
+    def end(self, status):
+        """Prints what the runs reached, if a search found nothing or on request; or everything as JSON. Returns the status."""
+        reached = self.target.reached
+        if self.given["json"]:
+            tables = tables_of(reached) if self.target.runs else (None, None)
+            print(json.dumps({**self.result, "runs": self.target.runs, **dict(zip(("reached", "never"), tables))}))
+        elif self.target.runs and (self.given["reached"] or status == PASSES and not self.given["replay"]):
+            print(*lines_of(reached), sep="\n")
+        return status
+
     def replay(self, schedule):
         is_strict = not self.given["any-access"]
-        run = self.target.run(schedule, is_strict=is_strict)
+        self.note("passes", None, schedule)
+        try:
+            run = self.target.run(schedule, is_strict=is_strict)
+        except Mismatch as error:
+            self.say(error)
+            self.note("mismatch", str(error), schedule)
+            return FOUND
         for deviation in run.idle:
-            print(f"{deviation}: it did nothing")
+            self.say(f"{deviation}: it did nothing")
         for deviation in run.unreached:
-            print(f"{deviation}: the run doesn't reach this place")
-        print(chart(run), end="")
-        return FOUND if run.fault or is_strict and run.unreached else PASSES
+            self.say(f"{deviation}: the run doesn't reach this place")
+        self.say(chart(run), end="")
+        if run.fault:
+            self.note("fails", run.fault, schedule)
+        elif is_strict and run.unreached:
+            self.note("mismatch", f"{run.unreached[0]}: the run doesn't reach this place", schedule)
+        return PASSES if self.result["result"] == "passes" else FOUND
 
 
 def call(words):
@@ -176,8 +234,8 @@ def call(words):
         options = stored if options is None else options
     finder = Finder(given, Target(given["server"], command, options or (), given["seconds"]))
     if given["replay"]:
-        return finder.replay(schedule)
-    return finder.draw() if given["explore"] is None else finder.explore()
+        return finder.end(finder.replay(schedule))
+    return finder.end(finder.draw() if given["explore"] is None else finder.explore())
 
 
 def main():
@@ -192,9 +250,6 @@ def main():
     except (CannotRun, ServerEnded) as error:
         print(f"races: {error}", file=sys.stderr)
         return NOT_RUN
-    except Mismatch as error:
-        print(error)
-        return FOUND
     except KeyboardInterrupt:
         return INTERRUPTED
     except BrokenPipeError:

@@ -39,14 +39,17 @@ def is_after(last, action):
     return ACTORS[last] <= ACTORS[action] and (last, action) not in PAIRS.values()
 
 
-def explore(target, depth, with_holds=False, most=None, say=lambda line: None, progress=lambda line: None):
+def explore(target, depth, with_holds=False, most=None, say=lambda line: None, progress=lambda line: None, shard=(1, 1)):
     """Tries all schedules by their number of deviations, and ends at the first one that fails, or after `most`.
 
+    With a shard (K, N), tries only each Nth of the schedules with `depth` deviations, from the Kth on.
     Of those of one size, schedules whose deviations are close together are tried first: a race is a matter of few accesses.
     """
     level, counts, answers = [(0, [])], [], set()
     for size in range(depth + 1):
-        following = []
+        following, all_of = [], ""
+        if size == depth and shard != (1, 1):
+            level, all_of = level[shard[0] - 1::shard[1]], f" of {len(level)}"
         counts.append(0)
         for _, schedule in level:
             if most is not None and sum(counts) == most:
@@ -59,7 +62,7 @@ def explore(target, depth, with_holds=False, most=None, say=lambda line: None, p
                 return Found(counts, run, False)
             if size < depth and len(run.met) == len(schedule):
                 following += children(run, with_holds)
-        say(f"depth {size}: {counts[-1]} schedules, none fails, {len(answers)} different lists of answers")
+        say(f"depth {size}: {counts[-1]}{all_of} schedules, none fails, {len(answers)} different lists of answers")
         level = sorted(following, key=lambda one: one[0])
     return Found(counts, None, True)
 

@@ -9,6 +9,7 @@ import time
 
 from race_finder.names import DEFAULT_REGISTERS, number_of
 from race_finder.play import Play, Server
+from race_finder.reached import reached_by
 
 
 class CannotRun(Exception):
@@ -19,12 +20,17 @@ class TooLong(Exception):
     """A run didn't end in time."""
 
 
+class Stopped(Exception):
+    """A run was ended, because its result isn't needed."""
+
+
 class Run:
     """What a run showed: its fault (None if the test passed), and what was played."""
 
     def __init__(self, fault, play):
         self.fault, self.met, self.idle, self.unreached = fault, play.met, play.idle, play.unreached()
         self.places, self.rows, self.answers = play.places, play.rows, play.answers.digest()
+        self.reached = reached_by(play.rows)
 
 
 def base_of(options):
@@ -39,11 +45,28 @@ def base_of(options):
 class Target:
     def __init__(self, server, command, options=(), seconds=10.0):
         self.server, self.command, self.options, self.seconds = server, command, tuple(options), seconds
-        self.runs = 0
+        self.runs, self.reached = 0, set()  # of the runs that are counted
+        self.wake = os.pipe()  # holds a byte while runs must end
 
     def run(self, schedule=(), draw=None, is_strict=False):
-        """Runs the command once. Raises CannotRun, ServerEnded or Mismatch."""
+        """Runs the command once, and counts the run. Raises CannotRun, ServerEnded or Mismatch."""
+        return self.count(self.play(schedule, draw, is_strict))
+
+    def count(self, run):
         self.runs += 1
+        self.reached |= run.reached
+        return run
+
+    def stop(self):
+        """Ends all runs in progress, which raise Stopped."""
+        os.write(self.wake[1], b"x")
+
+    def resume(self):
+        """After `stop`, and after these runs have ended: runs are possible again."""
+        os.read(self.wake[0], 1)
+
+    def play(self, schedule=(), draw=None, is_strict=False):
+        """Runs the command once, perhaps at the same time as others."""
         server = Server(self.server, self.options)
         try:
             play = Play(server, schedule, draw, is_strict, base_of(self.options))
@@ -61,7 +84,7 @@ class Target:
             raise CannotRun(f"{self.command[0]}: {error.strerror}") from None
         end, is_late = time.monotonic() + self.seconds, True
         try:
-            serve(test, play, end)
+            serve(test, play, end, self.wake[0])
             test.stdin.close()
             status = test.wait(max(0, end - time.monotonic()))
             is_late = False
@@ -77,32 +100,40 @@ class Target:
         return f"{kind}: {lines[-1]}" if lines else kind
 
 
-def serve(test, play, end):
+def wait(reads, writes, end, wake):
+    """Waits until one of these files is ready."""
+    found = select.select([*reads, wake], writes, [], max(0, end - time.monotonic()))
+    if wake in found[0]:
+        raise Stopped
+    if not found[0] and not found[1]:
+        raise TooLong
+
+
+def serve(test, play, end, wake):
     """Answers the requests of a test until its standard output ends."""
     source, sink, rest = test.stdout.fileno(), test.stdin.fileno(), b""
     os.set_blocking(sink, False)
     while True:
-        left = end - time.monotonic()
-        if left < 0 or not select.select([source], [], [], left)[0]:
+        if time.monotonic() > end:
             raise TooLong
+        wait([source], [], end, wake)
         data = os.read(source, 65536)
         *lines, rest = (rest + data).split(b"\n")
         if not data and rest:
             lines, rest = [rest], b""
         out = "".join(f"{line}\n" for line in play.feed([line.decode(errors="surrogateescape") for line in lines]))
-        if not write(sink, out.encode(errors="surrogateescape"), end) or not data:
+        if not write(sink, out.encode(errors="surrogateescape"), end, wake) or not data:
             return
 
 
-def write(sink, data, end):
+def write(sink, data, end, wake):
     """Writes to the test. Returns False if the test no longer reads."""
     try:
         while data:
             try:
                 data = data[os.write(sink, data):]
             except BlockingIOError:
-                if not select.select([], [sink], [], max(0, end - time.monotonic()))[1]:
-                    raise TooLong from None
+                wait([], [sink], end, wake)
     except BrokenPipeError:
         return False
     return True
