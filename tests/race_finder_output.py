@@ -179,7 +179,8 @@ def json_found(server):
     server.check("json: what is drawn", (status, result, got, errors), (
         FOUND, {"result": "fails", "seed": seed, "fault": FAULT, "schedule": SMALLEST.splitlines()}, small_tables(), ""))
     server.check("json: its runs", runs > seed > 0, True)
-    once = ["sh", "-c", "test -e been && exit 0; touch been; exit 1"]
+    server.remove("failed-once")
+    once = ["sh", "-c", "test -e failed-once && exit 0; touch failed-once; exit 1"]
     for name, words, command, wanted in [
         ("nothing is drawn", ["--runs", "3"], ["true"], (PASSES, "passes", None, None, 3)),
         ("nothing is explored", ["--explore", "2"], ["true"], (PASSES, "passes", None, None, 1)),
