@@ -28,6 +28,14 @@ pub record Prints (event : Event) (said : Text) (a b : Device) (text : Text) : T
   pub text_is : text
       ≡ said_log a.log said ++ (flat_map frame_line (past_of_event event).put ++ line_moved a.machine.reported b.machine.reported)
 
+-- Events happen in order. Each is printed, with what the log says of it.
+abbrev pub Events : Device → Device → Text → Type 0
+Events a b text = (events : List (Event × Text)) × InOrder (λ (event : Event × Text). Prints event.0 event.1) events a b text
+
+-- the text of some events that happen in order
+abbrev pub Happened : Device → Text → Type 0
+Happened a text = (b : Device) × Events a b text
+
 -- Steps. The wire always has room.
 
 -- a step of this kind with this outcome

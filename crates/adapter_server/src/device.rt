@@ -1,6 +1,6 @@
 // The served adapter, and the lines that it prints.
 
-ghost use Rattle.std.specs.Prelude.{◌≡◌, ◌++◌, ◌≤◌, IfOk, OnOk, flat_map};
+ghost use Rattle.std.specs.Prelude.{◌≡◌, ◌++◌, ◌≤◌, IfOk, OnErr, OnOk, flat_map};
 ghost use Rattle.std.specs.Io.KnownBytes.{Appends};
 ghost use Rattle.adapter_server.specs.Outcomes.{moved_by};
 
@@ -46,8 +46,9 @@ fn moved_by(outcome: Outcome<()>) -> u64
 }
 
 impl Device {
-    ghost use Rattle.adapter_server.specs.Devices.{Round, Settles, Steps, next_put, told};
-    ghost use Rattle.adapter_server.specs.Order.{Tells};
+    ghost use Rattle.adapter_server.specs.Devices.{Happened, Round, Settles, Steps, next_put, told};
+    ghost use Rattle.adapter_server.specs.Order.{Tells, TellsPart, WritesPart};
+    ghost use Rattle.bus.specs.Machines.{is_asserted};
     ghost use Rattle.adapter_server.specs.Texts.{digits_told, frame_line, joined, line_moved, said_log};
 
     /// Prints an event that happened: what the log says of it, the digits of the frame that was put onto the wire, and
@@ -63,6 +64,9 @@ impl Device {
         ensures text { OnOk result (Appends (W.contents out.old) (W.contents out.new)
             (said_log self.old.log (joined said.now)
             ++ (digits_told put ++ line_moved self.old.machine.reported self.new.machine.reported))) }
+        ensures err { OnErr result (WritesPart (W.contents out.old) (W.contents out.new)
+            (said_log self.old.log (joined said.now) ++ (digits_told put
+            ++ line_moved self.old.machine.reported (is_asserted self.old.machine.world.adapter)))) }
     {
         let mut text = Vec::new(alloc);
         push_said(&mut text, self.log, said)?;
@@ -92,8 +96,9 @@ impl Device {
         out: &mut W,
         kind: StepKind,
     ) -> Result<Outcome<()>, AnswerError>
-        ensures { IfOk result (λ outcome.
+        ensures ok { IfOk result (λ outcome.
             Tells (W.contents out.old) (W.contents out.new) (Steps kind outcome self.old self.new)) }
+        ensures err { OnErr result (TellsPart (W.contents out.old) (W.contents out.new) (Happened self.old)) }
     {
         let put = self.digits_to_put(alloc, kind)?;
         let outcome = self.machine.step(kind, true);
@@ -107,6 +112,7 @@ impl Device {
         ensures ok { IfOk result
             (λ moved. Tells (W.contents out.old) (W.contents out.new) (Round moved self.old self.new)) }
         ensures few { IfOk result (λ moved. moved ≤ 6) }
+        ensures err { OnErr result (TellsPart (W.contents out.old) (W.contents out.new) (Happened self.old)) }
     {
         let mut moved = 0;
         for kind in ROUND {
@@ -122,8 +128,9 @@ impl Device {
         alloc: Global,
         out: &mut W,
     ) -> Result<u64, AnswerError>
-        ensures { IfOk result
+        ensures ok { IfOk result
             (λ moved. Tells (W.contents out.old) (W.contents out.new) (Settles moved self.old self.new)) }
+        ensures err { OnErr result (TellsPart (W.contents out.old) (W.contents out.new) (Happened self.old)) }
     {
         let mut all = 0;
         for _round in 0..MOST_ROUNDS {
