@@ -1,5 +1,6 @@
 -- Beginnings of texts, where the server stops.
-use Rattle.std.proofs.Common.{◌≡◌, ◌++◌, ℕ, List, [], ◌∷◌, Option, Some, None, append_assoc, drop, length, refl, subst, sym, take, ap, ◌∙◌, ◌+◌, ◌≤◌}
+use Rattle.std.proofs.Common.{◌≡◌, ◌++◌, ◌+◌, ◌≤◌, ◌∙◌, ℕ, List, [], Option, Some, None}
+use Rattle.std.proofs.Common.{append_assoc, ap, drop, length, refl, subst, sym, take}
 use Rattle.std.proofs.lemmas.List.{append-nil, drop-drop, take-append-drop}
 use lib.ListN.{drop_of_length-le}
 use Rattle.std.specs.Prelude.{Err, Ok, OnErr, Result}

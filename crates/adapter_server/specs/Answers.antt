@@ -89,6 +89,7 @@ Does requests.Settle said a b text = (moved : ℕ) × Answered (OnDevice (Settle
 Does requests.Line said a b text = Replies (number_line (line_number a.device)) a b text
 Does (requests.Interleave count) said a b text = Replies ok_line (record a { most_steps = count }) b text
 Does (requests.Log on) said a b text = Replies ok_line (record a { device = record a.device { log = on } }) b text
+Does (requests.Wire free) said a b text = Replies ok_line (record a { device = record a.device { wire_free = free } }) b text
 
 abbrev pub AnswersTo : Result Request Refusal → (said : Text) → Session → Session → Text → Type 0
 AnswersTo (Ok request) said a b text = Does request said a b text

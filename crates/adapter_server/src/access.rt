@@ -104,7 +104,8 @@ impl Session {
         ensures ok { OnOk result (Tells (W.contents out.old) (W.contents out.new)
             (ReadsAt (place_in self.old address (size_of wanted)) wanted address said.now self.old self.new)) }
         ensures err { OnErr result (TellsPart (W.contents out.old) (W.contents out.new)
-            (Reaches (ReadsAt (place_in self.old address (size_of wanted)) wanted address said.now self.old) self.old)) }
+            (Reaches (ReadsAt (place_in self.old address (size_of wanted)) wanted address said.now self.old)
+            self.old)) }
     {
         let size = wanted.size();
         match self.place_of(address, size) {
@@ -137,7 +138,8 @@ impl Session {
         ensures ok { OnOk result (Tells (W.contents out.old) (W.contents out.new)
             (WritesAt (place_in self.old address (length bytes.now)) address bytes.now said.now self.old self.new)) }
         ensures err { OnErr result (TellsPart (W.contents out.old) (W.contents out.new)
-            (Reaches (WritesAt (place_in self.old address (length bytes.now)) address bytes.now said.now self.old) self.old)) }
+            (Reaches (WritesAt (place_in self.old address (length bytes.now)) address bytes.now said.now self.old)
+            self.old)) }
     {
         let Some(place) = self.place_of(address, bytes.len() as u64) else {
             return self.refuse(out, Refusal::Address);

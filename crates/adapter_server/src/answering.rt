@@ -116,6 +116,10 @@ impl Session {
                 self.device.log = *on;
                 say(out, b"OK\n")
             }
+            Request::Wire(free) => {
+                self.device.wire_free = *free;
+                say(out, b"OK\n")
+            }
         }
     }
 
@@ -148,8 +152,8 @@ impl Session {
     ) -> Result<(), AnswerError>
         ensures ok { OnOk result
             (Tells (W.contents out.old) (W.contents out.new) (AnswersNext next line.now self.old self.new)) }
-        ensures err { OnErr result
-            (TellsPart (W.contents out.old) (W.contents out.new) (Reaches (AnswersNext next line.now self.old) self.old)) }
+        ensures err { OnErr result (TellsPart (W.contents out.old) (W.contents out.new)
+            (Reaches (AnswersNext next line.now self.old) self.old)) }
     {
         match next {
             NextLine::End => Ok(()),

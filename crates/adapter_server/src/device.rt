@@ -33,6 +33,8 @@ pub struct Device {
     pub machine: Machine,
     /// Whether steps, accesses and arrivals are printed.
     pub log: bool,
+    /// Whether the wire has room for a frame.
+    pub wire_free: bool,
 }
 
 /// 1 if a step with this outcome did something, else 0.
@@ -46,7 +48,7 @@ fn moved_by(outcome: Outcome<()>) -> u64
 }
 
 impl Device {
-    ghost use Rattle.adapter_server.specs.Devices.{Happened, Round, Settles, Steps, next_put, told};
+    ghost use Rattle.adapter_server.specs.Devices.{Happened, Round, Settles, Steps, to_put, told};
     ghost use Rattle.adapter_server.specs.Order.{Tells, TellsPart, WritesPart};
     ghost use Rattle.bus.specs.Machines.{is_asserted};
     ghost use Rattle.adapter_server.specs.Texts.{digits_told, frame_line, joined, line_moved, said_log};
@@ -78,9 +80,9 @@ impl Device {
     /// The digits of the frame that a step of this kind puts onto the wire, if it puts one.
     fn digits_to_put(&self, alloc: Global, kind: StepKind) -> Result<Option<String>, AllocError>
         ensures { IfOk result (λ put. digits_told put
-            ≡ flat_map frame_line (next_put kind self.now.machine.world.adapter)) }
+            ≡ flat_map frame_line (to_put kind self.now.wire_free self.now.machine.world.adapter)) }
     {
-        if kind != StepKind::TxPut {
+        if kind != StepKind::TxPut || !self.wire_free {
             return Ok(None);
         }
         let Some(frame) = self.machine.to_put() else {
@@ -89,7 +91,7 @@ impl Device {
         Ok(Some(hex::encode(alloc, frame)?))
     }
 
-    /// Makes the adapter take a step, and prints it. The wire has room.
+    /// Makes the adapter take a step, and prints it.
     pub(crate) fn step<W: Write>(
         &mut self,
         alloc: Global,
@@ -101,7 +103,7 @@ impl Device {
         ensures err { OnErr result (TellsPart (W.contents out.old) (W.contents out.new) (Happened self.old)) }
     {
         let put = self.digits_to_put(alloc, kind)?;
-        let outcome = self.machine.step(kind, true);
+        let outcome = self.machine.step(kind, self.wire_free);
         let said: [&[u8]; 4] = [b"step ", kind_word(kind), b" -> ", outcome_word(outcome)];
         self.tell(alloc, out, &said, put)?;
         Ok(outcome)

@@ -3,8 +3,8 @@
 ghost use Rattle.std.specs.Prelude.{◌≡◌, IfErr, IfSome, OnErr, OnOk};
 ghost use Rattle.adapter_server.specs.Answers.{Reaches};
 ghost use Rattle.adapter_server.specs.Order.{Tells, TellsPart};
-ghost use Rattle.adapter_server.specs.Serving.{AnswersNext, ServesAll, ServesBegun, ServesFront, ServesPart, ServesSome};
-ghost use Rattle.adapter_server.specs.Serving.{ServesWhole};
+ghost use Rattle.adapter_server.specs.Serving.{AnswersNext, ServesAll, ServesBegun, ServesFront, ServesPart};
+ghost use Rattle.adapter_server.specs.Serving.{ServesSome, ServesWhole};
 ghost use Rattle.adapter_server.specs.declared.serve_error.ServeError.TheVariants as errors;
 
 use crate::answer_error::AnswerError;

@@ -100,6 +100,7 @@ impl Session {
             device: Device {
                 machine: Machine::new(adapter, memory),
                 log: false,
+                wire_free: true,
             },
             registers: options.registers,
             generator: Lcg64Xsh32::seed_from_u64(options.seed),

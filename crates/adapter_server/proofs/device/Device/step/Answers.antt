@@ -1,4 +1,4 @@
-use Rattle.std.proofs.Common.{◌++◌, ◌∙◌, ◌∷◌, [], Bool, List, ap, ap₂, codes, flat_map, sym, true, ℕ}
+use Rattle.std.proofs.Common.{◌++◌, ◌∙◌, ◌∷◌, [], Bool, List, ap, ap₂, codes, flat_map, sym, ℕ}
 use Rattle.std.specs.List.{concat}
 use Rattle.adapter.specs.Outcomes.{framed}
 use Rattle.bus.specs.Machines.{MachineState, is_asserted}
@@ -20,7 +20,7 @@ returns-in_err-tell-clause-err g c =
     let a = c.args.self.now in
     let outcome = c.step-outcome.result in
     let now = c.step-outcome.new.self in
-    let event = Steps c.args.kind true (framed outcome a.machine.world.adapter) in
+    let event = Steps c.args.kind a.wire_free (framed outcome a.machine.world.adapter) in
     let is = is_asserted now.world.adapter in
     let with_said : Text → Text = λ said. said_log a.log said ++ (digits_told c.in_ok-put.put ++ line_moved now.reported is) in
     let with_put : Text → Text = λ put. said_log a.log (step_said c.args.kind outcome) ++ (put ++ line_moved now.reported is) in
@@ -36,6 +36,6 @@ returns-in_err-tell-clause-err g c =
           c.outcome_word.ensures)
           ∙ ap with_put (c.in_ok-put.ensures
           ∙ ap (λ (put : List (List ℕ)). flat_map frame_line put)
-          (sym (puts_next c.args.kind outcome a.machine.world.memory a.machine.world.adapter c.step-outcome.ensures.occurs.1)))
+          (sym (puts_next a.wire_free c.args.kind outcome a.machine.world.memory a.machine.world.adapter c.step-outcome.ensures.occurs.1)))
           ∙ ap with_level (ap (λ (machine : MachineState). machine.reported) c.step-outcome.ensures.state);
     }) c.in_err-tell.ensures.err)

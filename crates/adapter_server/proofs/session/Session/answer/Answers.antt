@@ -44,3 +44,10 @@ returns-in-Log-clause-err g c =
     rw c.in-Log.is
     (replied_part c.say-in-Log.result ok_line a (record a { device = record a.device { log = c.in-Log.on } })
     (g.W.Write.contents c.args.out.now) (g.W.Write.contents c.say-in-Log.new.out) c.say-in-Log.ensures.err)
+
+pub returns-in-Wire-clause-err : goal.returns-in-Wire-clause-err
+returns-in-Wire-clause-err g c =
+    let a = c.args.self.now in
+    rw c.in-Wire.is
+    (replied_part c.say-in-Wire.result ok_line a (record a { device = record a.device { wire_free = c.in-Wire.free } })
+    (g.W.Write.contents c.args.out.now) (g.W.Write.contents c.say-in-Wire.new.out) c.say-in-Wire.ensures.err)
