@@ -26,16 +26,17 @@ from the top of the repository:
   0 60 02:00:00:00:00:02 02:00:00:00:00:01 0800
   frames 1 skipped 0 cut no
 
-Exit status: 0 success, 1 a trace or a scenario is invalid, 2 usage error, help or version, 3 a file failed,
-4 out of memory. If the status is 1, 3 or 4, nicbench prints 'nicbench: CODE NAME' on standard error, or
-'nicbench: line N: CODE NAME' if a line of a scenario is invalid. IN is any input: also the TRACE of show, and
-the SCENARIO of run with each FILE that it feeds. If IN is -, it is standard input, which can be read only
-once. Standard input and named pipes are read to their end first, up to 1 GiB. OUT is any output: also each
-file in the OUTDIR of run. Codes E40 to E56 come from run only: nicbench run --help. For E57, E66 and E67 of
-serve: nicbench serve --help
+Exit status: 0 success, 1 a trace, a scenario or an image is invalid, 2 usage error, help or version, 3 a
+file failed, 4 out of memory. If the status is 1, 3 or 4, nicbench prints 'nicbench: CODE NAME' on standard
+error, or 'nicbench: line N: CODE NAME' if a line of a scenario is invalid. IN is any input: also the TRACE
+of show, and the SCENARIO of run with each FILE that it feeds. If IN is -, it is standard input, which can
+be read only once. Standard input and named pipes are read to their end first, up to 1 GiB. OUT is any
+output: also each file in the OUTDIR of run. Codes E40 to E56 come from run only: nicbench run --help. For
+E57, E66, E67 and E68 of serve: nicbench serve --help
 
   E57 Memory    Out of memory before anything was written, or standard input or a pipe has more than
                 1 GiB. Free some, split IN, or copy it to a file first
+  E58 Image     The file of --image of serve hasn't 128 bytes. Name another file
   E60 Header    IN has fewer than 24 bytes, so it isn't a trace. Name another file, or check the program
                 that writes into the pipe
   E61 Magic     IN isn't a pcap file. Convert a pcapng file: editcap -F pcap IN OUT
@@ -225,6 +226,7 @@ Options:
       --memory <BYTES>       Bytes of memory, from address 0, such as 0x100000 [1048576]
       --registers <ADDRESS>  Address of the 131,072 bytes of registers [0xFEB00000]
       --address <A>          The Ethernet address in the EEPROM [02:00:00:00:00:01]
+      --image <FILE>         The EEPROM's 64 words, a file of 128 bytes, low byte first; not with --address
       --link <N|never>       Ticks of the PHY until the link is up, 1 to 65535 [1]
       --rxa <N>              KB of the receive packet buffer, an even number from 2 to 48 [48]
       --seed <N>             Seed of the random steps of interleave [0]
@@ -271,7 +273,9 @@ At the end of its input the server ends with exit status 0. If it fails, it prin
 standard error:
 
   E57 Memory    Out of memory, status 4. Free some, or reduce --memory
-  E66 Read      Standard input could not be read, status 3. Check where it comes from
+  E58 Image     The file of --image hasn't 128 bytes, status 1. Name another file
+  E66 Read      Standard input or the file of --image could not be read, status 3. Check where it comes from
   E67 Write     Standard output could not be written, or nobody reads it any more, status 3. Free space
                 there, or read all answers
+  E68 Open      The file of --image couldn't be opened or is a device, status 3. Check its path
 """

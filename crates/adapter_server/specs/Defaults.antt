@@ -1,6 +1,8 @@
 -- The default options (our choice).
 use Rattle.std.specs.Prelude.{ℕ, List, [], ◌∷◌, ◌^◌}
+use Rattle.eeprom.specs.Image.{image_with}
 use Rattle.mdic_phy.specs.declared.phy.Link.{Link}
+use Rattle.eeprom.specs.Image.{image_with}
 use Rattle.mdic_phy.specs.declared.phy.Link.TheVariants.{After}
 use Rattle.adapter_server.specs.declared.options.ServeOptions.{ServeOptions}
 
@@ -29,7 +31,7 @@ abbrev pub default_options : ServeOptions
 default_options = record {
   memory = default_memory;
   registers = default_registers;
-  address = default_address;
+  image = image_with default_address;
   link = default_link;
   receive_kilobytes = default_kilobytes;
   seed = default_seed;

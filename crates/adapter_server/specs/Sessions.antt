@@ -8,7 +8,6 @@ use Rattle.rand_pcg.specs.Pcg.{pcg32, pcg32_of_seed}
 use Rattle.adapter.specs.Registers.{after_write, new_adapter}
 use Rattle.adapter.specs.declared.outcome.Outcome.{Outcome}
 use Rattle.adapter.specs.declared.step.StepKind.{StepKind}
-use Rattle.eeprom.specs.Image.{image_with}
 use Rattle.adapter_server.specs.Devices.{Steps}
 use Rattle.adapter_server.specs.Kinds.{kind_numbered}
 use Rattle.adapter_server.specs.Order.{Times}
@@ -29,7 +28,7 @@ new_session options = record {
     machine = record {
       world = record {
         memory = replicate options.memory 0;
-        adapter = after_write pba options.receive_kilobytes (new_adapter (image_with options.address) options.link);
+        adapter = after_write pba options.receive_kilobytes (new_adapter options.image options.link);
       };
       reported = false;
     };

@@ -3,6 +3,7 @@
 ghost use Rattle.std.specs.Prelude.{◌≡◌};
 ghost use Rattle.adapter_server.specs.Defaults.{default_options};
 
+use eeprom::Image;
 use mdic_phy::Link;
 
 /// The options of a served adapter.
@@ -12,8 +13,8 @@ pub struct ServeOptions {
     pub memory: u64,
     /// The address of the first of the 131,072 bytes of registers.
     pub registers: u64,
-    /// The Ethernet address in the EEPROM.
-    pub address: [u8; 6],
+    /// The contents of the EEPROM. A wrong checksum stays wrong.
+    pub image: Image,
     /// When the link is up.
     pub link: Link,
     /// PBA.RXA, the receive part of the packet buffer in kilobytes: an even number from 2 to 48. Any other leaves 48.
@@ -23,15 +24,15 @@ pub struct ServeOptions {
 }
 
 impl ServeOptions {
-    /// The defaults: 1 MiB of memory, registers from 0xFEB00000 on, the address 02:00:00:00:00:01, a link that is up
-    /// after one tick of the PHY, 48 kilobytes, and seed 0.
+    /// The defaults: 1 MiB of memory, registers from 0xFEB00000 on, an image of the address 02:00:00:00:00:01, a link
+    /// that is up after one tick of the PHY, 48 kilobytes, and seed 0.
     pub fn new() -> ServeOptions
         ensures { result ≡ default_options }
     {
         ServeOptions {
             memory: 1 << 20,
             registers: 0xFEB0_0000,
-            address: [0x02, 0, 0, 0, 0, 0x01],
+            image: Image::with_address([0x02, 0, 0, 0, 0, 0x01]),
             link: Link::After(1),
             receive_kilobytes: 48,
             seed: 0,

@@ -2,7 +2,6 @@
 
 ghost use Rattle.std.specs.Prelude.{◌≡◌, ◌+◌, IfOk, OnErr, OnOk, nat_le};
 ghost use Rattle.adapter.specs.Registers.{after_write, new_adapter};
-ghost use Rattle.eeprom.specs.Image.{image_with};
 ghost use Rattle.adapter_server.specs.Kinds.{kind_numbered};
 ghost use Rattle.adapter_server.specs.Sessions.{pba};
 
@@ -13,7 +12,6 @@ use adapter::offsets::PBA;
 use adapter::{Adapter, StepKind};
 use bus::Machine;
 use dma_memory::HostMemory;
-use eeprom::Image;
 use rand_core::SeedableRng;
 use rand_core::utils::NextWord;
 use rand_pcg::Lcg64Xsh32;
@@ -75,10 +73,9 @@ fn is_within(size: u64, address: u64, count: u64) -> bool
 /// A new adapter, whose PBA is written once.
 fn adapter_of(alloc: Global, options: &ServeOptions) -> Result<Adapter, AllocError>
     ensures { IfOk result (λ adapter. adapter ≡ after_write pba options.now.receive_kilobytes
-        (new_adapter (image_with options.now.address) options.now.link)) }
+        (new_adapter options.now.image options.now.link)) }
 {
-    let image = Image::with_address(options.address);
-    let mut adapter = Adapter::new(alloc, &image, options.link)?;
+    let mut adapter = Adapter::new(alloc, &options.image, options.link)?;
     adapter.write(PBA, u32::from(options.receive_kilobytes));
     Ok(adapter)
 }

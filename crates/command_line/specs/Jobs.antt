@@ -1,5 +1,6 @@
 -- What clap holds for the words, as a job or as the value that it is refused for (our choice).
-use Rattle.std.specs.Prelude.{◌≡◌, ◌≤◌, ◌⊎◌, ◌↔◌, IfSome, IsTrue, ℕ, Bool, List, [], ◌∷◌, IsSomeAnd, Option, Some, None, ⊤, IsSome, codes}
+use Rattle.std.specs.Prelude.{◌≡◌, ◌≤◌, ◌⊎◌, ◌↔◌, IfSome, IsTrue, ℕ, Bool, List, [], ◌∷◌, IsSomeAnd, Option, Some, None}
+use Rattle.std.specs.Prelude.{⊤, IsNone, IsSome, codes}
 use Rattle.clap.specs.Words.{Row, Text, first_of}
 use Rattle.command_line.specs.Shape.{found_in, refusals}
 use Rattle.command_line.specs.Spelling.{IsGroup, IsKilobytes, IsLink, SpellsAddress, SpellsDecimal, SpellsGroup, SpellsKilobytes}
@@ -10,6 +11,8 @@ use Rattle.command_line.specs.declared.job.Job.TheVariants.{Pass, Run, Show, Ser
 use Rattle.command_line.specs.declared.job.PassFilter.{PassFilter}
 use Rattle.command_line.specs.declared.job.PassJob.{PassJob}
 use Rattle.command_line.specs.declared.job.RunJob.{RunJob}
+use Rattle.command_line.specs.declared.job.ServeImage.{ServeImage}
+use Rattle.command_line.specs.declared.job.ServeImage.TheVariants as images
 use Rattle.command_line.specs.declared.job.ServeJob.{ServeJob}
 use Rattle.command_line.specs.declared.job.ServeLink.{ServeLink}
 use Rattle.command_line.specs.declared.job.ServeLink.TheVariants as links
@@ -50,11 +53,19 @@ pub record IsRunJobOf (rows : List Row) (job : RunJob) : Type 0 where
 abbrev pub IsShowJobOf : List Row → ShowJob → Type 0
 IsShowJobOf rows job = first_of (codes "TRACE") rows ≡ Some job.trace.now
 
+-- the file of `--image`, where there is no `--address`; else an image of the address that is given, or of the default
+abbrev pub IsImageOf : List Row → ServeImage → Type 0
+IsImageOf rows (images.File path) =
+    (first_of (codes "image") rows ≡ Some path.now) × IsNone (first_of (codes "address") rows)
+IsImageOf rows (images.Address address) =
+    IsNone (first_of (codes "image") rows)
+    × IsValueOr SpellsAddress (2 ∷ 0 ∷ 0 ∷ 0 ∷ 0 ∷ 1 ∷ []) (first_of (codes "address") rows) address
+
 -- each option of a `serve` has the value of its text, or its default
 pub record IsServeJobOf (rows : List Row) (job : ServeJob) : Type 0 where
   pub memory : IsValueOr SpellsWord 0x100000 (first_of (codes "memory") rows) job.memory
   pub registers : IsValueOr SpellsWord 0xFEB00000 (first_of (codes "registers") rows) job.registers
-  pub address : IsValueOr SpellsAddress (2 ∷ 0 ∷ 0 ∷ 0 ∷ 0 ∷ 1 ∷ []) (first_of (codes "address") rows) job.address
+  pub image : IsImageOf rows job.image
   pub link : IsValueOr SpellsLink (links.After 1) (first_of (codes "link") rows) job.link
   pub kilobytes : IsValueOr SpellsKilobytes 48 (first_of (codes "rxa") rows) job.receive_kilobytes
   pub seed : IsValueOr SpellsDecimal 0 (first_of (codes "seed") rows) job.seed
@@ -104,25 +115,27 @@ name_of options.Group = codes "group"
 name_of options.Vlan = codes "vlan"
 name_of options.Memory = codes "memory"
 name_of options.Registers = codes "registers"
+name_of options.Image = codes "image"
 name_of options.Link = codes "link"
 name_of options.Rxa = codes "rxa"
 name_of options.Seed = codes "seed"
 
--- the text is of the option's form
-abbrev pub IsSpelled : ValueOption → Text → Type 0
-IsSpelled options.Address text = (address : List ℕ) × SpellsAddress text address
-IsSpelled options.Group text = (address : List ℕ) × SpellsGroup text address
-IsSpelled options.Vlan text = (n : ℕ) × SpellsVlan text n
-IsSpelled options.Memory text = (n : ℕ) × SpellsWord text n
-IsSpelled options.Registers text = (n : ℕ) × SpellsWord text n
-IsSpelled options.Link text = (link : ServeLink) × SpellsLink text link
-IsSpelled options.Rxa text = (n : ℕ) × SpellsKilobytes text n
-IsSpelled options.Seed text = (n : ℕ) × SpellsDecimal text n
+-- the text is of the option's form; that of `--image` is any, where there is no `--address`
+abbrev pub IsSpelled : List Row → ValueOption → Text → Type 0
+IsSpelled rows options.Address text = (address : List ℕ) × SpellsAddress text address
+IsSpelled rows options.Group text = (address : List ℕ) × SpellsGroup text address
+IsSpelled rows options.Vlan text = (n : ℕ) × SpellsVlan text n
+IsSpelled rows options.Memory text = (n : ℕ) × SpellsWord text n
+IsSpelled rows options.Registers text = (n : ℕ) × SpellsWord text n
+IsSpelled rows options.Image text = IsNone (first_of (codes "address") rows)
+IsSpelled rows options.Link text = (link : ServeLink) × SpellsLink text link
+IsSpelled rows options.Rxa text = (n : ℕ) × SpellsKilobytes text n
+IsSpelled rows options.Seed text = (n : ℕ) × SpellsDecimal text n
 
--- the matches have this text for the option, and it isn't of the option's form
+-- the matches have this text for the option, and it isn't of the option's form, or stands beside another option
 pub record IsInvalidIn (rows : List Row) (value : InvalidValue) : Type 0 where
   pub given : first_of (name_of value.option) rows ≡ Some value.text.now
-  pub unspelled : ¬ IsSpelled value.option value.text.now
+  pub unspelled : ¬ IsSpelled rows value.option value.text.now
 
 -- clap takes the words, and the job is that of the subcommand that it finds in them
 abbrev pub IsAskedBy : List Text → Job → Type 0

@@ -34,12 +34,12 @@ run_app =
 unfoldable pub show_app : App
 show_app = with_rule (new_app (codes "show")) (file_rule (codes "TRACE"))
 
--- `serve [--memory BYTES] [--registers ADDRESS] [--address A] [--link N|never] [--rxa N] [--seed N]`
+-- `serve [--memory BYTES] [--registers ADDRESS] [--address A] [--image FILE] [--link N|never] [--rxa N] [--seed N]`
 unfoldable pub serve_app : App
 serve_app =
-    with_rule (with_rule (with_rule (with_rule (with_rule (with_rule (new_app (codes "serve"))
+    with_rule (with_rule (with_rule (with_rule (with_rule (with_rule (with_rule (new_app (codes "serve"))
     (option_rule (codes "memory"))) (option_rule (codes "registers"))) (option_rule (codes "address")))
-    (option_rule (codes "link"))) (option_rule (codes "rxa"))) (option_rule (codes "seed"))
+    (option_rule (codes "image"))) (option_rule (codes "link"))) (option_rule (codes "rxa"))) (option_rule (codes "seed"))
 
 -- the program, which has a version and a subcommand, and shows its help if there are no words
 unfoldable pub program_app : App

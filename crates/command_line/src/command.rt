@@ -7,8 +7,8 @@ ghost use Rattle.command_line.specs.Shape.{file_rule, flag_rule, option_rule, pa
 ghost use Rattle.command_line.specs.Shape.{serve_app, show_app};
 
 use crate::help::{
-    ADDRESS_HELP, GROUP_HELP, IMAGE_HELP, LINK_HELP, MEMORY_HELP, PASS_ABOUT, PASS_NOTE,
-    PROGRAM_NOTE, REGISTERS_HELP, RUN_ABOUT, RUN_NOTE, RXA_HELP, SEED_HELP, SERVE_ABOUT,
+    ADDRESS_HELP, EEPROM_ADDRESS_HELP, GROUP_HELP, IMAGE_HELP, LINK_HELP, MEMORY_HELP, PASS_ABOUT,
+    PASS_NOTE, PROGRAM_NOTE, REGISTERS_HELP, RUN_ABOUT, RUN_NOTE, RXA_HELP, SEED_HELP, SERVE_ABOUT,
     SERVE_NOTE, SHOW_ABOUT, SHOW_NOTE, VERSION, VLAN_HELP, WIRES_HELP,
 };
 use clap::{Arg, ArgAction, Command};
@@ -149,16 +149,17 @@ fn show_command<'a>(alloc: Global) -> Result<Command<'a>, AllocError>
     with_arguments(alloc, show, &SHOW_ARGUMENTS)
 }
 
-const SERVE_ARGUMENTS: [Argument<'static>; 6] = [
+const SERVE_ARGUMENTS: [Argument<'static>; 7] = [
     Argument::Value("memory", "BYTES", MEMORY_HELP),
     Argument::Value("registers", "ADDRESS", REGISTERS_HELP),
-    Argument::Value("address", "A", IMAGE_HELP),
+    Argument::Value("address", "A", EEPROM_ADDRESS_HELP),
+    Argument::Value("image", "FILE", IMAGE_HELP),
     Argument::Value("link", "N|never", LINK_HELP),
     Argument::Value("rxa", "N", RXA_HELP),
     Argument::Value("seed", "N", SEED_HELP),
 ];
 
-/// `serve [--memory BYTES] [--registers ADDRESS] [--address A] [--link N|never] [--rxa N] [--seed N]`.
+/// `serve [--memory BYTES] [--registers ADDRESS] [--address A | --image FILE] [--link N|never] [--rxa N] [--seed N]`.
 fn serve_command<'a>(alloc: Global) -> Result<Command<'a>, AllocError>
     ensures app { IfOk result (λ command. app_of command ≡ serve_app) }
     ensures local { IfOk result (λ command. (fields_of command).has_globals ≡ false) }

@@ -18,7 +18,7 @@ pub enum LineError<'a> {
     /// clap refused the words, or was asked for help or the version: its text is clap's.
     #[error("{0}")]
     Words(clap::Error),
-    /// clap took the words, and the value of an option isn't of its form.
+    /// clap took the words, and the value of an option isn't of its form, or can't be used with another option.
     #[error("{0}")]
     Value(InvalidValue<'a>),
     /// A word isn't UTF-8. Told by who takes the words from the system, never by [`line`](crate::line).
@@ -36,7 +36,7 @@ Usage: nicbench <COMMAND>
 For more information, try '--help'.
 ";
 
-/// A value that isn't of its option's form.
+/// A value that isn't of its option's form, or can't be used with another option.
 #[derive(Clone, Copy, Debug, PartialEq, Eq)]
 pub struct InvalidValue<'a> {
     /// The option that it was given for.
@@ -105,6 +105,7 @@ fn shown(option: ValueOption) -> (&'static str, &'static str) {
         ValueOption::Vlan => ("--vlan <N>", VLAN_FORM),
         ValueOption::Memory => ("--memory <BYTES>", MEMORY_FORM),
         ValueOption::Registers => ("--registers <ADDRESS>", REGISTERS_FORM),
+        ValueOption::Image => ("--image <FILE>", IMAGE_FORM),
         ValueOption::Link => ("--link <N|never>", LINK_FORM),
         ValueOption::Rxa => ("--rxa <N>", RXA_FORM),
         ValueOption::Seed => ("--seed <N>", SEED_FORM),
@@ -123,6 +124,8 @@ const MEMORY_FORM: &str =
 
 const REGISTERS_FORM: &str =
     "a place is a decimal number below 2^64, or a hexadecimal one behind 0x, as 0xFEB00000";
+
+const IMAGE_FORM: &str = "the file contains the address, so --address can't be used with it";
 
 const LINK_FORM: &str = "ticks are a decimal number from 1 to 65535, as 1, or 'never'";
 

@@ -10,7 +10,7 @@ pub enum Job<'a> {
     /// `show`: the frames of a trace are listed.
     Show(ShowJob<'a>),
     /// `serve`: an adapter answers requests.
-    Serve(ServeJob),
+    Serve(ServeJob<'a>),
 }
 
 /// The job of `pass [--address A] [--group G] [--vlan N] IN OUT`.
@@ -53,22 +53,31 @@ pub struct PassFilter {
     pub vlan: Option<u16>,
 }
 
-/// The job of `serve [--memory BYTES] [--registers ADDRESS] [--address A] [--link N|never] [--rxa N] [--seed N]`. Each
-/// option that isn't given has its default here.
+/// The job of `serve [--memory BYTES] [--registers ADDRESS] [--address A | --image FILE] [--link N|never] [--rxa N]
+/// [--seed N]`. Each option that isn't given has its default here.
 #[derive(Clone, Copy, Debug, PartialEq, Eq)]
-pub struct ServeJob {
+pub struct ServeJob<'a> {
     /// How many bytes of memory there are, from address 0 on (`--memory`, 1 MiB).
     pub memory: u64,
     /// The address of the first byte of registers (`--registers`, 0xFEB00000).
     pub registers: u64,
-    /// The address in the adapter's EEPROM, the first byte first (`--address`, 02:00:00:00:00:01).
-    pub address: [u8; 6],
+    /// The contents of the adapter's EEPROM (`--address`, `--image`, an image of 02:00:00:00:00:01).
+    pub image: ServeImage<'a>,
     /// When the link comes up (`--link`, after one tick).
     pub link: ServeLink,
     /// The kilobytes of the adapter's receive packet buffer, an even number from 2 to 48 (`--rxa`, 48).
     pub receive_kilobytes: u8,
     /// What interleaved steps are drawn from (`--seed`, 0).
     pub seed: u64,
+}
+
+/// The contents of the EEPROM of an adapter that is served.
+#[derive(Clone, Copy, Debug, PartialEq, Eq)]
+pub enum ServeImage<'a> {
+    /// An image of this Ethernet address, the first byte first (`--address`).
+    Address([u8; 6]),
+    /// The words in the file with this path (`--image`).
+    File(&'a str),
 }
 
 /// When the link of an adapter that is served comes up.
@@ -93,6 +102,8 @@ pub enum ValueOption {
     Memory,
     /// `--registers`, of `serve`.
     Registers,
+    /// `--image`, of `serve`.
+    Image,
     /// `--link`, of `serve`.
     Link,
     /// `--rxa`, of `serve`.

@@ -16,5 +16,7 @@ mod show;
 pub mod spelling;
 
 pub use error::{InvalidValue, LineError};
-pub use job::{Job, PassFilter, PassJob, RunJob, ServeJob, ServeLink, ShowJob, ValueOption};
+pub use job::{
+    Job, PassFilter, PassJob, RunJob, ServeImage, ServeJob, ServeLink, ShowJob, ValueOption,
+};
 pub use reader::line;

@@ -50,7 +50,7 @@ fn matches_of<'a, S: AsStr>(alloc: Global, words: &'a [S]) -> Result<ArgMatches<
 /// # Errors
 ///
 /// `Words` if clap refuses the words, or is asked for help or the version; `Value` if the value of an option isn't of
-/// its form; E57 if memory was refused. `NotUnicode` never comes.
+/// its form, or `--image` and `--address` are both given; E57 if memory was refused. `NotUnicode` never comes.
 pub fn line<'a, S: AsStr>(alloc: Global, words: &'a [S]) -> Result<Job<'a>, LineError<'a>>
     ensures job { IfOk result (IsAskedBy (map S.text words.entry.now)) }
     ensures bounds { IfOk result HasBounds }

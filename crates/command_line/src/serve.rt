@@ -1,12 +1,13 @@
 //! The job of `serve`, from what clap holds for its options.
 ghost use Rattle.std.specs.Prelude.{◌∷◌, IfErr, IfOk, [], codes};
 ghost use Rattle.clap.specs.Words.{first_of, found_of, rows_of};
-ghost use Rattle.command_line.specs.Jobs.{IsInvalidIn, IsServeJobOf, IsServable, IsValueOr};
+ghost use Rattle.command_line.specs.Jobs.{IsImageOf, IsInvalidIn, IsServeJobOf, IsServable};
+ghost use Rattle.command_line.specs.Jobs.{IsValueOr};
 ghost use Rattle.command_line.specs.Spelling.{SpellsAddress, SpellsDecimal, SpellsKilobytes, SpellsLink, SpellsWord};
 ghost use Rattle.command_line.specs.declared.job.ServeLink.TheVariants.{After};
 
 use crate::spelling::{address_of, decimal_of, kilobytes_of, link_of, word_of};
-use crate::{InvalidValue, ServeJob, ServeLink, ValueOption};
+use crate::{InvalidValue, ServeImage, ServeJob, ServeLink, ValueOption};
 use clap::ArgMatches;
 
 const DEFAULT_MEMORY: u64 = 1 << 20;
@@ -72,6 +73,22 @@ fn address<'a>(matches: &ArgMatches<'a>) -> Result<[u8; 6], InvalidValue<'a>>
     }
 }
 
+fn image<'a>(matches: &ArgMatches<'a>) -> Result<ServeImage<'a>, InvalidValue<'a>>
+    ensures value { IfOk result (IsImageOf (rows_of (found_of matches.now))) }
+    ensures refused { IfErr result (IsInvalidIn (rows_of (found_of matches.now))) }
+{
+    let Some(text) = matches.get_str("image") else {
+        return Ok(ServeImage::Address(address(matches)?));
+    };
+    match matches.get_str("address") {
+        Some(_) => Err(InvalidValue {
+            option: ValueOption::Image,
+            text,
+        }),
+        None => Ok(ServeImage::File(text)),
+    }
+}
+
 fn link<'a>(matches: &ArgMatches<'a>) -> Result<ServeLink, InvalidValue<'a>>
     ensures value { IfOk result (IsValueOr SpellsLink (After 1)
         (first_of (codes "link") (rows_of (found_of matches.now)))) }
@@ -124,21 +141,21 @@ fn seed<'a>(matches: &ArgMatches<'a>) -> Result<u64, InvalidValue<'a>>
 }
 
 /// The job of a `serve` with these matches.
-pub(crate) fn serve_job<'a>(matches: &ArgMatches<'a>) -> Result<ServeJob, InvalidValue<'a>>
+pub(crate) fn serve_job<'a>(matches: &ArgMatches<'a>) -> Result<ServeJob<'a>, InvalidValue<'a>>
     ensures bounds { IfOk result IsServable }
     ensures job { IfOk result (IsServeJobOf (rows_of (found_of matches.now))) }
     ensures refused { IfErr result (IsInvalidIn (rows_of (found_of matches.now))) }
 {
     let memory = memory(matches)?;
     let registers = registers(matches)?;
-    let address = address(matches)?;
+    let image = image(matches)?;
     let link = link(matches)?;
     let receive_kilobytes = kilobytes(matches)?;
     let seed = seed(matches)?;
     Ok(ServeJob {
         memory,
         registers,
-        address,
+        image,
         link,
         receive_kilobytes,
         seed,

@@ -12,4 +12,5 @@ status_of (faults.Program error) = program.status_of error
 status_of (faults.Scenario refusal) = refusals.status_of refusal
 status_of (faults.Bench error) = bench.status_of error
 status_of (faults.Serve error) = server.status_of error
+status_of faults.Image = 1
 status_of faults.Memory = 4

@@ -1,4 +1,8 @@
 -- What the words of `serve` ask a server for (our choice).
+use Rattle.std.specs.Prelude.{◌≡◌, ⊤, ℕ, List}
+use Rattle.eeprom.specs.Image.{image_with}
+use Rattle.command_line.specs.declared.job.ServeImage.{ServeImage}
+use Rattle.command_line.specs.declared.job.ServeImage.TheVariants as images
 use Rattle.command_line.specs.declared.job.ServeJob.{ServeJob}
 use Rattle.command_line.specs.declared.job.ServeLink.{ServeLink}
 use Rattle.command_line.specs.declared.job.ServeLink.TheVariants as asked
@@ -10,11 +14,16 @@ abbrev pub link_of : ServeLink → Link
 link_of (asked.After ticks) = links.After ticks
 link_of asked.Never = links.Never
 
-abbrev pub options_of : ServeJob → ServeOptions
-options_of job = record {
+-- The image is that of the address. Of the words in a file nothing is said.
+abbrev pub IsImageFor : ServeImage → List ℕ → Type 0
+IsImageFor (images.Address address) image = image ≡ image_with address
+IsImageFor (images.File path) image = ⊤
+
+abbrev pub options_of : ServeJob → (image : List ℕ) → ServeOptions
+options_of job image = record {
   memory = job.memory;
   registers = job.registers;
-  address = job.address;
+  image = image;
   link = link_of job.link;
   receive_kilobytes = job.receive_kilobytes;
   seed = job.seed;

@@ -10,6 +10,9 @@ use scenario_bench::BenchError;
 use std::alloc::{AllocError, AllocFailed};
 use thiserror::Error;
 
+/// The exit status where an image was refused.
+const BAD_IMAGE: u8 = 1;
+
 /// The exit status where memory was refused.
 const NO_MEMORY: u8 = 4;
 
@@ -28,6 +31,9 @@ pub(crate) enum Fault {
     /// A server ended before its input did.
     #[error("{0}")]
     Serve(ServeError),
+    /// The image of an EEPROM hasn't 128 bytes.
+    #[error("E58 Image")]
+    Image,
     /// Memory was refused elsewhere.
     #[error("E57 Memory")]
     Memory,
@@ -43,6 +49,7 @@ impl Fault {
             Fault::Scenario(refusal) => refusal.status(),
             Fault::Bench(error) => error.status(),
             Fault::Serve(error) => error.status(),
+            Fault::Image => BAD_IMAGE,
             Fault::Memory => NO_MEMORY,
         }
     }

@@ -105,6 +105,18 @@ pub(crate) fn read_bytes<R: Files + Input + AllocGlobal>(
     }
 }
 
+/// Reads the first bytes of an input, up to a limit. Standard input and pipes are read to their end.
+pub(crate) fn read_front<R: Files + Input + AllocGlobal>(
+    rt: &R,
+    path: &str,
+    limit: u64,
+) -> Result<Vec<u8>, Fault> {
+    match open(rt, path)? {
+        Opened::File(file, _) => read_up_to(rt.alloc(), file, limit),
+        Opened::Piped(bytes) => Ok(bytes),
+    }
+}
+
 /// A file as a sink. It is made if there is none; else it keeps its bytes until the sink's first byte.
 pub(crate) fn create<R: Files>(rt: &R, path: &str) -> Result<FileSink<R::File>, ProgramError>
     ensures { IfOk result (λ sink. ⟦<FileSink<R::File> as Sink>⟧.failures sink ≡ 0) }

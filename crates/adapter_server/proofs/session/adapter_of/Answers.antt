@@ -1,5 +1,5 @@
-use Rattle.std.proofs.Common.{◌∙◌, ℕ, List, ap}
-use Rattle.adapter.specs.Registers.{after_write, new_adapter}
+use Rattle.std.proofs.Common.{◌∙◌, ℕ, ap}
+use Rattle.adapter.specs.Registers.{after_write}
 use Rattle.adapter_server.specs.Sessions.{pba}
 use Rattle.adapter_server.proofs.session.adapter_of.Goals as goal
 
@@ -7,5 +7,4 @@ pub returns : goal.returns
 returns c =
     let options = c.args.options.now in
     c.write.ensures.state ∙ ap (λ (value : ℕ). after_write pba value c.in_ok-adapter.adapter) c.from.ensures
-    ∙ ap (after_write pba options.receive_kilobytes)
-    (c.in_ok-adapter.ensures ∙ ap (λ (words : List ℕ). new_adapter words options.link) c.with_address-image.ensures.words)
+    ∙ ap (after_write pba options.receive_kilobytes) c.in_ok-adapter.ensures
