@@ -38,7 +38,7 @@ fn image_in(bytes: &[u8]) -> Option<Image> {
 
 /// The contents of the EEPROM.
 fn image_of<R: Files + Input + AllocGlobal>(rt: &R, image: ServeImage<'_>) -> Result<Image, Fault>
-    ensures { IfOk result (IsImageFor image) }
+    ensures { IfOk result (IsImageFor image.entry) }
 {
     let path = match image {
         ServeImage::Address(address) => return Ok(Image::with_address(address)),
