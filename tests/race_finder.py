@@ -39,16 +39,16 @@ esac
 HASTY = ASK + 'ask "writel 0xFEB00014 1"\nask "readl 0xFEB00014"\ncase $answer in *20010) ;; *) exit 1 ;; esac\n'
 SMALLEST = "1.2 rxdata before read RDH\n1.4 rxdone before read rx[0]+12\n"
 CHART = """\
-   place  driver  registers      memory                      adapter       wire                 line
-   0.3    write   RDT = 0x1
-   0.4    write   RCTL = 0x8002
-                                                             stored        <- 60 bytes, ..0000
-   1.1    read    RDH -> 0x0
-*                                buffer of rx[0] is written  rxdata moved
-   1.2    read    RDH -> 0x1
-   1.3    read                   rx[0]+12, 1 bytes -> 00
-*                                rx[0] is written back       rxdone done
-   1.4    read                   rx[0]+12, 1 bytes -> 03
+   place  driver     registers              memory                         adapter          wire              line
+   0.3    write ---> RDT 0x1
+   0.4    write ---> RCTL 0x8002 EN BAM
+                                                                           stored <-------- 60 bytes, ..0000
+   1.1    read <---- RDH 0x0
+*                    RDH 0x1                buffer of rx[0] is written <-- rxdata moved
+   1.2    read <---- RDH 0x1
+   1.3    read <--------------------------- rx[0]+12 status 0x0
+*                                           rx[0] is written back <------- rxdone done
+   1.4    read <--------------------------- rx[0]+12 status 0x3 DD EOP
    exit status 1: finished too late
 """
 

@@ -5,12 +5,12 @@
 
 from typing import NamedTuple
 
-from race_finder.names import access_of, fields_of, value_in, words_of
+from race_finder.names import SLOT, access_of, fields_of, value_in, words_of
 from race_finder.play import DEVIATION
 from race_finder.shadow import Shadow
 
-# Rows that are shown before and after a deviation, and at the end; and of a run without a deviation.
-BEFORE, AFTER, LAST, ALONE = 4, 6, 6, 20
+# Rows that are shown before and after a deviation, and at the end; of a run without a deviation; and later rows of a slot.
+BEFORE, AFTER, LAST, ALONE, LATER = 4, 6, 6, 20, 3
 COLUMNS = ("", "place", "driver", "registers", "memory", "adapter", "wire", "line")
 STAR, BAR = "*", "|"
 SHORT = 24  # the digits of a value in memory that are shown
@@ -124,17 +124,30 @@ def rows_of(run):
     return rows
 
 
+def slot_of(row):
+    """The slot of a ring in a row, or None."""
+    found = SLOT.search(row.cells.get("memory", ""))
+    return found[0].partition("+")[0] if found else None
+
+
+def later_rows(rows, star):
+    """Where the slot that is accessed next after a deviation is used again: the first rows that aren't near the deviation."""
+    access = next((row for row in rows[star:] if "place" in row.cells), None)
+    slot = access and slot_of(access)
+    return [at for at in range(star + AFTER, len(rows)) if slot and slot_of(rows[at]) == slot][:LATER]
+
+
 def cut(rows):
-    """From some rows before the first deviation to the end; of long parts without a deviation, only the ends."""
+    """From some rows before the first deviation to the end; of long parts without a deviation, only a few rows."""
     stars = [at for at, row in enumerate(rows) if row.cells[""]]
     first = stars[0] - BEFORE if stars else len(rows) - ALONE
-    near = {at for star in stars for at in range(star - BEFORE, star + AFTER)}
+    near = {at for star in stars for at in (*range(star - BEFORE, star + AFTER), *later_rows(rows, star))}
     near.update(range(len(rows) - (LAST if stars else ALONE), len(rows)))
     shown, last = [], None
     for at in sorted(at for at in near if max(0, first) <= at < len(rows)):
-        if last is not None and at > last + 1:
+        if last is not None and at > last + 2:
             shown.append(ChartRow({"place": "..", "driver": f"{at - last - 1} rows"}))
-        shown.append(rows[at])
+        shown += rows[at - 1:at + 1] if last is not None and at == last + 2 else [rows[at]]
         last = at
     return shown
 

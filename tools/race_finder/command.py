@@ -15,7 +15,8 @@ fails is made smaller, and printed with the end of the log and a chart.
   --shard K/N          only each Nth of these runs, or of the schedules with DEPTH deviations, from the Kth on
   --holds              also leaves out steps of the EEPROM and the PHY
   --smaller N          after shrinking, tries at most N schedules to find a smaller one (default 1000)
-  --out FILE           stores the schedule that was found
+  --out PATH           stores the schedule that was found or replayed in this file; if PATH is a folder or ends with /,
+                       stores there schedule.txt, log.txt, chart.txt, chart.svg and run.vcd (waves, for GTKWave)
   --replay FILE        plays one schedule
   --reached            prints what the runs reached and what they never did, also if one fails
   --json               prints one JSON object instead of the text
@@ -33,7 +34,7 @@ import sys
 import time
 from contextlib import closing
 
-from race_finder.chart import chart
+from race_finder.chart import chart, end_of
 from race_finder.draw import Uniform
 from race_finder.explore import explore, smallest
 from race_finder.jobs import MOST_JOBS, in_order, processors
@@ -41,6 +42,7 @@ from race_finder.play import Mismatch, ServerEnded
 from race_finder.reached import lines_of, tables_of
 from race_finder.schedule import ScheduleError, parse, text_of
 from race_finder.shrink import Shrinker
+from race_finder.store import store
 from race_finder.target import CannotRun, Target
 
 TOP = os.path.dirname(os.path.dirname(os.path.dirname(os.path.abspath(__file__))))
@@ -180,16 +182,25 @@ class Finder:
 
     def show(self, run):
         """Prints a run's schedule, the end of its log, and its chart."""
-        text = text_of(run.met, self.target.options, [" ".join(self.target.command), run.fault])
+        text = self.text_of(run)
         lines = [row.line for row in run.rows][-LOG_LINES:]
         shown = "".join(f"{line if len(line) <= LONGEST_LINE else line[:LONGEST_LINE] + '..'}\n" for line in lines)
         self.say(f"\nThe schedule:\n{text}\nThe end of the log:\n{shown}\n{chart(run)}", end="")
-        if self.given["out"]:
-            try:
-                with open(self.given["out"], "w", encoding="utf-8", errors="surrogateescape") as file:
-                    file.write(text)
-            except OSError as error:
-                print(f"races: {self.given['out']}: {error.strerror}", file=sys.stderr)
+        self.store(run, text)
+
+    def text_of(self, run):
+        """The schedule of a run, with comments."""
+        return text_of(run.met, self.target.options, [" ".join(self.target.command), end_of(run)])
+
+    def store(self, run, text):
+        """Stores a run, if this is wanted. Returns whether this is possible."""
+        try:
+            if self.given["out"]:
+                store(self.given["out"], run, text)
+        except OSError as error:
+            print(f"races: {error.filename}: {error.strerror}", file=sys.stderr)
+            return False
+        return True
 
     def end(self, status):
         """Prints what the runs reached, if a search found nothing or on request; or everything as JSON. Returns the status."""
@@ -219,7 +230,8 @@ class Finder:
             self.note("fails", run.fault, schedule)
         elif is_strict and run.unreached:
             self.note("mismatch", f"{run.unreached[0]}: the run doesn't reach this place", schedule)
-        return PASSES if self.result["result"] == "passes" else FOUND
+        is_stored = self.store(run, self.text_of(run))
+        return FOUND if self.result["result"] != "passes" else PASSES if is_stored else USAGE
 
 
 def call(words):
