@@ -1,4 +1,4 @@
-"""The charts of the finder of races: those in docs/RACES.md, the picture, the value change dump, and the files of --out.
+"""The finder of races: its charts in docs/RACES.md, the picture, the value change dump, and the files of `--out`.
 
 The dump is read by a small parser here, and by `vcd2fst` of GTKWave if it is installed (Debian: package gtkwave).
 """
@@ -9,10 +9,9 @@ import shutil
 import subprocess
 import sys
 import xml.etree.ElementTree as ElementTree
-from itertools import accumulate
 
-from race_finder import EXCHANGE, FINDER, FOUND, PASSES, SMALL, SMALLEST, USAGE, find, replay
-from race_finder_output import REGISTERS, script, whole
+from race_finder import FINDER, FOUND, FRAME, PASSES, SMALL, SMALLEST, USAGE, find, replay
+from race_finder_output import REGISTERS, read, script, whole, write
 from race_finder_stages import BUGS, MORE_BUGS, STAGED, rows
 from server import LIMIT, lines
 from server_pages import TOP, read_page
@@ -100,7 +99,7 @@ def arrow_of(row, starts):
         return None
     tail, y, tip, *head = map(int, re.findall(r"\d+", paths[0].get("d")))
     begin, end = sorted((tail, tip))
-    is_head = head[2:4] == [tip, y] and all(begin < x < end for x in head[::4]) and abs(head[1] - y) == abs(head[5] - y) > 2
+    is_head = head[2:4] == [tip, y] and begin < head[0] == head[4] < end and y - head[1] == head[5] - y > 2
     return (columns_of(starts, begin, end), tip > tail) if is_head else paths[0].get("d")
 
 
@@ -108,7 +107,7 @@ def picture_rows(root):
     """The same rows of a picture, and its last line. A bar is told by the places of its rectangles."""
     heading = root.find(f"{SVG}g[@class='heading']")
     starts = {text.get("class"): int(text.get("x")) for text in heading if text.get("class") == text.text}
-    bars = [(int(bar.get("x")), int(bar.get("y")), int(bar.get("height"))) for bar in root.findall(f"{SVG}rect[@class='bar']")]
+    bars = [[int(bar.get(key)) for key in ("x", "y", "height")] for bar in root.findall(f"{SVG}rect[@class='bar']")]
     found = []
     for row in root.findall(f"{SVG}g"):
         if row is heading:
@@ -117,8 +116,8 @@ def picture_rows(root):
         y = {int(text.get("y")) for text in texts.values()}
         middle = min(y) - 4
         is_up = any(x == starts["line"] and at < middle < at + height for x, at, height in bars)
-        in_place = len(y) == 1 and all(int(text.get("x")) == starts[name] for name, text in texts.items() if name != "star")
         star = texts.pop("star").text if "star" in texts else " "
+        in_place = len(y) == 1 and all(int(text.get("x")) == starts[name] for name, text in texts.items())
         has_mark = (row.find(f"{SVG}rect[@class='mark']") is not None, row.get("class") == "row deviation")
         cells = {name: text.text for name, text in texts.items()} if in_place and has_mark == (star == "*",) * 2 else {}
         found.append((star, cells, arrow_of(row, starts), "|" if is_up else ""))
@@ -136,8 +135,8 @@ def contrasts(style):
     """The smallest contrast of texts and arrows, and that of the bar, for each of two backgrounds."""
     for scheme in style.split("@media (prefers-color-scheme: dark)"):
         color = {name: light(one) for name, one in re.findall(r"([.\w]+) \{ (?:fill|stroke): (#[0-9a-f]{6})", scheme)}
-        pairs = [("text", ".page"), ("text", ".mark"), ("path", ".page"), ("path", ".mark"), (".bar", ".page"), (".bar", ".mark")]
-        ratios = [(max(color[a], color[b]) + 0.05) / (min(color[a], color[b]) + 0.05) for a, b in pairs]
+        pairs = [(color[one], color[back]) for one in ("text", "path", ".bar") for back in (".page", ".mark")]
+        ratios = [(max(pair) + 0.05) / (min(pair) + 0.05) for pair in pairs]
         yield min(ratios[:4]), min(ratios[4:])
 
 
@@ -150,11 +149,11 @@ def check_picture(server, name):
     server.check(f"picture: {name}, its number of rows", len(got), len(wanted))
     for at, (one, other) in enumerate(zip(got, wanted)):
         server.check(f"picture: {name}, row {at + 1}", one, other)
-    kinds = {element.tag.removeprefix(SVG) for element in root.iter()}
-    server.check(f"picture: {name}, its elements", kinds <= {"svg", "title", "style", "rect", "g", "text", "path"}, True)
-    width, height = int(root.get("width")), int(root.get("height"))
-    inside = [0 <= int(one.get(key)) < size for one in root.iter() for key, size in (("x", width), ("y", height)) if one.get(key)]
-    server.check(f"picture: {name}, all is inside", all(inside), True)
+    kinds = {one.tag.removeprefix(SVG) for one in root.iter()}
+    server.check(f"picture: {name}, its elements", sorted(kinds - {"rect"}), ["g", "path", "style", "svg", "text", "title"])
+    sizes = {"x": int(root.get("width")), "y": int(root.get("height"))}
+    outside = [one.tag for one in root.iter() for key in sizes if not 0 <= int(one.get(key, 0)) < sizes[key]]
+    server.check(f"picture: {name}, all is inside", outside, [])
     return wanted
 
 
@@ -163,7 +162,8 @@ def looks(server):
     root = ElementTree.fromstring(server.get("charts/chart.svg").decode())
     page = root.find(f"{SVG}rect[@class='page']")
     size = [root.get("width"), root.get("height")]
-    server.check("picture: its background is all of it", [page.get("width"), page.get("height"), *root.get("viewBox").split()[2:]], size * 2)
+    server.check("picture: its background", [page.get("width"), page.get("height")], size)
+    server.check("picture: its view", root.get("viewBox").split(), ["0", "0", *size])
     found = list(contrasts(root.find(f"{SVG}style").text))
     server.check("picture: two backgrounds", len(found), 2)
     server.check("picture: its contrasts", [(text > 7, bar > 3) for text, bar in found], [(True, True)] * 2)
@@ -173,24 +173,29 @@ def looks(server):
 def pictures(server):
     """Pictures of several runs have the rows of their texts; all kinds of rows are among them."""
     seen = []
-    for test, bug, schedule in [("cuts", "cuts", "2.6 rxdone before write tx[1]"), ("stages", "eerd", "0.9 hold eeprom before read EERD"),
-                                ("stages", "late", "4.6 rxdone before read ICR"), ("stages", "part", "")]:
+    for test, bug, schedule in [("cuts", "cuts", "2.6 rxdone before write tx[1]"), ("stages", "part", ""),
+                                ("stages", "eerd", "0.9 hold eeprom before read EERD"),
+                                ("stages", "late", "4.6 rxdone before read ICR")]:
         replay(server, schedule, "--out", "charts/", command=[*STAGED, test, bug])
         seen += check_picture(server, bug)
     looks(server)
     arrows = {row[2] for row in seen if row[2]}
-    ways = [(("driver", "registers"), True), (("driver", "registers"), False), (("driver", "memory"), True), (("driver", "memory"), False),
-            (("memory", "adapter"), True), (("memory", "adapter"), False), (("registers", "adapter"), False), (("adapter", "wire"), True)]
+    pairs = [("driver", "registers"), ("driver", "memory"), ("memory", "adapter")]
+    ways = [(pair, way) for pair in pairs for way in (True, False)]
+    ways += [(("registers", "adapter"), False), (("adapter", "wire"), True)]
     server.check("pictures: arrows that are seen", sorted(arrows), sorted(ways))
-    server.check("pictures: bars, stars and cuts", [{row[3] for row in seen}, {row[0] for row in seen}, any(row[1].get("place") == ".." for row in seen)],
-                 [{"", "|"}, {" ", "*"}, True])
+    marks = [{row[3] for row in seen}, {row[0] for row in seen}]
+    server.check("pictures: bars and stars", marks, [{"", "|"}, {" ", "*"}])
+    server.check("pictures: rows that are cut", ".." in [row[1].get("place") for row in seen], True)
     server.put("small", SMALL.encode())
     replay(server, SMALLEST, "--out", "charts/", command=["sh", "small", "fails"])
     seen = check_picture(server, "small")
-    server.check("pictures: an arrival", [row[2] for row in seen if row[1].get("adapter") == "stored"], [(("adapter", "wire"), False)])
+    arrival = [row[2] for row in seen if row[1].get("adapter") == "stored"]
+    server.check("pictures: an arrival", arrival, [(("adapter", "wire"), False)])
     replay(server, "", "--out", "charts/", command=["sh", "-c", r"printf '<a&b>]]>\033\377' >&2; exit 1"])
     root = ElementTree.fromstring(server.get("charts/chart.svg").decode())
-    server.check("pictures: any fault", root.find(f"{SVG}text[@class='end']").text, 'exit status 1: <a&b>]]>\ufffd\ufffd')
+    end = root.find(f"{SVG}text[@class='end']").text
+    server.check("pictures: any fault", end, "exit status 1: <a&b>]]>\ufffd\ufffd")
     shutil.rmtree(server.path("charts"))
 
 
@@ -204,7 +209,7 @@ BASE, SIZE, UNITS = 0xFEB00000, 0x20000, 16
 
 
 def parse_dump(text):
-    """The variables of a dump (type, size) and their changes (time, value) by path. Fails if the dump isn't well-formed."""
+    """The variables of a dump (type, size) and their changes (time, value) by path. The dump must be well-formed."""
     head, end, body = text.partition("$enddefinitions $end\n")
     assert end
     sections = re.findall(r"\$(\w+)\s(.*?)\$end", head, re.S)
@@ -300,14 +305,16 @@ class Wanted:
 def readers(server, name, variables, changes):
     """GTKWave's own reader has the same variables and changes."""
     if not (shutil.which("vcd2fst") and shutil.which("fst2vcd")):
-        print("race_finder_charts: vcd2fst isn't installed (Debian: package gtkwave), so only the parser of this test has read the dumps")
+        print(f"dump: {name}: vcd2fst (Debian: package gtkwave) isn't installed: only the parser of the test reads it")
         return
-    ran = subprocess.run(["vcd2fst", "run.vcd", "run.fst"], cwd=server.path("charts"), capture_output=True, timeout=LIMIT)
+    folder = server.path("charts")
+    ran = subprocess.run(["vcd2fst", "run.vcd", "run.fst"], cwd=folder, capture_output=True, timeout=LIMIT)
     server.check(f"dump: {name}, vcd2fst", (ran.returncode, ran.stderr), (0, b""))
-    ran = subprocess.run(["fst2vcd", "run.fst"], cwd=server.path("charts"), capture_output=True, timeout=LIMIT)
+    ran = subprocess.run(["fst2vcd", "run.fst"], cwd=folder, capture_output=True, timeout=LIMIT)
     got, again = parse_dump(ran.stdout.decode())
     server.check(f"dump: {name}, its variables in GTKWave", got, variables)
-    server.check(f"dump: {name}, its changes in GTKWave", [path for path in changes if again[path] != changes[path]], [])
+    others = [path for path in changes if again[path] != changes[path]]
+    server.check(f"dump: {name}, its changes in GTKWave", others, [])
 
 
 def check_dump(server, name):
@@ -327,8 +334,9 @@ def check_dump(server, name):
 
 def dumps(server):
     """Dumps of runs of drivers, and of requests that reach everything."""
-    requests = lines([*whole(), "readl 0xFEB00044", "writel 0xFEB00044 5", "writel 0xFEB000D0 255", "writel 0xFEB000C8 4", "readl 0xFEB000C0"])
-    server.put("requests", requests)
+    # At the end: an offset without a register, and an interrupt.
+    more = ["readl 0xFEB00044", "writel 0xFEB00044 5", write("IMS", 255), write("ICS", 4), read("ICR")]
+    server.put("requests", lines([*whole(), *more]))
     for name, schedule, command in [("late", "4.6 rxdone before read ICR", [*STAGED, "stages", "late"]),
                                     ("cuts", "2.6 rx before write tx[1]", [*STAGED, "cuts", "cuts"]),
                                     ("eerd", "0.9 hold eeprom before read EERD", [*STAGED, "stages", "eerd"]),
@@ -338,13 +346,13 @@ def dumps(server):
         variables, got = check_dump(server, name)
         deviations = [time for time, _ in got["deviation"]]
         server.check(f"dump: {name}, its deviations", len(deviations), bool(schedule))
-        places = [(got["round"], schedule.partition(".")[0]), (got["access"], schedule.partition(" ")[0].partition(".")[2])]
-        for told, wanted in places if schedule else ():  # the access after the deviation is at the next multiple
-            at = (deviations[0] // UNITS + 1) * UNITS
-            server.check(f"dump: {name}, the place of its deviation", [value for time, value in told if time <= at][-1], int(wanted))
-    kinds = {path.rpartition(".")[0].removeprefix("race."): kind for path, kind in variables.items() if kind[0] != "event"}
-    server.check("dump: its scopes", kinds, {"adapter": ("wire", 1), "rings": ("reg", 16), "driver": ("integer", 32), "registers": ("reg", 32),
-                                             **dict.fromkeys(TABLES, ("reg", 32))})
+        for at in [(time // UNITS + 1) * UNITS for time in deviations]:  # the access after the deviation
+            place = [[value for time, value in got[word] if time <= at][-1] for word in ("round", "access")]
+            server.check(f"dump: {name}, the place of its deviation", "{}.{}".format(*place), schedule.split(" ")[0])
+    kinds = {tuple(path.split(".")[:-1]): kind for path, kind in variables.items() if kind[0] != "event"}
+    wanted = {"adapter": ("wire", 1), "rings": ("reg", 16), "driver": ("integer", 32), "registers": ("reg", 32),
+              **dict.fromkeys(TABLES, ("reg", 32))}
+    server.check("dump: its scopes", kinds, {("race", scope): kind for scope, kind in wanted.items()})
     shutil.rmtree(server.path("charts"))
 
 
@@ -355,11 +363,12 @@ import sys
 sys.dont_write_bytecode = True
 sys.path.insert(0, sys.argv[2])
 from race_finder.names import fields_of, value_in
-for name, size, data in [("rx[3]+8", 5, "f205000001"), ("rx[3]+8", 5, "0000000000"), ("rx[12]", 16, "00" * 16), ("tx[0]+12", 1, "01"),
-                         ("tx[7]", 16, "00000200000000003c0000091100"), ("tx[7]", 16, "00000200000000003c00000911000000"),
-                         ("rx[0]+7", 2, "0000"), ("rx[0]+8", 1, "07"), ("rx[0]+12", 8, "00" * 8), ("0x1000", 4, "00000000"), ("rx[0]", 8, "00010000" * 2)]:
-    print(fields_of(name, size, int.from_bytes(bytes.fromhex(data), "little")))
-for register, value in [("ICR", 0x80), ("RCTL", 0x04038002), ("TCTL", 0xA), ("EERD", 0x110), ("RAH[0]", 1 << 31), ("MTA[0]", 1), ("RDT", 0)]:
+for name, data in [("rx[3]+8", "f205000001"), ("rx[3]+8", "0000000000"), ("rx[12]", "00" * 16), ("tx[0]+12", "01"),
+                   ("tx[7]", "00000200000000003c00000911000000"), ("rx[0]+7", "0000"), ("rx[0]+8", "07"),
+                   ("rx[0]+12", "00" * 8), ("0x1000", "00000000"), ("rx[0]", "00010000" * 2)]:
+    print(fields_of(name, len(data) // 2, int.from_bytes(bytes.fromhex(data), "little")))
+for register, value in [("ICR", 0x80), ("RCTL", 0x04038002), ("TCTL", 0xA), ("EERD", 0x110), ("RAH[0]", 1 << 31),
+                        ("MTA[0]", 1), ("RDT", 0)]:
     print(value_in(register, value))
 """
 FIELDS_TOLD = """\
@@ -367,7 +376,6 @@ length 1522, status 0x1 DD
 length 0, status 0x0
 buffer 0x0, length 0, checksum 0x0, status 0x0, errors 0x0, special 0x0
 status 0x1 DD
-buffer 0x20000, length 60, command 0x9 EOP RS, status 0x11 DD
 buffer 0x20000, length 60, command 0x9 EOP RS, status 0x11 DD
 None
 None
@@ -387,7 +395,8 @@ buffer 0x10000000100
 def files(server):
     """`--out` stores a schedule, or a folder with the charts, after a search and after a replay; or says why not."""
     server.put("small", SMALL.encode())
-    small, schedule = ["sh", "small", "fails"], f"# sh small fails\n# exit status 1: finished too late\n{SMALLEST}".encode()
+    schedule = f"# sh small fails\n# exit status 1: finished too late\n{SMALLEST}".encode()
+    small = ["sh", "small", "fails"]
     status, out, errors = find(server, "--explore", "2", "--out", "charts/", command=small)
     first = {name: server.get(f"charts/{name}") for name in sorted(os.listdir(server.path("charts")))}
     server.check("files: of a search", (status, list(first), errors), (FOUND, FILES, ""))
@@ -397,15 +406,17 @@ def files(server):
     second = {name: server.get(f"charts/{name}") for name in sorted(os.listdir(server.path("charts")))}
     server.check("files: of a replay, the same", (ran, second == first, errors), (FOUND, True, ""))
     log = second["log.txt"].decode().splitlines()
-    server.check("files: answers in the log", log[5:], ["# readl 0xFEB02810 -> 0x0000000000000000", "# step rxdata -> moved",
-                 "# readl 0xFEB02810 -> 0x0000000000000001", "# readb 12 -> 0x0000000000000000", "# step rxdone -> done",
-                 "# readb 12 -> 0x0000000000000003"])
-    server.check("files: an arrival in the log", (log[4][:9], log[4][-10:]), ("# arrive ", " -> stored"))
+    wanted = [f"# readl 0xFEB02810 -> {0:#018x}", "# step rxdata -> moved", f"# readl 0xFEB02810 -> {1:#018x}",
+              f"# readb 12 -> {0:#018x}", "# step rxdone -> done", f"# readb 12 -> {3:#018x}"]
+    server.check("files: answers in the log", log[5:], wanted)
+    wanted = ["# writel 0xFEB00100 0x8002", f"# arrive {FRAME} -> stored"]
+    server.check("files: a write and an arrival in the log", log[3:5], wanted)
     replay(server, SMALLEST, "--out", "found", command=small)
     server.check("files: a schedule alone", server.get("found"), schedule)
     for path in ("small/", "none/x", "found/"):
         status, _, errors = replay(server, "", "--out", path, command=["true"])
-        server.check(f"files: {path}", (status, re.fullmatch(r"races: \S+: [A-Z][a-z ]+\n", errors) is not None), (USAGE, True))
+        is_told = re.fullmatch(r"races: \S+: [A-Z][a-z ]+\n", errors) is not None
+        server.check(f"files: {path} can't be written", (status, is_told), (USAGE, True))
     shutil.rmtree(server.path("charts"))
     server.check("files: fields and bits", script(server, FIELDS), (0, FIELDS_TOLD, ""))
 

@@ -9,8 +9,8 @@ from race_finder.names import SLOT, access_of, fields_of, value_in, words_of
 from race_finder.play import DEVIATION
 from race_finder.shadow import Shadow
 
-# Rows that are shown before and after a deviation, and at the end; of a run without a deviation; and later rows of a slot.
-BEFORE, AFTER, LAST, ALONE, LATER = 4, 6, 6, 20, 3
+# Rows that are shown: before and after a deviation, at the end, later ones of a slot, and of a run without a deviation.
+BEFORE, AFTER, LAST, LATER, ALONE = 4, 6, 6, 3, 20
 COLUMNS = ("", "place", "driver", "registers", "memory", "adapter", "wire", "line")
 STAR, BAR = "*", "|"
 SHORT = 24  # the digits of a value in memory that are shown
@@ -19,7 +19,7 @@ NARROW = 2
 
 
 class ChartRow(NamedTuple):
-    """A row of a chart: its texts by column, and the columns where its arrow begins and ends (None if it has no arrow)."""
+    """A row of a chart: its texts by column, and the columns where its arrow begins and ends (None if it has none)."""
     cells: dict
     arrow: tuple = None
 
@@ -131,7 +131,7 @@ def slot_of(row):
 
 
 def later_rows(rows, star):
-    """Where the slot that is accessed next after a deviation is used again: the first rows that aren't near the deviation."""
+    """Where the slot that is accessed next after a deviation is used again: the first rows that aren't near it."""
     access = next((row for row in rows[star:] if "place" in row.cells), None)
     slot = access and slot_of(access)
     return [at for at in range(star + AFTER, len(rows)) if slot and slot_of(rows[at]) == slot][:LATER]

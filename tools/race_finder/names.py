@@ -18,12 +18,14 @@ CAUSES = {0: "TXDW", 1: "TXQE", 2: "LSC", 4: "RXDMT0", 6: "RXO", 7: "RXT0", 9: "
 # Bits of other registers that have names here.
 BITS = {
     "CTRL": {0: "FD", 5: "ASDE", 6: "SLU", 26: "RST"}, "STATUS": {0: "FD", 1: "LU"}, "EERD": {0: "START", 4: "DONE"},
-    "MDIC": {28: "R", 29: "I", 30: "E"}, "RCTL": {1: "EN", 3: "UPE", 4: "MPE", 15: "BAM", 18: "VFE", 25: "BSEX", 26: "SECRC"},
-    "TCTL": {1: "EN", 3: "PSP"}, "RAH": {31: "AV"}, **dict.fromkeys(("ICR", "ICS", "IMS", "IMC"), CAUSES),
+    "MDIC": {28: "R", 29: "I", 30: "E"}, "TCTL": {1: "EN", 3: "PSP"}, "RAH": {31: "AV"},
+    "RCTL": {1: "EN", 3: "UPE", 4: "MPE", 15: "BAM", 18: "VFE", 25: "BSEX", 26: "SECRC"},
+    **dict.fromkeys(("ICR", "ICS", "IMS", "IMC"), CAUSES),
 }
 # Fields of descriptors: the first byte, the size in bytes, and the name.
 FIELDS = {
-    "rx": ((0, 8, "buffer"), (8, 2, "length"), (10, 2, "checksum"), (12, 1, "status"), (13, 1, "errors"), (14, 2, "special")),
+    "rx": ((0, 8, "buffer"), (8, 2, "length"), (10, 2, "checksum"), (12, 1, "status"), (13, 1, "errors"),
+           (14, 2, "special")),
     "tx": ((0, 8, "buffer"), (8, 2, "length"), (10, 1, "CSO"), (11, 1, "command"), (12, 1, "status"), (13, 1, "CSS"),
            (14, 2, "special")),
 }
@@ -113,9 +115,9 @@ def value_of_field(ring, field, value):
 def fields_of(name, size, value):
     """The fields in some bytes of a descriptor, such as `length 60, status 0x3 DD EOP`.
 
-    `name` is the name of the memory, such as `rx[1]+8`, and `value` has its bytes as a number. Returns None if the bytes
-    aren't whole fields of one descriptor. Fields with value 0 are left out, except for the length and the status in a
-    part of a descriptor.
+    `name` is the name of the memory, such as `rx[1]+8`, and `value` has its bytes as a number. Fields with value 0 are
+    left out, except for the length and the status in a part of a descriptor. Returns None if the bytes aren't complete
+    fields of one descriptor.
     """
     found = SLOT.fullmatch(name)
     begin = int(found[2] or 0) if found else 0

@@ -1,8 +1,8 @@
 """A run as a value change dump (IEEE 1364, section 18), for programs that show waves.
 
-The dump has no dates, so the same run leads to the same dump. Each access has a time that is a multiple of 16. What comes
-before it (steps, holds and arrivals) takes one unit each, so the access is at the next multiple. A change of the interrupt
-line and a frame on the wire have the time of the step or access that causes them.
+The dump has no date, so the same run leads to the same dump. The time of an access is the next multiple of 16. A step,
+a hold or an arrival takes one unit. A change of the interrupt line, and a frame on the wire, have the time of the step
+or the access that causes them.
 """
 
 import re
@@ -20,7 +20,8 @@ ACCESSES = ("read_register", "write_register", "read_memory", "write_memory")
 ORDER = {name: at for at, name in enumerate(REGISTERS.values())}
 FIRST, LAST = 33, 126  # the characters of identifier codes
 # The kinds of variables: each with its type in the dump and its size in bits.
-KINDS = {"event": ("event", 1), "line": ("wire", 1), "head": ("reg", 16), "register": ("reg", 32), "number": ("integer", 32)}
+KINDS = {"event": ("event", 1), "line": ("wire", 1), "head": ("reg", 16), "register": ("reg", 32),
+         "number": ("integer", 32)}
 
 
 def code_of(number):
@@ -66,10 +67,10 @@ def event_of(row):
 
 def variables_of(rows):
     """The variables of a dump by scope, each with its name and its kind."""
-    events = [*map(identifier, (*ALL["steps"], *HOLDS)), *(f"arrive_{fate}" for fate in ALL["fates"]), "frame", "deviation"]
-    events = dict.fromkeys([*events, *filter(None, map(event_of, rows))], "event")
+    events = [*ALL["steps"], *HOLDS, *(f"arrive {fate}" for fate in ALL["fates"]), "frame", "deviation"]
+    seen = filter(None, map(event_of, rows))
     scopes = {
-        "adapter": {"irq": "line", **events},
+        "adapter": {"irq": "line", **dict.fromkeys((*map(identifier, events), *seen), "event")},
         "rings": dict.fromkeys(HEADS, "head"),
         "driver": {"round": "number", "access": "number", **dict.fromkeys(ACCESSES, "event")},
     }
