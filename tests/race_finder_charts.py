@@ -150,7 +150,8 @@ def check_picture(server, name):
     for at, (one, other) in enumerate(zip(got, wanted)):
         server.check(f"picture: {name}, row {at + 1}", one, other)
     kinds = {one.tag.removeprefix(SVG) for one in root.iter()}
-    server.check(f"picture: {name}, its elements", sorted(kinds - {"rect"}), ["g", "path", "style", "svg", "text", "title"])
+    wanted_kinds = {"g", "path", "rect", "style", "svg", "text", "title"}
+    server.check(f"picture: {name}, its elements", kinds, wanted_kinds)
     sizes = {"x": int(root.get("width")), "y": int(root.get("height"))}
     outside = [one.tag for one in root.iter() for key in sizes if not 0 <= int(one.get(key, 0)) < sizes[key]]
     server.check(f"picture: {name}, all is inside", outside, [])

@@ -32,7 +32,6 @@ def code_of(number):
         code += chr(FIRST + digit)
         if number == 0:
             return code
-        number -= 1
 
 
 def identifier(name):
