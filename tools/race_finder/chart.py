@@ -131,10 +131,20 @@ def slot_of(row):
 
 
 def later_rows(rows, star):
-    """Where the slot that is accessed next after a deviation is used again: the first rows that aren't near it."""
+    """The first rows in which the slot that is accessed after a deviation is used otherwise than near the deviation."""
     access = next((row for row in rows[star:] if "place" in row.cells), None)
     slot = access and slot_of(access)
-    return [at for at in range(star + AFTER, len(rows)) if slot and slot_of(rows[at]) == slot][:LATER]
+    uses = {}  # the first row of each use
+    for at, row in enumerate(rows[star:], star):
+        if slot and slot_of(row) == slot:
+            uses.setdefault(row.cells["memory"], at)
+    return [at for at in uses.values() if at >= star + AFTER][:LATER]
+
+
+def last_rows(rows):
+    """The last rows; of rows that differ only in their places, only the last one."""
+    texts = [{**row.cells, "place": ""} for row in rows]
+    return [at for at in range(max(0, len(rows) - LAST), len(rows)) if texts[at] != (texts[at + 1:] or [None])[0]]
 
 
 def cut(rows):
@@ -142,7 +152,7 @@ def cut(rows):
     stars = [at for at, row in enumerate(rows) if row.cells[""]]
     first = stars[0] - BEFORE if stars else len(rows) - ALONE
     near = {at for star in stars for at in (*range(star - BEFORE, star + AFTER), *later_rows(rows, star))}
-    near.update(range(len(rows) - (LAST if stars else ALONE), len(rows)))
+    near.update(last_rows(rows) if stars else range(first, len(rows)))
     shown, last = [], None
     for at in sorted(at for at in near if max(0, first) <= at < len(rows)):
         if last is not None and at > last + 2:
