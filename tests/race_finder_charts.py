@@ -393,6 +393,40 @@ buffer 0x10000000100
 """
 
 
+# Charts of rows with numbers: each line has the stars, what other rows have in memory, and the number of rows.
+CUT = """
+import sys
+sys.dont_write_bytecode = True
+sys.path.insert(0, sys.argv[2])
+from race_finder.chart import ChartRow, cut
+for stars, memory, count in [((), {}, 30), ((), {}, 3), ((10,), {}, 40), ((10, 30), {}, 60), ((10, 21), {}, 32), ((0,), {}, 2),
+                             ((10,), {at: "read" for at in range(35, 40)}, 40),
+                             ((10,), {11: "tx[1]+8 a", 18: "tx[1] b", 19: "tx[1]+8 a", 20: "tx[0] c", 21: "buffer of tx[1] d",
+                                      25: "tx[1] b", 28: "tx[1] e", 30: "tx[1] f"}, 60)]:
+    rows = [ChartRow({"": "*"} if at in stars else {"": "", "place": str(at), "memory": memory.get(at, str(at))})
+            for at in range(count)]
+    print(*(row.cells.get("") or row.cells.get("driver") or row.cells["place"] for row in cut(rows)))
+"""
+CUT_TOLD = """\
+10 11 12 13 14 15 16 17 18 19 20 21 22 23 24 25 26 27 28 29
+0 1 2
+6 7 8 9 * 11 12 13 14 15 18 rows 34 35 36 37 38 39
+6 7 8 9 * 11 12 13 14 15 10 rows 26 27 28 29 * 31 32 33 34 35 18 rows 54 55 56 57 58 59
+6 7 8 9 * 11 12 13 14 15 16 17 18 19 20 * 22 23 24 25 26 27 28 29 30 31
+* 1
+6 7 8 9 * 11 12 13 14 15 18 rows 34 4 rows 39
+6 7 8 9 * 11 12 13 14 15 2 rows 18 2 rows 21 6 rows 28 25 rows 54 55 56 57 58 59
+"""
+
+
+def cuts(server):
+    """The rows that a chart shows: near deviations, at the end, other uses of a slot; and 20 rows without a deviation."""
+    status, out, errors = script(server, CUT)
+    server.check("cuts: it runs", (status, errors), (0, ""))
+    for at, (got, wanted) in enumerate(zip([*out.splitlines(), *[""] * 8], CUT_TOLD.splitlines())):
+        server.check(f"cuts: chart {at + 1}", got, wanted)
+
+
 def files(server):
     """`--out` stores a schedule, or a folder with the charts, after a search and after a replay; or says why not."""
     server.put("small", SMALL.encode())
@@ -423,5 +457,5 @@ def files(server):
 
 
 def all_cases(server):
-    for part in [pages, pictures, dumps, files]:
+    for part in [pages, pictures, dumps, cuts, files]:
         part(server)
