@@ -399,10 +399,10 @@ import sys
 sys.dont_write_bytecode = True
 sys.path.insert(0, sys.argv[2])
 from race_finder.chart import ChartRow, cut
-for stars, memory, count in [((), {}, 30), ((), {}, 3), ((10,), {}, 40), ((10, 30), {}, 60), ((10, 21), {}, 32), ((0,), {}, 2),
-                             ((10,), {at: "read" for at in range(35, 40)}, 40),
-                             ((10,), {11: "tx[1]+8 a", 18: "tx[1] b", 19: "tx[1]+8 a", 20: "tx[0] c", 21: "buffer of tx[1] d",
-                                      25: "tx[1] b", 28: "tx[1] e", 30: "tx[1] f"}, 60)]:
+slots = {11: "tx[1]+8 a", 18: "tx[1] b", 19: "tx[1]+8 a", 20: "tx[0] c", 21: "buffer of tx[1] d", 25: "tx[1] b",
+         28: "tx[1] e", 30: "tx[1] f"}
+for stars, memory, count in [((), {}, 30), ((), {}, 3), ((10,), {}, 40), ((10, 30), {}, 60), ((10, 21), {}, 32),
+                             ((0,), {}, 2), ((10,), {at: "read" for at in range(35, 40)}, 40), ((10,), slots, 60)]:
     rows = [ChartRow({"": "*"} if at in stars else {"": "", "place": str(at), "memory": memory.get(at, str(at))})
             for at in range(count)]
     print(*(row.cells.get("") or row.cells.get("driver") or row.cells["place"] for row in cut(rows)))
@@ -420,7 +420,7 @@ CUT_TOLD = """\
 
 
 def cuts(server):
-    """The rows that a chart shows: near deviations, at the end, other uses of a slot; and 20 rows without a deviation."""
+    """The rows that a chart shows: near deviations, at the end, other uses of a slot; 20 rows without a deviation."""
     status, out, errors = script(server, CUT)
     server.check("cuts: it runs", (status, errors), (0, ""))
     for at, (got, wanted) in enumerate(zip([*out.splitlines(), *[""] * 8], CUT_TOLD.splitlines())):

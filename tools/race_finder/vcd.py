@@ -83,25 +83,29 @@ class Dump:
 
     def __init__(self, scopes, comment):
         self.codes, self.kinds, self.values, self.lines = {}, {}, {}, []
-        self.now, self.told = 0, None  # the time, and the last time that is in the lines
-        self.head(scopes, comment)
-
-    def head(self, scopes, comment):
+        self.now = self.told = 0  # the time, and the last time that is in the lines
         self.lines += ["$version races of nicbench $end", f"$comment {comment} $end", "$timescale 1 ns $end",
                        "$scope module race $end"]
         for scope, variables in scopes.items():
-            self.lines.append(f"$scope module {scope} $end")
-            for name, kind in variables.items():
-                self.codes[name], self.kinds[name] = code_of(len(self.codes)), kind
-                word, size = KINDS[kind]
-                self.lines.append(f"$var {word} {size} {self.codes[name]} {name} $end")
-            self.lines.append("$upscope $end")
+            self.declare(scope, variables)
         self.lines += ["$upscope $end", "$enddefinitions $end", "#0", "$dumpvars"]
-        self.told = 0
+        self.begin()
+        self.lines.append("$end")
+
+    def declare(self, scope, variables):
+        """The variables of a scope."""
+        self.lines.append(f"$scope module {scope} $end")
+        for name, kind in variables.items():
+            self.codes[name], self.kinds[name] = code_of(len(self.codes)), kind
+            word, size = KINDS[kind]
+            self.lines.append(f"$var {word} {size} {self.codes[name]} {name} $end")
+        self.lines.append("$upscope $end")
+
+    def begin(self):
+        """The first values. An event has none, and a register isn't known before its first access."""
         for name, kind in self.kinds.items():
             if kind != "event":
                 self.change(name, None if kind == "register" else 0)
-        self.lines.append("$end")
 
     def change(self, name, value):
         """A variable has this value from now on (None if it isn't known), if it hasn't already."""
