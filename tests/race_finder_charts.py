@@ -287,7 +287,7 @@ class Wanted:
             self.ring[f"{letter}DH"] = (self.ring[f"{letter}DH"] + 1) % (self.ring[f"{letter}DLEN"] // 16)
 
     def access(self, words):
-        is_write, offset = words[0].startswith("write"), int(words[1], 0) - BASE
+        is_write, offset = not words[0].startswith("read"), int(words[1], 0) - BASE
         is_register = words[0].endswith("l") and 0 <= offset < SIZE
         self.happen(f"{'write' if is_write else 'read'}_{'register' if is_register else 'memory'}")
         if not is_register:
@@ -335,8 +335,9 @@ def check_dump(server, name):
 
 def dumps(server):
     """Dumps of runs of drivers, and of requests that reach everything."""
-    # At the end: an offset without a register, and an interrupt.
-    more = ["readl 0xFEB00044", "writel 0xFEB00044 5", write("IMS", 255), write("ICS", 4), read("ICR")]
+    # At the end: an offset without a register, an interrupt, and a reset, after which heads and tails are 0.
+    more = ["readl 0xFEB00044", "writel 0xFEB00044 5", write("IMS", 255), write("ICS", 4), read("ICR"),
+            write("TDT", 0x70005), read("TDT"), write("CTRL", 1 << 26), read("RDH"), read("TDT")]
     server.put("requests", lines([*whole(), *more]))
     for name, schedule, command in [("late", "4.6 rxdone before read ICR", [*STAGED, "stages", "late"]),
                                     ("cuts", "2.6 rx before write tx[1]", [*STAGED, "cuts", "cuts"]),
@@ -354,6 +355,15 @@ def dumps(server):
     wanted = {"adapter": ("wire", 1), "rings": ("reg", 16), "driver": ("integer", 32), "registers": ("reg", 32),
               **dict.fromkeys(TABLES, ("reg", 32))}
     server.check("dump: its scopes", kinds, {("race", scope): kind for scope, kind in wanted.items()})
+    shutil.rmtree(server.path("charts"))
+
+
+def dump_of_any_fault(server):
+    """A fault with keywords and other characters doesn't end the comment of a dump."""
+    replay(server, "", "--out", "charts/", command=["sh", "-c", "echo 'a $end $var \"b\" \N{EURO SIGN}' >&2; exit 1"])
+    comment = re.findall(r"^\$comment (.*) \$end$", server.get("charts/run.vcd").decode(), re.M)
+    server.check("dump: any fault", comment, ['exit status 1: a ?end ?var "b" ?'])
+    check_dump(server, "any fault")
     shutil.rmtree(server.path("charts"))
 
 
@@ -457,5 +467,5 @@ def files(server):
 
 
 def all_cases(server):
-    for part in [pages, pictures, dumps, cuts, files]:
+    for part in [pages, pictures, dumps, dump_of_any_fault, cuts, files]:
         part(server)
