@@ -55,13 +55,13 @@ def run(folder, command):
 
 
 def builds(server, folder, language, build):
-    """Builds a test. Returns False if there is no compiler."""
-    if build and not shutil.which(build.split()[0]):
-        print(f"languages: there is no {build.split()[0]}, so the test in {language} isn't built and run")
-        return False
-    if build:
+    """Builds a test. Returns False if there is no compiler, or no `cc`, by which rustc links."""
+    missing = [name for name in (*build.split()[:1], "cc") if build and not shutil.which(name)]
+    if missing:
+        print(f"languages: there is no {missing[0]}, so the test in {language} isn't built and run")
+    elif build:
         server.check(f"languages: {language} is compiled without a warning", run(folder, build), (0, "", ""))
-    return True
+    return not missing
 
 
 def shown(server, folder, name, command, wanted):
@@ -78,9 +78,10 @@ def page(server, folder, language, command):
                  [(True, "right"), (True, "wrong"), (True, "wrong"), (True, "right")])
     for line, wanted in sessions(section()):
         shown(server, folder, language, line.replace(there, command), wanted.replace(there, command))
-    with open(os.path.join(folder, ".build", "found")) as file:
-        deviations = [line for line in file if not line.startswith("#")]
+    found = os.path.join("top", ".build", "found")
+    deviations = [line for line in (server.get(found) or b"").splitlines() if not line.startswith(b"#")]
     server.check(f"languages: {language}: deviations", 1 <= len(deviations) <= 3, True)
+    server.remove(found)
 
 
 def ask(adapter, request):

@@ -16,7 +16,7 @@
 
 static bool line_is_up; /* the interrupt line */
 
-/* Sends a request, and returns its answer without OK. */
+/* Sends a request, and returns its answer without OK. Skips lines such as `frame HEX`. */
 static const char *ask(const char *format, ...)
 {
     static char line[131300];
@@ -82,7 +82,7 @@ static void store_descriptor(unsigned slot)
 {
     unsigned buffer = BUFFERS + BUFFER_SIZE * slot;
 
-    write_memory(RING + 16 * slot, (unsigned char[16]){ buffer, buffer >> 8, buffer >> 16 }, 16);
+    write_memory(RING + 16 * slot, (unsigned char[16]){ buffer, buffer >> 8, buffer >> 16, buffer >> 24 }, 16);
 }
 
 static void bring_up(void)

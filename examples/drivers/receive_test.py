@@ -17,7 +17,7 @@ class Adapter:
     line_is_up = False
 
     def ask(self, request):
-        """Sends a request, and returns its answer without OK."""
+        """Sends a request, and returns its answer without OK. Skips lines such as `frame HEX`."""
         print(request, flush=True)
         for line in sys.stdin:
             word, _, rest = line.rstrip().partition(" ")

@@ -8,6 +8,14 @@
 
 use std::io::stdin;
 
+fn hex(data: &[u8]) -> String {
+    data.iter().map(|byte| format!("{byte:02x}")).collect()
+}
+
+fn number_of(digits: &str) -> u32 {
+    u32::from_str_radix(digits, 16).unwrap_or_else(|_| fail(&format!("{digits} isn't a number of 32 bits")))
+}
+
 fn fail(fault: &str) -> ! {
     eprintln!("{fault}");
     std::process::exit(1)
@@ -19,7 +27,7 @@ struct Adapter {
 }
 
 impl Adapter {
-    /// Sends a request, and returns its answer without OK.
+    /// Sends a request, and returns its answer without OK. Skips lines such as `frame HEX`.
     fn ask(&mut self, request: &str) -> String {
         println!("{request}");
         for line in stdin().lines().map_while(Result::ok) {
@@ -52,15 +60,7 @@ impl Adapter {
     }
 }
 
-fn number_of(digits: &str) -> u32 {
-    u32::from_str_radix(digits, 16).unwrap_or_else(|_| fail(&format!("{digits} isn't a number of 32 bits")))
-}
-
-fn hex(data: &[u8]) -> String {
-    data.iter().map(|byte| format!("{byte:02x}")).collect()
-}
-
-// The driver. It makes its accesses by the last four functions of `Adapter`, and appends each received frame to `received`.
+// The driver. It makes its accesses by the last four functions above, and appends each received frame to `received`.
 
 const CTRL: u32 = 0x0000;
 const ICR: u32 = 0x00C0;
