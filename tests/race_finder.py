@@ -60,8 +60,9 @@ import random, sys
 sys.dont_write_bytecode = True
 sys.path.insert(0, sys.argv[2])
 from race_finder.draw import Uniform
-from race_finder.play import Play, Server
+from race_finder.play import Play
 from race_finder.schedule import ENGINES
+from race_finder.server import Server
 
 class Checked(Play):
     right = wrong = 0

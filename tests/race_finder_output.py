@@ -40,7 +40,7 @@ class Waits:
         self.calls.append("resume")
 
 waits = Waits()
-runs = in_order(waits, range(1, 100), 4)
+runs = in_order(waits, ({"draw": number} for number in range(1, 100)), 4)
 print([next(runs) for _ in range(8)])
 runs.close()
 print(*waits.calls)

@@ -37,9 +37,10 @@ from race_finder.chart import chart
 from race_finder.draw import Uniform
 from race_finder.explore import explore, smallest
 from race_finder.jobs import MOST_JOBS, in_order, processors
-from race_finder.play import Mismatch, ServerEnded
+from race_finder.play import Mismatch
 from race_finder.reached import lines_of, tables_of
 from race_finder.schedule import ScheduleError, parse, text_of
+from race_finder.server import ServerEnded
 from race_finder.shrink import Shrinker
 from race_finder.target import CannotRun, Target
 
@@ -50,7 +51,7 @@ LOG_LINES, LONGEST_LINE = 30, 110
 NUMBERS = {"runs": 1000, "seed": 1, "explore": None, "smaller": 1000, "seconds": 10, "jobs": processors()}
 TEXTS = {"server": os.path.join(TOP, ".build", "nicbench"), "options": None, "out": None, "replay": None,
          "shard": "1/1"}
-FLAGS = ("holds", "any-access", "reached", "json")
+FLAGS = ("holds", "any-access", "reached", "json", "apart")
 
 
 class UsageError(Exception):
@@ -117,13 +118,17 @@ class Finder:
         lines = text_of(schedule, self.target.options).splitlines()
         self.result.update(result=result, fault=fault, schedule=lines)
 
+    def drawing(self, seed):
+        """What draws the schedule of this seed."""
+        return Uniform(seed, draws_holds=self.given["holds"])
+
     def draw(self):
         """Draws schedules until one fails."""
         began, answers, line, run = time.monotonic(), set(), "", None
         first, step = self.given["shard"]
         seeds = range(self.given["seed"] + first - 1, self.given["seed"] + self.given["runs"], step)
-        draws = (Uniform(seed, draws_holds=self.given["holds"]) for seed in seeds)
-        with closing(in_order(self.target, draws, self.given["jobs"])) as runs:
+        calls = ({"draw": self.drawing(seed), "has_details": False} for seed in seeds)
+        with closing(in_order(self.target, calls, self.target.jobs)) as runs:
             for number, (seed, run) in enumerate(zip(seeds, runs), 1):
                 answers.add(self.target.count(run).answers)
                 rate = number / (time.monotonic() - began)
@@ -232,10 +237,13 @@ def call(words):
         except (OSError, UnicodeDecodeError) as error:
             raise UsageError(f"{given['replay']}: {getattr(error, 'strerror', error)}") from None
         options = stored if options is None else options
-    finder = Finder(given, Target(given["server"], command, options or (), given["seconds"]))
-    if given["replay"]:
-        return finder.end(finder.replay(schedule))
-    return finder.end(finder.draw() if given["explore"] is None else finder.explore())
+    is_forked = not (given["apart"] or given["replay"])
+    target = Target(given["server"], command, options or (), given["seconds"], given["jobs"], is_forked)
+    with closing(target):
+        finder = Finder(given, target)
+        if given["replay"]:
+            return finder.end(finder.replay(schedule))
+        return finder.end(finder.draw() if given["explore"] is None else finder.explore())
 
 
 def main():

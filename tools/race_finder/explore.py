@@ -2,6 +2,7 @@
 
 from typing import NamedTuple
 
+from race_finder.jobs import first_to_fail
 from race_finder.schedule import HOLDS, PAIRS, Deviation
 
 # Before one access, deviations of different actors can be exchanged; so they are tried in this order of actors.
@@ -51,10 +52,8 @@ def explore(target, depth, with_holds=False, most=None, say=lambda line: None, p
         if size == depth and shard != (1, 1):
             level, all_of = level[shard[0] - 1::shard[1]], f" of {len(level)}"
         counts.append(0)
-        for _, schedule in level:
-            if most is not None and sum(counts) == most:
-                return Found(counts, None, False)
-            run = target.run(schedule)
+        tried = level if most is None else level[:most - sum(counts)]
+        for schedule, run in first_to_fail(target, (schedule for _, schedule in tried), has_details=size < depth):
             counts[-1] += 1
             progress(f"depth {size}: {counts[-1]} of {len(level)} schedules")
             answers.add(run.answers)
@@ -62,6 +61,8 @@ def explore(target, depth, with_holds=False, most=None, say=lambda line: None, p
                 return Found(counts, run, False)
             if size < depth and len(run.met) == len(schedule):
                 following += children(run, with_holds)
+        if len(tried) < len(level):
+            return Found(counts, None, False)
         say(f"depth {size}: {counts[-1]}{all_of} schedules, none fails, {len(answers)} different lists of answers")
         level = sorted(following, key=lambda one: one[0])
     return Found(counts, None, True)

@@ -1,8 +1,6 @@
 """Plays a schedule between a test and `nicbench serve`."""
 
 import hashlib
-import os
-import subprocess
 from typing import NamedTuple
 
 from race_finder.names import DEFAULT_REGISTERS, access_of, number_of, words_of
@@ -16,49 +14,8 @@ MOST_INTERLEAVED = 65535
 TEST, DEFAULT, DEVIATION = "test", "default", "deviation"
 
 
-class ServerEnded(Exception):
-    """The server couldn't be started, or has ended."""
-
-
 class Mismatch(Exception):
     """A schedule meets another access than it expects."""
-
-
-class Server:
-    """`nicbench serve`, which is asked many requests at once."""
-
-    def __init__(self, program, options):
-        try:
-            self.process = subprocess.Popen([program, "serve", *options], stdin=subprocess.PIPE, stdout=subprocess.PIPE,
-                                            bufsize=0)
-        except OSError as error:
-            raise ServerEnded(f"{program}: {error.strerror}") from None
-        self.rest = b""
-
-    def send(self, requests):
-        data = "".join(f"{request}\n" for request in requests).encode(errors="surrogateescape")
-        try:
-            while data:
-                data = data[os.write(self.process.stdin.fileno(), data):]
-        except BrokenPipeError:
-            self.fail()
-
-    def line(self):
-        while b"\n" not in self.rest:
-            more = os.read(self.process.stdout.fileno(), 65536)
-            if not more:
-                self.fail()
-            self.rest += more
-        line, _, self.rest = self.rest.partition(b"\n")
-        return line.decode(errors="surrogateescape")
-
-    def fail(self):
-        raise ServerEnded(f"the server has ended with exit status {self.process.wait()}")
-
-    def end(self):
-        self.process.stdin.close()
-        self.process.stdout.close()
-        self.process.wait()
 
 
 class Request(NamedTuple):
@@ -70,6 +27,7 @@ class Request(NamedTuple):
     place: Place = None
     name: str = None
     holds: tuple = ()
+    drawn: Deviation = None  # that this step was drawn for
 
 
 class Met(NamedTuple):
@@ -98,19 +56,26 @@ class Play:
     """Takes requests of the test, and returns the lines that answer them."""
 
     def __init__(self, server, schedule=(), draw=None, is_strict=True, base=DEFAULT_REGISTERS):
-        self.server, self.draw, self.is_strict = server, draw, is_strict
-        self.left = {}  # deviations whose place isn't reached yet
-        for deviation in schedule:
-            self.left.setdefault(deviation.place, []).append(deviation)
+        self.begin(server, schedule, draw, is_strict)
         self.shadow = Shadow(base)
         self.waiting, self.size = [], 0  # requests that aren't sent yet, and their bytes
         self.round = self.access_number = 0
         self.is_logged = False  # whether the test wants the log
+        self.begun = []  # the texts of the requests before round 1
+        self.at_first_round = None  # is called when all of them are answered
         self.out = []  # lines for the test
         self.met, self.idle = [], []  # the deviations that did something, and those that did nothing
         self.places, self.rows = [], []
+        self.reached, self.counted = frozenset(), 0  # what was reached by the first rows, and how many these are
         self.answers = hashlib.sha1()
         self.queue(Request("log on", DEFAULT))
+
+    def begin(self, server, schedule, draw, is_strict):
+        """Plays this schedule. Nothing that it does is before the next request."""
+        self.server, self.draw, self.is_strict = server, draw, is_strict
+        self.left = {}  # deviations whose place isn't reached yet
+        for deviation in schedule:
+            self.left.setdefault(deviation.place, []).append(deviation)
 
     # The server
 
@@ -123,8 +88,13 @@ class Play:
 
     def flush(self):
         """Sends all requests that wait, and returns their answers."""
+        if not self.waiting:
+            return []
         requests, self.waiting, self.size = self.waiting, [], 0
-        self.server.send(request.text for request in requests)
+        texts = [request.text for request in requests]
+        if not self.round:
+            self.begun += texts
+        self.server.send(texts)
         return [self.answer(request) for request in requests]
 
     def answer(self, request):
@@ -142,6 +112,8 @@ class Play:
             self.shadow.waiting += 1
         if request.owner == TEST:
             self.out.append(line)
+        elif request.drawn and line != "OK nothing":
+            self.met.append(request.drawn)
         return line[3:]
 
     def hear(self, line, request):
@@ -188,11 +160,18 @@ class Play:
         elif is_interleave(words):
             self.flush()
             self.out.append("OK")  # the schedule takes the place of random steps
+        elif words[:1] and words[0] in ROUNDS:
+            self.begin_round(request)
         else:
             self.queue(Request(request, TEST))
-            if words[:1] and words[0] in ROUNDS:
-                self.flush()  # so the same steps follow, however many requests are sent at once
-                self.round, self.access_number = self.round + 1, 0
+
+    def begin_round(self, request):
+        if not self.round and self.at_first_round:
+            self.flush()
+            self.at_first_round()
+        self.round, self.access_number = self.round + 1, 0
+        self.queue(Request(request, TEST))
+        self.flush()  # so the same steps follow, however many requests are sent at once
 
     def access(self, request, access):
         """An access of the test, after what the schedule plays before it."""
@@ -208,13 +187,16 @@ class Play:
             if deviation.action not in HOLDS:
                 self.play(Deviation(place, deviation.action, name))
         if self.draw and self.round:
-            self.flush()
-            for action in self.draw.actions():
-                if action in self.shadow.enabled():
-                    self.play(Deviation(place, action, name))
+            for action in self.draw.actions(name, self.enabled):
+                self.queue(Request(f"step {action}", DEVIATION, drawn=Deviation(place, action, name)))
         self.queue(Request(request, TEST, access, register, place, name, holds))
         if access.kind == "write" and register in MATTER:
             self.flush()
+
+    def enabled(self):
+        """The steps of engines that would do something now."""
+        self.flush()
+        return self.shadow.enabled()
 
     def tick(self, place, name, due):
         """Plays the default steps. Returns the holds that would leave out one that does something."""

@@ -7,9 +7,11 @@ import subprocess
 import tempfile
 import time
 
+from race_finder.forks import Forks, Stopped, script_of
 from race_finder.names import DEFAULT_REGISTERS, number_of
-from race_finder.play import Play, Server
-from race_finder.reached import reached_by
+from race_finder.play import Play
+from race_finder.run import Run, fault_of
+from race_finder.server import Server
 
 
 class CannotRun(Exception):
@@ -18,19 +20,6 @@ class CannotRun(Exception):
 
 class TooLong(Exception):
     """A run didn't end in time."""
-
-
-class Stopped(Exception):
-    """A run was ended, because its result isn't needed."""
-
-
-class Run:
-    """What a run showed: its fault (None if the test passed), and what was played."""
-
-    def __init__(self, fault, play):
-        self.fault, self.met, self.idle, self.unreached = fault, play.met, play.idle, play.unreached()
-        self.places, self.rows, self.answers = play.places, play.rows, play.answers.digest()
-        self.reached = reached_by(play.rows)
 
 
 def base_of(options):
@@ -43,10 +32,19 @@ def base_of(options):
 
 
 class Target:
-    def __init__(self, server, command, options=(), seconds=10.0):
-        self.server, self.command, self.options, self.seconds = server, command, tuple(options), seconds
+    """The command that is tested. Its runs are forked if it is a script in Python and `is_forked`."""
+
+    def __init__(self, server, command, options=(), seconds=10.0, jobs=1, is_forked=True):
+        self.server, self.command, self.options, self.seconds, self.jobs = server, command, tuple(options), seconds, jobs
         self.runs, self.reached = 0, set()  # of the runs that are counted
         self.wake = os.pipe()  # holds a byte while runs must end
+        script = script_of(command) if is_forked else None
+        self.forks = Forks(script, (server, self.options, base_of(self.options)), seconds) if script else None
+
+    def close(self):
+        """Ends what was started for the runs."""
+        if self.forks:
+            self.forks.end()
 
     def run(self, schedule=(), draw=None, is_strict=False):
         """Runs the command once, and counts the run. Raises CannotRun, ServerEnded or Mismatch."""
@@ -65,8 +63,16 @@ class Target:
         """After `stop`, and after these runs have ended: runs are possible again."""
         os.read(self.wake[0], 1)
 
-    def play(self, schedule=(), draw=None, is_strict=False):
-        """Runs the command once, perhaps at the same time as others."""
+    def play(self, schedule=(), draw=None, is_strict=False, has_details=True):
+        """Runs the command once, perhaps at the same time as others.
+
+        Without `has_details`, a run that passes may have no places and no rows.
+        """
+        run = self.forks and self.forks.play(schedule, draw, is_strict, has_details, self.wake[0])
+        return run or self.play_apart(schedule, draw, is_strict)
+
+    def play_apart(self, schedule, draw, is_strict):
+        """Runs the command in a process of its own."""
         server = Server(self.server, self.options)
         try:
             play = Play(server, schedule, draw, is_strict, base_of(self.options))
@@ -92,12 +98,8 @@ class Target:
             return f"no end within {self.seconds:g} seconds"
         finally:
             stop(test, is_late)
-        if status == 0:
-            return None
         errors.seek(0)
-        lines = errors.read().decode(errors="replace").strip().splitlines()
-        kind = f"exit status {status}" if status > 0 else f"ended by {signal.Signals(-status).name}"
-        return f"{kind}: {lines[-1]}" if lines else kind
+        return fault_of(status, errors.read())
 
 
 def wait(reads, writes, end, wake):

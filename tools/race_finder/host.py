@@ -1,0 +1,326 @@
+"""Loads a test in Python once, and is forked for each run.
+
+`forks.py` starts `main` in the interpreter of the test. The test runs until it reads its first answer. Then this process is
+forked for each run. In the child, the test goes on: its standard streams lead to `Play` in the same process, which asks a
+server of its own. A second host is a child that goes on until the test begins its first round, and is forked there.
+
+A test that starts processes or threads, opens files for writing, or uses its standard streams by other means than `sys.stdin`
+and `sys.stdout`, isn't forked: its runs could differ from those of a process of its own. Then the result is DOUBT, or none.
+"""
+
+import atexit
+import builtins
+import contextlib
+import fcntl
+import gc
+import io
+import os
+import pickle
+import signal
+import socket
+import struct
+import sys
+import termios
+import types
+from importlib.machinery import SourceFileLoader
+
+from race_finder.play import Mismatch, Play
+from race_finder.reached import reached_by
+from race_finder.run import Run, fault_of
+from race_finder.server import Server
+
+SIZE = struct.Struct("<I")
+# A child writes this and its number first. Anything else in its place was written by the test itself.
+MARK = b"\0race"
+# The kinds of results
+RAN, MISMATCH, DOUBT = "ran", "mismatch", "doubt"
+RUN, HOST = "run", "host"
+# The most bytes of requests whose answers aren't read. With more, a test and its pipes could wait for each other.
+MOST_UNREAD = 60_000
+# What a test that is forked doesn't do. A file that is opened for writing is seen apart.
+DOUBTFUL = ("os.fork", "os.forkpty", "os.posix_spawn", "os.exec", "os.spawn", "os.system", "pty.spawn", "subprocess.Popen",
+            "_thread.start_new_thread", "socket.__new__")
+WRITES = os.O_WRONLY | os.O_RDWR
+
+
+def send(control, message, files=()):
+    """Sends a message, perhaps with open files."""
+    data = pickle.dumps(message, 4)
+    socket.send_fds(control, [SIZE.pack(len(data))], files)
+    control.sendall(data)
+
+
+def receive(control):
+    """The next message and its files, or None at the end."""
+    data, files, _, _ = socket.recv_fds(control, SIZE.size, 1)
+    if not data:
+        return None, []
+    size, data = SIZE.unpack(data)[0], b""
+    while len(data) < size:
+        data += control.recv(size - len(data))
+    return pickle.loads(data), files
+
+
+class Stream(io.RawIOBase):
+    """A standard stream of the test."""
+
+    def __init__(self, host, number, name):
+        super().__init__()
+        self.host, self.number, self.name = host, number, name
+
+    def fileno(self):
+        return self.number
+
+    def isatty(self):
+        return False
+
+
+class Requests(Stream):
+    mode = "wb"
+
+    def writable(self):
+        return True
+
+    def write(self, data):
+        return self.host.take(bytes(data))
+
+
+class Answers(Stream):
+    mode = "rb"
+
+    def readable(self):
+        return True
+
+    def readinto(self, buffer):
+        data = self.host.answers(len(buffer))
+        buffer[:len(data)] = data
+        return len(data)
+
+
+class Host:
+    def __init__(self, control, settings):
+        self.control, self.settings = control, settings
+        self.result = self.play = None  # in a child: where its result goes, and its run
+        self.requests, self.rest, self.unread = b"", b"", b""
+        self.is_doubtful = self.is_watched = False
+        self.number = None
+
+    # Streams
+
+    def open_streams(self):
+        """Standard streams like those of a process of its own, but without anybody at their other ends."""
+        pipe, self.unwritten = os.pipe(), os.pipe()
+        os.write(pipe[1], b"\n")  # is still there if the test reads only by `Answers`
+        errors = os.memfd_create("errors")
+        for place, file in enumerate((pipe[0], self.unwritten[1], errors)):
+            os.dup2(file, place)
+        for file in (*pipe, self.unwritten[1], errors):
+            os.close(file)
+        self.out = Requests(self, 1, "<stdout>")
+        for name, raw, kind in (("stdin", Answers(self, 0, "<stdin>"), io.BufferedReader), ("stdout", self.out, io.BufferedWriter)):
+            old = getattr(sys, name)
+            raw = raw if name == "stdout" and old.write_through else kind(raw)
+            new = io.TextIOWrapper(raw, old.encoding, old.errors, "\n", old.line_buffering, old.write_through)
+            new.mode = old.mode
+            setattr(sys, name, new)
+            setattr(sys, f"__{name}__", new)
+
+    def take(self, data):
+        self.requests += data
+        self.is_doubtful |= len(self.requests) + len(self.unread) > MOST_UNREAD
+        return len(data)
+
+    def answers(self, most):
+        self.is_watched = False
+        if self.play is None:
+            self.check_host()
+            self.serve()
+        if not self.unread:
+            self.feed()
+        if not self.unread and not self.out.closed:
+            self.doubt()  # a process of its own waits for ever
+        data, self.unread = self.unread[:most], self.unread[most:]
+        self.is_watched = True
+        return data
+
+    def feed(self, is_last=False):
+        """Plays the requests that the test has written."""
+        data, self.requests = self.rest + self.requests, b""
+        *lines, self.rest = data.split(b"\n")
+        if is_last and self.rest:
+            lines.append(self.rest)
+        try:
+            out = self.play.feed([line.decode(errors="surrogateescape") for line in lines])
+        except Mismatch as error:
+            self.end(MISMATCH, str(error))
+        except Exception:
+            self.doubt()  # such as a server that has ended: a process of its own shows what it is
+        self.unread += "".join([f"{line}\n" for line in out]).encode(errors="surrogateescape")
+
+    # Runs
+
+    def serve(self, begun=None):
+        """Forks a child for each message, and returns in the child alone. `begun` has what the test has requested so far."""
+        gc.collect()
+        gc.freeze()
+        handler = signal.signal(signal.SIGCHLD, signal.SIG_IGN)
+        while True:
+            message, files = receive(self.control)
+            if message is None:
+                os._exit(0)
+            if os.fork() == 0:
+                break
+            os.close(files[0])
+        signal.signal(signal.SIGCHLD, handler)
+        self.control.close()
+        os.setsid()
+        self.number = os.getpid()
+        kind, *request = message
+        try:
+            self.become_run(files[0], begun, *request) if kind == RUN else self.become_host(files[0])
+        except Exception:
+            self.doubt()
+
+    def become_run(self, result, begun, schedule, draw, is_strict, has_details):
+        self.result, self.has_details = result, has_details
+        os.write(result, MARK + SIZE.pack(os.getpid()))
+        os.dup2(result, 1)
+        self.renew()
+        program, options, base = self.settings
+        server = Server(program, options)
+        if self.play is None:
+            self.play = Play(server, schedule, draw, is_strict, base)
+        else:
+            self.play.begin(server, schedule, draw, is_strict)
+            server.repeat(begun)
+
+    def become_host(self, control):
+        self.control = socket.socket(fileno=control)
+        self.renew()
+        send(self.control, os.getpid())
+        program, options, base = self.settings
+        self.play = Play(Server(program, options), base=base)
+        self.play.at_first_round = self.at_first_round
+
+    def at_first_round(self):
+        self.check_host()
+        self.play.server.end()
+        self.play.reached, self.play.counted = reached_by(self.play.rows), len(self.play.rows)
+        send(self.control, "ready")
+        self.serve(self.play.begun[1:] + self.play.begun[:1])  # the log is turned on at the end
+
+    def renew(self):
+        """Gives a child files of its own: the byte that isn't read, and standard error with what was written so far."""
+        pipe, errors = os.pipe(), os.memfd_create("errors")
+        os.write(pipe[1], b"\n")
+        os.lseek(2, 0, os.SEEK_SET)
+        os.write(errors, os.read(2, 1 << 20))
+        os.dup2(pipe[0], 0)
+        os.dup2(errors, 2)
+        for file in (*pipe, errors):
+            os.close(file)
+
+    # Ends
+
+    def check_host(self):
+        """Ends a host whose test can't be forked."""
+        tasks, files = (set(os.listdir(f"/proc/self/{folder}")) for folder in ("task", "fd"))
+        if self.is_doubtful or len(tasks) > 1 or self.was_read() or has_bytes(self.unwritten[0]) or not self.has_few(files):
+            os._exit(1)
+
+    def has_few(self, files):
+        """Whether no more files are open than before the test ran, and in a child those of its server."""
+        return len(files) <= self.files + (2 if self.play else 0)
+
+    def was_read(self):
+        """Whether the test has read standard input by other means."""
+        return not has_bytes(0)
+
+    def doubt(self):
+        self.end(DOUBT, None)
+
+    def end(self, kind, value):
+        """Ends this process with a result."""
+        if self.result is not None and os.getpid() == self.number:
+            data = pickle.dumps((kind, value), 4)
+            data = SIZE.pack(len(data)) + data
+            with contextlib.suppress(OSError):  # nobody reads it
+                while data:
+                    data = data[os.write(self.result, data):]
+            if self.play:
+                self.play.server.end()
+        os._exit(1)
+
+    def finish(self, status):
+        """Ends a run after the test has ended with this exit status."""
+        self.is_watched = False
+        if self.result is None:
+            os._exit(1)  # the test never read an answer, or never began a round
+        atexit._run_exitfuncs()
+        for stream in (sys.stdout, sys.stderr):
+            try:
+                if stream and not stream.closed:
+                    stream.flush()
+            except OSError:
+                status = 120
+        self.feed(is_last=True)
+        if self.is_doubtful or self.was_read():
+            self.doubt()
+        os.lseek(2, 0, os.SEEK_SET)
+        with open(2, "rb", closefd=False) as file:
+            run = Run(fault_of(status, file.read()), self.play)
+        self.end(RAN, run if self.has_details or run.fault else run.without_details())
+
+    def audit(self, event, arguments):
+        """Notes what a test that is forked doesn't do."""
+        if self.is_watched and (event in DOUBTFUL or event == "open" and self.result is not None and arguments[2] & WRITES):
+            self.is_doubtful = True
+
+
+def has_bytes(file):
+    """Whether a pipe has bytes."""
+    return struct.unpack("i", fcntl.ioctl(file, termios.FIONREAD, b"\0" * 4))[0] > 0
+
+
+def run_script(path):
+    """Runs a script as the interpreter does, and returns the exit status."""
+    main = types.ModuleType("__main__")
+    main.__file__, main.__builtins__, main.__loader__ = path, builtins, SourceFileLoader("__main__", path)
+    main.__annotations__, main.__cached__ = {}, None
+    sys.modules["__main__"] = main
+    try:
+        with open(path, "rb") as file:
+            code = compile(file.read(), path, "exec", dont_inherit=True)
+        exec(code, main.__dict__)
+    except SystemExit as error:
+        return status_of(error.code)
+    except KeyboardInterrupt:
+        os._exit(1)  # no result
+    except BaseException as error:
+        sys.excepthook(type(error), error, error.__traceback__ and error.__traceback__.tb_next)
+        return 1
+    return 0
+
+
+def status_of(code):
+    """The exit status for the value of SystemExit."""
+    if code is None:
+        return 0
+    if isinstance(code, int):
+        return code & 0xFF
+    print(code, file=sys.stderr)
+    return 1
+
+
+def main(control, script, *arguments):
+    control = socket.socket(fileno=int(control))
+    control.set_inheritable(False)
+    sys.argv = [script, *arguments]
+    if sys.path[:1] == [""]:
+        sys.path[0] = os.path.dirname(os.path.realpath(script))
+    host = Host(control, receive(control)[0])
+    host.open_streams()
+    host.files = len(os.listdir("/proc/self/fd"))
+    sys.addaudithook(host.audit)
+    host.is_watched = True
+    host.finish(run_script(script))

@@ -1,0 +1,28 @@
+"""What a run shows."""
+
+import signal
+
+from race_finder.reached import reached_by
+
+
+class Run:
+    """What a run showed: its fault (None if the test passed), and what was played."""
+
+    def __init__(self, fault, play):
+        self.fault, self.met, self.idle, self.unreached = fault, play.met, play.idle, play.unreached()
+        self.places, self.rows, self.answers = play.places, play.rows, play.answers.digest()
+        self.reached = play.reached | reached_by(play.rows[play.counted:])
+
+    def without_details(self):
+        """Drops what only a run that failed, or one whose schedule gets longer, is asked for."""
+        self.places = self.rows = ()
+        return self
+
+
+def fault_of(status, errors):
+    """Why a test failed with this exit status (minus a signal) and these bytes of standard error, or None if it passed."""
+    if status == 0:
+        return None
+    lines = errors.decode(errors="replace").strip().splitlines()
+    kind = f"exit status {status}" if status > 0 else f"ended by {signal.Signals(-status).name}"
+    return f"{kind}: {lines[-1]}" if lines else kind
