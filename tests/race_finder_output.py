@@ -219,9 +219,9 @@ from race_finder.explore import explore
 from race_finder.target import Target
 
 class Recording(Target):
-    def run(self, schedule=(), draw=None, is_strict=False):
+    def play(self, schedule=(), **words):
         self.schedules.append(tuple(map(str, schedule)))
-        return super().run(schedule, draw, is_strict)
+        return super().play(schedule, **words)
 
 def schedules_of(shard):
     target = Recording(sys.argv[1], ["sh", "small"])

@@ -85,5 +85,5 @@ class Pct:
 
 
 def bound_of(depth, events):
-    """One divided by this is the least probability that a run finds a race of this depth."""
-    return len(ACTORS) * events ** (depth - 1)
+    """One divided by this is the least probability that a run finds a race of this depth, by the events of a run."""
+    return len(ACTORS) * max(1, events) ** (depth - 1)

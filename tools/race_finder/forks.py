@@ -36,6 +36,10 @@ def script_of(command):
     return (command[:at], command[at:]) if is_script and os.path.exists("/proc/self/fd") else None
 
 
+class Late(Lost):
+    """A child gave no result in time."""
+
+
 class Child:
     """A child's end of a pipe, from which its result is read."""
 
@@ -52,7 +56,9 @@ class Child:
             ready = select.select([self.file, *([self.wake] if self.wake else [])], [], [], max(0, self.end - time.monotonic()))[0]
             if self.wake in ready:
                 raise Stopped
-            more = os.read(self.file, size - len(data)) if ready else b""
+            if not ready:
+                raise Late
+            more = os.read(self.file, size - len(data))
             if not more:
                 raise Lost
             data += more
@@ -65,8 +71,8 @@ class Child:
             size, = SIZE.unpack(self.read(SIZE.size))
             kind, value = pickle.loads(self.read(size))
             is_ended = True
-        except (Lost, pickle.UnpicklingError):
-            raise Lost from None
+        except pickle.UnpicklingError:
+            raise Lost from None  # the test has written there by other means
         finally:
             if not is_ended:
                 kill(self.number)
@@ -120,7 +126,7 @@ class Forks:
             kill(number)
         return None
 
-    def play(self, schedule, draw, is_strict, has_details, wake):
+    def play(self, schedule, draw, is_strict, has_places, wake):
         """A run, or None if only a process of its own can show it. Raises Mismatch or Stopped."""
         with self.lock:
             if self.is_usable and self.process is None:
@@ -132,12 +138,14 @@ class Forks:
         try:
             with self.lock:
                 try:
-                    send(self.first if is_early else self.second, (RUN, schedule, draw, is_strict, has_details), [sink])
+                    send(self.first if is_early else self.second, (RUN, schedule, draw, is_strict, has_places), [sink])
                 finally:
                     os.close(sink)
             kind, value = Child(source, time.monotonic() + self.seconds).result(wake)
+        except Late:
+            return None
         except (Lost, OSError):
-            self.is_usable = self.process.poll() is None and self.is_usable
+            self.is_usable = False
             return None
         finally:
             os.close(source)

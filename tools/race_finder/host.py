@@ -16,7 +16,6 @@ import gc
 import io
 import os
 import pickle
-import signal
 import socket
 import struct
 import sys
@@ -163,15 +162,17 @@ class Host:
         """Forks a child for each message, and returns in the child alone. `begun` has what the test has requested so far."""
         gc.collect()
         gc.freeze()
-        handler = signal.signal(signal.SIGCHLD, signal.SIG_IGN)
+        children = set()
         while True:
             message, files = receive(self.control)
+            children -= ended(children, 0 if message is None else os.WNOHANG)
             if message is None:
                 os._exit(0)
-            if os.fork() == 0:
+            child = os.fork()
+            if child == 0:
                 break
+            children.add(child)
             os.close(files[0])
-        signal.signal(signal.SIGCHLD, handler)
         self.control.close()
         os.setsid()
         self.number = os.getpid()
@@ -181,8 +182,8 @@ class Host:
         except Exception:
             self.doubt()
 
-    def become_run(self, result, begun, schedule, draw, is_strict, has_details):
-        self.result, self.has_details = result, has_details
+    def become_run(self, result, begun, schedule, draw, is_strict, has_places):
+        self.result, self.has_places = result, has_places
         os.write(result, MARK + SIZE.pack(os.getpid()))
         os.dup2(result, 1)
         self.renew()
@@ -269,12 +270,17 @@ class Host:
         os.lseek(2, 0, os.SEEK_SET)
         with open(2, "rb", closefd=False) as file:
             run = Run(fault_of(status, file.read()), self.play)
-        self.end(RAN, run if self.has_details or run.fault else run.without_details())
+        self.end(RAN, run.reduced(self.has_places))
 
     def audit(self, event, arguments):
         """Notes what a test that is forked doesn't do."""
         if self.is_watched and (event in DOUBTFUL or event == "open" and self.result is not None and arguments[2] & WRITES):
             self.is_doubtful = True
+
+
+def ended(children, options):
+    """Those of these children that have ended."""
+    return {child for child in children if os.waitpid(child, options)[0]}
 
 
 def has_bytes(file):

@@ -4,7 +4,7 @@ import hashlib
 from typing import NamedTuple
 
 from race_finder.names import DEFAULT_REGISTERS, access_of, number_of, words_of
-from race_finder.schedule import HOLDS, ROUNDS, Deviation, Place, steps_of
+from race_finder.schedule import ENGINES, HOLDS, ROUNDS, Deviation, Place, steps_of
 from race_finder.shadow import MATTER, Shadow
 
 # The most bytes of requests that are sent before answers are read: every pipe holds at least this many.
@@ -67,6 +67,7 @@ class Play:
         self.met, self.idle = [], []  # the deviations that did something, and those that did nothing
         self.places, self.rows = [], []
         self.reached, self.counted = frozenset(), 0  # what was reached by the first rows, and how many these are
+        self.events = 0  # accesses, and steps of engines that did something, from round 1 on
         self.answers = hashlib.sha1()
         self.queue(Request("log on", DEFAULT))
 
@@ -123,6 +124,7 @@ class Play:
         if line.startswith("# step "):
             _, _, kind, _, outcome = line.split(" ")
             row.name = self.shadow.step(kind, outcome)
+            self.events += outcome != "nothing" and kind in ENGINES
             if outcome == "nothing" and request.owner != TEST:
                 return None
         elif is_logged and request.access:
@@ -176,6 +178,7 @@ class Play:
     def access(self, request, access):
         """An access of the test, after what the schedule plays before it."""
         self.access_number += 1
+        self.events += self.round > 0
         register = self.shadow.register(access)
         place, name = Place(self.round, self.access_number), f"{access.kind} {register or self.shadow.memory(access)}"
         due = self.left.pop(place, ())

@@ -11,6 +11,7 @@ class Run:
     def __init__(self, fault, play):
         self.fault, self.met, self.idle, self.unreached = fault, play.met, play.idle, play.unreached()
         self.places, self.rows, self.answers = play.places, play.rows, play.answers.digest()
+        self.events = play.events
         self.reached = play.reached | reached_by(play.rows[play.counted:])
 
     def without_details(self):

@@ -42,6 +42,11 @@ class Deviation(NamedTuple):
         return self.place, self.action
 
 
+def keys_of(schedule):
+    """What decides a run: places and actions. The names of accesses don't."""
+    return tuple(deviation.key() for deviation in schedule)
+
+
 class ScheduleError(Exception):
     """A text isn't a schedule."""
 

@@ -1,7 +1,7 @@
 """Makes a schedule that fails smaller."""
 
 from race_finder.jobs import first_to_fail
-from race_finder.schedule import PAIRS, Deviation
+from race_finder.schedule import PAIRS, Deviation, keys_of
 
 LONGEST_MOVE = 16  # in accesses
 
@@ -17,22 +17,20 @@ class Shrinker:
         return self.first([schedule])
 
     def first(self, schedules):
-        """The run of the first of these schedules that fails, or None. Places count here, and names of accesses don't."""
-        keys = [tuple(deviation.key() for deviation in schedule) for schedule in schedules]
+        """The run of the first of these schedules that fails, or None."""
+        keys = [keys_of(schedule) for schedule in schedules]
         known = next((at for at, key in enumerate(keys) if self.seen.get(key)), len(keys))
         new = {key: schedule for key, schedule in zip(keys[:known], schedules) if key not in self.seen}
         for key, (_, run) in zip(new, first_to_fail(self.target, new.values(), ahead=1)):
             self.seen[key] = run if run.fault else None
         return next((self.seen[key] for key in keys if self.seen.get(key)), None)
 
-    def shrink(self, schedule):
-        """The run of a schedule from which no deviation can be left out, or None if the given one doesn't fail."""
-        run = self.fails(())
-        if run:
-            return run
-        run = self.fails(schedule)
-        if run is None:
-            return None
+    def again(self, schedule):
+        """The run of the empty schedule if it fails; or else that of the given one, or None if it passes."""
+        return self.fails(()) or self.fails(schedule)
+
+    def shrink(self, run):
+        """The run of a schedule from which no deviation can be left out."""
         run = self.halve(run)
         while True:
             before = run.met

@@ -63,12 +63,12 @@ class Target:
         """After `stop`, and after these runs have ended: runs are possible again."""
         os.read(self.wake[0], 1)
 
-    def play(self, schedule=(), draw=None, is_strict=False, has_details=True):
+    def play(self, schedule=(), draw=None, is_strict=False, has_places=True):
         """Runs the command once, perhaps at the same time as others.
 
-        Without `has_details`, a run that passes may have no places and no rows.
+        A run that passes may have no rows, and without `has_places` no places.
         """
-        run = self.forks and self.forks.play(schedule, draw, is_strict, has_details, self.wake[0])
+        run = self.forks and self.forks.play(schedule, draw, is_strict, has_places, self.wake[0])
         return run or self.play_apart(schedule, draw, is_strict)
 
     def play_apart(self, schedule, draw, is_strict):
