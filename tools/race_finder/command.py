@@ -199,7 +199,8 @@ class Finder:
         """The run of a schedule from which no deviation can be left out."""
         runs = self.target.runs
         small = shrinker.shrink(run)
-        self.say(f"{deviations(len(run.met))} shrunk to {len(small.met)} by {self.target.runs - runs} runs")
+        if run.met:
+            self.say(f"{deviations(len(run.met))} shrunk to {len(small.met)} by {self.target.runs - runs} runs")
         return small
 
     def smallest(self, shrinker, run):

@@ -10,7 +10,7 @@ import subprocess
 import threading
 import time
 
-from race_finder.host import DOUBT, HOST, MARK, MISMATCH, RUN, SIZE, receive, send
+from race_finder.host import DOUBT, HOST, MARK, MISMATCH, RAN, RUN, SIZE, WARM, receive, send
 from race_finder.play import Mismatch
 
 TOOLS = os.path.dirname(os.path.dirname(os.path.abspath(__file__)))
@@ -93,7 +93,7 @@ class Forks:
     def __init__(self, command, settings, seconds):
         self.command, self.settings, self.seconds = command, settings, seconds
         self.lock, self.process, self.first, self.second = threading.Lock(), None, None, None
-        self.is_usable = True
+        self.is_usable, self.is_warm = True, False
 
     def start(self):
         """Starts both hosts. Without the second one, the first one is used for all runs."""
@@ -138,7 +138,7 @@ class Forks:
         try:
             with self.lock:
                 try:
-                    send(self.first if is_early else self.second, (RUN, schedule, draw, is_strict, has_places), [sink])
+                    send(self.first if is_early else self.second, (RUN, schedule, draw, is_strict, has_places, not self.is_warm), [sink])
                 finally:
                     os.close(sink)
             kind, value = Child(source, time.monotonic() + self.seconds).result(wake)
@@ -151,10 +151,19 @@ class Forks:
             os.close(source)
         if kind == MISMATCH:
             raise Mismatch(value)
+        if kind == RAN and not self.is_warm:
+            self.warm(value)
         if kind == DOUBT:
             self.is_usable = False
             return None
         return value
+
+    def warm(self, run):
+        """Sends the requests of the first run to the host: most of them are those of later runs, too."""
+        with self.lock:
+            if not self.is_warm and run.rows:
+                self.is_warm = True
+                send(self.second, (WARM, [row.line[2:] for row in run.rows if row.place and row.place.round]))
 
     def end(self):
         for control in (self.first, self.second):

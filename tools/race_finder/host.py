@@ -23,6 +23,7 @@ import termios
 import types
 from importlib.machinery import SourceFileLoader
 
+from race_finder.names import access_of
 from race_finder.play import Mismatch, Play
 from race_finder.reached import reached_by
 from race_finder.run import Run, fault_of
@@ -33,7 +34,7 @@ SIZE = struct.Struct("<I")
 MARK = b"\0race"
 # The kinds of results
 RAN, MISMATCH, DOUBT = "ran", "mismatch", "doubt"
-RUN, HOST = "run", "host"
+RUN, HOST, WARM = "run", "host", "warm"
 # The most bytes of requests whose answers aren't read. With more, a test and its pipes could wait for each other.
 MOST_UNREAD = 60_000
 # What a test that is forked doesn't do. A file that is opened for writing is seen apart.
@@ -149,12 +150,11 @@ class Host:
         if is_last and self.rest:
             lines.append(self.rest)
         try:
-            out = self.play.feed([line.decode(errors="surrogateescape") for line in lines])
+            self.unread += self.play.feed([line.decode(errors="surrogateescape") for line in lines])
         except Mismatch as error:
             self.end(MISMATCH, str(error))
         except Exception:
             self.doubt()  # such as a server that has ended: a process of its own shows what it is
-        self.unread += "".join([f"{line}\n" for line in out]).encode(errors="surrogateescape")
 
     # Runs
 
@@ -168,6 +168,9 @@ class Host:
             children -= ended(children, 0 if message is None else os.WNOHANG)
             if message is None:
                 os._exit(0)
+            if message[0] == WARM:
+                warm(message[1])
+                continue
             child = os.fork()
             if child == 0:
                 break
@@ -182,8 +185,8 @@ class Host:
         except Exception:
             self.doubt()
 
-    def become_run(self, result, begun, schedule, draw, is_strict, has_places):
-        self.result, self.has_places = result, has_places
+    def become_run(self, result, begun, schedule, draw, is_strict, has_places, has_rows):
+        self.result, self.has_places, self.has_rows = result, has_places, has_rows
         os.write(result, MARK + SIZE.pack(os.getpid()))
         os.dup2(result, 1)
         self.renew()
@@ -270,12 +273,19 @@ class Host:
         os.lseek(2, 0, os.SEEK_SET)
         with open(2, "rb", closefd=False) as file:
             run = Run(fault_of(status, file.read()), self.play)
-        self.end(RAN, run.reduced(self.has_places))
+        self.end(RAN, run.reduced(self.has_places, self.has_rows))
 
     def audit(self, event, arguments):
         """Notes what a test that is forked doesn't do."""
         if self.is_watched and (event in DOUBTFUL or event == "open" and self.result is not None and arguments[2] & WRITES):
             self.is_doubtful = True
+
+
+def warm(requests):
+    """Lets children find these requests of the test in the cache of `access_of`."""
+    for request in requests:
+        access_of(request)
+    gc.freeze()
 
 
 def ended(children, options):

@@ -53,7 +53,7 @@ def is_interleave(words):
 
 
 class Play:
-    """Takes requests of the test, and returns the lines that answer them."""
+    """Takes requests of the test, and returns what answers them."""
 
     def __init__(self, server, schedule=(), draw=None, is_strict=True, base=DEFAULT_REGISTERS):
         self.begin(server, schedule, draw, is_strict)
@@ -100,36 +100,42 @@ class Play:
 
     def answer(self, request):
         """Returns the answer to a request, after the lines before it."""
-        row = None
-        while True:
+        row, line = None, self.server.line()
+        while not line.startswith(("OK", "ERR", "FAIL")):
+            if line.startswith("# step "):
+                self.hear_step(line, request.owner)
+            else:
+                row = self.hear(line, request) or row
             line = self.server.line()
-            if line.startswith(("OK", "ERR", "FAIL")):
-                break
-            heard = self.hear(line, request)
-            row = heard if heard and not line.startswith("# step") else row
+        text = line[3:]
         if row:
-            row.answer = line[3:]
+            row.answer = text
         if line == "OK stored":
             self.shadow.waiting += 1
         if request.owner == TEST:
             self.out.append(line)
         elif request.drawn and line != "OK nothing":
             self.met.append(request.drawn)
-        return line[3:]
+        return text
+
+    def hear_step(self, line, owner):
+        """A line of the log for a step."""
+        _, _, kind, _, outcome = line.split(" ")
+        name = self.shadow.step(kind, outcome)
+        self.events += outcome != "nothing" and kind in ENGINES
+        if outcome != "nothing" or owner == TEST:
+            self.rows.append(Row(line, owner, None, name))
+            if self.is_logged:
+                self.out.append(line)
 
     def hear(self, line, request):
-        """A line before the answer to a request. Returns the row of an access or an arrival."""
-        row = Row(line, request.owner)
-        is_logged = line.startswith("#")
-        if line.startswith("# step "):
-            _, _, kind, _, outcome = line.split(" ")
-            row.name = self.shadow.step(kind, outcome)
-            self.events += outcome != "nothing" and kind in ENGINES
-            if outcome == "nothing" and request.owner != TEST:
-                return None
-        elif is_logged and request.access:
+        """Another line before the answer to a request. Returns the row of an access or an arrival."""
+        row, is_logged = Row(line, request.owner), line[0] == "#"
+        if is_logged and request.access:
             row.place, row.name = request.place, request.name
-            self.places.append(Met(request.place, request.name, tuple(self.shadow.enabled()), request.holds))
+            # No schedule gets longer than a drawn one.
+            enabled = () if self.draw else tuple(self.shadow.enabled())
+            self.places.append(Met(request.place, request.name, enabled, request.holds))
             if request.register and request.access.kind == "write":
                 self.shadow.write(request.register, request.access.value)
         self.rows.append(row)
@@ -140,14 +146,14 @@ class Play:
     # The test
 
     def feed(self, requests):
-        """Returns the lines that answer these requests of the test."""
+        """Returns the lines that answer these requests of the test, as bytes."""
         for request in requests:
             self.take(request)
         self.flush()
-        lines, self.out = self.out, []
-        for line in lines:
-            self.answers.update(line.encode(errors="surrogateescape") + b"\n")
-        return lines
+        data = "".join([f"{line}\n" for line in self.out]).encode(errors="surrogateescape")
+        self.out = []
+        self.answers.update(data)
+        return data
 
     def take(self, request):
         access = access_of(request)
@@ -203,6 +209,8 @@ class Play:
 
     def tick(self, place, name, due):
         """Plays the default steps. Returns the holds that would leave out one that does something."""
+        if not (due or self.shadow.eeprom or self.shadow.phy):
+            return ()
         held = {deviation.action for deviation in due}
         found = []
         for hold, kind in HOLDS.items():

@@ -14,9 +14,10 @@ class Run:
         self.events = play.events
         self.reached = play.reached | reached_by(play.rows[play.counted:])
 
-    def without_details(self):
-        """Drops what only a run that failed, or one whose schedule gets longer, is asked for."""
-        self.places = self.rows = ()
+    def reduced(self, has_places, has_rows):
+        """Drops places and rows if this run isn't asked for them. They are needed if it failed."""
+        self.places = self.places if has_places or self.fault else ()
+        self.rows = self.rows if has_rows or self.fault else ()
         return self
 
 

@@ -38,8 +38,8 @@ class Server:
             more = os.read(self.source, 65536)
             if not more:
                 self.fail()
-            *lines, self.rest = (self.rest + more).split(b"\n")
-            self.lines = [line.decode(errors="surrogateescape") for line in reversed(lines)]
+            whole, _, self.rest = (self.rest + more).rpartition(b"\n")
+            self.lines = whole.decode(errors="surrogateescape").split("\n")[::-1] if whole else []
         return self.lines.pop()
 
     def repeat(self, requests):

@@ -123,8 +123,8 @@ def serve(test, play, end, wake):
         *lines, rest = (rest + data).split(b"\n")
         if not data and rest:
             lines, rest = [rest], b""
-        out = "".join(f"{line}\n" for line in play.feed([line.decode(errors="surrogateescape") for line in lines]))
-        if not write(sink, out.encode(errors="surrogateescape"), end, wake) or not data:
+        out = play.feed([line.decode(errors="surrogateescape") for line in lines])
+        if not write(sink, out, end, wake) or not data:
             return
 
 
