@@ -106,9 +106,9 @@ def whole():
     yield from map(read, READ)
 
 
-def script(server, text):
+def script(server, text, *arguments):
     """Runs a script that uses the finder's modules: its exit status, its output and its errors."""
-    words = [sys.executable, "-S", "-E", "-c", text, server.program, os.path.join(TOP, "tools")]
+    words = [sys.executable, "-S", "-E", "-c", text, server.program, os.path.join(TOP, "tools"), *arguments]
     ran = subprocess.run(words, cwd=server.folder, capture_output=True, timeout=LIMIT)
     return ran.returncode, ran.stdout.decode(), ran.stderr.decode()
 

@@ -4,8 +4,9 @@
 forked for each run. In the child, the test goes on: its standard streams lead to `Play` in the same process, which asks a
 server of its own. A second host is a child that goes on until the test begins its first round, and is forked there.
 
-A test that starts processes or threads, opens files for writing, or uses its standard streams by other means than `sys.stdin`
-and `sys.stdout`, isn't forked: its runs could differ from those of a process of its own. Then the result is DOUBT, or none.
+A test that starts processes, opens files for writing, has threads that use its standard streams, or uses these by other means
+than `sys.stdin` and `sys.stdout`, isn't forked: its runs could differ from those of a process of its own. Then the result is
+DOUBT, or none.
 """
 
 import atexit
@@ -20,6 +21,7 @@ import socket
 import struct
 import sys
 import termios
+import threading
 import types
 from importlib.machinery import SourceFileLoader
 
@@ -39,7 +41,7 @@ RUN, HOST, WARM = "run", "host", "warm"
 MOST_UNREAD = 60_000
 # What a test that is forked doesn't do. A file that is opened for writing is seen apart.
 DOUBTFUL = ("os.fork", "os.forkpty", "os.posix_spawn", "os.exec", "os.spawn", "os.system", "pty.spawn", "subprocess.Popen",
-            "_thread.start_new_thread", "socket.__new__")
+            "socket.__new__")
 WRITES = os.O_WRONLY | os.O_RDWR
 
 
@@ -103,7 +105,7 @@ class Host:
         self.result = self.play = None  # in a child: where its result goes, and its run
         self.requests, self.rest, self.unread = b"", b"", b""
         self.is_doubtful = self.is_watched = False
-        self.number = None
+        self.number, self.thread = None, threading.get_ident()
 
     # Streams
 
@@ -116,8 +118,8 @@ class Host:
             os.dup2(file, place)
         for file in (*pipe, self.unwritten[1], errors):
             os.close(file)
-        self.out = Requests(self, 1, "<stdout>")
-        for name, raw, kind in (("stdin", Answers(self, 0, "<stdin>"), io.BufferedReader), ("stdout", self.out, io.BufferedWriter)):
+        out = Requests(self, 1, "<stdout>")
+        for name, raw, kind in (("stdin", Answers(self, 0, "<stdin>"), io.BufferedReader), ("stdout", out, io.BufferedWriter)):
             old = getattr(sys, name)
             raw = raw if name == "stdout" and old.write_through else kind(raw)
             new = io.TextIOWrapper(raw, old.encoding, old.errors, "\n", old.line_buffering, old.write_through)
@@ -127,7 +129,7 @@ class Host:
 
     def take(self, data):
         self.requests += data
-        self.is_doubtful |= len(self.requests) + len(self.unread) > MOST_UNREAD
+        self.is_doubtful |= len(self.requests) + len(self.unread) > MOST_UNREAD or threading.get_ident() != self.thread
         return len(data)
 
     def answers(self, most):
@@ -137,8 +139,8 @@ class Host:
             self.serve()
         if not self.unread:
             self.feed()
-        if not self.unread and not self.out.closed:
-            self.doubt()  # a process of its own waits for ever
+        if not self.unread or threading.get_ident() != self.thread:
+            self.doubt()  # without an answer, a process of its own waits for ever
         data, self.unread = self.unread[:most], self.unread[most:]
         self.is_watched = True
         return data
@@ -260,6 +262,9 @@ class Host:
         self.is_watched = False
         if self.result is None:
             os._exit(1)  # the test never read an answer, or never began a round
+        for thread in threading.enumerate():
+            if thread is not threading.current_thread() and not thread.daemon:
+                thread.join()
         atexit._run_exitfuncs()
         for stream in (sys.stdout, sys.stderr):
             try:
