@@ -16,7 +16,7 @@ sys.dont_write_bytecode = True
 sys.path.insert(0, sys.argv[2])
 from race_finder.draw import ACTORS, DRIVER, Pct, Uniform, bound_of
 from race_finder.play import Mismatch
-from race_finder.schedule import parse
+from race_finder.schedule import Deviation, Place, parse
 from race_finder.target import Target
 """
 # Compares forked runs with processes of their own: drawn ones, one without deviations, and one with deviations also before round 1. Prints what
@@ -28,9 +28,16 @@ def shown(run):
 
 EARLY = parse("0.9 hold eeprom before read EERD\\n3.1 rx before read ICR\\n5.2 tx before read rx[0]\\n99.1 rx before read ICR")[1]
 WAYS = [lambda: ((), None), lambda: (EARLY, None), lambda: ((), Uniform(10)), lambda: ((), Uniform(2, draws_holds=True)), lambda: ((), Pct(3, 3, 300))]
+def late(run):
+    # schedules whose first deviation is later and later in this run
+    places = [run.places[len(run.places) * part // 20] for part in range(10, 20)]
+    return [lambda one=one: ([Deviation(one.place, "rx", one.name), Deviation(Place(one.place.round, 99), "tx", "read ICR")], None) for one in places]
+
 for command in COMMANDS:
     target, faults = Target(sys.argv[1], command, seconds=60), set()
-    for number, way in enumerate(WAYS):
+    run = target.play()
+    target.prepare(run)
+    for number, way in enumerate([*WAYS, *late(run)]):
         forked, apart = shown(target.play(*way())), shown(target.play_apart(*way(), False))
         faults.add(forked[0])
         same = [one == two for one, two in zip(forked, apart)]
@@ -40,7 +47,7 @@ for command in COMMANDS:
             play(parse("4.1 rx before read RDH")[1], None, True)
         except Mismatch as error:
             print(error)
-    print(target.forks.is_usable, target.forks.second is not target.forks.first, len(faults) > 1)
+    print(target.forks.is_usable, len(target.forks.hosts) > 10, len(faults) > 1)
     target.close()
 """
 MISMATCH = "4.1 rx before read RDH: at this place, the test makes another access: read {}\n"

@@ -86,7 +86,8 @@ def arguments_of(words):
         given[name] = int(value) if name in NUMBERS else value
     if not 1 <= given["jobs"] <= MOST_JOBS:
         raise UsageError(f"--jobs: use a number from 1 to {MOST_JOBS}")
-    if given["pct"] is not None and not (1 <= given["pct"] <= DEEPEST and given["explore"] is None and not given["holds"]):
+    is_alone = given["explore"] is None and not given["holds"]
+    if given["pct"] is not None and not (1 <= given["pct"] <= DEEPEST and is_alone):
         raise UsageError(f"--pct: use a depth from 1 to {DEEPEST}, without --explore and --holds")
     given["shard"] = shard_of(given["shard"])
     if len(words) < 2:
@@ -137,8 +138,8 @@ class Finder:
         """Prints the bound of PCT, by the events of a run without deviations. Returns that run if it fails."""
         run, depth = self.target.run(), self.given["pct"]
         self.events = run.events
-        self.say(f"PCT of depth {depth}: {len(ACTORS)} actors and {self.events} events, so each run finds a race of this depth"
-                 f" with a probability of at least 1/{bound_of(depth, self.events):,}")
+        self.say(f"PCT of depth {depth}: {len(ACTORS)} actors and {self.events} events, so each run finds a race of"
+                 f" this depth with a probability of at least 1/{bound_of(depth, self.events):,}")
         return run if run.fault else None
 
     def draw(self):

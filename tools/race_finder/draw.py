@@ -1,7 +1,7 @@
 """Draws schedules.
 
-`actions(name, enabled)` yields the steps that are played before the access with this name. `enabled` returns the steps that
-would do something at this time, after those that were yielded before.
+`actions(name, enabled)` yields the steps that are played before the access with this name. `enabled` returns the steps
+that would do something at this time, after those that were yielded before.
 """
 
 import random
@@ -17,7 +17,7 @@ PATIENCE = 4  # reads of one register in a row
 
 
 class Uniform:
-    """Before each access, draws each step of an engine with some probability, in a random order; the seed decides all."""
+    """Before each access, draws each step of an engine with some probability, in a random order. The seed decides."""
 
     def __init__(self, seed, chance=0.5, draws_holds=False):
         self.random, self.chance, self.draws_holds = random.Random(seed), chance, draws_holds
@@ -38,7 +38,7 @@ class Uniform:
 
 
 class Pct:
-    """Probabilistic concurrency testing: the actor with the highest priority goes first; the seed decides all.
+    """Probabilistic concurrency testing: the actor with the highest priority goes first. The seed decides.
 
     The priorities of the actors are random. After `depth` - 1 random ones of the events, the actor of the event gets a
     priority below all others. A driver that polls isn't starved: before every fourth read of one register in a row,

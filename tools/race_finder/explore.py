@@ -31,10 +31,13 @@ def is_after(last, action):
     return ACTORS[last] <= ACTORS[action] and (last, action) not in PAIRS.values()
 
 
+MANY = 40  # schedules that are worth a preparation
+
+
 class Search:
     """Tries all schedules by their number of deviations, up to the first one that fails, or until `most` were tried.
 
-    Of those of one size, schedules whose deviations are close together are tried first: a race is a matter of few accesses.
+    Of those of one size, schedules with deviations close together are tried first: a race is a matter of few accesses.
     """
 
     def __init__(self, target, with_holds=False, most=None, progress=lambda line: None, seen=None):
@@ -62,6 +65,8 @@ class Search:
                 self.found = run
             elif not is_last and len(run.met) == len(schedule):
                 following += children(run, self.with_holds)
+                if not schedule and len(following) >= MANY:
+                    self.target.prepare(run)
         self.level = sorted(following, key=lambda one: one[0])
 
     def up_to(self, depth, is_last=True):
@@ -83,5 +88,6 @@ def explore(target, depth, with_holds=False, say=lambda line: None, progress=lam
         search.up_to(size, is_last=size == depth)
         if search.found:
             break
-        say(f"depth {size}: {search.counts[-1]}{all_of} schedules, none fails, {len(search.answers)} different lists of answers")
+        say(f"depth {size}: {search.counts[-1]}{all_of} schedules, none fails,"
+            f" {len(search.answers)} different lists of answers")
     return search

@@ -10,15 +10,25 @@ import subprocess
 import threading
 import time
 
-from race_finder.host import DOUBT, HOST, MARK, MISMATCH, RAN, RUN, SIZE, WARM, receive, send
+from race_finder.host import DOUBT, HOST, MARK, MISMATCH, RAN, READY, RUN, SIZE, WARM, receive, send
 from race_finder.play import Mismatch
+from race_finder.schedule import Place
 
 TOOLS = os.path.dirname(os.path.dirname(os.path.abspath(__file__)))
 PYTHON = re.compile(r"python(3(\.[0-9]+)?)?")
 FLAGS = re.compile(r"-[bBEIOPqsSu]+")
-BEGIN = ("import sys; before, sys.dont_write_bytecode = sys.dont_write_bytecode, True; sys.path.insert(0, sys.argv[1]); "
-         "from race_finder.host import main; sys.path.remove(sys.argv[1]); sys.dont_write_bytecode = before; del before; "
-         "main(*sys.argv[2:])")
+FIRST, ROUND_1 = Place(0, 0), Place(1, 0)
+SPACING, MOST_HOSTS = 16, 40  # accesses from one host to the next; hosts after round 1
+END = 5  # seconds until a host that hasn't ended by itself is killed
+BEGIN = """
+import sys
+before, sys.dont_write_bytecode = sys.dont_write_bytecode, True
+sys.path.insert(0, sys.argv[1])
+from race_finder.host import main
+sys.path.remove(sys.argv[1])
+sys.dont_write_bytecode = before
+main(*sys.argv[2:])
+"""
 
 
 class Stopped(Exception):
@@ -45,7 +55,10 @@ class Child:
 
     def __init__(self, file, end, wake=None):
         self.file, self.end, self.wake = file, end, wake
-        mark = self.read(len(MARK) + SIZE.size)
+        try:
+            mark = self.read(len(MARK) + SIZE.size)
+        except Late:
+            raise Lost from None  # it is the host that does nothing
         if not mark.startswith(MARK):
             raise Lost
         self.number, = SIZE.unpack(mark[len(MARK):])
@@ -53,7 +66,8 @@ class Child:
     def read(self, size):
         data = b""
         while len(data) < size:
-            ready = select.select([self.file, *([self.wake] if self.wake else [])], [], [], max(0, self.end - time.monotonic()))[0]
+            files = [self.file] if self.wake is None else [self.file, self.wake]
+            ready = select.select(files, [], [], max(0, self.end - time.monotonic()))[0]
             if self.wake in ready:
                 raise Stopped
             if not ready:
@@ -88,43 +102,57 @@ def kill(number):
 
 
 class Forks:
-    """The hosts of a test: one whose test waits for its first answer, and one whose test begins its first round."""
+    """The hosts of a test. Each is forked before a place of the run without deviations: the first answer, and later ones."""
 
     def __init__(self, command, settings, seconds):
         self.command, self.settings, self.seconds = command, settings, seconds
-        self.lock, self.process, self.first, self.second = threading.Lock(), None, None, None
+        self.lock, self.process = threading.Lock(), None
+        self.hosts = []  # pairs of a place and a socket, the last place first
         self.is_usable, self.is_warm = True, False
 
     def start(self):
-        """Starts both hosts. Without the second one, the first one is used for all runs."""
-        self.first, theirs = socket.socketpair()
+        """Starts the host before the first answer, and the one before round 1."""
+        ours, theirs = socket.socketpair()
+        self.hosts.append((FIRST, ours))
         python, script = self.command
-        words = [*python, "-c", BEGIN, TOOLS, str(theirs.fileno()), *script]
+        words, null = [*python, "-c", BEGIN, TOOLS, str(theirs.fileno()), *script], subprocess.DEVNULL
         try:
-            self.process = subprocess.Popen(words, stdin=subprocess.DEVNULL, stdout=subprocess.DEVNULL, stderr=subprocess.DEVNULL,
-                                            pass_fds=[theirs.fileno()], start_new_session=True)
+            self.process = subprocess.Popen(words, stdin=null, stdout=null, stderr=null, pass_fds=[theirs.fileno()],
+                                            start_new_session=True)
+            send(ours, self.settings)
+        except OSError:
+            self.is_usable = False  # a process of its own shows why
+        else:
+            self.add([ROUND_1])
         finally:
             theirs.close()
-        send(self.first, self.settings)
-        self.second = self.start_second() or self.first
 
-    def start_second(self):
-        ours, theirs = socket.socketpair()
-        ours.settimeout(self.seconds)
-        number = None
+    def add(self, places):
+        """Starts a host for each of these places that the run without deviations reaches."""
+        hosts, (_, parent) = [], self.hosts[0]
         try:
-            send(self.first, (HOST,), [theirs.fileno()])
-            theirs.close()
-            number = receive(ours)[0]
-            is_ready = receive(ours)[0] == "ready"
-        except (OSError, EOFError, pickle.UnpicklingError):
-            is_ready = False
-        if is_ready:
-            ours.settimeout(None)
-            return ours
-        if number:
-            kill(number)
-        return None
+            for place in places:
+                ours, theirs = socket.socketpair()
+                ours.settimeout(self.seconds)
+                hosts.append((place, ours))
+                send(parent, (HOST, place), [theirs.fileno()])
+                theirs.close()
+        except OSError:
+            pass  # the parent has ended: so have these
+        self.hosts += filter(is_ready, hosts)
+        self.hosts.sort(key=lambda host: host[0], reverse=True)
+
+    def prepare(self, run):
+        """Before many schedules are played: starts hosts all along the run without deviations."""
+        places = [met.place for met in run.places if met.place.round][SPACING::SPACING]
+        with self.lock:
+            if self.is_usable and self.process and len(self.hosts) == 2:
+                self.add(places[:MOST_HOSTS])
+
+    def host_of(self, schedule, draw):
+        """The last host before the first deviation."""
+        first = schedule[0].place if schedule else FIRST if draw and draw.draws_holds else ROUND_1
+        return next(control for place, control in self.hosts if place <= first)
 
     def play(self, schedule, draw, is_strict, has_places, wake):
         """A run, or None if only a process of its own can show it. Raises Mismatch or Stopped."""
@@ -133,12 +161,12 @@ class Forks:
                 self.start()
         if not self.is_usable:
             return None
-        is_early = any(deviation.place.round == 0 for deviation in schedule) or draw and draw.draws_holds
         source, sink = os.pipe()
         try:
             with self.lock:
+                request = RUN, schedule, draw, is_strict, has_places, not self.is_warm
                 try:
-                    send(self.first if is_early else self.second, (RUN, schedule, draw, is_strict, has_places, not self.is_warm), [sink])
+                    send(self.host_of(schedule, draw), request, [sink])
                 finally:
                     os.close(sink)
             kind, value = Child(source, time.monotonic() + self.seconds).result(wake)
@@ -159,15 +187,34 @@ class Forks:
         return value
 
     def warm(self, run):
-        """Sends the requests of the first run to the host: most of them are those of later runs, too."""
+        """Sends the requests of the first run to the last host: most of them are those of later runs, too."""
         with self.lock:
             if not self.is_warm and run.rows:
                 self.is_warm = True
-                send(self.second, (WARM, [row.line[2:] for row in run.rows if row.place and row.place.round]))
+                send(self.hosts[0][1], (WARM, [row.line[2:] for row in run.rows if row.place and row.place.round]))
 
     def end(self):
-        for control in (self.first, self.second):
-            if control:
-                control.close()
+        for _, control in self.hosts:
+            control.close()
         if self.process:
-            self.process.wait()
+            try:
+                self.process.wait(END)
+            except subprocess.TimeoutExpired:
+                kill(self.process.pid)
+                self.process.wait()
+
+
+def is_ready(host):
+    """Waits until a host has reached its place. Ends it if it doesn't."""
+    number, control = None, host[1]
+    try:
+        number = receive(control)[0]
+        if number and receive(control)[0] == READY:
+            control.settimeout(None)
+            return True
+    except (OSError, EOFError, pickle.UnpicklingError):
+        pass
+    if number:
+        kill(number)
+    control.close()
+    return False

@@ -1,12 +1,13 @@
 """Loads a test in Python once, and is forked for each run.
 
-`forks.py` starts `main` in the interpreter of the test. The test runs until it reads its first answer. Then this process is
-forked for each run. In the child, the test goes on: its standard streams lead to `Play` in the same process, which asks a
-server of its own. A second host is a child that goes on until the test begins its first round, and is forked there.
+`forks.py` starts `main` in the interpreter of the test. The test runs until it reads its first answer. Then this
+process is forked for each run. In the child, the test goes on: its standard streams lead to `Play` in the same process,
+which asks a server of its own. Other hosts are children that go on until a later place of the run without deviations,
+and are forked there.
 
-A test that starts processes, opens files for writing, has threads that use its standard streams, or uses these by other means
-than `sys.stdin` and `sys.stdout`, isn't forked: its runs could differ from those of a process of its own. Then the result is
-DOUBT, or none.
+A test isn't forked if its runs could differ from those of a process of its own: if it starts processes, opens files for
+writing, or uses its standard streams from other threads, or by other means than `sys.stdin` and `sys.stdout`. Then the
+result is DOUBT, or none.
 """
 
 import atexit
@@ -37,11 +38,12 @@ MARK = b"\0race"
 # The kinds of results
 RAN, MISMATCH, DOUBT = "ran", "mismatch", "doubt"
 RUN, HOST, WARM = "run", "host", "warm"
-# The most bytes of requests whose answers aren't read. With more, a test and its pipes could wait for each other.
+READY = "ready"  # a host has reached its place
+# The most bytes of requests and answers that a test hasn't read. With more, it could wait for its pipes for ever.
 MOST_UNREAD = 60_000
 # What a test that is forked doesn't do. A file that is opened for writing is seen apart.
-DOUBTFUL = ("os.fork", "os.forkpty", "os.posix_spawn", "os.exec", "os.spawn", "os.system", "pty.spawn", "subprocess.Popen",
-            "socket.__new__")
+DOUBTFUL = ("os.fork", "os.forkpty", "os.posix_spawn", "os.exec", "os.spawn", "os.system", "pty.spawn",
+            "subprocess.Popen", "socket.__new__")
 WRITES = os.O_WRONLY | os.O_RDWR
 
 
@@ -119,17 +121,19 @@ class Host:
         for file in (*pipe, self.unwritten[1], errors):
             os.close(file)
         out = Requests(self, 1, "<stdout>")
-        for name, raw, kind in (("stdin", Answers(self, 0, "<stdin>"), io.BufferedReader), ("stdout", out, io.BufferedWriter)):
+        writer = out if sys.stdout.write_through else io.BufferedWriter(out)
+        reader = io.BufferedReader(Answers(self, 0, "<stdin>"))
+        for name, buffer in ("stdin", reader), ("stdout", writer):
             old = getattr(sys, name)
-            raw = raw if name == "stdout" and old.write_through else kind(raw)
-            new = io.TextIOWrapper(raw, old.encoding, old.errors, "\n", old.line_buffering, old.write_through)
+            new = io.TextIOWrapper(buffer, old.encoding, old.errors, "\n", old.line_buffering, old.write_through)
             new.mode = old.mode
             setattr(sys, name, new)
             setattr(sys, f"__{name}__", new)
 
     def take(self, data):
         self.requests += data
-        self.is_doubtful |= len(self.requests) + len(self.unread) > MOST_UNREAD or threading.get_ident() != self.thread
+        is_much = len(self.requests) + len(self.unread) > MOST_UNREAD
+        self.is_doubtful |= is_much or threading.get_ident() != self.thread
         return len(data)
 
     def answers(self, most):
@@ -160,8 +164,8 @@ class Host:
 
     # Runs
 
-    def serve(self, begun=None):
-        """Forks a child for each message, and returns in the child alone. `begun` has what the test has requested so far."""
+    def serve(self, begun=()):
+        """Forks a child for each message, and returns in the child alone. `begun`: what the test has requested so far."""
         gc.collect()
         gc.freeze()
         children = set()
@@ -183,7 +187,7 @@ class Host:
         self.number = os.getpid()
         kind, *request = message
         try:
-            self.become_run(files[0], begun, *request) if kind == RUN else self.become_host(files[0])
+            (self.become_run if kind == RUN else self.become_host)(files[0], begun, *request)
         except Exception:
             self.doubt()
 
@@ -192,28 +196,33 @@ class Host:
         os.write(result, MARK + SIZE.pack(os.getpid()))
         os.dup2(result, 1)
         self.renew()
-        program, options, base = self.settings
-        server = Server(program, options)
-        if self.play is None:
-            self.play = Play(server, schedule, draw, is_strict, base)
-        else:
-            self.play.begin(server, schedule, draw, is_strict)
-            server.repeat(begun)
+        self.begin(begun, schedule, draw, is_strict)
 
-    def become_host(self, control):
+    def become_host(self, control, begun, place):
+        """Goes on until this place, and is forked there."""
         self.control = socket.socket(fileno=control)
         self.renew()
         send(self.control, os.getpid())
-        program, options, base = self.settings
-        self.play = Play(Server(program, options), base=base)
-        self.play.at_first_round = self.at_first_round
+        self.begin(begun, (), None, False)
+        self.play.stop, self.play.at_stop, self.play.begun = place, self.at_stop, [*begun]
 
-    def at_first_round(self):
+    def begin(self, begun, *words):
+        """Starts a run, or lets it go on: with a new server, in the state after the requests so far."""
+        program, options, base = self.settings
+        server = Server(program, options)
+        if self.play is None:
+            self.play = Play(server, *words, base)
+        else:
+            self.play.begin(server, *words)
+            server.repeat([*begun[1:], *begun[:1]])  # the log is turned on at the end
+
+    def at_stop(self):
         self.check_host()
         self.play.server.end()
-        self.play.reached, self.play.counted = reached_by(self.play.rows), len(self.play.rows)
-        send(self.control, "ready")
-        self.serve(self.play.begun[1:] + self.play.begun[:1])  # the log is turned on at the end
+        self.play.reached |= reached_by(self.play.rows[self.play.counted:])
+        self.play.counted = len(self.play.rows)
+        send(self.control, READY)
+        self.serve(self.play.begun)
 
     def renew(self):
         """Gives a child files of its own: the byte that isn't read, and standard error with what was written so far."""
@@ -231,7 +240,8 @@ class Host:
     def check_host(self):
         """Ends a host whose test can't be forked."""
         tasks, files = (set(os.listdir(f"/proc/self/{folder}")) for folder in ("task", "fd"))
-        if self.is_doubtful or len(tasks) > 1 or self.was_read() or has_bytes(self.unwritten[0]) or not self.has_few(files):
+        is_used = self.was_read() or has_bytes(self.unwritten[0])
+        if self.is_doubtful or len(tasks) > 1 or is_used or not self.has_few(files):
             os._exit(1)
 
     def has_few(self, files):
@@ -282,7 +292,8 @@ class Host:
 
     def audit(self, event, arguments):
         """Notes what a test that is forked doesn't do."""
-        if self.is_watched and (event in DOUBTFUL or event == "open" and self.result is not None and arguments[2] & WRITES):
+        writes = event == "open" and self.result is not None and arguments[2] & WRITES
+        if self.is_watched and (event in DOUBTFUL or writes):
             self.is_doubtful = True
 
 
@@ -305,6 +316,7 @@ def has_bytes(file):
 
 def run_script(path):
     """Runs a script as the interpreter does, and returns the exit status."""
+    path = os.path.abspath(path)
     main = types.ModuleType("__main__")
     main.__file__, main.__builtins__, main.__loader__ = path, builtins, SourceFileLoader("__main__", path)
     main.__annotations__, main.__cached__ = {}, None

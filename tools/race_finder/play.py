@@ -61,8 +61,8 @@ class Play:
         self.waiting, self.size = [], 0  # requests that aren't sent yet, and their bytes
         self.round = self.access_number = 0
         self.is_logged = False  # whether the test wants the log
-        self.begun = []  # the texts of the requests before round 1
-        self.at_first_round = None  # is called when all of them are answered
+        self.stop, self.at_stop = None, None  # a place, and what is called when the run reaches it
+        self.begun = []  # the texts of the requests before this place
         self.out = []  # lines for the test
         self.met, self.idle = [], []  # the deviations that did something, and those that did nothing
         self.places, self.rows = [], []
@@ -93,7 +93,7 @@ class Play:
             return []
         requests, self.waiting, self.size = self.waiting, [], 0
         texts = [request.text for request in requests]
-        if not self.round:
+        if self.stop:
             self.begun += texts
         self.server.send(texts)
         return [self.answer(request) for request in requests]
@@ -173,10 +173,15 @@ class Play:
         else:
             self.queue(Request(request, TEST))
 
-    def begin_round(self, request):
-        if not self.round and self.at_first_round:
+    def reach(self, place):
+        """The run is before this place, and all requests before it are answered if it stops here."""
+        if place == self.stop:
             self.flush()
-            self.at_first_round()
+            self.stop = None
+            self.at_stop()
+
+    def begin_round(self, request):
+        self.reach(Place(self.round + 1, 0))
         self.round, self.access_number = self.round + 1, 0
         self.queue(Request(request, TEST))
         self.flush()  # so the same steps follow, however many requests are sent at once
@@ -184,9 +189,11 @@ class Play:
     def access(self, request, access):
         """An access of the test, after what the schedule plays before it."""
         self.access_number += 1
+        place = Place(self.round, self.access_number)
+        self.reach(place)
         self.events += self.round > 0
         register = self.shadow.register(access)
-        place, name = Place(self.round, self.access_number), f"{access.kind} {register or self.shadow.memory(access)}"
+        name = f"{access.kind} {register or self.shadow.memory(access)}"
         due = self.left.pop(place, ())
         for deviation in due:
             if self.is_strict and deviation.before != name:

@@ -47,7 +47,8 @@ class Server:
 
         A server that can save and restore its state would be restored here, and wouldn't have to be a new one.
         """
-        data, end = "".join([f"{request}\n" for request in [*requests, "endianness"]]).encode(errors="surrogateescape"), b""
+        text, end = "".join([f"{request}\n" for request in [*requests, "endianness"]]), b""
+        data = text.encode(errors="surrogateescape")
         os.set_blocking(self.sink, False)
         while not end.endswith(LAST):
             readable, writable, _ = select.select([self.source], [self.sink] if data else [], [])

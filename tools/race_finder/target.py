@@ -46,6 +46,11 @@ class Target:
         if self.forks:
             self.forks.end()
 
+    def prepare(self, run):
+        """Before many schedules are played, by the run without deviations."""
+        if self.forks:
+            self.forks.prepare(run)
+
     def run(self, schedule=(), draw=None, is_strict=False):
         """Runs the command once, and counts the run. Raises CannotRun, ServerEnded or Mismatch."""
         return self.count(self.play(schedule, draw, is_strict))
