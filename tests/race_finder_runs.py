@@ -1,4 +1,4 @@
-"""How the finder of races plays runs: forked ones are like processes of their own, several at once find the same, and PCT draws as it should."""
+"""How the finder of races plays runs: forked ones, several at once, and those that PCT draws."""
 
 import os
 import re
@@ -6,6 +6,7 @@ import sys
 
 from race_finder import ASK, EXCHANGE, FOUND, FRAME, PASSES, SMALL, USAGE, find, without_rate, without_reached
 from race_finder_output import script
+from server import LIMIT
 from server_pages import TOP
 
 PYTHON = [sys.executable, "-S", "-E"]
@@ -19,19 +20,24 @@ from race_finder.play import Mismatch
 from race_finder.schedule import Deviation, Place, parse
 from race_finder.target import Target
 """
-# Compares forked runs with processes of their own: drawn ones, one without deviations, and one with deviations also before round 1. Prints what
-# differs, whether all were forked, whether some failed, and what a schedule shows that meets another access.
+# Compares forked runs with processes of their own: drawn ones, one without deviations, one with deviations also before
+# round 1, and some with later deviations. Prints what differs, what a schedule shows that meets another access, whether
+# all were forked, whether there are hosts all along the run, and whether some runs failed.
 SAME = BEGIN + """
 def shown(run):
     rows = [(row.line, row.owner, row.place, row.name, row.answer) for row in run.rows]
     return [run.fault, run.met, run.idle, run.unreached, run.answers, run.events, run.reached, run.places, rows]
 
-EARLY = parse("0.9 hold eeprom before read EERD\\n3.1 rx before read ICR\\n5.2 tx before read rx[0]\\n99.1 rx before read ICR")[1]
-WAYS = [lambda: ((), None), lambda: (EARLY, None), lambda: ((), Uniform(10)), lambda: ((), Uniform(2, draws_holds=True)), lambda: ((), Pct(3, 3, 300))]
+EARLY = parse("0.9 hold eeprom before read EERD\\n3.1 rx before read ICR\\n5.2 tx before read rx[0]\\n"
+              "99.1 rx before read ICR")[1]
+WAYS = [lambda: ((), None), lambda: (EARLY, None), lambda: ((), Uniform(10)),
+        lambda: ((), Uniform(2, draws_holds=True)), lambda: ((), Pct(3, 3, 300))]
 def late(run):
     # schedules whose first deviation is later and later in this run
-    places = [run.places[len(run.places) * part // 20] for part in range(10, 20)]
-    return [lambda one=one: ([Deviation(one.place, "rx", one.name), Deviation(Place(one.place.round, 99), "tx", "read ICR")], None) for one in places]
+    firsts = [run.places[len(run.places) * part // 20] for part in range(10, 20)]
+    schedules = [[Deviation(first.place, "rx", first.name), Deviation(Place(first.place.round, 99), "tx", "read ICR")]
+                 for first in firsts]
+    return [lambda schedule=schedule: (schedule, None) for schedule in schedules]
 
 for command in COMMANDS:
     target, faults = Target(sys.argv[1], command, seconds=60), set()
@@ -60,33 +66,43 @@ def ask(text):
         if not line:
             sys.exit("the end")
     return line.split()[-1]
+print("early", file=sys.stderr)
 ask("writel 0xFEB02808 128")
 ask("step rxdata")
 """
 ENDS = {
     "passes": ("", True, None),
-    "exits": ("sys.exit(300)", True, "exit status 44"),
+    "exits": ("sys.exit(300)", True, "exit status 44: early"),
     "exits with a text": ("sys.exit('wrong\\n')", True, "exit status 1: wrong"),
     "raises": ("1 / 0", True, "exit status 1: ZeroDivisionError: division by zero"),
-    "has a function for its end": ("import atexit; atexit.register(print, 'the end', file=sys.stderr); sys.exit(3)", True, "exit status 3: the end"),
-    "leaves a request": ("sys.stdout.write('readl 0xFEB00008'); sys.exit(2)", True, "exit status 2"),
+    "has a function for its end": (
+        "import atexit; atexit.register(print, 'the end', file=sys.stderr); sys.exit(3)", True, "exit status 3: the end"),
+    "leaves a request": ("sys.stdout.write('readl 0xFEB00008'); sys.exit(2)", True, "exit status 2: early"),
     "closes its output": ("sys.stdout.close(); sys.exit(sys.stdin.read())", False, "no end within 1 seconds"),
-    "reads by a number": ("print('line'); sys.stdout.flush(); sys.exit(os.read(0, 99).decode())", False, "exit status 1: OK 0x0000000000000000"),
-    "writes by a number": ("os.write(1, b'line\\n'); sys.exit(sys.stdin.readline())", False, "exit status 1: OK 0x0000000000000000"),
-    "has a thread that asks": ("from threading import Thread; one = Thread(target=ask, args=['line']); one.start(); one.join(); sys.exit(2)", False,
-                               "exit status 2"),
-    "has another thread": ("from threading import Thread; one = Thread(target=abs, args=[1]); one.start(); one.join(); sys.exit(2)", True, "exit status 2"),
-    "starts a process": ("import subprocess; sys.exit(subprocess.call(['sh', '-c', 'exit 4']))", False, "exit status 4"),
-    "forks": ("os.fork() or os._exit(0); os.wait(); sys.exit(5)", False, "exit status 5"),
-    "writes a file": ("open('written', 'w').write('x'); sys.exit(6)", False, "exit status 6"),
-    "ends at once": ("os._exit(7)", False, "exit status 7"),
-    "is killed": ("os.kill(os.getpid(), 9)", False, "ended by SIGKILL"),
+    "reads by a number": (
+        "print('line'); sys.stdout.flush(); sys.exit(os.read(0, 99).decode())", False, "exit status 1: OK 0x0000000000000000"),
+    "writes by a number": (
+        "os.write(1, b'line\\n'); sys.exit(sys.stdin.readline())", False, "exit status 1: OK 0x0000000000000000"),
+    "has a thread that asks": (
+        "from threading import Thread; one = Thread(target=ask, args=['line']); one.start(); one.join(); sys.exit(2)",
+        False, "exit status 2: early"),
+    "has another thread": (
+        "from threading import Thread; one = Thread(target=abs, args=[1]); one.start(); one.join(); sys.exit(2)",
+        True, "exit status 2: early"),
+    "starts a process": (
+        "import subprocess; sys.exit(subprocess.call(['sh', '-c', 'exit 4']))", False, "exit status 4: early"),
+    "forks": ("os.fork() or os._exit(0); os.wait(); sys.exit(5)", False, "exit status 5: early"),
+    "writes a file": ("open('written', 'w').write('x'); sys.exit(6)", False, "exit status 6: early"),
+    "ends at once": ("os._exit(7)", False, "exit status 7: early"),
+    "is killed": ("os.kill(os.getpid(), 9)", False, "ended by SIGKILL: early"),
     "waits for ever": ("sys.stdin.readline()", False, "no end within 1 seconds"),
 }
 # Prints for each script whether its runs are forked, and the faults of a run, of a second one, and of a process of its own.
+# Each script is given with the seconds of a run.
 PLAYED = BEGIN + """
-for name in sys.argv[3:]:
-    target = Target(sys.argv[1], [sys.executable, "-S", "-E", name], seconds=1)
+for word in sys.argv[3:]:
+    name, seconds = word.split(":")
+    target = Target(sys.argv[1], [sys.executable, "-S", "-E", name], seconds=int(seconds))
     faults = [target.play().fault, target.play().fault, target.play_apart((), None, False).fault]
     print([target.forks.is_usable, *faults])
     target.close()
@@ -103,9 +119,11 @@ def same(server):
 
 def ends(server):
     """How a test in Python may end, and what isn't forked."""
-    for number, (text, _, _) in enumerate(ENDS.values()):
+    words = []
+    for number, (text, _, fault) in enumerate(ENDS.values()):
         server.put(f"ends{number}.py", f"{ASKS}{text}\n".encode())
-    out = script(server, PLAYED, *(f"ends{number}.py" for number in range(len(ENDS))))
+        words.append(f"ends{number}.py:{1 if fault and fault.startswith('no end') else LIMIT}")
+    out = script(server, PLAYED, *words)
     for (name, (_, is_forked, fault)), line in zip(ENDS.items(), out[1].splitlines()):
         server.check(f"ends: a test that {name}", line, repr([is_forked, fault, fault, fault]))
     server.check("ends: all of them", (out[0], len(out[1].splitlines()), out[2]), (0, len(ENDS), ""))
@@ -143,8 +161,9 @@ for n in 1 2 3 4 5 6 7 8 9; do
     case $answer in *3) exit 1 ;; esac
 done
 """
-# Plays drawings in a world where each engine has some steps. Compares each choice with that of the actor with the highest priority; prints the numbers
-# of choices that differ, the numbers of priorities that became lower, by depth, and the fourth reads at which the driver had to wait.
+# Plays drawings in a world where each engine has some steps. Prints for each depth how many choices weren't that of the
+# actor with the highest priority, how many priorities became lower, and whether these began as a permutation, draws differ,
+# and a seed decides. Then prints who went while the driver with the highest priority polled, and some bounds.
 CHOICES = BEGIN + """
 STEPS = {"rxdata": 3, "rxdone": 0, "txtake": 4, "txput": 0}
 NEXT = {"rxdata": "rxdone", "txtake": "txput"}
@@ -156,7 +175,8 @@ def play(draw, names):
         before = dict(draw.priorities)
         for step in draw.actions(name, enabled):
             actor = next(actor for actor, steps in ACTORS.items() if step in steps)
-            best = max(before[other] for other in ACTORS if other == DRIVER or set(ACTORS[other]) & set(enabled()))
+            could = [other for other in ACTORS if other == DRIVER or set(ACTORS[other]) & set(enabled())]
+            best = max(before[other] for other in could)
             wrong += before[actor] != best
             left[step] -= 1
             if step in NEXT:
@@ -172,11 +192,14 @@ for depth in (1, 2, 3):
     first = [dict(draw.priorities) for draw in draws]
     played = [play(draw, names) for draw in draws]
     lower = {sum(after.priorities[actor] < before[actor] for actor in ACTORS) for after, before in zip(draws, first)}
-    print(sum(wrong for wrong, _ in played), sorted(lower), all(set(one.values()) == set(range(depth, depth + len(ACTORS))) for one in first),
-          len({tuple(went) for _, went in played}) > 10, played == [play(Pct(seed, depth, 12), names) for seed in range(200)])
+    begin = set(range(depth, depth + len(ACTORS)))
+    again = [play(Pct(seed, depth, 12), names) for seed in range(200)]
+    print(sum(wrong for wrong, _ in played), sorted(lower), all(set(one.values()) == begin for one in first),
+          len({tuple(went) for _, went in played}) > 10, played == again)
 draw = Pct(1, 1, 12)
 draw.priorities[DRIVER] = 9
-print(["".join(actor[0] for actor in play(draw, ["read ICR"] * count + ["write IMS"])[1]) for count in (3, 5, 8)])
+polled = [play(draw, ["read ICR"] * count + ["write IMS"])[1] for count in (3, 5, 8)]
+print(["".join(actor[0] for actor in went) for went in polled])
 print(bound_of(1, 50), bound_of(2, 50), bound_of(3, 50), bound_of(3, 0))
 """
 

@@ -102,7 +102,7 @@ def kill(number):
 
 
 class Forks:
-    """The hosts of a test. Each is forked before a place of the run without deviations: the first answer, and later ones."""
+    """The hosts of a test: processes that wait before places of the run without deviations, and are forked there."""
 
     def __init__(self, command, settings, seconds):
         self.command, self.settings, self.seconds = command, settings, seconds

@@ -165,7 +165,7 @@ class Host:
     # Runs
 
     def serve(self, begun=()):
-        """Forks a child for each message, and returns in the child alone. `begun`: what the test has requested so far."""
+        """Forks a child for each message, and returns in the child alone. `begun` has all requests so far."""
         gc.collect()
         gc.freeze()
         children = set()
@@ -228,8 +228,7 @@ class Host:
         """Gives a child files of its own: the byte that isn't read, and standard error with what was written so far."""
         pipe, errors = os.pipe(), os.memfd_create("errors")
         os.write(pipe[1], b"\n")
-        os.lseek(2, 0, os.SEEK_SET)
-        os.write(errors, os.read(2, 1 << 20))
+        os.write(errors, written(2))
         os.dup2(pipe[0], 0)
         os.dup2(errors, 2)
         for file in (*pipe, errors):
@@ -285,14 +284,12 @@ class Host:
         self.feed(is_last=True)
         if self.is_doubtful or self.was_read():
             self.doubt()
-        os.lseek(2, 0, os.SEEK_SET)
-        with open(2, "rb", closefd=False) as file:
-            run = Run(fault_of(status, file.read()), self.play)
+        run = Run(fault_of(status, written(2)), self.play)
         self.end(RAN, run.reduced(self.has_places, self.has_rows))
 
     def audit(self, event, arguments):
-        """Notes what a test that is forked doesn't do."""
-        writes = event == "open" and self.result is not None and arguments[2] & WRITES
+        """Notes what a test that is forked doesn't do. Importing a module may write a file, which is no harm."""
+        writes = event == "open" and self.result is not None and arguments[2] & WRITES and ".pyc." not in str(arguments[0])
         if self.is_watched and (event in DOUBTFUL or writes):
             self.is_doubtful = True
 
@@ -307,6 +304,11 @@ def warm(requests):
 def ended(children, options):
     """Those of these children that have ended."""
     return {child for child in children if os.waitpid(child, options)[0]}
+
+
+def written(file):
+    """All bytes of a file, whose place is left alone."""
+    return os.pread(file, os.fstat(file).st_size, 0)
 
 
 def has_bytes(file):

@@ -22,7 +22,7 @@ class Run:
 
 
 def fault_of(status, errors):
-    """Why a test failed, by its exit status (or minus a signal) and its standard error in bytes, or None if it passed."""
+    """Why a test failed, by its exit status (or minus a signal) and its standard error; or None if it passed."""
     if status == 0:
         return None
     lines = errors.decode(errors="replace").strip().splitlines()

@@ -94,7 +94,8 @@ class Shadow:
     def enabled(self):
         """The steps of engines that would do something now."""
         found, has = [], self.registers
-        if has["TCTL"] & ENABLE and "tx" not in self.stopped and len(self.taken) < TRANSMIT_ROOM and has["TDH"] != has["TDT"]:
+        has_room = "tx" not in self.stopped and len(self.taken) < TRANSMIT_ROOM
+        if has["TCTL"] & ENABLE and has_room and has["TDH"] != has["TDT"]:
             found.append("txtake")
         if self.taken:
             found.append("txput")

@@ -35,7 +35,8 @@ class Target:
     """The command that is tested. Its runs are forked if it is a script in Python and `is_forked`."""
 
     def __init__(self, server, command, options=(), seconds=10.0, jobs=1, is_forked=True):
-        self.server, self.command, self.options, self.seconds, self.jobs = server, command, tuple(options), seconds, jobs
+        self.server, self.command, self.options = server, command, tuple(options)
+        self.seconds, self.jobs = seconds, jobs
         self.runs, self.reached = 0, set()  # of the runs that are counted
         self.wake = os.pipe()  # holds a byte while runs must end
         script = script_of(command) if is_forked else None
@@ -74,7 +75,15 @@ class Target:
         A run that passes may have no rows, and without `has_places` no places.
         """
         run = self.forks and self.forks.play(schedule, draw, is_strict, has_places, self.wake[0])
-        return run or self.play_apart(schedule, draw, is_strict)
+        if not run:
+            run = self.play_apart(schedule, draw, is_strict)
+            if self.forks and run.fault != self.late():
+                self.forks.is_usable = False  # it had no result in time
+        return run
+
+    def late(self):
+        """The fault of a run that doesn't end in time."""
+        return f"no end within {self.seconds:g} seconds"
 
     def play_apart(self, schedule, draw, is_strict):
         """Runs the command in a process of its own."""
@@ -89,8 +98,8 @@ class Target:
 
     def run_command(self, play, errors):
         try:
-            test = subprocess.Popen(self.command, stdin=subprocess.PIPE, stdout=subprocess.PIPE, stderr=errors, bufsize=0,
-                                    start_new_session=True)
+            test = subprocess.Popen(self.command, stdin=subprocess.PIPE, stdout=subprocess.PIPE, stderr=errors,
+                                    bufsize=0, start_new_session=True)
         except OSError as error:
             raise CannotRun(f"{self.command[0]}: {error.strerror}") from None
         end, is_late = time.monotonic() + self.seconds, True
@@ -100,7 +109,7 @@ class Target:
             status = test.wait(max(0, end - time.monotonic()))
             is_late = False
         except (TooLong, subprocess.TimeoutExpired):
-            return f"no end within {self.seconds:g} seconds"
+            return self.late()
         finally:
             stop(test, is_late)
         errors.seek(0)
