@@ -1,7 +1,7 @@
 -- The ways of a frame from the wire into memory ("3.2 Packet Reception"): it arrives, data steps move it to memory piece by piece, and a
 -- done step after each writes the descriptor back.
 use Rattle.std.specs.Prelude.{◌≡◌, ◌≤◌, ◌<◌, ◌+◌, ◌/◌, ◌==◌}
-use Rattle.std.specs.Prelude.{ℕ, Bool, true, false, List, IfSome, Option, None, Some, length, if◌then◌else◌}
+use Rattle.std.specs.Prelude.{ℕ, Bool, true, false, List, Option, None, Some, length, if◌then◌else◌}
 use Rattle.dma_memory.specs.Areas.{ChangesOnly, area_at}
 use Rattle.registers.specs.Bits.{HasBit}
 use Rattle.descriptors.specs.Frames.{IsLegal}
@@ -155,6 +155,11 @@ after_done _ state = state
 abbrev pub memory_after_done_step : List ℕ → AdapterState → List ℕ
 memory_after_done_step memory state = memory_after_done state.receiver.work memory
 
--- A done step changes at most bytes 8 to 15 of the descriptor in work.
+-- With a piece in progress, at most bytes 8 to 15 of its descriptor differ; with none, no byte.
+abbrev pub ChangesDescriptorOf : Option Work → List ℕ → List ℕ → Type 0
+ChangesDescriptorOf None memory memory' = memory' ≡ memory
+ChangesDescriptorOf (Some work) memory memory' = ChangesOnly memory memory' (area_at (work.descriptor + 8) 8)
+
+-- A done step changes at most bytes 8 to 15 of the descriptor of the piece in progress.
 abbrev pub DoneChangesOnly : AdapterState → List ℕ → List ℕ → Type 0
-DoneChangesOnly state memory memory' = IfSome state.receiver.work (λ work. ChangesOnly memory memory' (area_at (work.descriptor + 8) 8))
+DoneChangesOnly state memory memory' = ChangesDescriptorOf state.receiver.work memory memory'

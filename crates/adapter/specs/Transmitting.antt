@@ -3,7 +3,7 @@ use Rattle.std.specs.Prelude.{◌≡◌, ◌≢◌, ◌==◌, ◌++◌, ◌∷�
 use Rattle.descriptors.specs.Ring.{address_of, next_of}
 use Rattle.registers.specs.Places.{alone, txdw, txqe}
 use Rattle.tx_engine.specs.Fetching.{IsIdle, IsFetchable, fetched, pads}
-use Rattle.tx_engine.specs.Steps.{DiffersAtMostAt, IfFront, status_place, written_back}
+use Rattle.tx_engine.specs.Steps.{DiffersAtMostAt, status_place, written_back}
 use Rattle.tx_engine.specs.Transmitter.{Queued}
 use Rattle.adapter.specs.declared.ring.RingRegisters.{RingRegisters}
 use Rattle.adapter.specs.Outcomes.{FrameOutcome}
@@ -91,6 +91,11 @@ abbrev pub memory_after_put : FrameOutcome → List ℕ → AdapterState → Lis
 memory_after_put (Put frame) memory state = reported state.transmitter.buffer memory
 memory_after_put _ memory state = memory
 
+-- With a frame in the packet buffer, at most byte 12 of the oldest frame's descriptor differs; with none, no byte.
+abbrev pub ChangesStatusOfOldest : List Queued → List ℕ → List ℕ → Type 0
+ChangesStatusOfOldest [] memory memory' = memory' ≡ memory
+ChangesStatusOfOldest (queued ∷ later) memory memory' = DiffersAtMostAt (status_place queued) memory memory'
+
 -- A step that puts changes at most byte 12 of the descriptor of the oldest frame.
 abbrev pub PutChangesOnly : AdapterState → List ℕ → List ℕ → Type 0
-PutChangesOnly state memory memory' = IfFront state.transmitter.buffer (λ queued. DiffersAtMostAt (status_place queued) memory memory')
+PutChangesOnly state memory memory' = ChangesStatusOfOldest state.transmitter.buffer memory memory'

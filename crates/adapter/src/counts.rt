@@ -1,11 +1,12 @@
 // What an adapter counted.
 
 use crate::Adapter;
+use registers::Counter;
 
 /// What the statistics registers of an adapter hold (13.7 "Statistics Registers").
 #[derive(Clone, Copy, Debug, PartialEq, Eq)]
 pub struct FrameCounts {
-    /// MPC: frames that were missed for want of room in the receive packet buffer.
+    /// MPC: frames that were missed because the receive packet buffer had no room.
     pub missed: u32,
     /// RNBC: frames that came while no descriptor was free.
     pub without_descriptor: u32,
@@ -17,8 +18,9 @@ pub struct FrameCounts {
 
 impl Adapter {
     ghost use Rattle.std.specs.Prelude.{◌≡◌};
+    ghost use Rattle.adapter.specs.State.{IsAdapter};
 
-    /// What the statistics registers hold. Unlike a driver's read this clears none of them.
+    /// What the statistics registers hold. Unlike a driver's read, this call clears none of them.
     pub fn counts(&self) -> FrameCounts
         ensures missed { result.missed ≡ self.now.missed_packets }
         ensures without_descriptor { result.without_descriptor ≡ self.now.no_receive_buffers }
@@ -31,5 +33,14 @@ impl Adapter {
             received: self.file.gprc.value(),
             transmitted: self.file.gptc.value(),
         }
+    }
+
+    /// Sets MPC, as if this many frames had been missed since the last read of MPC. A test uses it to bring MPC near
+    /// its greatest value, 0xFFFF_FFFF, where MPC stops.
+    pub fn set_missed(&mut self, count: u32)
+        ensures state { self.new ≡ record self.old { missed_packets = count } }
+        ensures adapter { IsAdapter self.new }
+    {
+        self.file.mpc = Counter::at(count);
     }
 }
