@@ -23,6 +23,9 @@ class Waits:
     def __init__(self):
         self.seventh, self.stopped, self.calls = threading.Event(), threading.Event(), []
 
+    def start(self):
+        self.calls.append("start")
+
     def play(self, draw):
         if draw == 5:
             self.calls.append(self.seventh.wait(60))
@@ -122,7 +125,7 @@ def jobs(server):
         got = [find(server, *words, "--jobs", count, command=command) for count in ("1", "4")]
         one, four = [(code, without_rate(out), errors) for code, out, errors in got]
         server.check(f"jobs: {name}", (one[0], one[2], four), (status, "", one))
-    wanted = (0, "[1, 2, 3, 4, 5, 6, 7, 8]\nTrue stop resume\nStopped Stopped\nNone 1\n", "")
+    wanted = (0, "[1, 2, 3, 4, 5, 6, 7, 8]\nstart True stop resume\nStopped Stopped\nNone 1\n", "")
     server.check("jobs: runs are taken in order, and are stopped", script(server, ORDER), wanted)
     wanted = (USAGE, "", "races: --jobs: use a number from 1 to 64\nFor more information, try '--help'.\n")
     for count in ("0", "65"):

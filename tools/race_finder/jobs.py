@@ -20,6 +20,7 @@ def in_order(target, calls, jobs, ahead=AHEAD):
 
     It doesn't matter which run ends first. The caller closes the generator, which ends the runs in progress.
     """
+    target.start()
     begun, pool = deque(), ThreadPoolExecutor(jobs)
     try:
         for call in calls:

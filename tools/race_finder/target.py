@@ -12,6 +12,7 @@ from race_finder.names import DEFAULT_REGISTERS, number_of
 from race_finder.play import Play
 from race_finder.run import Run, fault_of
 from race_finder.server import Server
+from race_finder.workers import Workers
 
 
 class CannotRun(Exception):
@@ -41,11 +42,17 @@ class Target:
         self.wake = os.pipe()  # holds a byte while runs must end
         script = script_of(command) if is_forked else None
         self.forks = Forks(script, (server, self.options, base_of(self.options)), seconds) if script else None
+        self.workers = None
+
+    def start(self):
+        """Before several runs at once, and before there are threads: starts workers if runs aren't forked."""
+        if self.jobs > 1 and not self.workers and not (self.forks and self.forks.is_usable):
+            self.workers = Workers(self.play_reduced, self.jobs)
 
     def close(self):
         """Ends what was started for the runs."""
-        if self.forks:
-            self.forks.end()
+        for runs in filter(None, (self.workers, self.forks)):  # workers have files of the other one, too
+            runs.end()
 
     def prepare(self, run):
         """Before many schedules are played, by the run without deviations."""
@@ -76,7 +83,10 @@ class Target:
         """
         run = self.forks and self.forks.play(schedule, draw, is_strict, has_places, self.wake[0])
         if not run:
-            run = self.play_apart(schedule, draw, is_strict)
+            if self.workers:
+                run = self.workers.play(schedule, draw, is_strict, has_places)
+            else:
+                run = self.play_apart(schedule, draw, is_strict)
             if self.forks and run.fault != self.late():
                 self.forks.is_usable = False  # it had no result in time
         return run
@@ -84,6 +94,9 @@ class Target:
     def late(self):
         """The fault of a run that doesn't end in time."""
         return f"no end within {self.seconds:g} seconds"
+
+    def play_reduced(self, schedule, draw, is_strict, has_places):
+        return self.play_apart(schedule, draw, is_strict).reduced(has_places, has_rows=False)
 
     def play_apart(self, schedule, draw, is_strict):
         """Runs the command in a process of its own."""
