@@ -127,7 +127,7 @@ def ends(server):
     for (name, (_, is_forked, fault)), line in zip(ENDS.items(), out[1].splitlines()):
         server.check(f"ends: a test that {name}", line, repr([is_forked, fault, fault, fault]))
     server.check("ends: all of them", (out[0], len(out[1].splitlines()), out[2]), (0, len(ENDS), ""))
-    server.put("early.py", b"import threading; threading.Thread(target=print).start()\n" + ASKS.encode())
+    server.put("early.py", b"import threading\none = threading.Thread(target=print)\none.start()\none.join()\n" + ASKS.encode())
     for name, command in [("a thread before the first answer", [*PYTHON, "early.py"]), ("no file", [*PYTHON, "nothing.py"]),
                           ("no script", [*PYTHON, "-c", "1"]), ("another program", ["sh", "-c", "exit 0"])]:
         got = [find(server, "--runs", "2", *words, command=command) for words in ([], ["--apart"])]
