@@ -134,7 +134,10 @@ def ends(server):
         server.check(f"ends: {name}", without_rate(got[0][1]), without_rate(got[1][1]))
     once = "import os, sys\nif os.path.exists('loaded'): os.rename('loaded', 'again')\nopen('loaded', 'w').close()\n"
     server.put("once.py", f"{once}{ASKS}".encode())
+    folder = os.path.join(TOP, "tools", "race_finder")
+    before = sorted(os.listdir(folder))
     find(server, "--runs", "3", command=[*PYTHON, "once.py"])
+    server.check("ends: the finder stores no code", sorted(os.listdir(folder)), before)
     server.check("ends: a test is loaded once", (server.get("loaded"), server.get("again")), (b"", None))
 
 

@@ -26,6 +26,7 @@ import threading
 import types
 from importlib.machinery import SourceFileLoader
 
+from race_finder.draw import Pct, Uniform
 from race_finder.names import access_of
 from race_finder.play import Mismatch, Play
 from race_finder.reached import reached_by
@@ -39,6 +40,8 @@ MARK = b"\0race"
 RAN, MISMATCH, DOUBT = "ran", "mismatch", "doubt"
 RUN, HOST, WARM = "run", "host", "warm"
 READY = "ready"  # a host has reached its place
+# Classes in messages. If they were imported later, Python could write files into this folder.
+IN_MESSAGES = Pct, Uniform
 # The most bytes of requests and answers that a test hasn't read. With more, it could wait for its pipes for ever.
 MOST_UNREAD = 60_000
 # What a test that is forked doesn't do. A file that is opened for writing is seen apart.
