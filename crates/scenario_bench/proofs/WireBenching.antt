@@ -96,8 +96,8 @@ module _ (scenario : Scenario) (traces : List (List (List ℕ))) (begun : List P
       )
 
 pub unplayed_stops_wires : (scenario : Scenario) (traces : List (List (List ℕ))) (error : BenchError) (sinks : BenchSinks)
-    → IsUnplayed scenario error → AreUntouched sinks → StopsWires scenario traces error sinks
+    → IsUnplayed scenario traces error → AreUntouched sinks → StopsWires scenario traces error sinks
 unplayed_stops_wires scenario traces (errors.Plan error) sinks is same = (is, same)
-unplayed_stops_wires scenario traces (errors.Run stopped) sinks is same = same
+unplayed_stops_wires scenario traces (errors.Run stopped) sinks is same = (is, same)
 unplayed_stops_wires scenario traces errors.Memory sinks is same = same
 unplayed_stops_wires scenario traces (errors.Write error) sinks is same = absurd is
