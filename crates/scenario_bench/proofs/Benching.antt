@@ -17,7 +17,7 @@ use Rattle.scenario_bench.specs.Benches.{AreWritten, AreWrittenUpTo, Benches, Pl
 use Rattle.scenario_bench.specs.Benches.{scenario_events, texts_of}
 use Rattle.scenario_bench.specs.EventLists.{all_events}
 use Rattle.scenario_bench.specs.Given.{given_from, sockets_from}
-use Rattle.scenario_bench.specs.PlayedEvents.{Begins, HasPlayed, HasPlayedFront, HasPlayedScenario, IsUnplayed, StopsAtPlan}
+use Rattle.scenario_bench.specs.PlayedEvents.{Begins, HasPlayed, HasPlayedFront, HasPlayedScenario, IsUnplayed}
 use Rattle.scenario_bench.specs.PlayedEvents.{StopsWithin, TellTallies, TellsTally}
 use Rattle.scenario_bench.specs.Puts.{PutFrame}
 use Rattle.scenario_bench.specs.SocketLists.{SocketFrames, frames_given}
@@ -239,13 +239,6 @@ module _ (scenario : Scenario) (traces : List (List (List ℕ))) (puts : Option 
 
 -- Nothing was written.
 
-pub unmade : (scenario : Scenario) (traces : List (List (List ℕ))) (error : BenchError) → StopsAtPlan scenario.plan.hosts.items error
-    → IsUnplayed scenario traces error
-unmade scenario traces (errors.Plan error) stops = stops
-unmade scenario traces (errors.Run stopped) stops = absurd stops
-unmade scenario traces errors.Memory stops = stops
-unmade scenario traces (errors.Write error) stops = absurd stops
-
 -- memory was refused before an event: the record has its number
 stopped-before : (scenario : Scenario) (all : List Said) (a b : Play) (done : ℕ) → Begins scenario.plan.hosts.items a
     → HasPlayedFront all a b → done ≡ b.record.number → StopsBefore scenario all done
@@ -270,10 +263,3 @@ unplayed scenario traces all a b (errors.Run stopped) begun is stops =
     (stopped-before scenario all a b stopped.done begun stops.0 stops.1)
 unplayed scenario traces all a b errors.Memory begun is stops = stops
 unplayed scenario traces all a b (errors.Write error) begun is stops = absurd stops
-
-pub unplayed_stops : (scenario : Scenario) (traces : List (List (List ℕ))) (error : BenchError) (sinks : List SinkState)
-    → IsUnplayed scenario traces error → Stops scenario traces error sinks sinks
-unplayed_stops scenario traces (errors.Plan error) sinks is = (is, refl)
-unplayed_stops scenario traces (errors.Run stopped) sinks is = (is, refl)
-unplayed_stops scenario traces errors.Memory sinks is = refl
-unplayed_stops scenario traces (errors.Write error) sinks is = absurd is

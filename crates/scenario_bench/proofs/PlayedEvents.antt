@@ -5,15 +5,14 @@ use Rattle.std.proofs.lemmas.Grind.{flat_map-append}
 use Rattle.std.specs.List.{flat_map}
 use Rattle.rand_pcg.specs.Lcg.{Lcg}
 use Rattle.rand_pcg.specs.Pcg.{pcg32}
-use Rattle.std.proofs.Common.{Option, Some, None, option_map, slice_get}
+use Rattle.std.proofs.Common.{Option, None, option_map, slice_get}
 use Rattle.std.proofs.lemmas.List.{length-map, map-append, take-append-drop}
 use Rattle.std.proofs.lemmas.Option.{slice_get-map, slice_get_past}
 use Rattle.std.specs.Prelude.{unwrap_or}
 use Rattle.pcap_trace.specs.declared.trace.Trace.{Trace}
-use Rattle.network_plan.specs.declared.event.Event.TheVariants as event
 use Rattle.scenario.specs.declared.command.Command.{Command}
 use Rattle.scenario.specs.declared.command.Command.TheVariants as command
-use Rattle.scenario_bench.specs.EventLists.{all_events, behind_send, event_drawn, events_of, fed, pieces_for, words_drawn, words_from}
+use Rattle.scenario_bench.specs.EventLists.{all_events, behind_send, events_of, fed, pieces_for, words_from}
 use Rattle.network_plan.specs.declared.event.Event.{Event}
 use Rattle.network_plan.specs.declared.reply.Reply.{Reply}
 use Rattle.stations.specs.Stations.{world_at}
@@ -238,31 +237,10 @@ behind_stops hosts sender frame event behind played all rest later a b m c error
 
 -- Commands.
 
-alone : (hosts : List Host) (traces : List (List (List ℕ))) (one : Event) → events_of hosts traces (event_of one) ≡ event_of one ∷ []
-alone hosts traces (event.Send host frame ticks) = refl
-alone hosts traces (event.Recv host socket ticks) = refl
-alone hosts traces (event.Interrupt host ticks) = refl
-alone hosts traces (event.Tick tick) = refl
-
-pub of_event : (hosts : List Host) (traces : List (List (List ℕ))) (one : Command) (found : Event) (events : List Event) (a b : Play)
-    → one ≡ command.Event found → events ≡ found ∷ [] → HasPlayed (map event_of events) a b
-    → HasPlayed (events_of hosts traces (said_of one)) a b
-of_event hosts traces one found events a b is are played =
-    subst (λ (s : List Said). HasPlayed s a b)
-    (ap (map event_of) are ∙ sym (ap (λ (c : Command). events_of hosts traces (said_of c)) is ∙ alone hosts traces found)) played
-
 fed-frames : (hosts : List Host) (sender : ℕ) (traces : List Trace) (place : ℕ) (found : Option Trace) → slice_get traces place ≡ found
     → unwrap_or (slice_get (map frames_of traces) place) [] ≡ unwrap_or (option_map frames_of found) []
 fed-frames hosts sender traces place found is =
     ap (λ (o : Option (List (List ℕ))). unwrap_or o []) (slice_get-map frames_of traces place ∙ ap (option_map frames_of) is)
-
-pub of_feed : (hosts : List Host) (traces : List Trace) (one : Command) (host place : ℕ) (trace : Trace) (a b : Play)
-    → one ≡ command.Feed host place → slice_get traces place ≡ Some trace → HasPlayed (flat_map (fed hosts host) trace.frames) a b
-    → HasPlayed (events_of hosts (map frames_of traces) (said_of one)) a b
-of_feed hosts traces one host place trace a b is there played =
-    subst (λ (s : List Said). HasPlayed s a b)
-    (sym (ap (λ (c : Command). events_of hosts (map frames_of traces) (said_of c)) is
-    ∙ ap (flat_map (fed hosts host)) (fed-frames hosts host traces place (Some trace) there))) played
 
 pub of_no_feed : (hosts : List Host) (traces : List Trace) (one : Command) (host place : ℕ) (a : Play)
     → one ≡ command.Feed host place → length traces ≤ place
@@ -271,17 +249,6 @@ of_no_feed hosts traces one host place a is past =
     subst (λ (s : List Said). HasPlayed s a a)
     (sym (ap (λ (c : Command). events_of hosts (map frames_of traces) (said_of c)) is
     ∙ ap (flat_map (fed hosts host)) (fed-frames hosts host traces place None (slice_get_past traces place past)))) (played_none a)
-
-pub of_auto : (hosts : List Host) (traces : List (List (List ℕ))) (one : Command) (count start : ℕ) (a b : Play)
-    → one ≡ command.Auto count start → HasPlayed (map (event_drawn hosts) (words_drawn count start)) a b
-    → HasPlayed (events_of hosts traces (said_of one)) a b
-of_auto hosts traces one count start a b is played =
-    subst (λ (s : List Said). HasPlayed s a b) (sym (ap (λ (c : Command). events_of hosts traces (said_of c)) is)) played
-
-pub of_drain : (hosts : List Host) (traces : List (List (List ℕ))) (one : Command) (host : ℕ) (a b : Play)
-    → one ≡ command.Drain host → HasPlayed (Drains host ∷ []) a b → HasPlayed (events_of hosts traces (said_of one)) a b
-of_drain hosts traces one host a b is played =
-    subst (λ (s : List Said). HasPlayed s a b) (sym (ap (λ (c : Command). events_of hosts traces (said_of c)) is)) played
 
 -- Several commands.
 
