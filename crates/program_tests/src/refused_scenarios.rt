@@ -32,7 +32,7 @@ const PUT: [u8; 3] = [2, 11, 19];
 
 /// A scenario, and what it is played with.
 #[derive(Drop)]
-struct Prepared {
+struct Setup {
     scenario: Scenario,
     traces: Vec<Trace>,
     sinks: Vec<TestSink>,
@@ -50,7 +50,7 @@ fn new_sinks(alloc: Global) -> Result<Vec<TestSink>, AllocError> {
 }
 
 /// The scenario, the trace that it feeds, and a sink for its socket and its wire each.
-fn prepared(alloc: Global) -> Result<Prepared, AllocError> {
+fn prepared(alloc: Global) -> Result<Setup, AllocError> {
     let mut frames = Frames::new(alloc);
     for _ in 0..2 {
         frames.push(&[2, 0, 0, 0, 0, 2, 2, 0, 0, 0, 0, 1, 8, 0])?;
@@ -61,7 +61,7 @@ fn prepared(alloc: Global) -> Result<Prepared, AllocError> {
         skipped: 0,
         cut: false,
     })?;
-    Ok(Prepared {
+    Ok(Setup {
         scenario: Scenario::read(alloc, TEXT.as_bytes()).map_err(|_| AllocError)?,
         traces,
         sinks: new_sinks(alloc)?,
@@ -73,7 +73,7 @@ fn prepared(alloc: Global) -> Result<Prepared, AllocError> {
 fn play(
     rt: &impl Abort,
     alloc: Global,
-    with: &mut Prepared,
+    with: &mut Setup,
     puts: bool,
 ) -> Result<Summary, BenchError> {
     let scenario = &with.scenario;
@@ -106,7 +106,7 @@ fn check_trace(rt: &impl Abort, sinks: &[TestSink], times: &[u8; 3]) {
 
 /// Asserts that this is a refusal of memory, that nothing was written, and that a refusal before an event names one of
 /// these.
-fn check_refusal(rt: &impl Abort, error: BenchError, with: &Prepared, needs: &[u8]) {
+fn check_refusal(rt: &impl Abort, error: BenchError, with: &Setup, needs: &[u8]) {
     assert!(rt; error.status() == 4);
     if let BenchError::Run(stopped) = error {
         assert!(rt;
