@@ -256,6 +256,8 @@ The requests. QEMU's qtest protocol has the first six lines of this list, too:
   line                    1 if the interrupt line is asserted, else 0
   interleave COUNT        from now on, plays up to COUNT random steps before each access; COUNT is at
                           most 65535, and 0 turns this off
+  wire full, wire free    wire full makes the wire full: the step txput puts no frame, and its outcome is
+                          wirefull; wire free makes room again, as there is at the start
   log on, log off         log on prints each step, access and arrival from now on; log off stops this
 
 Numbers are decimal, or hexadecimal after 0x. A register is read and written as four bytes, by readl,

@@ -64,8 +64,9 @@ def of_a_form(draw):
         size = draw.choice([0, 1, 2, 3, 4, 5, 8, 255, 256, 257])
         words[2] = draw.choice([str(size), str(size), str(size), some_number(draw)])
         words[3] = "0x" + draw.choice([some_digits(draw), "a5" * size, "5A" * size, "3c" * size + "3"])
-    elif name in ("step", "log", "arrive"):
-        words[1] = draw.choice({"step": KINDS, "log": ["on", "off"], "arrive": [some_digits(draw), "ff" * 60, "0x00", "f" * 121]}[name])
+    elif name in ("step", "log", "wire", "arrive"):
+        words[1] = draw.choice({"step": KINDS, "log": ["on", "off"], "wire": ["full", "free"],
+                                "arrive": [some_digits(draw), "ff" * 60, "0x00", "f" * 121]}[name])
     elif name in ("read", "memset"):
         words[2] = draw.choice([some_number(draw), str(draw.randrange(9)), "4", str(65_536 + draw.randrange(3))])
         words[3:] = [draw.choice([some_number(draw), str(draw.randrange(260))])] if name == "memset" else []

@@ -79,6 +79,7 @@ FORMS = {
     **{f"write{letter}": [ADDRESS, at_most((1 << 8 * size) - 1)] for letter, size in WIDTHS.items()},
     "read": [ADDRESS, size_in], "write": [ADDRESS, size_in, payload_in], "memset": [ADDRESS, size_in, at_most(255)], "endianness": [],
     "step": [one_of(*KINDS)], "arrive": [hex_in], "settle": [], "line": [], "interleave": [at_most(MOST_STEPS)], "log": [one_of("on", "off")],
+    "wire": [one_of("full", "free")],
 }
 
 
@@ -181,6 +182,8 @@ class Model:
         quiet = {"endianness": "OK little", "line": number(int(before))}
         if name in quiet:
             return [], [], quiet[name]
+        if name == "wire":  # no frame waits for the wire
+            return [], [], "OK"
         if name in ("log", "interleave"):
             if values[0] in ("on", "off"):
                 self.log = values[0] == "on"

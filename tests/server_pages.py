@@ -41,11 +41,14 @@ def commands(server):
 
 
 def columns(server):
-    """The requests in the README of adapter_server have the answers next to them."""
-    block = re.search(r"^```\n(readl .*?)^```$", read_page("crates", "adapter_server", "README.md"), re.M | re.S)[1]
-    rows = [(row[:30].strip(), row[30:]) for row in block.splitlines()]
-    server.check("columns: there are some", len(rows) > 6, True)
-    server.answers("columns", lines(request for request, _ in rows if request), lines(told for _, told in rows))
+    """The requests in two pages have the answers next to them. `...` at the end of a line means any text."""
+    for names, first, width in [(("crates", "adapter_server", "README.md"), "readl", 30), (("docs", "SERVE.md"), "memset", 48)]:
+        block = re.search(rf"^```\n({first} .*?)^```$", read_page(*names), re.M | re.S)[1]
+        rows = [(row[:width].strip(), row[width:]) for row in block.splitlines()]
+        server.check(f"columns: {names[-1]} has some", len(rows) > 6, True)
+        status, out, errors = server.serve(lines(request for request, _ in rows if request))
+        shown = "".join(f"{told}\n" for _, told in rows)
+        server.check(f"columns: {names[-1]}", (status, follow(out.decode(), shown), errors), (0, True, b""))
 
 
 def page(server):

@@ -1,11 +1,15 @@
 pub mod FewWords
 pub mod Numbers
 pub mod Parts
+pub mod PartsWritten
 pub mod Places
 pub mod Printing
+pub mod PutFrames
 pub mod ReadRequests
 pub mod ReadingLines
 pub mod Rounds
 pub mod ServedLines
+pub mod ServedParts
 pub mod Slices
+pub mod Stopping
 pub mod Writing

@@ -29,7 +29,7 @@ size_of session = length session.device.machine.world.memory
 step_keeps : (a b : Session) (text : Text) → DrawsStep a b text → size_of b ≡ size_of a
 step_keeps a b text drawn =
     let world = a.device.machine.world in
-    let step = event.Steps (drawn_kind a.generator).0 true (framed drawn.outcome world.adapter) in
+    let step = event.Steps (drawn_kind a.generator).0 a.device.wire_free (framed drawn.outcome world.adapter) in
     ap (λ (d : Device). length d.machine.world.memory) drawn.steps.after ∙ (event_happens step world tt drawn.steps.occurs).steady.size
 
 -- The steps before an access leave its bytes in memory.

@@ -57,13 +57,14 @@ is_short n short = grind (arith, nat_tests)
 is_long : (n : ℕ) → most_line_bytes < n → nat_lt most_line_bytes n ≡ true
 is_long n long = grind (arith, nat_tests)
 
-short_turn : (line : Text) (a b : Session) (text : Text) → length line ≤ most_line_bytes → AnswersLine line a b text → Turns line a b text
+pub short_turn : (line : Text) (a b : Session) (text : Text) → length line ≤ most_line_bytes → AnswersLine line a b text
+    → Turns line a b text
 short_turn line a b text short answers =
     subst (λ (is : Bool). MatchBool is (Refuses refusals.Long a b text) (AnswersLine line a b text)) (sym (is_short (length line) short))
     answers
 
-long_turn : (line : Text) (a b : Session) (text : Text) → most_line_bytes < length line → Refuses refusals.Long a b text → Turns line a b
-    text
+pub long_turn : (line : Text) (a b : Session) (text : Text) → most_line_bytes < length line → Refuses refusals.Long a b text
+    → Turns line a b text
 long_turn line a b text long refuses =
     subst (λ (is : Bool). MatchBool is (Refuses refusals.Long a b text) (AnswersLine line a b text)) (sym (is_long (length line) long))
     refuses

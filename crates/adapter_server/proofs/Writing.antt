@@ -28,24 +28,33 @@ pub tells_so : (P Q : Text → Type 0) (before after : Option (List ℕ)) → ((
 tells_so P Q before after so tells = record { text = tells.text; holds = so tells.text tells.holds; written = tells.written }
 
 module _ {X S : Type 0} (Happens : X → S → S → Text → Type 0) where
-  pub in_order_more : (xs : List X) (x : X) (a b c : S) (text rest : Text) → InOrder Happens xs a b text → Happens x b c rest
-      → InOrder Happens (xs ++ x ∷ []) a c (text ++ rest)
-  in_order_more [] x a b c text rest so_far next = record {
-    middle = c;
-    first = rest;
-    rest = [];
-    happens = subst (λ (s : S). Happens x s c rest) so_far.0 next;
-    goes_on = (refl, refl);
-    text_is = ap (λ (t : Text). t ++ rest) so_far.1 ∙ sym (append-nil rest);
-  }
-  in_order_more (y ∷ later) x a b c text rest so_far next = record {
+  pub in_order_joined : (xs ys : List X) (a b c : S) (first rest : Text) → InOrder Happens xs a b first → InOrder Happens ys b c rest
+      → InOrder Happens (xs ++ ys) a c (first ++ rest)
+  in_order_joined [] ys a b c first rest so_far next =
+      subst (λ (s : S). InOrder Happens ys s c (first ++ rest)) so_far.0
+      (subst (λ (t : Text). InOrder Happens ys b c (t ++ rest)) (sym so_far.1) next)
+  in_order_joined (x ∷ later) ys a b c first rest so_far next = record {
     middle = so_far.middle;
     first = so_far.first;
     rest = so_far.rest ++ rest;
     happens = so_far.happens;
-    goes_on = in_order_more later x so_far.middle b c so_far.rest rest so_far.goes_on next;
+    goes_on = in_order_joined later ys so_far.middle b c so_far.rest rest so_far.goes_on next;
     text_is = ap (λ (t : Text). t ++ rest) so_far.text_is ∙ append_assoc so_far.first so_far.rest rest;
   }
+
+  pub in_order_one : (x : X) (a b : S) (text : Text) → Happens x a b text → InOrder Happens (x ∷ []) a b text
+  in_order_one x a b text happens = record {
+    middle = b;
+    first = text;
+    rest = [];
+    happens = happens;
+    goes_on = (refl, refl);
+    text_is = sym (append-nil text);
+  }
+
+  pub in_order_more : (xs : List X) (x : X) (a b c : S) (text rest : Text) → InOrder Happens xs a b text → Happens x b c rest
+      → InOrder Happens (xs ++ x ∷ []) a c (text ++ rest)
+  in_order_more xs x a b c text rest so_far next = in_order_joined xs (x ∷ []) a b c text rest so_far (in_order_one x b c rest next)
 
   -- Nothing has happened yet.
   pub tells_none : (a : S) (before : Option (List ℕ)) → Tells before before (InOrder Happens [] a a)

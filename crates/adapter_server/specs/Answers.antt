@@ -1,5 +1,5 @@
 -- The answer to each request, and the state after it (our choice; the words of answers are QEMU's, docs/devel/testing/qtest).
-use Rattle.std.specs.Prelude.{◌≡◌, ◌++◌, ℕ, List, Option, Some, None, Result, Ok, Err, codes, if◌then◌else◌, length, IsUtf8}
+use Rattle.std.specs.Prelude.{◌≡◌, ◌++◌, ◌⊎◌, ℕ, List, Option, Some, None, Result, Ok, Err, codes, if◌then◌else◌, length, IsUtf8}
 use Rattle.std.specs.Int.{from_le_bytes, to_le_bytes, w32}
 use Rattle.bus.specs.Machines.{is_asserted}
 use Rattle.bus.specs.declared.event.Access.{Access}
@@ -8,7 +8,7 @@ use Rattle.bus.specs.declared.event.Event.TheVariants.{Accesses, Arrives}
 use Rattle.dma_memory.specs.HostMemory.{bytes_at}
 use Rattle.adapter.specs.declared.outcome.Outcome.{Outcome}
 use Rattle.rx_engine.specs.declared.arrival.Fate.{Fate}
-use Rattle.adapter_server.specs.Devices.{Prints, Settles, Steps}
+use Rattle.adapter_server.specs.Devices.{Happened, Prints, Settles, Steps}
 use Rattle.adapter_server.specs.Order.{Joins}
 use Rattle.adapter_server.specs.Reading.{request_in}
 use Rattle.adapter_server.specs.Sessions.{Interleaves, place_in}
@@ -45,6 +45,10 @@ pub record Answered (Happens : Text → Type 0) (line : Text) (text : Text) : Ty
 pub record Replies (line : Text) (b' b : Session) (text : Text) : Type 0 where
   pub after : b ≡ b'
   pub text_is : text ≡ line
+
+-- the text of some events that happen in order, or the whole answer
+abbrev pub Reaches : (Answers : Session → Text → Type 0) → Session → Text → Type 0
+Reaches Answers a text = Happened a.device text ⊎ ((b : Session) × Answers b text)
 
 abbrev pub Refuses : Refusal → Session → Session → Text → Type 0
 Refuses refusal a b text = Replies (refusal_line refusal) a b text
@@ -85,6 +89,7 @@ Does requests.Settle said a b text = (moved : ℕ) × Answered (OnDevice (Settle
 Does requests.Line said a b text = Replies (number_line (line_number a.device)) a b text
 Does (requests.Interleave count) said a b text = Replies ok_line (record a { most_steps = count }) b text
 Does (requests.Log on) said a b text = Replies ok_line (record a { device = record a.device { log = on } }) b text
+Does (requests.Wire free) said a b text = Replies ok_line (record a { device = record a.device { wire_free = free } }) b text
 
 abbrev pub AnswersTo : Result Request Refusal → (said : Text) → Session → Session → Text → Type 0
 AnswersTo (Ok request) said a b text = Does request said a b text

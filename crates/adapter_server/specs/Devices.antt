@@ -1,6 +1,6 @@
 -- What happens to the served adapter and its memory, and what is printed (our choice).
 use Rattle.std.specs.Prelude.{◌≡◌, ◌+◌, ◌++◌, ◌<◌, ◌≤◌, [], ◌∷◌}
-use Rattle.std.specs.Prelude.{ℕ, List, All, flat_map, if◌then◌else◌, length, map, nat_lt, sum, take}
+use Rattle.std.specs.Prelude.{ℕ, Bool, List, All, flat_map, if◌then◌else◌, length, map, nat_lt, sum, take}
 use Rattle.std.specs.Prelude.{true}
 use Rattle.adapter.specs.Outcomes.{framed}
 use Rattle.adapter.specs.State.{AdapterState}
@@ -28,17 +28,29 @@ pub record Prints (event : Event) (said : Text) (a b : Device) (text : Text) : T
   pub text_is : text
       ≡ said_log a.log said ++ (flat_map frame_line (past_of_event event).put ++ line_moved a.machine.reported b.machine.reported)
 
--- Steps. The wire always has room.
+-- Events happen in order. Each is printed, with what the log says of it.
+abbrev pub Events : Device → Device → Text → Type 0
+Events a b text = (events : List (Event × Text)) × InOrder (λ (event : Event × Text). Prints event.0 event.1) events a b text
 
--- a step of this kind with this outcome
+-- the text of some events that happen in order
+abbrev pub Happened : Device → Text → Type 0
+Happened a text = (b : Device) × Events a b text
+
+-- Steps.
+
+-- a step of this kind with this outcome, and with the room that the wire has
 abbrev pub Steps : StepKind → Outcome (Unit {0}) → Device → Device → Text → Type 0
 Steps kind outcome a b text =
-    Prints (event.Steps kind true (framed outcome a.machine.world.adapter)) (step_said kind outcome) a b text
+    Prints (event.Steps kind a.wire_free (framed outcome a.machine.world.adapter)) (step_said kind outcome) a b text
 
--- the frame that a step of this kind puts
+-- the frame that a step of this kind puts on a wire with room
 abbrev pub next_put : StepKind → AdapterState → List (List ℕ)
 next_put TxPut adapter = map (λ (queued : Queued). queued.frame) (take 1 adapter.transmitter.buffer)
 next_put kind adapter = []
+
+-- the frame that a step of this kind puts
+abbrev pub to_put : StepKind → (wire_free : Bool) → AdapterState → List (List ℕ)
+to_put kind wire_free adapter = if wire_free then next_put kind adapter else []
 
 -- A step of this kind is played, and is counted if it does something.
 pub record Plays (kind : StepKind) (a b : Device × ℕ) (text : Text) : Type 0 where

@@ -9,6 +9,21 @@ pub record Tells (before after : Option (List ℕ)) (Holds : Text → Type 0) : 
   pub holds : Holds text
   pub written : Appends before after text
 
+-- A beginning of a text with this property.
+pub record Begins (Holds : Text → Type 0) (part : Text) : Type 0 where
+  pub text : Text
+  pub rest : Text
+  pub holds : Holds text
+  pub text_is : text ≡ part ++ rest
+
+-- A beginning of a text with this property was written.
+abbrev pub TellsPart : (before after : Option (List ℕ)) → (Text → Type 0) → Type 0
+TellsPart before after Holds = Tells before after (Begins Holds)
+
+-- A beginning of this text was written.
+abbrev pub WritesPart : (before after : Option (List ℕ)) → Text → Type 0
+WritesPart before after whole = TellsPart before after (λ text. text ≡ whole)
+
 -- One thing happens, and then another. Their texts are joined.
 pub record Joins {S : Type 0} (First Later : S → Text → Type 0) (text : Text) : Type 0 where
   pub middle : S

@@ -1,5 +1,5 @@
 -- The request of a line (QEMU, docs/devel/testing/qtest; our choice).
-use Rattle.std.specs.Prelude.{◌==◌, ℕ, List, [], ◌∷◌, true, false, Option, Some, None, Result, Ok, Err, codes, if◌then◌else◌, length}
+use Rattle.std.specs.Prelude.{◌==◌, ℕ, List, [], ◌∷◌, Bool, true, false, Option, Some, None, Result, Ok, Err, codes, if◌then◌else◌, length}
 use Rattle.std.specs.Prelude.{replicate, IsUtf8}
 use Rattle.std.specs.Str.{bytes_eq}
 use Rattle.adapter.specs.declared.step.StepKind.{StepKind}
@@ -18,7 +18,7 @@ use Rattle.adapter_server.specs.declared.request.Width.{Width}
 use Rattle.adapter_server.specs.declared.request.Width.TheVariants as width
 use Rattle.adapter_server.specs.declared.verb.Verb.{Verb}
 use Rattle.adapter_server.specs.declared.verb.Verb.TheVariants.{ReadNumber, WriteNumber, Read, Write, Memset, Endianness, Step, Arrive}
-use Rattle.adapter_server.specs.declared.verb.Verb.TheVariants.{Settle, Line, Interleave, Log}
+use Rattle.adapter_server.specs.declared.verb.Verb.TheVariants.{Settle, Line, Interleave, Log, Wire}
 
 -- the greatest number of a width
 abbrev pub greatest : Width → ℕ
@@ -49,11 +49,16 @@ memset_in words = do
   value ← number_below 0xFF (word 3 words)
   Ok (requests.Write address (replicate size value))
 
+-- which of two words it is: true for the first
+abbrev pub is_first : (first second word : Text) → Result Bool Refusal
+is_first first second word =
+    if bytes_eq word first then Ok true else if bytes_eq word second then Ok false else Err refusals.Value
+
 abbrev pub log_in : Text → Result Request Refusal
-log_in word =
-    if bytes_eq word (codes "on") then Ok (requests.Log true)
-    else if bytes_eq word (codes "off") then Ok (requests.Log false)
-    else Err refusals.Value
+log_in word = is_first (codes "on") (codes "off") word >>= λ on. Ok (requests.Log on)
+
+abbrev pub wire_in : Text → Result Request Refusal
+wire_in word = is_first (codes "free") (codes "full") word >>= λ free. Ok (requests.Wire free)
 
 abbrev pub step_or_refusal : Option StepKind → Result Request Refusal
 step_or_refusal (Some kind) = Ok (requests.Step kind)
@@ -99,6 +104,7 @@ request_with Settle words = Ok requests.Settle
 request_with Line words = Ok requests.Line
 request_with Interleave words = interleave_in (word 1 words)
 request_with Log words = log_in (word 1 words)
+request_with Wire words = wire_in (word 1 words)
 
 abbrev pub request_if : Option Verb → List Text → Result Request Refusal
 request_if (Some verb) words = if length words == word_count verb then request_with verb words else Err refusals.Count

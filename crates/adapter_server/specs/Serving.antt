@@ -1,8 +1,8 @@
 -- What a server answers to all of its input (our choice).
-use Rattle.std.specs.Prelude.{◌≡◌, ◌++◌, ℕ, List, [], MatchBool, Option, length, nat_lt}
-use Rattle.adapter_server.specs.Answers.{AnswersLine, Refuses}
+use Rattle.std.specs.Prelude.{◌≡◌, ◌++◌, ℕ, List, [], ◌∷◌, MatchBool, Option, length, nat_lt}
+use Rattle.adapter_server.specs.Answers.{AnswersLine, Reaches, Refuses}
 use Rattle.adapter_server.specs.Lines.{lines_of, most_line_bytes}
-use Rattle.adapter_server.specs.Order.{InOrder, Tells}
+use Rattle.adapter_server.specs.Order.{Begins, InOrder, Tells}
 use Rattle.adapter_server.specs.Sessions.{new_session}
 use Rattle.adapter_server.specs.Texts.{Text}
 use Rattle.adapter_server.specs.declared.line_reader.NextLine.{NextLine}
@@ -37,6 +37,23 @@ pub record ServesFront (bytes : List ℕ) (begin : Session) (text : Text) : Type
   pub last : Session
   pub serves : Serves answered begin last text
 
+-- a beginning of the text of some events that happen in order, or of the answer to the first of these lines
+abbrev pub BeginsNext : List Text → Session → Text → Type 0
+BeginsNext [] a text = text ≡ []
+BeginsNext (line ∷ later) a text = Begins (Reaches (Turns line a) a) text
+
+-- The first lines of these bytes are answered, each in full, in order. Then at most a part of the next answer is written.
+pub record ServesBegun (bytes : List ℕ) (begin : Session) (text : Text) : Type 0 where
+  pub answered : List Text
+  pub left : List Text
+  pub lines : lines_of bytes ≡ answered ++ left
+  pub last : Session
+  pub front : Text
+  pub part : Text
+  pub serves : Serves answered begin last front
+  pub begun : BeginsNext left last part
+  pub text_is : text ≡ front ++ part
+
 -- From a new session on, all lines are answered.
 abbrev pub ServesAll : ServeOptions → (bytes : List ℕ) → (before after : Option (List ℕ)) → Type 0
 ServesAll options bytes before after = Tells before after (ServesWhole bytes (new_session options))
@@ -44,3 +61,7 @@ ServesAll options bytes before after = Tells before after (ServesWhole bytes (ne
 -- From a new session on, the first lines are answered.
 abbrev pub ServesSome : ServeOptions → (bytes : List ℕ) → (before after : Option (List ℕ)) → Type 0
 ServesSome options bytes before after = Tells before after (ServesFront bytes (new_session options))
+
+-- From a new session on, the first lines are answered, and at most a part of the next answer is written.
+abbrev pub ServesPart : ServeOptions → (bytes : List ℕ) → (before after : Option (List ℕ)) → Type 0
+ServesPart options bytes before after = Tells before after (ServesBegun bytes (new_session options))

@@ -1,6 +1,6 @@
 -- The state of a server, and the steps before an access (our choice).
 use Rattle.std.specs.Prelude.{◌≡◌, ◌==◌, ◌+◌, ◌-◌, ◌%◌, ◌&&◌}
-use Rattle.std.specs.Prelude.{ℕ, Option, Some, None, false, Bool, if◌then◌else◌, length, nat_le, nat_lt}
+use Rattle.std.specs.Prelude.{ℕ, Option, Some, None, true, false, Bool, if◌then◌else◌, length, nat_le, nat_lt}
 use Rattle.std.specs.Prelude.{replicate}
 use Rattle.rand_core.specs.Pcg32Seed.{pcg32_seed}
 use Rattle.rand_pcg.specs.Lcg.{Lcg}
@@ -34,6 +34,7 @@ new_session options = record {
       reported = false;
     };
     log = false;
+    wire_free = true;
   };
   registers = options.registers;
   generator = pcg32_of_seed (pcg32_seed 16 options.seed);

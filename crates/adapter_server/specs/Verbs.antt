@@ -7,7 +7,7 @@ use Rattle.adapter_server.specs.Texts.{Text}
 use Rattle.adapter_server.specs.declared.request.Width.TheVariants as width
 use Rattle.adapter_server.specs.declared.verb.Verb.{Verb}
 use Rattle.adapter_server.specs.declared.verb.Verb.TheVariants.{ReadNumber, WriteNumber, Read, Write, Memset, Endianness, Step, Arrive}
-use Rattle.adapter_server.specs.declared.verb.Verb.TheVariants.{Settle, Line, Interleave, Log}
+use Rattle.adapter_server.specs.declared.verb.Verb.TheVariants.{Settle, Line, Interleave, Log, Wire}
 
 -- the first words of requests, and what these ask for
 abbrev pub verbs : List (Text × Verb)
@@ -30,6 +30,7 @@ verbs =
     ∷ (codes "line", Line)
     ∷ (codes "interleave", Interleave)
     ∷ (codes "log", Log)
+    ∷ (codes "wire", Wire)
     ∷ []
 
 -- what a line with this first word asks for
@@ -50,6 +51,7 @@ word_count Settle = 1
 word_count Line = 1
 word_count Interleave = 2
 word_count Log = 2
+word_count Wire = 2
 
 -- the names of the kinds of steps
 abbrev pub step_kinds : List (Text × StepKind)

@@ -1,8 +1,9 @@
 // Reads and writes, and the steps before each.
 
-ghost use Rattle.std.specs.Prelude.{◌≡◌, ◌≤◌, IfOk, OnOk, length};
+ghost use Rattle.std.specs.Prelude.{◌≡◌, ◌≤◌, IfOk, OnErr, OnOk, length};
 ghost use Rattle.std.specs.Int.{from_le_bytes, w32};
 ghost use Rattle.std.specs.Io.KnownBytes.{Appends};
+ghost use Rattle.adapter_server.specs.Order.{WritesPart};
 ghost use Rattle.adapter_server.specs.Widths.{answer_line, bytes_of, bytes_spelling, number_spelled, size_of};
 
 use crate::answer_error::AnswerError;
@@ -76,7 +77,8 @@ impl Wanted {
     /// Writes the line of the answer with these bytes.
     fn say<W: Write>(self, alloc: Global, out: &mut W, bytes: &[u8]) -> Result<(), AnswerError>
         requires { length bytes.now ≡ size_of self }
-        ensures { OnOk result (Appends (W.contents out.old) (W.contents out.new) (answer_line self bytes.now)) }
+        ensures ok { OnOk result (Appends (W.contents out.old) (W.contents out.new) (answer_line self bytes.now)) }
+        ensures err { OnErr result (WritesPart (W.contents out.old) (W.contents out.new) (answer_line self bytes.now)) }
     {
         match self {
             Wanted::Number(_) => say_number(alloc, out, number_of(bytes)),
@@ -86,8 +88,8 @@ impl Wanted {
 }
 
 impl Session {
-    ghost use Rattle.adapter_server.specs.Answers.{ReadsAt, WritesAt};
-    ghost use Rattle.adapter_server.specs.Order.{Tells};
+    ghost use Rattle.adapter_server.specs.Answers.{Reaches, ReadsAt, WritesAt};
+    ghost use Rattle.adapter_server.specs.Order.{Tells, TellsPart};
     ghost use Rattle.adapter_server.specs.Sessions.{place_in};
 
     /// `readb`, `readw`, `readl`, `readq`, `read`. Four bytes at a register are one access of it.
@@ -99,8 +101,11 @@ impl Session {
         wanted: Wanted,
         address: u64,
     ) -> Result<(), AnswerError>
-        ensures { OnOk result (Tells (W.contents out.old) (W.contents out.new)
+        ensures ok { OnOk result (Tells (W.contents out.old) (W.contents out.new)
             (ReadsAt (place_in self.old address (size_of wanted)) wanted address said.now self.old self.new)) }
+        ensures err { OnErr result (TellsPart (W.contents out.old) (W.contents out.new)
+            (Reaches (ReadsAt (place_in self.old address (size_of wanted)) wanted address said.now self.old)
+            self.old)) }
     {
         let size = wanted.size();
         match self.place_of(address, size) {
@@ -130,8 +135,11 @@ impl Session {
         address: u64,
         bytes: &[u8],
     ) -> Result<(), AnswerError>
-        ensures { OnOk result (Tells (W.contents out.old) (W.contents out.new)
+        ensures ok { OnOk result (Tells (W.contents out.old) (W.contents out.new)
             (WritesAt (place_in self.old address (length bytes.now)) address bytes.now said.now self.old self.new)) }
+        ensures err { OnErr result (TellsPart (W.contents out.old) (W.contents out.new)
+            (Reaches (WritesAt (place_in self.old address (length bytes.now)) address bytes.now said.now self.old)
+            self.old)) }
     {
         let Some(place) = self.place_of(address, bytes.len() as u64) else {
             return self.refuse(out, Refusal::Address);

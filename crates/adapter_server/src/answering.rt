@@ -1,6 +1,6 @@
 // Answers to requests.
 
-ghost use Rattle.std.specs.Prelude.{OnOk};
+ghost use Rattle.std.specs.Prelude.{OnErr, OnOk};
 ghost use Rattle.adapter_server.specs.declared.request.Request.TheVariants as requests;
 
 use crate::answer_error::AnswerError;
@@ -16,8 +16,8 @@ use std::alloc::Global;
 use std::io::Write;
 
 impl Session {
-    ghost use Rattle.adapter_server.specs.Order.{Tells};
-    ghost use Rattle.adapter_server.specs.Answers.{AnswersLine, Does, Refuses};
+    ghost use Rattle.adapter_server.specs.Order.{Tells, TellsPart};
+    ghost use Rattle.adapter_server.specs.Answers.{AnswersLine, Does, Reaches, Refuses};
     ghost use Rattle.adapter_server.specs.Serving.{AnswersNext};
 
     /// Writes a refusal, and changes nothing.
@@ -26,8 +26,10 @@ impl Session {
         out: &mut W,
         refusal: Refusal,
     ) -> Result<(), AnswerError>
-        ensures { OnOk result
+        ensures ok { OnOk result
             (Tells (W.contents out.old) (W.contents out.new) (Refuses refusal self.old self.new)) }
+        ensures err { OnErr result
+            (TellsPart (W.contents out.old) (W.contents out.new) (Reaches (Refuses refusal self.old) self.old)) }
     {
         say(out, refusal.text())
     }
@@ -40,8 +42,10 @@ impl Session {
         said: &[u8],
         kind: StepKind,
     ) -> Result<(), AnswerError>
-        ensures { OnOk result (Tells (W.contents out.old) (W.contents out.new)
+        ensures ok { OnOk result (Tells (W.contents out.old) (W.contents out.new)
             (Does (requests.Step kind) said.now self.old self.new)) }
+        ensures err { OnErr result (TellsPart (W.contents out.old) (W.contents out.new)
+            (Reaches (Does (requests.Step kind) said.now self.old) self.old)) }
     {
         let outcome = self.device.step(alloc, out, kind)?;
         say_word(alloc, out, outcome_word(outcome))
@@ -55,8 +59,10 @@ impl Session {
         said: &[u8],
         frame: &[u8],
     ) -> Result<(), AnswerError>
-        ensures { OnOk result (Tells (W.contents out.old) (W.contents out.new)
+        ensures ok { OnOk result (Tells (W.contents out.old) (W.contents out.new)
             (Does (requests.Arrive frame.now) said.now self.old self.new)) }
+        ensures err { OnErr result (TellsPart (W.contents out.old) (W.contents out.new)
+            (Reaches (Does (requests.Arrive frame.now) said.now self.old) self.old)) }
     {
         let fate = self.device.machine.arrive(frame);
         self.device.tell(alloc, out, &[said], None)?;
@@ -70,8 +76,10 @@ impl Session {
         out: &mut W,
         said: &[u8],
     ) -> Result<(), AnswerError>
-        ensures { OnOk result (Tells (W.contents out.old) (W.contents out.new)
+        ensures ok { OnOk result (Tells (W.contents out.old) (W.contents out.new)
             (Does requests.Settle said.now self.old self.new)) }
+        ensures err { OnErr result (TellsPart (W.contents out.old) (W.contents out.new)
+            (Reaches (Does requests.Settle said.now self.old) self.old)) }
     {
         let moved = self.device.settle(alloc, out)?;
         say_number(alloc, out, moved)
@@ -85,8 +93,10 @@ impl Session {
         said: &[u8],
         request: &Request,
     ) -> Result<(), AnswerError>
-        ensures { OnOk result (Tells (W.contents out.old) (W.contents out.new)
+        ensures ok { OnOk result (Tells (W.contents out.old) (W.contents out.new)
             (Does request.now said.now self.old self.new)) }
+        ensures err { OnErr result (TellsPart (W.contents out.old) (W.contents out.new)
+            (Reaches (Does request.now said.now self.old) self.old)) }
     {
         match request {
             Request::Read(wanted, address) => self.read(alloc, out, said, *wanted, *address),
@@ -106,6 +116,10 @@ impl Session {
                 self.device.log = *on;
                 say(out, b"OK\n")
             }
+            Request::Wire(free) => {
+                self.device.wire_free = *free;
+                say(out, b"OK\n")
+            }
         }
     }
 
@@ -116,8 +130,10 @@ impl Session {
         out: &mut W,
         line: &[u8],
     ) -> Result<(), AnswerError>
-        ensures { OnOk result
+        ensures ok { OnOk result
             (Tells (W.contents out.old) (W.contents out.new) (AnswersLine line.now self.old self.new)) }
+        ensures err { OnErr result
+            (TellsPart (W.contents out.old) (W.contents out.new) (Reaches (AnswersLine line.now self.old) self.old)) }
     {
         match read_line(alloc, line) {
             Ok(request) => self.answer(alloc, out, line, &request),
@@ -134,8 +150,10 @@ impl Session {
         next: NextLine,
         line: &[u8],
     ) -> Result<(), AnswerError>
-        ensures { OnOk result
+        ensures ok { OnOk result
             (Tells (W.contents out.old) (W.contents out.new) (AnswersNext next line.now self.old self.new)) }
+        ensures err { OnErr result (TellsPart (W.contents out.old) (W.contents out.new)
+            (Reaches (AnswersNext next line.now self.old) self.old)) }
     {
         match next {
             NextLine::End => Ok(()),

@@ -1,6 +1,6 @@
 // The served adapter, and the lines that it prints.
 
-ghost use Rattle.std.specs.Prelude.{◌≡◌, ◌++◌, ◌≤◌, IfOk, OnOk, flat_map};
+ghost use Rattle.std.specs.Prelude.{◌≡◌, ◌++◌, ◌≤◌, IfOk, OnErr, OnOk, flat_map};
 ghost use Rattle.std.specs.Io.KnownBytes.{Appends};
 ghost use Rattle.adapter_server.specs.Outcomes.{moved_by};
 
@@ -33,6 +33,8 @@ pub struct Device {
     pub machine: Machine,
     /// Whether steps, accesses and arrivals are printed.
     pub log: bool,
+    /// Whether the wire has room for a frame.
+    pub wire_free: bool,
 }
 
 /// 1 if a step with this outcome did something, else 0.
@@ -46,8 +48,9 @@ fn moved_by(outcome: Outcome<()>) -> u64
 }
 
 impl Device {
-    ghost use Rattle.adapter_server.specs.Devices.{Round, Settles, Steps, next_put, told};
-    ghost use Rattle.adapter_server.specs.Order.{Tells};
+    ghost use Rattle.adapter_server.specs.Devices.{Happened, Round, Settles, Steps, to_put, told};
+    ghost use Rattle.adapter_server.specs.Order.{Tells, TellsPart, WritesPart};
+    ghost use Rattle.bus.specs.Machines.{is_asserted};
     ghost use Rattle.adapter_server.specs.Texts.{digits_told, frame_line, joined, line_moved, said_log};
 
     /// Prints an event that happened: what the log says of it, the digits of the frame that was put onto the wire, and
@@ -63,6 +66,9 @@ impl Device {
         ensures text { OnOk result (Appends (W.contents out.old) (W.contents out.new)
             (said_log self.old.log (joined said.now)
             ++ (digits_told put ++ line_moved self.old.machine.reported self.new.machine.reported))) }
+        ensures err { OnErr result (WritesPart (W.contents out.old) (W.contents out.new)
+            (said_log self.old.log (joined said.now) ++ (digits_told put
+            ++ line_moved self.old.machine.reported (is_asserted self.old.machine.world.adapter)))) }
     {
         let mut text = Vec::new(alloc);
         push_said(&mut text, self.log, said)?;
@@ -74,9 +80,9 @@ impl Device {
     /// The digits of the frame that a step of this kind puts onto the wire, if it puts one.
     fn digits_to_put(&self, alloc: Global, kind: StepKind) -> Result<Option<String>, AllocError>
         ensures { IfOk result (λ put. digits_told put
-            ≡ flat_map frame_line (next_put kind self.now.machine.world.adapter)) }
+            ≡ flat_map frame_line (to_put kind self.now.wire_free self.now.machine.world.adapter)) }
     {
-        if kind != StepKind::TxPut {
+        if kind != StepKind::TxPut || !self.wire_free {
             return Ok(None);
         }
         let Some(frame) = self.machine.to_put() else {
@@ -85,18 +91,19 @@ impl Device {
         Ok(Some(hex::encode(alloc, frame)?))
     }
 
-    /// Makes the adapter take a step, and prints it. The wire has room.
+    /// Makes the adapter take a step, and prints it.
     pub(crate) fn step<W: Write>(
         &mut self,
         alloc: Global,
         out: &mut W,
         kind: StepKind,
     ) -> Result<Outcome<()>, AnswerError>
-        ensures { IfOk result (λ outcome.
+        ensures ok { IfOk result (λ outcome.
             Tells (W.contents out.old) (W.contents out.new) (Steps kind outcome self.old self.new)) }
+        ensures err { OnErr result (TellsPart (W.contents out.old) (W.contents out.new) (Happened self.old)) }
     {
         let put = self.digits_to_put(alloc, kind)?;
-        let outcome = self.machine.step(kind, true);
+        let outcome = self.machine.step(kind, self.wire_free);
         let said: [&[u8]; 4] = [b"step ", kind_word(kind), b" -> ", outcome_word(outcome)];
         self.tell(alloc, out, &said, put)?;
         Ok(outcome)
@@ -107,6 +114,7 @@ impl Device {
         ensures ok { IfOk result
             (λ moved. Tells (W.contents out.old) (W.contents out.new) (Round moved self.old self.new)) }
         ensures few { IfOk result (λ moved. moved ≤ 6) }
+        ensures err { OnErr result (TellsPart (W.contents out.old) (W.contents out.new) (Happened self.old)) }
     {
         let mut moved = 0;
         for kind in ROUND {
@@ -122,8 +130,9 @@ impl Device {
         alloc: Global,
         out: &mut W,
     ) -> Result<u64, AnswerError>
-        ensures { IfOk result
+        ensures ok { IfOk result
             (λ moved. Tells (W.contents out.old) (W.contents out.new) (Settles moved self.old self.new)) }
+        ensures err { OnErr result (TellsPart (W.contents out.old) (W.contents out.new) (Happened self.old)) }
     {
         let mut all = 0;
         for _round in 0..MOST_ROUNDS {

@@ -1,22 +1,46 @@
 // Writes text.
 
-ghost use Rattle.std.specs.Prelude.{◌≡◌, OnOk};
+ghost use Rattle.std.specs.Prelude.{◌≡◌, ◌≤◌, IfOk, OnErr, OnOk, length, take};
 ghost use Rattle.std.specs.Io.KnownBytes.{Appends, Keeps};
+ghost use Rattle.adapter_server.specs.Order.{WritesPart};
 ghost use Rattle.adapter_server.specs.Texts as texts;
 
 use crate::answer_error::AnswerError;
 use crate::text::{bytes_line, word_line};
 use std::alloc::Global;
-use std::io::Write;
+use std::io::{ErrorKind, Write};
 
-/// Writes all of a text.
-pub(crate) fn say<W: Write>(out: &mut W, text: &[u8]) -> Result<(), AnswerError>
-    ensures { OnOk result (Appends (W.contents out.old) (W.contents out.new) text.now) }
+/// Writes a first part of a text, with one call of the writer. Returns the number of its bytes, 0 if the call was
+/// interrupted. A writer that takes no byte fails.
+fn write_some<W: Write>(out: &mut W, text: &[u8]) -> Result<usize, AnswerError>
+    ensures ok { IfOk result (λ count. Appends (W.contents out.old) (W.contents out.new) (take count text.now)) }
+    ensures few { IfOk result (λ count. count ≤ length text.now) }
+    ensures err { OnErr result (Keeps (W.contents out.old) (W.contents out.new)) }
 {
-    if text.is_empty() {
-        return Ok(());
+    match out.write(text) {
+        Ok(0) => Err(AnswerError::Write),
+        Ok(count) => Ok(count),
+        Err(error) => if error.kind() == ErrorKind::Interrupted {
+            Ok(0)
+        } else {
+            Err(AnswerError::Write)
+        },
     }
-    out.write_all(text).map_err(|_| AnswerError::Write)
+}
+
+/// Writes all of a text. If it fails, it has written a beginning of the text.
+pub(crate) fn say<W: Write>(out: &mut W, text: &[u8]) -> Result<(), AnswerError>
+    ensures ok { OnOk result (Appends (W.contents out.old) (W.contents out.new) text.now) }
+    ensures err { OnErr result (WritesPart (W.contents out.old) (W.contents out.new) text.now) }
+{
+    let mut written = 0;
+    for _turn in 0..u64::MAX {
+        if written == text.len() {
+            return Ok(());
+        }
+        written += write_some(out, &text[written..])?;
+    }
+    Err(AnswerError::Write)
 }
 
 /// Writes the line of an answer with bytes.
@@ -25,7 +49,8 @@ pub(crate) fn say_bytes<W: Write>(
     out: &mut W,
     bytes: &[u8],
 ) -> Result<(), AnswerError>
-    ensures { OnOk result (Appends (W.contents out.old) (W.contents out.new) (texts.bytes_line bytes.now)) }
+    ensures ok { OnOk result (Appends (W.contents out.old) (W.contents out.new) (texts.bytes_line bytes.now)) }
+    ensures err { OnErr result (WritesPart (W.contents out.old) (W.contents out.new) (texts.bytes_line bytes.now)) }
 {
     let line = bytes_line(alloc, bytes)?;
     say(out, line.as_slice())
@@ -38,14 +63,16 @@ pub(crate) fn say_number<W: Write>(
     out: &mut W,
     number: u64,
 ) -> Result<(), AnswerError>
-    ensures { OnOk result (Appends (W.contents out.old) (W.contents out.new) (texts.number_line number)) }
+    ensures ok { OnOk result (Appends (W.contents out.old) (W.contents out.new) (texts.number_line number)) }
+    ensures err { OnErr result (WritesPart (W.contents out.old) (W.contents out.new) (texts.number_line number)) }
 {
     say_bytes(alloc, out, &number.to_be_bytes())
 }
 
 /// Writes the line of an answer with a word.
 pub(crate) fn say_word<W: Write>(alloc: Global, out: &mut W, word: &[u8]) -> Result<(), AnswerError>
-    ensures { OnOk result (Appends (W.contents out.old) (W.contents out.new) (texts.word_line word.now)) }
+    ensures ok { OnOk result (Appends (W.contents out.old) (W.contents out.new) (texts.word_line word.now)) }
+    ensures err { OnErr result (WritesPart (W.contents out.old) (W.contents out.new) (texts.word_line word.now)) }
 {
     let line = word_line(alloc, word)?;
     say(out, line.as_slice())

@@ -104,15 +104,33 @@ fn interleave_of(word: &str) -> Result<Request, Stop>
     Ok(Request::Interleave(count as u16))
 }
 
+/// Which of two words a word is: true for the first.
+fn is_first(word: &str, first: &str, second: &str) -> Result<bool, Refusal>
+    ensures { result ≡ reading.is_first first.now second.now word.now }
+{
+    if word == first {
+        return Ok(true);
+    }
+    if word == second {
+        return Ok(false);
+    }
+    Err(Refusal::Value)
+}
+
 /// `log on`, `log off`.
 fn log_of(word: &str) -> Result<Request, Stop>
     ensures { Gives result (reading.log_in word.now) }
 {
-    match word {
-        "on" => Ok(Request::Log(true)),
-        "off" => Ok(Request::Log(false)),
-        _ => Err(Stop::Refused(Refusal::Value)),
-    }
+    let on = is_first(word, "on", "off")?;
+    Ok(Request::Log(on))
+}
+
+/// `wire free`, `wire full`.
+fn wire_of(word: &str) -> Result<Request, Stop>
+    ensures { Gives result (reading.wire_in word.now) }
+{
+    let free = is_first(word, "free", "full")?;
+    Ok(Request::Wire(free))
 }
 
 /// `step KIND`.
@@ -143,6 +161,7 @@ fn request_with(alloc: Global, verb: Verb, words: &[&str]) -> Result<Request, St
         Verb::Line => Ok(Request::Line),
         Verb::Interleave => interleave_of(word_at(words, 1)),
         Verb::Log => log_of(word_at(words, 1)),
+        Verb::Wire => wire_of(word_at(words, 1)),
     }
 }
 

@@ -71,4 +71,6 @@ pub enum Request {
     Interleave(u16),
     /// `log`: whether later steps, accesses and arrivals are printed.
     Log(bool),
+    /// `wire`: whether the wire has room for a frame from now on.
+    Wire(bool),
 }

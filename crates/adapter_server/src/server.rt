@@ -1,8 +1,10 @@
 // The server.
 
-ghost use Rattle.std.specs.Prelude.{◌≡◌, IfErr, IfSome, OnOk};
-ghost use Rattle.adapter_server.specs.Order.{Tells};
-ghost use Rattle.adapter_server.specs.Serving.{AnswersNext, ServesAll, ServesFront, ServesSome, ServesWhole};
+ghost use Rattle.std.specs.Prelude.{◌≡◌, IfErr, IfSome, OnErr, OnOk};
+ghost use Rattle.adapter_server.specs.Answers.{Reaches};
+ghost use Rattle.adapter_server.specs.Order.{Tells, TellsPart};
+ghost use Rattle.adapter_server.specs.Serving.{AnswersNext, ServesAll, ServesBegun, ServesFront, ServesPart};
+ghost use Rattle.adapter_server.specs.Serving.{ServesSome, ServesWhole};
 ghost use Rattle.adapter_server.specs.declared.serve_error.ServeError.TheVariants as errors;
 
 use crate::answer_error::AnswerError;
@@ -22,8 +24,10 @@ fn answer_and_send<W: Write>(
     next: NextLine,
     line: &[u8],
 ) -> Result<(), AnswerError>
-    ensures { OnOk result (Tells (W.contents output.old) (W.contents output.new)
+    ensures ok { OnOk result (Tells (W.contents output.old) (W.contents output.new)
         (AnswersNext next line.now session.old session.new)) }
+    ensures err { OnErr result (TellsPart (W.contents output.old) (W.contents output.new)
+        (Reaches (AnswersNext next line.now session.old) session.old)) }
 {
     session.answer_next(alloc, output, next, line)?;
     send(output)
@@ -41,6 +45,8 @@ fn serve_lines<R: Read, W: Write>(
         Tells (W.contents output.old) (W.contents output.new) (ServesWhole bytes session.old))) }
     ensures read { IfErr result (λ error. error ≡ errors.Read → IfSome (R.remaining input.old) (λ bytes.
         Tells (W.contents output.old) (W.contents output.new) (ServesFront bytes session.old))) }
+    ensures begun { OnErr result (IfSome (R.remaining input.old) (λ bytes.
+        Tells (W.contents output.old) (W.contents output.new) (ServesBegun bytes session.old))) }
 {
     let mut line = Vec::with_capacity(alloc, MOST_LINE_BYTES)?;
     for _count in 0..u64::MAX {
@@ -66,8 +72,10 @@ fn serve_lines<R: Read, W: Write>(
 ///
 /// # Errors
 ///
-/// E57 if memory was refused, E66 if reading failed or the input has 2^64 bytes, E67 if writing failed. At E66 each
-/// line before it was answered in full.
+/// E57 if memory was refused, E66 if reading failed or the input has 2^64 bytes, E67 if writing failed. At each error a
+/// number of first lines was answered in full, in order. At E66 nothing else was written. At E57 and E67 a beginning of
+/// the next answer may follow: a beginning of the text of some events, in the order in which they happened, or of the
+/// whole answer. That these are the events of the next line isn't proved.
 #[tactic(auto, using(crate::proofs::ServedLines::never_read))]
 pub fn serve<R: Read + Drop, W: Write>(
     alloc: Global,
@@ -79,6 +87,8 @@ pub fn serve<R: Read + Drop, W: Write>(
         (λ bytes. ServesAll options.now bytes (W.contents output.old) (W.contents output.new))) }
     ensures read { IfErr result (λ error. error ≡ errors.Read → IfSome (R.remaining input)
         (λ bytes. ServesSome options.now bytes (W.contents output.old) (W.contents output.new))) }
+    ensures begun { OnErr result (IfSome (R.remaining input)
+        (λ bytes. ServesPart options.now bytes (W.contents output.old) (W.contents output.new))) }
 {
     let mut session = Session::new(alloc, options)?;
     serve_lines(&mut session, alloc, &mut input, output)

@@ -1,6 +1,6 @@
 // The state of a server, and the steps before an access.
 
-ghost use Rattle.std.specs.Prelude.{◌≡◌, ◌+◌, IfOk, OnOk, nat_le};
+ghost use Rattle.std.specs.Prelude.{◌≡◌, ◌+◌, IfOk, OnErr, OnOk, nat_le};
 ghost use Rattle.adapter.specs.Registers.{after_write, new_adapter};
 ghost use Rattle.eeprom.specs.Image.{image_with};
 ghost use Rattle.adapter_server.specs.Kinds.{kind_numbered};
@@ -84,7 +84,8 @@ fn adapter_of(alloc: Global, options: &ServeOptions) -> Result<Adapter, AllocErr
 }
 
 impl Session {
-    ghost use Rattle.adapter_server.specs.Order.{Tells};
+    ghost use Rattle.adapter_server.specs.Devices.{Happened};
+    ghost use Rattle.adapter_server.specs.Order.{Tells, TellsPart};
     ghost use Rattle.adapter_server.specs.Sessions.{Interleaves, drawn_count, drawn_kind, is_memory};
     ghost use Rattle.adapter_server.specs.Sessions.{new_session, place_in};
 
@@ -99,6 +100,7 @@ impl Session {
             device: Device {
                 machine: Machine::new(adapter, memory),
                 log: false,
+                wire_free: true,
             },
             registers: options.registers,
             generator: Lcg64Xsh32::seed_from_u64(options.seed),
@@ -158,7 +160,8 @@ impl Session {
         alloc: Global,
         out: &mut W,
     ) -> Result<(), AnswerError>
-        ensures { OnOk result (Tells (W.contents out.old) (W.contents out.new) (Interleaves self.old self.new)) }
+        ensures ok { OnOk result (Tells (W.contents out.old) (W.contents out.new) (Interleaves self.old self.new)) }
+        ensures err { OnErr result (TellsPart (W.contents out.old) (W.contents out.new) (Happened self.old.device)) }
     {
         let count = self.draw_count();
         for _step in 0..count {

@@ -34,6 +34,8 @@ pub(crate) enum Verb {
     Interleave,
     /// `log`.
     Log,
+    /// `wire`.
+    Wire,
 }
 
 impl Verb {
@@ -43,7 +45,8 @@ impl Verb {
     {
         match self {
             Verb::Endianness | Verb::Settle | Verb::Line => 1,
-            Verb::ReadNumber(_) | Verb::Step | Verb::Arrive | Verb::Interleave | Verb::Log => 2,
+            Verb::ReadNumber(_) | Verb::Step | Verb::Arrive | Verb::Interleave => 2,
+            Verb::Log | Verb::Wire => 2,
             Verb::WriteNumber(_) | Verb::Read => 3,
             Verb::Write | Verb::Memset => 4,
         }
@@ -51,7 +54,7 @@ impl Verb {
 }
 
 /// The first words of requests, and what these ask for.
-const VERBS: [(&str, Verb); 18] = [
+const VERBS: [(&str, Verb); 19] = [
     ("readb", Verb::ReadNumber(Width::Byte)),
     ("readw", Verb::ReadNumber(Width::Word)),
     ("readl", Verb::ReadNumber(Width::Long)),
@@ -70,6 +73,7 @@ const VERBS: [(&str, Verb); 18] = [
     ("line", Verb::Line),
     ("interleave", Verb::Interleave),
     ("log", Verb::Log),
+    ("wire", Verb::Wire),
 ];
 
 /// What a line with this first word asks for.

@@ -1,3 +1,7 @@
+use Rattle.adapter_server.specs.Sessions.{new_session}
+use Rattle.adapter_server.proofs.PartsWritten.{whatever_err}
+use Rattle.adapter_server.proofs.ServedLines.{serves_none}
+use Rattle.adapter_server.proofs.ServedParts.{serves_stopped}
 use Rattle.adapter_server.proofs.server.serve.Goals as goal
 
 pub returns-clause-ok : goal.returns-clause-ok
@@ -5,3 +9,14 @@ returns-clause-ok g c = rw c.in_ok-session.ensures at c.serve_lines.ensures.ok
 
 pub returns-clause-read : goal.returns-clause-read
 returns-clause-read g c = rw c.in_ok-session.ensures at c.serve_lines.ensures.read
+
+pub returns-in_err-session-clause-begun : goal.returns-in_err-session-clause-begun
+returns-in_err-session-clause-begun g c =
+    let left = g.R.Read.remaining c.args.input in
+    let written = g.W.Write.contents c.args.output.now in
+    let begin = new_session c.args.options.now in
+    whatever_err c.from_residual.result _ (serves_stopped left left begin begin written written (serves_none left begin written))
+
+pub returns-clause-begun : goal.returns-clause-begun
+returns-clause-begun g c =
+    rw c.in_ok-session.ensures at c.serve_lines.ensures.begun

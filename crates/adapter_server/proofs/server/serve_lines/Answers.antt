@@ -2,7 +2,9 @@ use Rattle.std.proofs.Common.{◌≡◌, arith, subst}
 use Rattle.adapter_server.specs.LinesRead.{IsNextLine}
 use Rattle.adapter_server.specs.declared.line_reader.NextLine.{NextLine}
 use Rattle.adapter_server.specs.declared.serve_error.ServeError.TheVariants as errors
+use Rattle.adapter_server.proofs.PartsWritten.{whatever_err}
 use Rattle.adapter_server.proofs.ServedLines.{serves_front, serves_lines, serves_next, serves_none, whatever_error}
+use Rattle.adapter_server.proofs.ServedParts.{answering_stopped, serves_part, serves_stopped}
 use Rattle.adapter_server.proofs.server.serve_lines.Goals as goal
 
 pub loop-count-init : goal.loop-count-init
@@ -20,7 +22,7 @@ loop-count-preserved g c =
       so_far = serves_next c.in_ok-next.next (left c.args.input.now) (left c.loop-count.input) (left c.next_line.new.reader)
           c.args.session.now c.loop-count.session c.answer_and_send.new.session c.next_line.new.line.items (contents c.args.output.now)
           (contents c.loop-count.output) (contents c.answer_and_send.new.output) c.loop-count.invariant.so_far
-          c.in_ok-next.ensures.next (rw c.as_slice.ensures.value at c.in_ok-answer_and_send.ensures);
+          c.in_ok-next.ensures.next (rw c.as_slice.ensures.value at c.in_ok-answer_and_send.ensures.ok);
     }
 
 pub returns-in-End-clause-ok : goal.returns-in-End-clause-ok
@@ -44,3 +46,39 @@ returns-clause-read g c = λ same.
     serves_front (g.R.Read.remaining c.args.input.now) (g.R.Read.remaining c.loop-count.input) c.args.session.now
     c.loop-count.session (g.W.Write.contents c.args.output.now) (g.W.Write.contents c.loop-count.output)
     c.loop-count.invariant.so_far
+
+pub returns-in_err-line-clause-begun : goal.returns-in_err-line-clause-begun
+returns-in_err-line-clause-begun g c =
+    let left = g.R.Read.remaining c.args.input.now in
+    let written = g.W.Write.contents c.args.output.now in
+    whatever_err c.from_residual.result _
+    (serves_stopped left left c.args.session.now c.args.session.now written written (serves_none left c.args.session.now written))
+
+pub returns-in_err-next-clause-begun : goal.returns-in_err-next-clause-begun
+returns-in_err-next-clause-begun g c =
+    whatever_err c.from_residual-in_err-next.result _
+    (serves_stopped (g.R.Read.remaining c.args.input.now) (g.R.Read.remaining c.loop-count.input) c.args.session.now
+    c.loop-count.session (g.W.Write.contents c.args.output.now) (g.W.Write.contents c.loop-count.output)
+    c.loop-count.invariant.so_far)
+
+pub returns-clause-begun : goal.returns-clause-begun
+returns-clause-begun g c =
+    serves_stopped (g.R.Read.remaining c.args.input.now) (g.R.Read.remaining c.loop-count.input) c.args.session.now
+    c.loop-count.session (g.W.Write.contents c.args.output.now) (g.W.Write.contents c.loop-count.output)
+    c.loop-count.invariant.so_far
+
+pub returns-in_err-answer_and_send : goal.returns-in_err-answer_and_send
+returns-in_err-answer_and_send g c =
+    let left = g.R.Read.remaining in
+    let contents = g.W.Write.contents in
+    let result = c.from_residual-in_err-answer_and_send.result in
+    let stopped = answering_stopped result c.in_err-answer_and_send.field-0.0 _ _ c.from_residual-in_err-answer_and_send.ensures.1 in
+    record {
+      ok = stopped.0;
+      read = stopped.1;
+      begun = whatever_err result _
+          (serves_part c.in_ok-next.next (left c.args.input.now) (left c.loop-count.input) (left c.next_line.new.reader)
+          c.args.session.now c.loop-count.session c.next_line.new.line.items (contents c.args.output.now) (contents c.loop-count.output)
+          (contents c.answer_and_send.new.output) c.loop-count.invariant.so_far c.in_ok-next.ensures.next c.in_default.not-End
+          (rw c.as_slice.ensures.value at c.in_err-answer_and_send.ensures.err));
+    }
