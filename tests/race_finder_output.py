@@ -23,6 +23,9 @@ class Waits:
     def __init__(self):
         self.seventh, self.stopped, self.calls = threading.Event(), threading.Event(), []
 
+    def start(self):
+        self.calls.append("start")
+
     def play(self, draw):
         if draw == 5:
             self.calls.append(self.seventh.wait(60))
@@ -40,7 +43,7 @@ class Waits:
         self.calls.append("resume")
 
 waits = Waits()
-runs = in_order(waits, range(1, 100), 4)
+runs = in_order(waits, ({"draw": number} for number in range(1, 100)), 4)
 print([next(runs) for _ in range(8)])
 runs.close()
 print(*waits.calls)
@@ -106,9 +109,9 @@ def whole():
     yield from map(read, READ)
 
 
-def script(server, text):
+def script(server, text, *arguments):
     """Runs a script that uses the finder's modules: its exit status, its output and its errors."""
-    words = [sys.executable, "-S", "-E", "-c", text, server.program, os.path.join(TOP, "tools")]
+    words = [sys.executable, "-S", "-E", "-c", text, server.program, os.path.join(TOP, "tools"), *arguments]
     ran = subprocess.run(words, cwd=server.folder, capture_output=True, timeout=LIMIT)
     return ran.returncode, ran.stdout.decode(), ran.stderr.decode()
 
@@ -122,7 +125,7 @@ def jobs(server):
         got = [find(server, *words, "--jobs", count, command=command) for count in ("1", "4")]
         one, four = [(code, without_rate(out), errors) for code, out, errors in got]
         server.check(f"jobs: {name}", (one[0], one[2], four), (status, "", one))
-    wanted = (0, "[1, 2, 3, 4, 5, 6, 7, 8]\nTrue stop resume\nStopped Stopped\nNone 1\n", "")
+    wanted = (0, "[1, 2, 3, 4, 5, 6, 7, 8]\nstart True stop resume\nStopped Stopped\nNone 1\n", "")
     server.check("jobs: runs are taken in order, and are stopped", script(server, ORDER), wanted)
     wanted = (USAGE, "", "races: --jobs: use a number from 1 to 64\nFor more information, try '--help'.\n")
     for count in ("0", "65"):
@@ -219,9 +222,9 @@ from race_finder.explore import explore
 from race_finder.target import Target
 
 class Recording(Target):
-    def run(self, schedule=(), draw=None, is_strict=False):
+    def play(self, schedule=(), **words):
         self.schedules.append(tuple(map(str, schedule)))
-        return super().run(schedule, draw, is_strict)
+        return super().play(schedule, **words)
 
 def schedules_of(shard):
     target = Recording(sys.argv[1], ["sh", "small"])

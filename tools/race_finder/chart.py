@@ -1,18 +1,27 @@
-"""A run as a chart: driver, registers, memory, adapter and wire as columns, time downwards."""
+"""A run as a chart: driver, registers, memory, adapter and wire as columns, time downwards.
 
-from race_finder.names import access_of, causes_of, words_of
+`chart_of` returns the rows of a chart, from which `chart` here makes a text, and svg.py a picture.
+"""
+
+from typing import NamedTuple
+
+from race_finder.names import SLOT, access_of, fields_of, value_in, words_of
 from race_finder.play import DEVIATION
+from race_finder.shadow import Shadow
 
-BEFORE, AFTER, LAST = 4, 6, 12  # rows that are shown before and after a deviation, and at the end
+# Rows that are shown: before and after a deviation, at the end, later ones of a slot, and of a run without a deviation.
+BEFORE, AFTER, LAST, LATER, ALONE = 4, 6, 6, 3, 20
 COLUMNS = ("", "place", "driver", "registers", "memory", "adapter", "wire", "line")
-WITH_CAUSES = ("ICR", "ICS", "IMS", "IMC")
+STAR, BAR = "*", "|"
 SHORT = 24  # the digits of a value in memory that are shown
+ROOM = 5  # between columns that an arrow may connect: the arrow has at least three characters
+NARROW = 2
 
 
-def value_in(register, value):
-    """A register's value, with its causes if it has some."""
-    causes = " ".join(causes_of(value)) if register in WITH_CAUSES else ""
-    return f"{value:#x} {causes}".rstrip()
+class ChartRow(NamedTuple):
+    """A row of a chart: its texts by column, and the columns where its arrow begins and ends (None if it has none)."""
+    cells: dict
+    arrow: tuple = None
 
 
 def bytes_in(value, size):
@@ -28,75 +37,176 @@ def answer_to(access, words, answer):
     return int.from_bytes(bytes.fromhex(answer[2:]), "little") if words[0] == "read" else int(answer, 0)
 
 
-def access_cells(row):
-    """The cells of an access: what the driver does, and a register, or memory."""
-    words = words_of(row.line[2:])
+def memory_text(name, size, value):
+    """An access of memory: its place, and the fields of a descriptor, or bytes."""
+    fields = fields_of(name, size, value) if value is not None else None
+    shown = f" {bytes_in(value, size)}" if value is not None and size else ""
+    return f"{name} {fields}" if fields else f"{name}, {size} bytes{':' if shown else ''}{shown}"
+
+
+def of_access(row):
+    """The row of an access: what the driver does, and a register, or memory."""
     access, name = access_of(row.line[2:]), row.name.partition(" ")[2]
-    value, sign = (access.value, "=") if access.kind == "write" else (answer_to(access, words, row.answer), "->")
-    driver = {"place": str(row.place), "driver": access.kind}
+    is_write = access.kind == "write"
+    value = access.value if is_write else answer_to(access, words_of(row.line[2:]), row.answer)
     if name[0].isupper() or name.startswith("register"):
-        return {**driver, "registers": name if value is None else f"{name} {sign} {value_in(name, value)}"}
-    shown = f" {sign} {bytes_in(value, access.size)}" if value is not None and access.size else ""
-    return {**driver, "memory": f"{name}, {access.size} bytes{shown}"}
+        column, text = "registers", name if value is None else f"{name} {value_in(name, value)}"
+    else:
+        column, text = "memory", memory_text(name, access.size, value)
+    cells = {"place": str(row.place), "driver": access.kind, column: text}
+    return ChartRow(cells, ("driver", column) if is_write else (column, "driver"))
 
 
-def cells_of(row):
-    """The cells of a row of the log, by column, or None if the row isn't shown."""
+def of_step(row, head):
+    """The row of a step: its outcome, what it does to memory, and the head of a ring if the head has moved."""
+    _, _, kind, _, outcome = row.line.split(" ")
+    cells = {"adapter": f"{kind} {outcome}", **({"registers": head} if head else {})}
+    if kind == "eeprom":
+        return ChartRow({**cells, "registers": "EERD DONE"}, ("adapter", "registers"))
+    if row.name is None:
+        return ChartRow(cells)
+    if kind == "txtake":
+        return ChartRow({**cells, "memory": f"{row.name} is fetched"}, ("memory", "adapter"))
+    text = {"rxdata": f"buffer of {row.name} is written", "rxdone": f"{row.name} is written back",
+            "txput": f"{row.name} is written back if RS is set"}[kind]
+    return ChartRow({**cells, "memory": text}, ("adapter", "memory"))
+
+
+def frame_text(digits):
+    """A frame: its size, and its last bytes, by which frames can be told apart."""
+    return f"{len(digits) // 2} bytes, ..{digits[-4:]}"
+
+
+def chart_row_of(row, head):
+    """The row of a chart for a row of the log, or None if there is nothing to show."""
     words = row.line.split(" ")
     if row.place:
-        return access_cells(row)
+        return of_access(row)
     if words[0] == "IRQ":
-        return {"adapter": "raises the line" if words[1] == "raise" else "lowers the line"}
+        return ChartRow({"adapter": "raises the line" if words[1] == "raise" else "lowers the line"})
     if words[0] == "frame":
-        return {"wire": f"-> {len(words[1]) // 2} bytes, ..{words[1][-4:]}"}
+        return ChartRow({"wire": frame_text(words[1])}, ("adapter", "wire"))
     if words[1] == "step":
-        if words[4] == "nothing":
-            return None
-        return {"adapter": f"{words[2]} {words[4]}", "memory": written(row)}
+        return None if words[4] == "nothing" else of_step(row, head)
     if words[1] == "arrive":
-        return {"adapter": row.answer or "", "wire": f"<- {len(words[2]) // 2} bytes, ..{words[2][-4:]}"}
-    return {"adapter": row.line[2:]}
+        return ChartRow({"adapter": row.answer or "", "wire": frame_text(words[2])}, ("wire", "adapter"))
+    return ChartRow({"adapter": row.line[2:]})
 
 
-def written(row):
-    """What a step writes to memory, or which frame it fetches."""
-    kind = row.line.split(" ")[2]
-    if row.name is None:
-        return ""
-    done = {"rxdata": "written", "txtake": "fetched"}.get(kind, "written back")
-    return f"{'buffer of ' if kind == 'rxdata' else ''}{row.name} is {done}"
+def head_after(shadow, row):
+    """Follows the registers of the rings. Returns the head that this row moves, such as `RDH 0x2`, or None."""
+    words = row.line.split(" ")
+    if row.place:
+        access, (kind, name) = access_of(row.line[2:]), row.name.split(" ", 1)
+        if kind == "write":
+            shadow.write(name, access.value)
+        return None
+    if words[:2] != ["#", "step"]:
+        return None
+    heads = {name: shadow.registers[name] for name in ("RDH", "TDH")}
+    shadow.step(words[2], words[4])
+    moved = (name for name, head in heads.items() if shadow.registers[name] != head)
+    return next((f"{name} {shadow.registers[name]:#x}" for name in moved), None)
 
 
 def rows_of(run):
-    """All rows of a chart, each with whether it is a deviation."""
-    rows, is_up = [], False
+    """All rows of a chart, with stars and with the bar of the interrupt line."""
+    rows, is_up, shadow = [], False, Shadow()
     for row in run.rows:
-        cells = cells_of(row)
-        if cells is None:
+        shown = chart_row_of(row, head_after(shadow, row))
+        if shown is None:
             continue
         if row.line.startswith("IRQ"):
             is_up = row.line.startswith("IRQ raise")
         is_deviation = row.owner == DEVIATION and not row.line.startswith(("IRQ", "frame"))
-        rows.append({**cells, "": "*" if is_deviation else "", "line": "|" if is_up else ""})
+        marks = {"": STAR if is_deviation else "", "line": BAR if is_up else ""}
+        rows.append(shown._replace(cells={**shown.cells, **marks}))
     return rows
 
 
+def slot_of(row):
+    """The slot of a ring in a row, or None."""
+    found = SLOT.search(row.cells.get("memory", ""))
+    return found[0].partition("+")[0] if found else None
+
+
+def later_rows(rows, star):
+    """The first rows in which the slot that is accessed after a deviation is used otherwise than near the deviation."""
+    access = next((row for row in rows[star:] if "place" in row.cells), None)
+    slot = access and slot_of(access)
+    uses = {}  # the first row of each use
+    for at, row in enumerate(rows[star:], star):
+        if slot and slot_of(row) == slot:
+            uses.setdefault(row.cells["memory"], at)
+    return [at for at in uses.values() if at >= star + AFTER][:LATER]
+
+
+def last_rows(rows):
+    """The last rows; of rows that differ only in their places, only the last one."""
+    texts = [{**row.cells, "place": ""} for row in rows]
+    return [at for at in range(max(0, len(rows) - LAST), len(rows)) if texts[at] != (texts[at + 1:] or [None])[0]]
+
+
 def cut(rows):
-    """From some rows before the first deviation to the end; of long parts without a deviation, only the ends."""
-    stars = [at for at, row in enumerate(rows) if row[""]] or [len(rows) - LAST]
-    near = {at for star in stars for at in range(star - BEFORE, star + AFTER)} | set(range(len(rows) - LAST, len(rows)))
+    """From some rows before the first deviation to the end; of long parts without a deviation, only a few rows."""
+    stars = [at for at, row in enumerate(rows) if row.cells[""]]
+    first = stars[0] - BEFORE if stars else len(rows) - ALONE
+    near = {at for star in stars for at in (*range(star - BEFORE, star + AFTER), *later_rows(rows, star))}
+    near.update(last_rows(rows) if stars else range(first, len(rows)))
     shown, last = [], None
-    for at in sorted(at for at in near if max(0, stars[0] - BEFORE) <= at < len(rows)):
-        if last is not None and at > last + 1:
-            shown.append({"place": "..", "driver": f"{at - last - 1} rows"})
-        shown.append(rows[at])
+    for at in sorted(at for at in near if max(0, first) <= at < len(rows)):
+        if last is not None and at > last + 2:
+            shown.append(ChartRow({"place": "..", "driver": f"{at - last - 1} rows"}))
+        shown += rows[at - 1:at + 1] if last is not None and at == last + 2 else [rows[at]]
         last = at
     return shown
 
 
+def chart_of(run):
+    """The rows that a run's chart shows, without the heading."""
+    return cut(rows_of(run))
+
+
+def end_of(run):
+    """The line after the rows of a chart."""
+    return run.fault or "The test passes."
+
+
+def gap_after(column):
+    return ROOM if column in ("driver", "registers", "memory", "adapter") else NARROW
+
+
+def layout(rows):
+    """Where each column of some rows begins, and where the last one ends, in characters."""
+    starts, at = {}, 0
+    for column in COLUMNS:
+        starts[column] = at
+        at += max(len(column), *(len(row.cells.get(column, "")) for row in rows)) + gap_after(column)
+    return starts, at
+
+
+def arrow_ends(row, starts):
+    """The characters from which to which the arrow of a row goes, and whether it points to the right."""
+    left, right = sorted(row.arrow, key=COLUMNS.index)
+    text = row.cells.get(left, "")
+    return starts[left] + (len(text) + 1 if text else 0), starts[right] - 1, row.arrow[1] == right
+
+
+def line_of(row, starts):
+    """The line of a row."""
+    line = ""
+    for column in COLUMNS:
+        line = line.ljust(starts[column]) + row.cells.get(column, "")
+    if row.arrow:
+        begin, end, is_right = arrow_ends(row, starts)
+        dashes = "-" * (end - begin - 1)
+        line = line[:begin] + (f"{dashes}>" if is_right else f"<{dashes}") + line[end:]
+    return line.rstrip()
+
+
 def chart(run):
     """The text of a run's chart."""
-    rows = [dict(zip(COLUMNS, COLUMNS)), *cut(rows_of(run))]
-    widths = {column: max(len(row.get(column, "")) for row in rows) for column in COLUMNS}
-    lines = ["  ".join(row.get(column, "").ljust(widths[column]) for column in COLUMNS).rstrip() for row in rows]
-    return "".join(f"{line}\n" for line in [*lines, f"   {run.fault or 'The test passes.'}"])
+    rows = chart_of(run)
+    heading = ChartRow(dict(zip(COLUMNS, COLUMNS)))
+    starts, _ = layout([heading, *rows])
+    return "".join(f"{line_of(row, starts)}\n" for row in [heading, *rows]) + f"   {end_of(run)}\n"

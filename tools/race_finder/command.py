@@ -10,17 +10,24 @@ fails is made smaller, and printed with the end of the log and a chart.
   --options WORDS      options of `nicbench serve`, such as "--rxa 2 --link 5"
   --runs N             draws N schedules (default 1000)
   --seed N             the seed of the first one (default 1); the next ones have the next seeds
-  --jobs N             draws with N runs at once, at most 64 (default: the number of processors)
+  --jobs N             N runs at once, at most 64 (default: the number of processors)
+  --pct DEPTH          draws by PCT instead: the actor with the highest priority goes first, and DEPTH - 1 times, the
+                       one that goes gets the lowest priority. The actors are the driver, the receive engine, and the
+                       fetching and the putting of frames to be sent. Prints the least probability with which a run
+                       finds a race of this depth
   --explore DEPTH      tries all schedules of up to DEPTH deviations instead
   --shard K/N          only each Nth of these runs, or of the schedules with DEPTH deviations, from the Kth on
   --holds              also leaves out steps of the EEPROM and the PHY
-  --smaller N          after shrinking, tries at most N schedules to find a smaller one (default 1000)
-  --out FILE           stores the schedule that was found
+  --smaller N          tries at most N schedules with fewer deviations than the one that fails (default 1000)
+  --out PATH           stores the schedule that was found or replayed in this file; if PATH is a folder or ends with /,
+                       stores there schedule.txt, log.txt, chart.txt, chart.svg and run.vcd (waves, for GTKWave)
   --replay FILE        plays one schedule
   --reached            prints what the runs reached and what they never did, also if one fails
   --json               prints one JSON object instead of the text
   --any-access         --replay doesn't compare the names of accesses
   --seconds N          the time for a run, in seconds (default 10)
+  --apart              starts a process for each run. Otherwise a COMMAND python3 SCRIPT.py .. is loaded once, up to its
+                       first answer, and forked for each run, if SCRIPT.py uses sys.stdin and sys.stdout alone
 
 Exit status: 0 if no run fails, 1 if a run or the replay fails, 2 if an argument or the schedule is invalid, and 3 if COMMAND
 or the server couldn't be run.
@@ -33,24 +40,27 @@ import sys
 import time
 from contextlib import closing
 
-from race_finder.chart import chart
-from race_finder.draw import Uniform
-from race_finder.explore import explore, smallest
+from race_finder.chart import chart, end_of
+from race_finder.draw import ACTORS, Pct, Uniform, bound_of
+from race_finder.explore import Search, explore
 from race_finder.jobs import MOST_JOBS, in_order, processors
-from race_finder.play import Mismatch, ServerEnded
+from race_finder.play import Mismatch
 from race_finder.reached import lines_of, tables_of
-from race_finder.schedule import ScheduleError, parse, text_of
+from race_finder.schedule import HOLDS, ScheduleError, parse, text_of
+from race_finder.server import ServerEnded
 from race_finder.shrink import Shrinker
+from race_finder.store import store
 from race_finder.target import CannotRun, Target
 
 TOP = os.path.dirname(os.path.dirname(os.path.dirname(os.path.abspath(__file__))))
 PASSES, FOUND, USAGE, NOT_RUN = range(4)
 INTERRUPTED = 130
 LOG_LINES, LONGEST_LINE = 30, 110
-NUMBERS = {"runs": 1000, "seed": 1, "explore": None, "smaller": 1000, "seconds": 10, "jobs": processors()}
+DEEPEST = 100  # of --pct
+NUMBERS = {"runs": 1000, "seed": 1, "explore": None, "smaller": 1000, "seconds": 10, "jobs": processors(), "pct": None}
 TEXTS = {"server": os.path.join(TOP, ".build", "nicbench"), "options": None, "out": None, "replay": None,
          "shard": "1/1"}
-FLAGS = ("holds", "any-access", "reached", "json")
+FLAGS = ("holds", "any-access", "reached", "json", "apart")
 
 
 class UsageError(Exception):
@@ -78,6 +88,9 @@ def arguments_of(words):
         given[name] = int(value) if name in NUMBERS else value
     if not 1 <= given["jobs"] <= MOST_JOBS:
         raise UsageError(f"--jobs: use a number from 1 to {MOST_JOBS}")
+    is_alone = given["explore"] is None and not given["holds"]
+    if given["pct"] is not None and not (1 <= given["pct"] <= DEEPEST and is_alone):
+        raise UsageError(f"--pct: use a depth from 1 to {DEEPEST}, without --explore and --holds")
     given["shard"] = shard_of(given["shard"])
     if len(words) < 2:
         raise UsageError("no COMMAND after '--'")
@@ -117,13 +130,30 @@ class Finder:
         lines = text_of(schedule, self.target.options).splitlines()
         self.result.update(result=result, fault=fault, schedule=lines)
 
+    def drawing(self, seed):
+        """What draws the schedule of this seed."""
+        if self.given["pct"] is None:
+            return Uniform(seed, draws_holds=self.given["holds"])
+        return Pct(seed, self.given["pct"], self.events)
+
+    def measure(self):
+        """Prints the bound of PCT, by the events of a run without deviations. Returns that run if it fails."""
+        run, depth = self.target.run(), self.given["pct"]
+        self.events = run.events
+        self.say(f"PCT of depth {depth}: {len(ACTORS)} actors and {self.events} events, so each run finds a race of"
+                 f" this depth with a probability of at least 1/{bound_of(depth, self.events):,}")
+        return run if run.fault else None
+
     def draw(self):
         """Draws schedules until one fails."""
+        failed = self.measure() if self.given["pct"] is not None else None
+        if failed:
+            return self.report(failed)
         began, answers, line, run = time.monotonic(), set(), "", None
         first, step = self.given["shard"]
         seeds = range(self.given["seed"] + first - 1, self.given["seed"] + self.given["runs"], step)
-        draws = (Uniform(seed, draws_holds=self.given["holds"]) for seed in seeds)
-        with closing(in_order(self.target, draws, self.given["jobs"])) as runs:
+        calls = ({"draw": self.drawing(seed), "has_places": False} for seed in seeds)
+        with closing(in_order(self.target, calls, self.target.jobs)) as runs:
             for number, (seed, run) in enumerate(zip(seeds, runs), 1):
                 answers.add(self.target.count(run).answers)
                 rate = number / (time.monotonic() - began)
@@ -139,27 +169,27 @@ class Finder:
         return PASSES
 
     def explore(self):
-        found = explore(self.target, self.given["explore"], self.given["holds"], say=self.say, progress=progress,
-                        shard=self.given["shard"])
-        if found.run is None:
-            self.say(f"none of {sum(found.counts)} schedules fails")
+        search = explore(self.target, self.given["explore"], self.given["holds"], say=self.say, progress=progress,
+                         shard=self.given["shard"])
+        if search.found is None:
+            self.say(f"none of {sum(search.counts)} schedules fails")
             return PASSES
-        self.say(f"depth {len(found.run.met)}: schedule {found.counts[-1]} fails: {found.run.fault}")
-        return self.report(found.run, is_smallest=True)
+        self.say(f"depth {len(search.found.met)}: schedule {search.counts[-1]} fails: {search.found.fault}")
+        return self.report(search.found, is_smallest=True)
 
     def report(self, run, is_smallest=False):
         """Makes a schedule smaller, and prints what is left."""
-        shrinker, drawn, runs = Shrinker(self.target), len(run.met), self.target.runs
-        small = shrinker.shrink(run.met)
+        shrinker, drawn = Shrinker(self.target), len(run.met)
+        small = shrinker.again(run.met)
         if small is None:
             self.say(f"The schedule of {deviations(drawn)} passes when it is played again."
                      " Does the test use a clock, threads or random numbers?")
             self.note("unrepeatable", run.fault, run.met)
             return FOUND
-        self.say(f"{deviations(drawn)} shrunk to {len(small.met)} by {self.target.runs - runs} runs")
-        is_smallest = is_smallest or len(small.met) == 1
-        if small.met and not is_smallest:
-            small, is_smallest = self.smaller(shrinker, small)
+        if is_smallest or len(small.met) < 2:
+            small, is_smallest = self.shrink(shrinker, small), True
+        else:
+            small, is_smallest = self.smallest(shrinker, small)
         if not small.met:
             self.say("no race: the test fails by itself, without any deviation")
         elif is_smallest:
@@ -168,28 +198,52 @@ class Finder:
         self.show(small)
         return FOUND
 
-    def smaller(self, shrinker, run):
-        """Looks for a schedule with fewer deviations, and prints what was searched."""
-        found, tried, is_complete = smallest(shrinker, run, self.given["holds"], self.given["smaller"], progress)
-        end = "" if is_complete else "; another one may fail"
-        if len(found.met) < len(run.met):
-            self.say(f"{tried} smaller schedules were tried: one with {deviations(len(found.met))} fails")
-        else:
-            self.say(f"{tried} smaller schedules were tried, and pass{end}")
-        return found, is_complete
+    def shrink(self, shrinker, run):
+        """The run of a schedule from which no deviation can be left out."""
+        runs = self.target.runs
+        small = shrinker.shrink(run)
+        if run.met:
+            self.say(f"{deviations(len(run.met))} shrunk to {len(small.met)} by {self.target.runs - runs} runs")
+        return small
+
+    def smallest(self, shrinker, run):
+        """Looks for a schedule with few deviations. Returns its run, and whether none with fewer fails.
+
+        Those with one deviation are tried first: this is less than it takes to shrink a long schedule.
+        """
+        with_holds = self.given["holds"] or any(deviation.action in HOLDS for deviation in run.met)
+        search = Search(self.target, with_holds, self.given["smaller"], progress, shrinker.seen)
+        search.up_to(1, is_last=False)
+        small = run if search.found else self.shrink(shrinker, run)
+        search.up_to(len(small.met) - 1)
+        tried = f"{sum(search.counts)} smaller schedules were tried"
+        if not search.found:
+            self.say(f"{tried}, and pass" + ("" if search.is_complete else "; another one may fail"))
+            return small, search.is_complete
+        self.say(f"{tried}: one with {deviations(len(search.found.met))} fails")
+        return shrinker.shrink(search.found), True  # only moves its deviations
 
     def show(self, run):
         """Prints a run's schedule, the end of its log, and its chart."""
-        text = text_of(run.met, self.target.options, [" ".join(self.target.command), run.fault])
+        text = self.text_of(run)
         lines = [row.line for row in run.rows][-LOG_LINES:]
         shown = "".join(f"{line if len(line) <= LONGEST_LINE else line[:LONGEST_LINE] + '..'}\n" for line in lines)
         self.say(f"\nThe schedule:\n{text}\nThe end of the log:\n{shown}\n{chart(run)}", end="")
-        if self.given["out"]:
-            try:
-                with open(self.given["out"], "w", encoding="utf-8", errors="surrogateescape") as file:
-                    file.write(text)
-            except OSError as error:
-                print(f"races: {self.given['out']}: {error.strerror}", file=sys.stderr)
+        self.store(run, text)
+
+    def text_of(self, run):
+        """The schedule of a run, with comments."""
+        return text_of(run.met, self.target.options, [" ".join(self.target.command), end_of(run)])
+
+    def store(self, run, text):
+        """Stores a run, if this is wanted. Returns whether this is possible."""
+        try:
+            if self.given["out"]:
+                store(self.given["out"], run, text)
+        except OSError as error:
+            print(f"races: {error.filename}: {error.strerror}", file=sys.stderr)
+            return False
+        return True
 
     def end(self, status):
         """Prints what the runs reached, if a search found nothing or on request; or everything as JSON. Returns the status."""
@@ -219,7 +273,8 @@ class Finder:
             self.note("fails", run.fault, schedule)
         elif is_strict and run.unreached:
             self.note("mismatch", f"{run.unreached[0]}: the run doesn't reach this place", schedule)
-        return PASSES if self.result["result"] == "passes" else FOUND
+        is_stored = self.store(run, self.text_of(run))
+        return FOUND if self.result["result"] != "passes" else PASSES if is_stored else USAGE
 
 
 def call(words):
@@ -232,10 +287,13 @@ def call(words):
         except (OSError, UnicodeDecodeError) as error:
             raise UsageError(f"{given['replay']}: {getattr(error, 'strerror', error)}") from None
         options = stored if options is None else options
-    finder = Finder(given, Target(given["server"], command, options or (), given["seconds"]))
-    if given["replay"]:
-        return finder.end(finder.replay(schedule))
-    return finder.end(finder.draw() if given["explore"] is None else finder.explore())
+    is_forked = not (given["apart"] or given["replay"])
+    target = Target(given["server"], command, options or (), given["seconds"], given["jobs"], is_forked)
+    with closing(target):
+        finder = Finder(given, target)
+        if given["replay"]:
+            return finder.end(finder.replay(schedule))
+        return finder.end(finder.draw() if given["explore"] is None else finder.explore())
 
 
 def main():

@@ -1,21 +1,89 @@
-"""Draws schedules."""
+"""Draws schedules.
+
+`actions(name, enabled)` yields the steps that are played before the access with this name. `enabled` returns the steps
+that would do something at this time, after those that were yielded before.
+"""
 
 import random
 
-from race_finder.schedule import ENGINES
+from race_finder.schedule import ENGINES, PAIRS
+
+# One of the steps of a pair makes the other one possible.
+PARTNERS = {step: other for one, two in PAIRS.values() for step, other in ((one, two), (two, one))}
+DRIVER = "driver"
+# The actors of PCT, and their steps. The frames that arrive are the test's own: they belong to the driver.
+ACTORS = {DRIVER: (), "receive": PAIRS["rx"], "fetch": ("txtake",), "put": ("txput",)}
+PATIENCE = 4  # reads of one register in a row
 
 
 class Uniform:
-    """Before each access, draws each step of an engine with some probability, in a random order; the seed decides all."""
+    """Before each access, draws each step of an engine with some probability, in a random order. The seed decides."""
 
     def __init__(self, seed, chance=0.5, draws_holds=False):
         self.random, self.chance, self.draws_holds = random.Random(seed), chance, draws_holds
 
-    def actions(self):
+    def actions(self, _, enabled):
         # Of this generator, only the numbers of `random` are the same in all versions of Python.
         order = sorted(ENGINES, key=lambda _: self.random.random())
-        return [action for action in order if self.random.random() < self.chance]
+        drawn = [action for action in order if self.random.random() < self.chance]
+        possible = set(enabled()) if drawn else set()
+        for action in drawn:
+            if action in possible:
+                possible.add(PARTNERS[action])
+                yield action
 
     def holds(self):
         """Whether a default step of the EEPROM or the PHY is left out."""
         return self.draws_holds and self.random.random() < 0.5
+
+
+class Pct:
+    """Probabilistic concurrency testing: the actor with the highest priority goes first. The seed decides.
+
+    The priorities of the actors are random. After `depth` - 1 random ones of the events, the actor of the event gets a
+    priority below all others. A driver that polls isn't starved: before every fourth read of one register in a row,
+    another actor takes a step.
+    """
+
+    draws_holds = False
+
+    def __init__(self, seed, depth, events):
+        draw = random.Random(seed).random
+        self.priorities = {actor: depth + at for at, actor in enumerate(sorted(ACTORS, key=lambda _: draw()))}
+        self.changes = {1 + int(draw() * events): priority for priority in range(depth - 1, 0, -1)}
+        self.events, self.last, self.reads = 0, None, 0
+
+    def count(self, actor):
+        """An event of an actor. At a change point, its priority becomes lower."""
+        self.events += 1
+        self.priorities[actor] = self.changes.get(self.events, self.priorities[actor])
+
+    def waiting(self, enabled):
+        """The actors that could take a step, each with its step."""
+        possible = enabled()
+        return {actor: step for actor, steps in ACTORS.items() for step in steps if step in possible}
+
+    def polls(self, name):
+        """Whether a driver that polls must wait before this access."""
+        is_again = name == self.last and name.startswith("read ")
+        self.last, self.reads = name, self.reads + 1 if is_again else 1
+        return self.reads % PATIENCE == 0
+
+    def actions(self, name, enabled):
+        must_wait = self.polls(name)
+        while waiting := self.waiting(enabled):
+            first = max(waiting, key=self.priorities.get)
+            if not must_wait and self.priorities[first] < self.priorities[DRIVER]:
+                break
+            must_wait = False
+            self.count(first)
+            yield waiting[first]
+        self.count(DRIVER)
+
+    def holds(self):
+        return False
+
+
+def bound_of(depth, events):
+    """One divided by this is the least probability that a run finds a race of this depth, by the events of a run."""
+    return len(ACTORS) * max(1, events) ** (depth - 1)

@@ -1,8 +1,9 @@
-"""Several runs at once, whose results are taken in the order of their seeds."""
+"""Several runs at once, whose results are taken in a fixed order."""
 
 import os
 from collections import deque
 from concurrent.futures import ThreadPoolExecutor
+from contextlib import closing
 
 MOST_JOBS = 64  # `select` takes no more than 1,024 files
 AHEAD = 2  # runs for each job that are begun, or wait, before the first of them is taken
@@ -14,16 +15,17 @@ def processors():
     return min(count, MOST_JOBS)
 
 
-def in_order(target, draws, jobs):
-    """Yields the runs of these draws in their order, also if a later run ends first.
+def in_order(target, calls, jobs, ahead=AHEAD):
+    """Yields the runs of these calls of `target.play`, each a dictionary of its arguments, in their order.
 
-    The caller closes the generator, which ends the runs in progress.
+    It doesn't matter which run ends first. The caller closes the generator, which ends the runs in progress.
     """
+    target.start()
     begun, pool = deque(), ThreadPoolExecutor(jobs)
     try:
-        for draw in draws:
-            begun.append(pool.submit(target.play, draw=draw))
-            if len(begun) == AHEAD * jobs:
+        for call in calls:
+            begun.append(pool.submit(target.play, **call))
+            if len(begun) == ahead * jobs:
                 yield begun.popleft().result()
         while begun:
             yield begun.popleft().result()
@@ -31,3 +33,14 @@ def in_order(target, draws, jobs):
         target.stop()
         pool.shutdown(cancel_futures=True)
         target.resume()
+
+
+def first_to_fail(target, schedules, ahead=AHEAD, has_places=False):
+    """Plays schedules up to the first one in their order that fails: yields a pair of each and its run."""
+    schedules = list(schedules)
+    calls = ({"schedule": schedule, "has_places": has_places} for schedule in schedules)
+    with closing(in_order(target, calls, target.jobs, ahead)) as runs:
+        for schedule, run in zip(schedules, runs):
+            yield schedule, target.count(run)
+            if run.fault:
+                break

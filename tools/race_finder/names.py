@@ -15,6 +15,22 @@ REGISTERS = {
     **{0x5400 + 8 * n: f"RAL[{n}]" for n in range(16)}, **{0x5404 + 8 * n: f"RAH[{n}]" for n in range(16)},
 }
 CAUSES = {0: "TXDW", 1: "TXQE", 2: "LSC", 4: "RXDMT0", 6: "RXO", 7: "RXT0", 9: "MDAC"}
+# Bits of other registers that have names here.
+BITS = {
+    "CTRL": {0: "FD", 5: "ASDE", 6: "SLU", 26: "RST"}, "STATUS": {0: "FD", 1: "LU"}, "EERD": {0: "START", 4: "DONE"},
+    "MDIC": {28: "R", 29: "I", 30: "E"}, "TCTL": {1: "EN", 3: "PSP"}, "RAH": {31: "AV"},
+    "RCTL": {1: "EN", 3: "UPE", 4: "MPE", 15: "BAM", 18: "VFE", 25: "BSEX", 26: "SECRC"},
+    **dict.fromkeys(("ICR", "ICS", "IMS", "IMC"), CAUSES),
+}
+# Fields of descriptors: the first byte, the size in bytes, and the name.
+FIELDS = {
+    "rx": ((0, 8, "buffer"), (8, 2, "length"), (10, 2, "checksum"), (12, 1, "status"), (13, 1, "errors"),
+           (14, 2, "special")),
+    "tx": ((0, 8, "buffer"), (8, 2, "length"), (10, 1, "CSO"), (11, 1, "command"), (12, 1, "status"), (13, 1, "CSS"),
+           (14, 2, "special")),
+}
+FIELD_BITS = {"rx status": {0: "DD", 1: "EOP"}, "tx status": {0: "DD"}, "tx command": {0: "EOP", 3: "RS"}}
+SLOT = re.compile(r"(rx|tx)\[[0-9]+\](?:\+([0-9]+))?")
 SIZES = {"b": 1, "w": 2, "l": 4, "q": 8}
 NUMBER = re.compile(r"0x[0-9a-fA-F]+|[0-9]+")
 HEX = re.compile(r"0x((?:[0-9a-fA-F]{2})*)")
@@ -75,6 +91,40 @@ def access_of_bytes(name, words):
     return None if data is None else Access("write", address, size, int.from_bytes(data, "little"))
 
 
+def bits_of(word, names):
+    """The names of the bits that are set in a word."""
+    return [name for bit, name in names.items() if word >> bit & 1]
+
+
 def causes_of(word):
     """The names of the interrupt causes in a word."""
-    return [name for bit, name in CAUSES.items() if word >> bit & 1]
+    return bits_of(word, CAUSES)
+
+
+def value_in(register, value):
+    """A register's value, and the names of bits that are set in it, such as `0x80 RXT0`."""
+    return " ".join([f"{value:#x}", *bits_of(value, BITS.get(register.partition("[")[0], {}))])
+
+
+def value_of_field(ring, field, value):
+    """A field of a descriptor: its name, its value, and the names of bits that are set in it."""
+    text = str(value) if field == "length" else f"{value:#x}"
+    return " ".join([field, text, *bits_of(value, FIELD_BITS.get(f"{ring} {field}", {}))])
+
+
+def fields_of(name, size, value):
+    """The fields in some bytes of a descriptor, such as `length 60, status 0x3 DD EOP`.
+
+    `name` is the name of the memory, such as `rx[1]+8`, and `value` has its bytes as a number. Fields with value 0 are
+    left out, except for the length and the status in a part of a descriptor. Returns None if the bytes aren't complete
+    fields of one descriptor.
+    """
+    found = SLOT.fullmatch(name)
+    begin = int(found[2] or 0) if found else 0
+    fields = [one for one in FIELDS[found[1]] if begin <= one[0] and one[0] + one[1] <= begin + size] if found else []
+    if not fields or sum(one[1] for one in fields) != size:
+        return None
+    whole = sum(one[1] for one in FIELDS[found[1]])
+    values = [(field, value >> 8 * (at - begin) & (1 << 8 * bytes_) - 1) for at, bytes_, field in fields]
+    shown = [one for one in values if one[1] or one[0] in ("length", "status") and size < whole]
+    return ", ".join(value_of_field(found[1], *one) for one in shown or values)

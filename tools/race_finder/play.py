@@ -1,12 +1,10 @@
 """Plays a schedule between a test and `nicbench serve`."""
 
 import hashlib
-import os
-import subprocess
 from typing import NamedTuple
 
 from race_finder.names import DEFAULT_REGISTERS, access_of, number_of, words_of
-from race_finder.schedule import HOLDS, ROUNDS, Deviation, Place, steps_of
+from race_finder.schedule import ENGINES, HOLDS, ROUNDS, Deviation, Place, steps_of
 from race_finder.shadow import MATTER, Shadow
 
 # The most bytes of requests that are sent before answers are read: every pipe holds at least this many.
@@ -16,49 +14,8 @@ MOST_INTERLEAVED = 65535
 TEST, DEFAULT, DEVIATION = "test", "default", "deviation"
 
 
-class ServerEnded(Exception):
-    """The server couldn't be started, or has ended."""
-
-
 class Mismatch(Exception):
     """A schedule meets another access than it expects."""
-
-
-class Server:
-    """`nicbench serve`, which is asked many requests at once."""
-
-    def __init__(self, program, options):
-        try:
-            self.process = subprocess.Popen([program, "serve", *options], stdin=subprocess.PIPE, stdout=subprocess.PIPE,
-                                            bufsize=0)
-        except OSError as error:
-            raise ServerEnded(f"{program}: {error.strerror}") from None
-        self.rest = b""
-
-    def send(self, requests):
-        data = "".join(f"{request}\n" for request in requests).encode(errors="surrogateescape")
-        try:
-            while data:
-                data = data[os.write(self.process.stdin.fileno(), data):]
-        except BrokenPipeError:
-            self.fail()
-
-    def line(self):
-        while b"\n" not in self.rest:
-            more = os.read(self.process.stdout.fileno(), 65536)
-            if not more:
-                self.fail()
-            self.rest += more
-        line, _, self.rest = self.rest.partition(b"\n")
-        return line.decode(errors="surrogateescape")
-
-    def fail(self):
-        raise ServerEnded(f"the server has ended with exit status {self.process.wait()}")
-
-    def end(self):
-        self.process.stdin.close()
-        self.process.stdout.close()
-        self.process.wait()
 
 
 class Request(NamedTuple):
@@ -70,6 +27,7 @@ class Request(NamedTuple):
     place: Place = None
     name: str = None
     holds: tuple = ()
+    drawn: Deviation = None  # that this step was drawn for
 
 
 class Met(NamedTuple):
@@ -95,22 +53,30 @@ def is_interleave(words):
 
 
 class Play:
-    """Takes requests of the test, and returns the lines that answer them."""
+    """Takes requests of the test, and returns what answers them."""
 
     def __init__(self, server, schedule=(), draw=None, is_strict=True, base=DEFAULT_REGISTERS):
-        self.server, self.draw, self.is_strict = server, draw, is_strict
-        self.left = {}  # deviations whose place isn't reached yet
-        for deviation in schedule:
-            self.left.setdefault(deviation.place, []).append(deviation)
+        self.begin(server, schedule, draw, is_strict)
         self.shadow = Shadow(base)
         self.waiting, self.size = [], 0  # requests that aren't sent yet, and their bytes
         self.round = self.access_number = 0
         self.is_logged = False  # whether the test wants the log
+        self.stop, self.at_stop = None, None  # a place, and what is called when the run reaches it
+        self.begun = []  # the texts of the requests before this place
         self.out = []  # lines for the test
         self.met, self.idle = [], []  # the deviations that did something, and those that did nothing
         self.places, self.rows = [], []
+        self.reached, self.counted = frozenset(), 0  # what was reached by the first rows, and how many these are
+        self.events = 0  # accesses, and steps of engines that did something, from round 1 on
         self.answers = hashlib.sha1()
         self.queue(Request("log on", DEFAULT))
+
+    def begin(self, server, schedule, draw, is_strict):
+        """Plays this schedule. Nothing that it does is before the next request."""
+        self.server, self.draw, self.is_strict = server, draw, is_strict
+        self.left = {}  # deviations whose place isn't reached yet
+        for deviation in schedule:
+            self.left.setdefault(deviation.place, []).append(deviation)
 
     # The server
 
@@ -123,39 +89,53 @@ class Play:
 
     def flush(self):
         """Sends all requests that wait, and returns their answers."""
+        if not self.waiting:
+            return []
         requests, self.waiting, self.size = self.waiting, [], 0
-        self.server.send(request.text for request in requests)
+        texts = [request.text for request in requests]
+        if self.stop:
+            self.begun += texts
+        self.server.send(texts)
         return [self.answer(request) for request in requests]
 
     def answer(self, request):
         """Returns the answer to a request, after the lines before it."""
-        row = None
-        while True:
+        row, line = None, self.server.line()
+        while not line.startswith(("OK", "ERR", "FAIL")):
+            if line.startswith("# step "):
+                self.hear_step(line, request.owner)
+            else:
+                row = self.hear(line, request) or row
             line = self.server.line()
-            if line.startswith(("OK", "ERR", "FAIL")):
-                break
-            heard = self.hear(line, request)
-            row = heard if heard and not line.startswith("# step") else row
+        text = line[3:]
         if row:
-            row.answer = line[3:]
+            row.answer = text
         if line == "OK stored":
             self.shadow.waiting += 1
         if request.owner == TEST:
             self.out.append(line)
-        return line[3:]
+        elif request.drawn and line != "OK nothing":
+            self.met.append(request.drawn)
+        return text
+
+    def hear_step(self, line, owner):
+        """A line of the log for a step."""
+        _, _, kind, _, outcome = line.split(" ")
+        name = self.shadow.step(kind, outcome)
+        self.events += outcome != "nothing" and kind in ENGINES
+        if outcome != "nothing" or owner == TEST:
+            self.rows.append(Row(line, owner, None, name))
+            if self.is_logged:
+                self.out.append(line)
 
     def hear(self, line, request):
-        """A line before the answer to a request. Returns the row of an access or an arrival."""
-        row = Row(line, request.owner)
-        is_logged = line.startswith("#")
-        if line.startswith("# step "):
-            _, _, kind, _, outcome = line.split(" ")
-            row.name = self.shadow.step(kind, outcome)
-            if outcome == "nothing" and request.owner != TEST:
-                return None
-        elif is_logged and request.access:
+        """Another line before the answer to a request. Returns the row of an access or an arrival."""
+        row, is_logged = Row(line, request.owner), line[0] == "#"
+        if is_logged and request.access:
             row.place, row.name = request.place, request.name
-            self.places.append(Met(request.place, request.name, tuple(self.shadow.enabled()), request.holds))
+            # No schedule gets longer than a drawn one.
+            enabled = () if self.draw else tuple(self.shadow.enabled())
+            self.places.append(Met(request.place, request.name, enabled, request.holds))
             if request.register and request.access.kind == "write":
                 self.shadow.write(request.register, request.access.value)
         self.rows.append(row)
@@ -166,14 +146,14 @@ class Play:
     # The test
 
     def feed(self, requests):
-        """Returns the lines that answer these requests of the test."""
+        """Returns the lines that answer these requests of the test, as bytes."""
         for request in requests:
             self.take(request)
         self.flush()
-        lines, self.out = self.out, []
-        for line in lines:
-            self.answers.update(line.encode(errors="surrogateescape") + b"\n")
-        return lines
+        data = "".join([f"{line}\n" for line in self.out]).encode(errors="surrogateescape")
+        self.out = []
+        self.answers.update(data)
+        return data
 
     def take(self, request):
         access = access_of(request)
@@ -188,17 +168,32 @@ class Play:
         elif is_interleave(words):
             self.flush()
             self.out.append("OK")  # the schedule takes the place of random steps
+        elif words[:1] and words[0] in ROUNDS:
+            self.begin_round(request)
         else:
             self.queue(Request(request, TEST))
-            if words[:1] and words[0] in ROUNDS:
-                self.flush()  # so the same steps follow, however many requests are sent at once
-                self.round, self.access_number = self.round + 1, 0
+
+    def reach(self, place):
+        """The run is before this place, and all requests before it are answered if it stops here."""
+        if place == self.stop:
+            self.flush()
+            self.stop = None
+            self.at_stop()
+
+    def begin_round(self, request):
+        self.reach(Place(self.round + 1, 0))
+        self.round, self.access_number = self.round + 1, 0
+        self.queue(Request(request, TEST))
+        self.flush()  # so the same steps follow, however many requests are sent at once
 
     def access(self, request, access):
         """An access of the test, after what the schedule plays before it."""
         self.access_number += 1
+        place = Place(self.round, self.access_number)
+        self.reach(place)
+        self.events += self.round > 0
         register = self.shadow.register(access)
-        place, name = Place(self.round, self.access_number), f"{access.kind} {register or self.shadow.memory(access)}"
+        name = f"{access.kind} {register or self.shadow.memory(access)}"
         due = self.left.pop(place, ())
         for deviation in due:
             if self.is_strict and deviation.before != name:
@@ -208,16 +203,21 @@ class Play:
             if deviation.action not in HOLDS:
                 self.play(Deviation(place, deviation.action, name))
         if self.draw and self.round:
-            self.flush()
-            for action in self.draw.actions():
-                if action in self.shadow.enabled():
-                    self.play(Deviation(place, action, name))
+            for action in self.draw.actions(name, self.enabled):
+                self.queue(Request(f"step {action}", DEVIATION, drawn=Deviation(place, action, name)))
         self.queue(Request(request, TEST, access, register, place, name, holds))
         if access.kind == "write" and register in MATTER:
             self.flush()
 
+    def enabled(self):
+        """The steps of engines that would do something now."""
+        self.flush()
+        return self.shadow.enabled()
+
     def tick(self, place, name, due):
         """Plays the default steps. Returns the holds that would leave out one that does something."""
+        if not (due or self.shadow.eeprom or self.shadow.phy):
+            return ()
         held = {deviation.action for deviation in due}
         found = []
         for hold, kind in HOLDS.items():

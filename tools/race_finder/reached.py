@@ -14,8 +14,8 @@ ALL = {
               "eeprom ticked", "phy ticked"),
     "fates": ("stored", "missed", "filtered", "illegal", "off"),
 }
-TITLES = {"read": "registers read", "written": "registers written", "causes": "causes read from ICR", "steps": "steps of the adapter",
-          "fates": "fates of arrivals"}
+TITLES = {"read": "registers read", "written": "registers written", "causes": "causes read from ICR",
+          "steps": "steps of the adapter", "fates": "fates of arrivals"}
 ORDER = (*NAMES, OTHER, *ALL["causes"], *ALL["steps"], *ALL["fates"])
 
 

@@ -1,7 +1,7 @@
 """Schedules: what the adapter does otherwise than by default, and before which accesses.
 
-By default, the EEPROM and the PHY each take one step before each access while they have work, and everything else happens at
-the test's own requests. A schedule is a list of deviations from this. It doesn't depend on who plays it.
+By default, the EEPROM and the PHY each take one step before each access while they have work, and everything else
+happens at the test's own requests. A schedule is a list of deviations from this. It doesn't depend on who plays it.
 """
 
 import re
@@ -42,6 +42,11 @@ class Deviation(NamedTuple):
         return self.place, self.action
 
 
+def keys_of(schedule):
+    """What decides a run: places and actions. The names of accesses don't."""
+    return tuple(deviation.key() for deviation in schedule)
+
+
 class ScheduleError(Exception):
     """A text isn't a schedule."""
 
@@ -61,7 +66,8 @@ def deviation_of(line):
     if action not in ACTIONS:
         raise ScheduleError(f"{action!r} isn't a deviation: use {', '.join(ACTIONS[:-1])} or {ACTIONS[-1]}")
     if not ACCESS.fullmatch(before):
-        raise ScheduleError("no access is named: end the line with the access that it expects, such as 'before read ICR'")
+        raise ScheduleError("no access is named: end the line with the access that it expects,"
+                            " such as 'before read ICR'")
     return Deviation(Place(int(found[1]), int(found[2])), action, before)
 
 
@@ -77,8 +83,9 @@ def parse(text):
                 options = line.split()[1:]
             elif line:
                 deviations.append(deviation_of(line))
-                if len(deviations) > 1 and deviations[-1].place < deviations[-2].place:
-                    raise ScheduleError(f"{deviations[-1].place} is before {deviations[-2].place}: sort the lines by place")
+                before, last = deviations[-2:][0].place, deviations[-1].place
+                if last < before:
+                    raise ScheduleError(f"{last} is before {before}: sort the lines by place")
         except ScheduleError as error:
             raise ScheduleError(f"line {number}: {error}") from None
     return options, deviations

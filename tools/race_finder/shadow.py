@@ -10,6 +10,8 @@ KEPT = {"RCTL": 0x0607B33A, "TCTL": 0x003FFFFA}
 for ring in "RT":
     KEPT |= {f"{ring}DBAL": 0xFFFFFFF0, f"{ring}DBAH": 0xFFFFFFFF, f"{ring}DLEN": 0x000FFF80}
     KEPT |= {f"{ring}DH": 0xFFFF, f"{ring}DT": 0xFFFF}
+# A write of one of these moves a ring.
+MOVE = {f"{ring}{name}" for ring in "RT" for name in ("DBAL", "DBAH", "DLEN")}
 # A write of one of these may change what a later step does, or the name of a later access.
 MATTER = {*KEPT, "CTRL", "EERD", "MDIC"}
 
@@ -22,6 +24,7 @@ class Shadow:
 
     def reset(self):
         self.registers = dict.fromkeys(KEPT, 0)
+        self.names = {}  # by address, of memory that was accessed
         self.waiting = 0  # frames in the receive packet buffer
         self.taken = []  # the slots of the frames in the transmit packet buffer
         self.piece = None  # the slot of the piece in progress
@@ -36,12 +39,19 @@ class Shadow:
 
     def memory(self, access):
         """The name of the memory that an access goes to: a slot of a ring, or an address."""
+        name = self.names.get(access.address)
+        if name is None:
+            name = self.names[access.address] = self.name_of(access.address)
+        return name
+
+    def name_of(self, address):
+        """The name of an address in memory."""
         for letter, ring in (("R", "rx"), ("T", "tx")):
             base = self.registers[f"{letter}DBAL"] | self.registers[f"{letter}DBAH"] << 32
-            if 0 <= access.address - base < self.registers[f"{letter}DLEN"]:
-                slot, byte = divmod(access.address - base, DESCRIPTOR)
+            if 0 <= address - base < self.registers[f"{letter}DLEN"]:
+                slot, byte = divmod(address - base, DESCRIPTOR)
                 return f"{ring}[{slot}]" + (f"+{byte}" if byte else "")
-        return f"{access.address:#x}"
+        return f"{address:#x}"
 
     def write(self, register, value):
         """A register was written."""
@@ -49,6 +59,8 @@ class Shadow:
             self.reset()
         elif register in KEPT:
             self.registers[register] = value & KEPT[register]
+            if register in MOVE:
+                self.names.clear()
         elif register == "EERD":
             self.eeprom = bool(value & START)
         elif register == "MDIC":
@@ -82,7 +94,8 @@ class Shadow:
     def enabled(self):
         """The steps of engines that would do something now."""
         found, has = [], self.registers
-        if has["TCTL"] & ENABLE and "tx" not in self.stopped and len(self.taken) < TRANSMIT_ROOM and has["TDH"] != has["TDT"]:
+        has_room = "tx" not in self.stopped and len(self.taken) < TRANSMIT_ROOM
+        if has["TCTL"] & ENABLE and has_room and has["TDH"] != has["TDT"]:
             found.append("txtake")
         if self.taken:
             found.append("txput")

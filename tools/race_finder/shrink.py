@@ -1,6 +1,7 @@
 """Makes a schedule that fails smaller."""
 
-from race_finder.schedule import PAIRS, Deviation
+from race_finder.jobs import first_to_fail
+from race_finder.schedule import PAIRS, Deviation, keys_of
 
 LONGEST_MOVE = 16  # in accesses
 
@@ -12,21 +13,24 @@ class Shrinker:
         self.target, self.seen = target, {}
 
     def fails(self, schedule):
-        """The run of a schedule if it fails, or None. Places count here, and names of accesses don't."""
-        key = tuple(deviation.key() for deviation in schedule)
-        if key not in self.seen:
-            run = self.target.run(schedule)
-            self.seen[key] = run if run.fault else None
-        return self.seen[key]
+        """The run of a schedule if it fails, or None."""
+        return self.first([schedule])
 
-    def shrink(self, schedule):
-        """The run of a schedule from which no deviation can be left out, or None if the given one doesn't fail."""
-        run = self.fails(())
-        if run:
-            return run
-        run = self.fails(schedule)
-        if run is None:
-            return None
+    def first(self, schedules):
+        """The run of the first of these schedules that fails, or None."""
+        keys = [keys_of(schedule) for schedule in schedules]
+        known = next((at for at, key in enumerate(keys) if self.seen.get(key)), len(keys))
+        new = {key: schedule for key, schedule in zip(keys[:known], schedules) if key not in self.seen}
+        for key, (_, run) in zip(new, first_to_fail(self.target, new.values(), ahead=1)):
+            self.seen[key] = run if run.fault else None
+        return next((self.seen[key] for key in keys if self.seen.get(key)), None)
+
+    def again(self, schedule):
+        """The run of the empty schedule if it fails; or else that of the given one, or None if it passes."""
+        return self.fails(()) or self.fails(schedule)
+
+    def shrink(self, run):
+        """The run of a schedule from which no deviation can be left out."""
         run = self.halve(run)
         while True:
             before = run.met
@@ -41,8 +45,7 @@ class Shrinker:
         parts = 2
         while len(run.met) >= 2:
             met, size = run.met, max(1, len(run.met) // parts)
-            rests = (met[:at] + met[at + size:] for at in range(0, len(met), size))
-            smaller = next(filter(None, map(self.fails, rests)), None)
+            smaller = self.first([met[:at] + met[at + size:] for at in range(0, len(met), size)])
             if smaller:
                 run, parts = smaller, max(2, parts - 1)
             elif size == 1:
@@ -52,10 +55,8 @@ class Shrinker:
         return run
 
     def one_by_one(self, run):
-        at = 0
-        while at < len(run.met):
-            smaller = self.fails(run.met[:at] + run.met[at + 1:])
-            run, at = (smaller, 0) if smaller else (run, at + 1)
+        while smaller := self.first([run.met[:at] + run.met[at + 1:] for at in range(len(run.met))]):
+            run = smaller
         return run
 
     def later(self, run):

@@ -7,9 +7,12 @@ import subprocess
 import tempfile
 import time
 
+from race_finder.forks import Forks, Stopped, script_of
 from race_finder.names import DEFAULT_REGISTERS, number_of
-from race_finder.play import Play, Server
-from race_finder.reached import reached_by
+from race_finder.play import Play
+from race_finder.run import Run, fault_of
+from race_finder.server import Server
+from race_finder.workers import Workers
 
 
 class CannotRun(Exception):
@@ -18,19 +21,6 @@ class CannotRun(Exception):
 
 class TooLong(Exception):
     """A run didn't end in time."""
-
-
-class Stopped(Exception):
-    """A run was ended, because its result isn't needed."""
-
-
-class Run:
-    """What a run showed: its fault (None if the test passed), and what was played."""
-
-    def __init__(self, fault, play):
-        self.fault, self.met, self.idle, self.unreached = fault, play.met, play.idle, play.unreached()
-        self.places, self.rows, self.answers = play.places, play.rows, play.answers.digest()
-        self.reached = reached_by(play.rows)
 
 
 def base_of(options):
@@ -43,10 +33,31 @@ def base_of(options):
 
 
 class Target:
-    def __init__(self, server, command, options=(), seconds=10.0):
-        self.server, self.command, self.options, self.seconds = server, command, tuple(options), seconds
+    """The command that is tested. Its runs are forked if it is a script in Python and `is_forked`."""
+
+    def __init__(self, server, command, options=(), seconds=10.0, jobs=1, is_forked=True):
+        self.server, self.command, self.options = server, command, tuple(options)
+        self.seconds, self.jobs = seconds, jobs
         self.runs, self.reached = 0, set()  # of the runs that are counted
         self.wake = os.pipe()  # holds a byte while runs must end
+        script = script_of(command) if is_forked else None
+        self.forks = Forks(script, (server, self.options, base_of(self.options)), seconds) if script else None
+        self.workers = None
+
+    def start(self):
+        """Before several runs at once, and before there are threads: starts workers if runs aren't forked."""
+        if self.jobs > 1 and not self.workers and not (self.forks and self.forks.is_usable):
+            self.workers = Workers(self.play_reduced, self.jobs)
+
+    def close(self):
+        """Ends what was started for the runs."""
+        for runs in filter(None, (self.workers, self.forks)):  # workers have files of the other one, too
+            runs.end()
+
+    def prepare(self, run):
+        """Before many schedules are played, by the run without deviations."""
+        if self.forks:
+            self.forks.prepare(run)
 
     def run(self, schedule=(), draw=None, is_strict=False):
         """Runs the command once, and counts the run. Raises CannotRun, ServerEnded or Mismatch."""
@@ -65,8 +76,30 @@ class Target:
         """After `stop`, and after these runs have ended: runs are possible again."""
         os.read(self.wake[0], 1)
 
-    def play(self, schedule=(), draw=None, is_strict=False):
-        """Runs the command once, perhaps at the same time as others."""
+    def play(self, schedule=(), draw=None, is_strict=False, has_places=True):
+        """Runs the command once, perhaps at the same time as others.
+
+        A run that passes may have no rows, and without `has_places` no places.
+        """
+        run = self.forks and self.forks.play(schedule, draw, is_strict, has_places, self.wake[0])
+        if not run:
+            if self.workers:
+                run = self.workers.play(schedule, draw, is_strict, has_places)
+            else:
+                run = self.play_apart(schedule, draw, is_strict)
+            if self.forks and run.fault != self.late():
+                self.forks.is_usable = False  # it had no result in time
+        return run
+
+    def late(self):
+        """The fault of a run that doesn't end in time."""
+        return f"no end within {self.seconds:g} seconds"
+
+    def play_reduced(self, schedule, draw, is_strict, has_places):
+        return self.play_apart(schedule, draw, is_strict).reduced(has_places, has_rows=False)
+
+    def play_apart(self, schedule, draw, is_strict):
+        """Runs the command in a process of its own."""
         server = Server(self.server, self.options)
         try:
             play = Play(server, schedule, draw, is_strict, base_of(self.options))
@@ -78,8 +111,8 @@ class Target:
 
     def run_command(self, play, errors):
         try:
-            test = subprocess.Popen(self.command, stdin=subprocess.PIPE, stdout=subprocess.PIPE, stderr=errors, bufsize=0,
-                                    start_new_session=True)
+            test = subprocess.Popen(self.command, stdin=subprocess.PIPE, stdout=subprocess.PIPE, stderr=errors,
+                                    bufsize=0, start_new_session=True)
         except OSError as error:
             raise CannotRun(f"{self.command[0]}: {error.strerror}") from None
         end, is_late = time.monotonic() + self.seconds, True
@@ -89,15 +122,11 @@ class Target:
             status = test.wait(max(0, end - time.monotonic()))
             is_late = False
         except (TooLong, subprocess.TimeoutExpired):
-            return f"no end within {self.seconds:g} seconds"
+            return self.late()
         finally:
             stop(test, is_late)
-        if status == 0:
-            return None
         errors.seek(0)
-        lines = errors.read().decode(errors="replace").strip().splitlines()
-        kind = f"exit status {status}" if status > 0 else f"ended by {signal.Signals(-status).name}"
-        return f"{kind}: {lines[-1]}" if lines else kind
+        return fault_of(status, errors.read())
 
 
 def wait(reads, writes, end, wake):
@@ -121,8 +150,8 @@ def serve(test, play, end, wake):
         *lines, rest = (rest + data).split(b"\n")
         if not data and rest:
             lines, rest = [rest], b""
-        out = "".join(f"{line}\n" for line in play.feed([line.decode(errors="surrogateescape") for line in lines]))
-        if not write(sink, out.encode(errors="surrogateescape"), end, wake) or not data:
+        out = play.feed([line.decode(errors="surrogateescape") for line in lines])
+        if not write(sink, out, end, wake) or not data:
             return
 
 

@@ -30,7 +30,7 @@ const VLAN_TYPE_BITS: u32 = 0xFFFF;
 /// driver reads and writes, in whatever order, the answers are those of the table in
 /// [`offsets`](crate::offsets). What the adapter does by itself it does in steps, when
 /// [`step`](Adapter::step) is called.
-#[derive(Drop)]
+#[derive(Clone, Drop)]
 pub struct Adapter {
     image: Image,
     phy: Phy,

@@ -18,7 +18,7 @@ use std::marker::Model;
 /// none.
 ///
 /// In contracts it is a `MachineState`, plain data that `specs/Machines.antt` lists.
-#[derive(Drop)]
+#[derive(Clone, Drop)]
 pub struct Machine {
     adapter: Adapter,
     memory: HostMemory,

@@ -16,7 +16,7 @@ pub struct OutOfRange;
 ///
 /// No bytes lie in it at every address, so a load or a store of none is never refused. Its size
 /// never changes.
-#[derive(Drop)]
+#[derive(Clone, Drop)]
 pub struct HostMemory {
     bytes: Vec<u8>,
 }

@@ -3,6 +3,8 @@
 //! A [`FrameQueue`] is what a packet buffer of a network adapter is: at most so many frames, first in, first out.
 #![tactic(auto)]
 
+mod buffers;
 mod queue;
 
+pub use buffers::copy_of;
 pub use queue::{FrameQueue, PLACE_BYTES};

@@ -3,6 +3,7 @@ ghost use Rattle.std.specs.Prelude.{◌≡◌, ◌+◌, ◌-◌, ◌<◌, ◌≤
 ghost use Rattle.std.specs.Prelude.{replicate, slice_get, take};
 ghost use Rattle.std.specs.Prelude.{IsTrue, IsNone, IfSome, IfOk};
 
+use crate::buffers::copy_of;
 use circular_buffer::HeapCircularBuffer;
 use std::alloc::{AllocError, Global};
 use std::marker::Model;
@@ -32,6 +33,23 @@ impl Model for FrameQueue {
     ghost view = { frames_of };
 
     ghost invariant = { IsConsistent };
+}
+
+impl Clone for FrameQueue {
+    ghost is_clone = { λ queue copy. copy ≡ queue };
+
+    /// A queue of the same capacity with the same frames.
+    ///
+    /// # Errors
+    ///
+    /// If memory was refused.
+    fn clone(&self) -> Result<FrameQueue, AllocError> {
+        Ok(FrameQueue {
+            bytes: self.bytes.clone()?,
+            lengths: copy_of(&self.lengths)?,
+            first: self.first,
+        })
+    }
 }
 
 impl FrameQueue {

@@ -16,6 +16,8 @@ mod pcap_trace_readme;
 #[cfg(test)]
 mod printed_counts;
 #[cfg(test)]
+mod refused_scenarios;
+#[cfg(test)]
 mod scenario_calls;
 #[cfg(test)]
 mod scenario_readme;

@@ -45,9 +45,9 @@ b accepted 0 put 0 reached 1 stored 1 missed 0 exact given 1 unclaimed 0
 
 /// A sink over memory.
 #[derive(Drop)]
-struct TestSink {
-    bytes: Vec<u8>,
-    failures: u64,
+pub(crate) struct TestSink {
+    pub(crate) bytes: Vec<u8>,
+    pub(crate) failures: u64,
 }
 
 impl Sink for TestSink {

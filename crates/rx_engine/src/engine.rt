@@ -25,7 +25,7 @@ pub struct Work {
 
 /// The receive engine: its packet buffer, how much of its oldest frame is moved, the piece in progress, and whether a
 /// fault has stopped it.
-#[derive(Debug, Drop)]
+#[derive(Clone, Debug, Drop)]
 pub struct RxEngine {
     buffer: FrameQueue,
     /// How many bytes of the oldest frame are moved to memory.

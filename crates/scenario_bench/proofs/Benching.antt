@@ -1,7 +1,8 @@
 -- The result of the bench, by what was played and recorded.
 use Rattle.std.proofs.Common.{◌≡◌, ◌<◌, ◌≤◌, ◌+◌, ◌++◌, ◌∷◌, ◌⊎◌, [], zero, suc, ℕ, List, Option, Some, None, length, map, replicate}
 use Rattle.std.proofs.Common.{slice_get}
-use Rattle.std.proofs.Common.{option_map, inl, inr, refl, sym, ap, subst, ◌∙◌, arith}
+use Rattle.std.proofs.Common.{option_map, inl, inr, refl, sym, ap, subst, ◌∙◌, arith, take}
+use Rattle.std.proofs.Math.Seq.{take-append_seam}
 use Rattle.std.proofs.lemmas.List.{length-append, length-map}
 use Rattle.std.proofs.lemmas.Option.{slice_get-map, slice_get_within}
 use Rattle.packet_socket.specs.HostState.{HostState}
@@ -10,16 +11,18 @@ use Rattle.stations.specs.Stations.{world_at}
 use Rattle.network_plan.specs.declared.plan.HostPlan.{HostPlan}
 use Rattle.host_calls.specs.Networks.{IsHost}
 use Rattle.scenario.specs.SoFar.{Host, Said, host_of_plan, hosts_of, said_of}
-use Rattle.scenario_bench.specs.Acts.{Act, history}
+use Rattle.scenario_bench.specs.Acts.{Act, act_of, history}
 use Rattle.scenario.specs.declared.command.Scenario.{Scenario}
-use Rattle.scenario_bench.specs.Benches.{AreWritten, AreWrittenUpTo, Benches, PlaysScenario, SinkState, Stops, texts_of}
+use Rattle.scenario_bench.specs.Benches.{AreWritten, AreWrittenUpTo, Benches, PlaysEvents, PlaysScenario, SinkState, Stops, StopsBefore}
+use Rattle.scenario_bench.specs.Benches.{scenario_events, texts_of}
 use Rattle.scenario_bench.specs.EventLists.{all_events}
 use Rattle.scenario_bench.specs.Given.{given_from, sockets_from}
-use Rattle.scenario_bench.specs.PlayedEvents.{Begins, HasPlayed, HasPlayedScenario, IsUnplayed, TellTallies, TellsTally}
+use Rattle.scenario_bench.specs.PlayedEvents.{Begins, HasPlayed, HasPlayedFront, HasPlayedScenario, IsUnplayed}
+use Rattle.scenario_bench.specs.PlayedEvents.{StopsWithin, TellTallies, TellsTally}
 use Rattle.scenario_bench.specs.Puts.{PutFrame}
 use Rattle.scenario_bench.specs.SocketLists.{SocketFrames, frames_given}
-use Rattle.scenario_bench.specs.Summaries.{TellsHosts}
-use Rattle.scenario_bench.specs.Tallies.{empty_sockets, no_tally, socket_behind, tally_behind}
+use Rattle.scenario_bench.specs.Summaries.{TellsHosts, as_told}
+use Rattle.scenario_bench.specs.Tallies.{empty_sockets, no_tally, number_behind, socket_behind, tally_behind}
 use Rattle.scenario_bench.specs.declared.play.Play.{Play}
 use Rattle.scenario_bench.specs.declared.summary.HostSummary.{HostSummary}
 use Rattle.scenario_bench.specs.declared.summary.Summary.{Summary}
@@ -28,7 +31,7 @@ use Rattle.scenario_bench.specs.declared.bench_error.BenchError.TheVariants as e
 use Rattle.scenario.specs.declared.command.Command.{Command}
 use Rattle.pcap_trace.specs.declared.fault.WriteError.{WriteError}
 use Rattle.scenario_bench.specs.declared.tally.Tally.{Tally}
-use Rattle.scenario_bench.proofs.Told.{noted-lists, tally_of}
+use Rattle.scenario_bench.proofs.Told.{noted-lists, number_told, tally_of}
 use Rattle.stations.proofs.Places.{same-places}
 
 -- Summaries, in order.
@@ -132,14 +135,13 @@ sockets_count plans said a b begun played =
 
 -- The call.
 
-abbrev pub plays_of : (scenario : Scenario) (traces : List (List (List ℕ))) (a b : Play) → Begins scenario.plan.hosts.items a
-    → HasPlayed (all_events (hosts_of scenario.plan.hosts.items) traces (map said_of scenario.commands.items)) a b
-    → PlaysScenario scenario traces
-plays_of scenario traces a b begun played = record {
+abbrev pub plays_of : (scenario : Scenario) (said : List Said) (a b : Play) → Begins scenario.plan.hosts.items a → HasPlayed said a b
+    → PlaysEvents scenario said
+plays_of scenario said a b begun played = record {
   made = a.lan;
   by_plan = begun.made;
   acts = played.acts;
-  of_commands = played.are;
+  are = played.are;
   behind = b.lan;
   leads = played.leads;
 }
@@ -180,13 +182,12 @@ hosts_tell plans said a b told begun played tells = record {
       };
 }
 
-pub played_as : (hosts plans : List HostPlan) (said commands : List Command) (traces : List (List (List ℕ))) (a b : Play) → hosts ≡ plans
-    → said ≡ commands → HasPlayed (all_events (hosts_of hosts) traces (map said_of said)) a b
-    → HasPlayed (all_events (hosts_of plans) traces (map said_of commands)) a b
-played_as hosts plans said commands traces a b hosts_are said_is played =
-    subst (λ (s : List Said). HasPlayed s a b)
-    (ap (λ (hs : List HostPlan). all_events (hosts_of hs) traces (map said_of said)) hosts_are
-    ∙ ap (λ (cs : List Command). all_events (hosts_of plans) traces (map said_of cs)) said_is) played
+pub same_events : (hosts : List HostPlan) (said : List Command) (scenario : Scenario) (traces : List (List (List ℕ)))
+    → hosts ≡ scenario.plan.hosts.items → said ≡ scenario.commands.items
+    → all_events (hosts_of hosts) traces (map said_of said) ≡ scenario_events scenario traces
+same_events hosts said scenario traces hosts_are said_is =
+    ap (λ (hs : List HostPlan). all_events (hosts_of hs) traces (map said_of said)) hosts_are
+    ∙ ap (λ (cs : List Command). all_events (hosts_of scenario.plan.hosts.items) traces (map said_of cs)) said_is
 
 pub tells_as : (hosts plans : List HostPlan) (b : Play) (told : List HostSummary) → hosts ≡ plans → TellTallies (length hosts) hosts b told
     → TellTallies (length plans) plans b told
@@ -198,10 +199,10 @@ module _ (scenario : Scenario) (traces : List (List (List ℕ))) (puts : Option 
   plans = scenario.plan.hosts.items
 
   abbrev said : List Said
-  said = all_events (hosts_of plans) traces (map said_of scenario.commands.items)
+  said = scenario_events scenario traces
 
   abbrev pub plays_in : PlaysScenario scenario traces
-  plays_in = plays_of scenario traces has.first play has.begins has.played
+  plays_in = plays_of scenario said has.first play has.begins has.played
 
   pub sockets_counted : (count : ℕ) → count ≡ length (sockets_from 0 (hosts_of plans)) → count ≡ length play.record.sockets.items
   sockets_counted count is = is ∙ sym (sockets_count plans said has.first play has.begins has.played)
@@ -236,9 +237,29 @@ module _ (scenario : Scenario) (traces : List (List (List ℕ))) (puts : Option 
   bench_failed {old} {new} error why is wrote =
       subst (λ (e : BenchError). Stops scenario traces e old new) (sym is) (plays_in, texts_failed wrote)
 
-pub unplayed_stops : (scenario : Scenario) (traces : List (List (List ℕ))) (error : BenchError) (sinks : List SinkState)
-    → IsUnplayed scenario error → Stops scenario traces error sinks sinks
-unplayed_stops scenario traces (errors.Plan error) sinks is = (is, refl)
-unplayed_stops scenario traces (errors.Run stopped) sinks is = refl
-unplayed_stops scenario traces errors.Memory sinks is = refl
-unplayed_stops scenario traces (errors.Write error) sinks is = absurd is
+-- Nothing was written.
+
+-- memory was refused before an event: the record has its number
+stopped-before : (scenario : Scenario) (all : List Said) (a b : Play) (done : ℕ) → Begins scenario.plan.hosts.items a
+    → HasPlayedFront all a b → done ≡ b.record.number → StopsBefore scenario all done
+stopped-before scenario all a b done begun front is =
+    let acts = front.played.acts in
+    record {
+      first = length front.first;
+      left = omega (arith, front.some, ap length front.parts, length-append front.first front.left);
+      number = is ∙ front.played.noted.number ∙ ap (λ (n : ℕ). number_behind n acts) begun.number ∙ number_told 0 acts
+          ∙ ap as_told (omega (arith, length-map acts act_of, ap length front.played.are));
+      plays = subst (λ (first : List Said). PlaysEvents scenario first)
+          (sym (ap (take (length front.first)) front.parts ∙ take-append_seam front.first front.left))
+          (plays_of scenario front.first a b begun front.played);
+    }
+
+pub unplayed : (scenario : Scenario) (traces : List (List (List ℕ))) (all : List Said) (a b : Play) (error : BenchError)
+    → Begins scenario.plan.hosts.items a → all ≡ scenario_events scenario traces → StopsWithin all a b error
+    → IsUnplayed scenario traces error
+unplayed scenario traces all a b (errors.Plan error) begun is stops = absurd stops
+unplayed scenario traces all a b (errors.Run stopped) begun is stops =
+    subst (λ (events : List Said). StopsBefore scenario events stopped.done) is
+    (stopped-before scenario all a b stopped.done begun stops.0 stops.1)
+unplayed scenario traces all a b errors.Memory begun is stops = stops
+unplayed scenario traces all a b (errors.Write error) begun is stops = absurd stops

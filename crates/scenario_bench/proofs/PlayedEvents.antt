@@ -1,19 +1,18 @@
 -- Events that were played, in order.
 use Rattle.std.proofs.Common.{◌≡◌, ◌<◌, ◌≤◌, ◌-◌, ◌++◌, ◌∷◌, [], false, zero, suc, ℕ, List, length, map, refl, sym, ap, subst, ◌∙◌, arith}
-use Rattle.std.proofs.Common.{append_assoc, append-nil}
+use Rattle.std.proofs.Common.{append_assoc, append-nil, drop, length-append, length-drop, take}
 use Rattle.std.proofs.lemmas.Grind.{flat_map-append}
 use Rattle.std.specs.List.{flat_map}
 use Rattle.rand_pcg.specs.Lcg.{Lcg}
 use Rattle.rand_pcg.specs.Pcg.{pcg32}
-use Rattle.std.proofs.Common.{Option, Some, None, option_map, slice_get}
-use Rattle.std.proofs.lemmas.List.{map-append}
+use Rattle.std.proofs.Common.{Option, None, option_map, slice_get}
+use Rattle.std.proofs.lemmas.List.{length-map, map-append, take-append-drop}
 use Rattle.std.proofs.lemmas.Option.{slice_get-map, slice_get_past}
 use Rattle.std.specs.Prelude.{unwrap_or}
 use Rattle.pcap_trace.specs.declared.trace.Trace.{Trace}
-use Rattle.network_plan.specs.declared.event.Event.TheVariants as event
 use Rattle.scenario.specs.declared.command.Command.{Command}
 use Rattle.scenario.specs.declared.command.Command.TheVariants as command
-use Rattle.scenario_bench.specs.EventLists.{all_events, behind_send, event_drawn, events_of, fed, pieces_for, words_drawn, words_from}
+use Rattle.scenario_bench.specs.EventLists.{all_events, behind_send, events_of, fed, pieces_for, words_from}
 use Rattle.network_plan.specs.declared.event.Event.{Event}
 use Rattle.network_plan.specs.declared.reply.Reply.{Reply}
 use Rattle.stations.specs.Stations.{world_at}
@@ -24,8 +23,10 @@ use Rattle.scenario.specs.SoFar.{Drains, Host, Said, Sends, event_of, said_of}
 use Rattle.scenario_bench.specs.Acts.{Drained, act_of, ran}
 use Rattle.scenario_bench.specs.DrainedView.{drained_frame}
 use Rattle.scenario_bench.specs.declared.drained.DrainedFrame.{DrainedFrame}
-use Rattle.scenario_bench.specs.PlayedEvents.{HasPlayed, frames_of}
+use Rattle.scenario_bench.specs.PlayedEvents.{HasPlayed, HasPlayedFront, StopsWithin, frames_of}
 use Rattle.scenario_bench.specs.Tallies.{AreNoted}
+use Rattle.scenario_bench.specs.declared.bench_error.BenchError.{BenchError}
+use Rattle.scenario_bench.specs.declared.bench_error.BenchError.TheVariants as errors
 use Rattle.scenario_bench.specs.declared.play.Play.{Play}
 use Rattle.scenario_bench.proofs.JoinedActs.{acts-ran, leads-drained, leads-join, leads-none, leads-ran}
 use Rattle.scenario_bench.proofs.NotedDrains.{noted_moves}
@@ -76,6 +77,39 @@ drained host steps before frames slice a b drains none same noted =
           (subst (λ (ds : List DrainedFrame). AreNoted (Drained host 0 (map drained_frame ds) ∷ []) a.record b.record) same noted);
     }
 
+-- Memory was refused.
+
+-- before one of these events, and those before it are recorded
+pub front_played : (events : List Event) (done : ℕ) (a b : Play) → done < length events
+    → RunTold RecordsReplies (take done events) a.lan b.lan a.record b.record → b.record.failed ≡ false
+    → HasPlayedFront (map event_of events) a b
+front_played events done a b left told sound = record {
+  first = map event_of (take done events);
+  left = map event_of (drop done events);
+  parts = ap (map event_of) (sym (take-append-drop done events)) ∙ map-append event_of (take done events) (drop done events);
+  some = omega (arith, left, length-map (drop done events) event_of, length-drop done events);
+  played = played (take done events) a b told sound;
+}
+
+-- among a part of these events and drains, and those before it were played
+pub stops_behind : (all before said later : List Said) (a b c : Play) (error : BenchError) → all ≡ before ++ (said ++ later)
+    → HasPlayed before a b → StopsWithin said b c error → StopsWithin all a c error
+stops_behind all before said later a b c (errors.Plan error) is has stops = absurd stops
+stops_behind all before said later a b c (errors.Run stopped) is has (front, number) = (
+  record {
+    first = before ++ front.first;
+    left = front.left ++ later;
+    parts = is ∙ ap (λ (s : List Said). before ++ (s ++ later)) front.parts
+        ∙ ap (λ (s : List Said). before ++ s) (append_assoc front.first front.left later)
+        ∙ sym (append_assoc before front.first (front.left ++ later));
+    some = omega (arith, front.some, length-append front.left later);
+    played = played_join before front.first a b c has front.played;
+  },
+  number,
+)
+stops_behind all before said later a b c errors.Memory is has stops = stops
+stops_behind all before said later a b c (errors.Write error) is has stops = absurd stops
+
 -- What is played one by one.
 
 -- The first of these were played, and the others are left.
@@ -104,6 +138,14 @@ all_fed X events all rest a b has is =
     subst (λ (xs : List X). HasPlayed (flat_map events xs) a b)
     (sym (has.parts ∙ ap (λ (r : List X). has.done ++ r) is ∙ append-nil has.done)) has.played
 
+-- memory was refused among the events of the next of these
+pub fed_stops : (X : Type 0) (events : X → List Said) (all rest later : List X) (one : X) (a b c : Play) (error : BenchError)
+    → HasFed X events all rest a b → rest ≡ one ∷ later → StopsWithin (events one) b c error → StopsWithin (flat_map events all) a c error
+fed_stops X events all rest later one a b c error has is stops =
+    stops_behind (flat_map events all) (flat_map events has.done) (events one) (flat_map events later) a b c error
+    (ap (flat_map events) (has.parts ∙ ap (λ (r : List X). has.done ++ r) is) ∙ flat_map-append events has.done (one ∷ later))
+    has.played stops
+
 -- This many words are left to draw.
 pub record HasDrawn (event : ℕ → Said) (words : List ℕ) (left : ℕ) (generator : Lcg) (a b : Play) : Type 0 where
   pub done : List ℕ
@@ -121,13 +163,18 @@ next-word (suc left) generator some =
     let same : left ≡ suc left - 1 = omega arith in
     ap (λ (n : ℕ). (pcg32 generator).0 ∷ words_from n (pcg32 generator).1) same
 
+next-parts : (words done : List ℕ) (left word : ℕ) (generator later : Lcg) → words ≡ done ++ words_from left generator → 0 < left
+    → (word, later) ≡ pcg32 generator → words ≡ done ++ word ∷ words_from (left - 1) later
+next-parts words done left word generator later parts some is =
+    parts ∙ ap (λ (ws : List ℕ). done ++ ws) (next-word left generator some
+    ∙ sym (ap (λ (p : ℕ × Lcg). p.0 ∷ words_from (left - 1) p.1) is))
+
 pub one_drawn : (event : ℕ → Said) (words : List ℕ) (left word : ℕ) (generator later : Lcg) (said : Said) (a b c : Play)
     → HasDrawn event words left generator a b → 0 < left → (word, later) ≡ pcg32 generator → said ≡ event word
     → HasPlayed (said ∷ []) b c → HasDrawn event words (left - 1) later a c
 one_drawn event words left word generator later said a b c has some is said_is played = record {
   done = has.done ++ word ∷ [];
-  parts = has.parts ∙ ap (λ (ws : List ℕ). has.done ++ ws) (next-word left generator some
-      ∙ sym (ap (λ (p : ℕ × Lcg). p.0 ∷ words_from (left - 1) p.1) is))
+  parts = next-parts words has.done left word generator later has.parts some is
       ∙ sym (append_assoc has.done (word ∷ []) (words_from (left - 1) later));
   played = subst (λ (s : List Said). HasPlayed s a c)
       (ap (λ (s : Said). map event has.done ++ s ∷ []) said_is ∙ sym (map-append event has.done (word ∷ [])))
@@ -139,6 +186,16 @@ pub all_drawn : (event : ℕ → Said) (words : List ℕ) (left : ℕ) (generato
 all_drawn event words left generator a b has none =
     subst (λ (ws : List ℕ). HasPlayed (map event ws) a b)
     (sym (has.parts ∙ ap (λ (n : ℕ). has.done ++ words_from n generator) none ∙ append-nil has.done)) has.played
+
+-- memory was refused at the event of the next word
+pub draw_stops : (event : ℕ → Said) (words : List ℕ) (left word : ℕ) (generator later : Lcg) (said : Said) (a b c : Play)
+    (error : BenchError) → HasDrawn event words left generator a b → 0 < left → (word, later) ≡ pcg32 generator → said ≡ event word
+    → StopsWithin (said ∷ []) b c error → StopsWithin (map event words) a c error
+draw_stops event words left word generator later said a b c error has some is said_is stops =
+    stops_behind (map event words) (map event has.done) (said ∷ []) (map event (words_from (left - 1) later)) a b c error
+    (ap (map event) (next-parts words has.done left word generator later has.parts some is)
+    ∙ map-append event has.done (word ∷ words_from (left - 1) later)
+    ∙ ap (λ (s : Said). map event has.done ++ s ∷ map event (words_from (left - 1) later)) (sym said_is)) has.played stops
 
 -- a frame was sent, and what follows was run
 pub one_sent : (hosts : List Host) (sender : ℕ) (frame : List ℕ) (event : Event) (behind played : List Event)
@@ -154,33 +211,36 @@ one_sent hosts sender frame event behind played all rest later a b m c has is se
     one_fed (List ℕ) (fed hosts sender) all rest later frame (map event_of (event ∷ []) ++ map event_of played) a b c has is said
     (played_join (map event_of (event ∷ [])) (map event_of played) b m c first second)
 
+-- memory was refused at the send of a frame
+pub send_stops : (hosts : List Host) (sender : ℕ) (frame : List ℕ) (event : Event) (all rest later : List (List ℕ)) (a b c : Play)
+    (error : BenchError) → HasFed (List ℕ) (fed hosts sender) all rest a b → rest ≡ frame ∷ later
+    → event_of event ≡ Sends sender frame [] → StopsWithin (map event_of (event ∷ [])) b c error
+    → StopsWithin (flat_map (fed hosts sender) all) a c error
+send_stops hosts sender frame event all rest later a b c error has is sent stops =
+    let behind = behind_send hosts sender (pieces_for (length frame)) in
+    fed_stops (List ℕ) (fed hosts sender) all rest later frame a b c error has is
+    (stops_behind (fed hosts sender frame) [] (event_of event ∷ []) behind b b c error (ap (λ (s : Said). s ∷ behind) (sym sent))
+    (played_none b) stops)
+
+-- memory was refused in what follows
+pub behind_stops : (hosts : List Host) (sender : ℕ) (frame : List ℕ) (event : Event) (behind played : List Event)
+    (all rest later : List (List ℕ)) (a b m c : Play) (error : BenchError)
+    → HasFed (List ℕ) (fed hosts sender) all rest a b → rest ≡ frame ∷ later → event_of event ≡ Sends sender frame []
+    → HasPlayed (map event_of (event ∷ [])) b m → map event_of behind ≡ behind_send hosts sender (pieces_for (length frame))
+    → played ≡ behind
+    → StopsWithin (map event_of played) m c error → StopsWithin (flat_map (fed hosts sender) all) a c error
+behind_stops hosts sender frame event behind played all rest later a b m c error has is sent first follows same stops =
+    fed_stops (List ℕ) (fed hosts sender) all rest later frame a b c error has is
+    (stops_behind (fed hosts sender frame) (event_of event ∷ []) (map event_of played) [] b m c error
+    (ap (λ (s : List Said). Sends sender frame [] ∷ s) (sym (ap (map event_of) same ∙ follows) ∙ sym (append-nil (map event_of played)))
+    ∙ ap (λ (s : Said). s ∷ (map event_of played ++ [])) (sym sent)) first stops)
+
 -- Commands.
-
-alone : (hosts : List Host) (traces : List (List (List ℕ))) (one : Event) → events_of hosts traces (event_of one) ≡ event_of one ∷ []
-alone hosts traces (event.Send host frame ticks) = refl
-alone hosts traces (event.Recv host socket ticks) = refl
-alone hosts traces (event.Interrupt host ticks) = refl
-alone hosts traces (event.Tick tick) = refl
-
-pub of_event : (hosts : List Host) (traces : List (List (List ℕ))) (one : Command) (found : Event) (events : List Event) (a b : Play)
-    → one ≡ command.Event found → events ≡ found ∷ [] → HasPlayed (map event_of events) a b
-    → HasPlayed (events_of hosts traces (said_of one)) a b
-of_event hosts traces one found events a b is are played =
-    subst (λ (s : List Said). HasPlayed s a b)
-    (ap (map event_of) are ∙ sym (ap (λ (c : Command). events_of hosts traces (said_of c)) is ∙ alone hosts traces found)) played
 
 fed-frames : (hosts : List Host) (sender : ℕ) (traces : List Trace) (place : ℕ) (found : Option Trace) → slice_get traces place ≡ found
     → unwrap_or (slice_get (map frames_of traces) place) [] ≡ unwrap_or (option_map frames_of found) []
 fed-frames hosts sender traces place found is =
     ap (λ (o : Option (List (List ℕ))). unwrap_or o []) (slice_get-map frames_of traces place ∙ ap (option_map frames_of) is)
-
-pub of_feed : (hosts : List Host) (traces : List Trace) (one : Command) (host place : ℕ) (trace : Trace) (a b : Play)
-    → one ≡ command.Feed host place → slice_get traces place ≡ Some trace → HasPlayed (flat_map (fed hosts host) trace.frames) a b
-    → HasPlayed (events_of hosts (map frames_of traces) (said_of one)) a b
-of_feed hosts traces one host place trace a b is there played =
-    subst (λ (s : List Said). HasPlayed s a b)
-    (sym (ap (λ (c : Command). events_of hosts (map frames_of traces) (said_of c)) is
-    ∙ ap (flat_map (fed hosts host)) (fed-frames hosts host traces place (Some trace) there))) played
 
 pub of_no_feed : (hosts : List Host) (traces : List Trace) (one : Command) (host place : ℕ) (a : Play)
     → one ≡ command.Feed host place → length traces ≤ place
@@ -189,17 +249,6 @@ of_no_feed hosts traces one host place a is past =
     subst (λ (s : List Said). HasPlayed s a a)
     (sym (ap (λ (c : Command). events_of hosts (map frames_of traces) (said_of c)) is
     ∙ ap (flat_map (fed hosts host)) (fed-frames hosts host traces place None (slice_get_past traces place past)))) (played_none a)
-
-pub of_auto : (hosts : List Host) (traces : List (List (List ℕ))) (one : Command) (count start : ℕ) (a b : Play)
-    → one ≡ command.Auto count start → HasPlayed (map (event_drawn hosts) (words_drawn count start)) a b
-    → HasPlayed (events_of hosts traces (said_of one)) a b
-of_auto hosts traces one count start a b is played =
-    subst (λ (s : List Said). HasPlayed s a b) (sym (ap (λ (c : Command). events_of hosts traces (said_of c)) is)) played
-
-pub of_drain : (hosts : List Host) (traces : List (List (List ℕ))) (one : Command) (host : ℕ) (a b : Play)
-    → one ≡ command.Drain host → HasPlayed (Drains host ∷ []) a b → HasPlayed (events_of hosts traces (said_of one)) a b
-of_drain hosts traces one host a b is played =
-    subst (λ (s : List Said). HasPlayed s a b) (sym (ap (λ (c : Command). events_of hosts traces (said_of c)) is)) played
 
 -- Several commands.
 
@@ -216,3 +265,11 @@ pub all_ran : (hosts : List Host) (traces : List (List (List ℕ))) (commands re
     → HasPlayed (all_events hosts traces (map said_of commands)) a b
 all_ran hosts traces commands rest a b has is =
     all_fed Said (events_of hosts traces) (map said_of commands) (map said_of rest) a b has (ap (map said_of) is)
+
+-- memory was refused in the next command
+pub command_stops : (hosts : List Host) (traces : List (List (List ℕ))) (commands rest later : List Command) (one : Command) (a b c : Play)
+    (error : BenchError) → HasFed Said (events_of hosts traces) (map said_of commands) (map said_of rest) a b → rest ≡ one ∷ later
+    → StopsWithin (events_of hosts traces (said_of one)) b c error → StopsWithin (all_events hosts traces (map said_of commands)) a c error
+command_stops hosts traces commands rest later one a b c error has is stops =
+    fed_stops Said (events_of hosts traces) (map said_of commands) (map said_of rest) (map said_of later) (said_of one) a b c error has
+    (ap (map said_of) is) stops

@@ -8,9 +8,10 @@ use Rattle.std.specs.List.{flat_map, fold}
 use Rattle.rx_engine.specs.declared.arrival.Fate.TheVariants as fate
 use Rattle.delivery.specs.Happenings.{Accepted, Given, Happening, Moved, Put, Reached, accepted, accepted_in_one, put, put_by, reached}
 use Rattle.delivery.specs.Happenings.{reached_by, stored, stored_by}
+use Rattle.scenario_bench.specs.Acts.{Act}
 use Rattle.scenario_bench.specs.Given.{next_number}
 use Rattle.scenario_bench.specs.Summaries.{all_given, as_told, count_given}
-use Rattle.scenario_bench.specs.Tallies.{tallied_by, counted_once, no_tally}
+use Rattle.scenario_bench.specs.Tallies.{counted_once, no_tally, number_behind, tallied_by}
 use Rattle.scenario_bench.specs.declared.tally.Passage.TheVariants as passage
 use Rattle.scenario_bench.specs.declared.tally.Tally.{Tally}
 
@@ -54,6 +55,12 @@ tally-behind k done one =
 
 more : (a : ℕ) → next_number (as_told a) ≡ as_told (a + 1)
 more a = omega arith
+
+-- the number after these acts
+pub number_told : (before : ℕ) (acts : List Act) → number_behind (as_told before) acts ≡ as_told (before + length acts)
+number_told before [] = ap as_told (omega arith)
+number_told before (act ∷ acts) =
+    ap (λ (n : ℕ). number_behind n acts) (more before) ∙ number_told (before + 1) acts ∙ ap as_told (omega arith)
 
 as-is : (a p r s g : ℕ) → numbers a p r s g ≡ numbers (a + 0) (p + 0) (r + 0) (s + 0) (g + 0)
 as-is a p r s g =

@@ -8,10 +8,10 @@ use Rattle.scenario.specs.SoFar.{Host, Said, hosts_of}
 use Rattle.scenario.specs.declared.command.Scenario.{Scenario}
 use Rattle.scenario_bench.specs.Benches.{AreWritten, AreWrittenUpTo, PlaysScenario}
 use Rattle.scenario_bench.specs.Given.{sockets_from}
-use Rattle.scenario_bench.specs.PlayedEvents.{HasPlayed, HasPlayedScenario, IsUnplayed}
+use Rattle.scenario_bench.specs.PlayedEvents.{HasPlayed, HasPlayedScenario}
 use Rattle.scenario_bench.specs.Puts.{PutFrame, frames_on_wire, put_from, wire_names, wire_texts}
 use Rattle.scenario_bench.specs.SocketLists.{frames_given}
-use Rattle.scenario_bench.specs.WireBenches.{AreUntouched, BenchSinks, BenchesWires, StopsWires, wire_texts_of}
+use Rattle.scenario_bench.specs.WireBenches.{BenchSinks, BenchesWires, StopsWires, wire_texts_of}
 use Rattle.scenario_bench.specs.declared.bench_error.BenchError.{BenchError}
 use Rattle.scenario_bench.specs.declared.bench_error.BenchError.TheVariants as errors
 use Rattle.scenario_bench.specs.declared.play.Play.{Play}
@@ -94,10 +94,3 @@ module _ (scenario : Scenario) (traces : List (List (List ℕ))) (begun : List P
           ),
         ),
       )
-
-pub unplayed_stops_wires : (scenario : Scenario) (traces : List (List (List ℕ))) (error : BenchError) (sinks : BenchSinks)
-    → IsUnplayed scenario error → AreUntouched sinks → StopsWires scenario traces error sinks
-unplayed_stops_wires scenario traces (errors.Plan error) sinks is same = (is, same)
-unplayed_stops_wires scenario traces (errors.Run stopped) sinks is same = same
-unplayed_stops_wires scenario traces errors.Memory sinks is same = same
-unplayed_stops_wires scenario traces (errors.Write error) sinks is same = absurd is

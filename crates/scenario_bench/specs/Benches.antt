@@ -1,11 +1,11 @@
 -- What the bench does with a scenario (our choice).
-use Rattle.std.specs.Prelude.{◌≡◌, ◌<◌, ◌≤◌, ◌+◌, ℕ, List, Option, Some, Ok, Err, length, map, slice_get}
+use Rattle.std.specs.Prelude.{◌≡◌, ◌<◌, ◌≤◌, ◌+◌, ℕ, List, Option, Some, Ok, Err, length, map, slice_get, take}
 use Rattle.std.specs.Io.KnownBytes.{Appends}
 use Rattle.pcap_trace.specs.Devices.{AppendsFront}
 use Rattle.pcap_trace.specs.Format.{Timed, written}
 use Rattle.host_calls.specs.Networks.{NetworkState}
 use Rattle.wire.specs.NewNetworks.{IsLanAnswer}
-use Rattle.scenario.specs.SoFar.{hosts_of, said_of}
+use Rattle.scenario.specs.SoFar.{Said, hosts_of, said_of}
 use Rattle.scenario.specs.declared.command.Scenario.{Scenario}
 use Rattle.scenario_bench.specs.declared.bench_error.BenchError.{BenchError}
 use Rattle.scenario_bench.specs.declared.bench_error.BenchError.TheVariants as errors
@@ -13,20 +13,34 @@ use Rattle.scenario_bench.specs.declared.summary.Summary.{Summary}
 use Rattle.scenario_bench.specs.Acts.{Act, ActsLead, act_of, history}
 use Rattle.scenario_bench.specs.EventLists.{all_events}
 use Rattle.scenario_bench.specs.Given.{given_from, sockets_from}
-use Rattle.scenario_bench.specs.Summaries.{TellsHosts}
+use Rattle.scenario_bench.specs.Summaries.{TellsHosts, as_told}
 
--- The network of the plan was made, and the events and drains of the commands were done on it, in order: the delivery theorem holds of
--- them.
-pub record PlaysScenario (scenario : Scenario) (traces : List (List (List ℕ))) : Type 0 where
+-- The network of the plan was made, and these events and drains were done on it, in order: the delivery theorem holds of them.
+pub record PlaysEvents (scenario : Scenario) (said : List Said) : Type 0 where
   pub made : NetworkState
   pub by_plan : IsLanAnswer scenario.plan.hosts.items (Ok made)
   pub acts : List Act
-  pub of_commands : map act_of acts ≡ all_events (hosts_of scenario.plan.hosts.items) traces (map said_of scenario.commands.items)
+  pub are : map act_of acts ≡ said
   pub behind : NetworkState
   pub leads : ActsLead made acts behind
 
+-- the events and drains of the scenario's commands, in order
+abbrev pub scenario_events : Scenario → (traces : List (List (List ℕ))) → List Said
+scenario_events scenario traces = all_events (hosts_of scenario.plan.hosts.items) traces (map said_of scenario.commands.items)
+
+-- All of them were done.
+abbrev pub PlaysScenario : Scenario → (traces : List (List (List ℕ))) → Type 0
+PlaysScenario scenario traces = PlaysEvents scenario (scenario_events scenario traces)
+
+-- Only those before one of these events and drains were done. `done` is their number, up to the greatest of 64 bits.
+pub record StopsBefore (scenario : Scenario) (said : List Said) (done : ℕ) : Type 0 where
+  pub first : ℕ
+  pub left : first < length said
+  pub number : done ≡ as_told first
+  pub plays : PlaysEvents scenario (take first said)
+
 -- the frames of each socket, hosts in order and their sockets in order
-abbrev pub texts_of : {scenario : Scenario} → {traces : List (List (List ℕ))} → PlaysScenario scenario traces → List (List Timed)
+abbrev pub texts_of : {scenario : Scenario} → {said : List Said} → PlaysEvents scenario said → List (List Timed)
 texts_of {scenario} played =
     map (λ (place : ℕ × ℕ). given_from place.0 place.1 0 played.acts)
     (sockets_from 0 (hosts_of scenario.plan.hosts.items))
@@ -73,10 +87,10 @@ pub record Benches (scenario : Scenario) (traces : List (List (List ℕ))) (summ
   pub texts : AreWritten (length (texts_of plays)) (texts_of plays) old new
   pub tells : TellsHosts (hosts_of scenario.plan.hosts.items) (history plays.acts) plays.behind summary.hosts.items
 
--- At an error nothing was written, except if a sink failed.
+-- At an error nothing was written, except if a sink failed. If memory was refused before an event, those before it were done.
 abbrev pub Stops : (scenario : Scenario) (traces : List (List (List ℕ))) → BenchError → (old new : List SinkState) → Type 0
 Stops scenario traces (errors.Plan error) old new = IsLanAnswer scenario.plan.hosts.items (Err error) × (new ≡ old)
-Stops scenario traces (errors.Run stopped) old new = new ≡ old
+Stops scenario traces (errors.Run stopped) old new = StopsBefore scenario (scenario_events scenario traces) stopped.done × (new ≡ old)
 Stops scenario traces errors.Memory old new = new ≡ old
 Stops scenario traces (errors.Write error) old new =
     (plays : PlaysScenario scenario traces) × ((failed : ℕ) × AreWrittenUpTo failed (texts_of plays) old new)

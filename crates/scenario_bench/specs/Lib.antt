@@ -9,10 +9,10 @@ pub mod WireLists
 pub mod Tallies
 pub mod Recording
 pub mod RecordingLaws
-pub mod PlayedEvents
 pub mod GivenView
 pub mod DrainedView
 pub mod Summaries
 pub mod Benches
+pub mod PlayedEvents
 pub mod WireBenches
 pub mod Printing

@@ -1,5 +1,6 @@
 -- Events and drains that were played and recorded (our choice).
-use Rattle.std.specs.Prelude.{◌≡◌, ◌↔◌, ℕ, List, Err, IsTrue, Ok, Option, Some, length, map, replicate, slice_get, string_bytes}
+use Rattle.std.specs.Prelude.{◌≡◌, ◌↔◌, ◌<◌, ◌++◌, ℕ, List, Err, IsTrue, Ok, Option, Some, length, map, replicate, slice_get}
+use Rattle.std.specs.Prelude.{string_bytes}
 use Rattle.adapter.specs.World.{World}
 use Rattle.packet_socket.specs.HostState.{HostState}
 use Rattle.stations.specs.Stations.{world_at}
@@ -11,10 +12,10 @@ use Rattle.scenario_bench.specs.declared.tally.Tally.{Tally}
 use Rattle.network_plan.specs.declared.plan.HostPlan.{HostPlan}
 use Rattle.pcap_trace.specs.declared.trace.Trace.{Trace}
 use Rattle.wire.specs.NewNetworks.{IsLanAnswer}
-use Rattle.scenario.specs.SoFar.{Said, hosts_of, said_of}
+use Rattle.scenario.specs.SoFar.{Said, hosts_of}
 use Rattle.scenario.specs.declared.command.Scenario.{Scenario}
 use Rattle.scenario_bench.specs.Acts.{Act, ActsLead, act_of}
-use Rattle.scenario_bench.specs.EventLists.{all_events}
+use Rattle.scenario_bench.specs.Benches.{StopsBefore, scenario_events}
 use Rattle.scenario_bench.specs.Given.{sockets_from}
 use Rattle.scenario_bench.specs.Puts.{PutFrame}
 use Rattle.scenario_bench.specs.Tallies.{AreNoted, empty_sockets, no_tally}
@@ -43,12 +44,20 @@ StopsAtPlan plans (errors.Run stopped) = ⊥
 StopsAtPlan plans errors.Memory = Unit {0}
 StopsAtPlan plans (errors.Write error) = ⊥
 
--- Memory was refused.
-abbrev pub IsWanting : BenchError → Type 0
-IsWanting (errors.Plan error) = ⊥
-IsWanting (errors.Run stopped) = Unit {0}
-IsWanting errors.Memory = Unit {0}
-IsWanting (errors.Write error) = ⊥
+-- Only the first of these events and drains were done on the network and recorded.
+pub record HasPlayedFront (said : List Said) (old new : Play) : Type 0 where
+  pub first : List Said
+  pub left : List Said
+  pub parts : said ≡ first ++ left
+  pub some : 0 < length left
+  pub played : HasPlayed first old new
+
+-- Memory was refused among these events and drains. If it was before an event, `done` is the number that the record has for this event.
+abbrev pub StopsWithin : List Said → (old new : Play) → BenchError → Type 0
+StopsWithin said old new (errors.Plan error) = ⊥
+StopsWithin said old new (errors.Run stopped) = HasPlayedFront said old new × (stopped.done ≡ new.record.number)
+StopsWithin said old new errors.Memory = Unit {0}
+StopsWithin said old new (errors.Write error) = ⊥
 
 abbrev pub frames_of : Trace → List (List ℕ)
 frames_of trace = trace.frames
@@ -79,12 +88,12 @@ pub record HasPlayedScenario (scenario : Scenario) (traces : List (List (List �
   pub first : Play
   pub begins : Begins scenario.plan.hosts.items first
   pub recorded : first.record.puts ≡ puts
-  pub played : HasPlayed (all_events (hosts_of scenario.plan.hosts.items) traces (map said_of scenario.commands.items)) first play
+  pub played : HasPlayed (scenario_events scenario traces) first play
   pub tells : TellTallies (length scenario.plan.hosts.items) scenario.plan.hosts.items play summary.hosts.items
 
 -- Its network wasn't made, or memory was refused.
-abbrev pub IsUnplayed : Scenario → BenchError → Type 0
-IsUnplayed scenario (errors.Plan error) = IsLanAnswer scenario.plan.hosts.items (Err error)
-IsUnplayed scenario (errors.Run stopped) = Unit {0}
-IsUnplayed scenario errors.Memory = Unit {0}
-IsUnplayed scenario (errors.Write error) = ⊥
+abbrev pub IsUnplayed : Scenario → (traces : List (List (List ℕ))) → BenchError → Type 0
+IsUnplayed scenario traces (errors.Plan error) = IsLanAnswer scenario.plan.hosts.items (Err error)
+IsUnplayed scenario traces (errors.Run stopped) = StopsBefore scenario (scenario_events scenario traces) stopped.done
+IsUnplayed scenario traces errors.Memory = Unit {0}
+IsUnplayed scenario traces (errors.Write error) = ⊥

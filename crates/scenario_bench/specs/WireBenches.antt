@@ -2,10 +2,11 @@
 use Rattle.std.specs.Prelude.{◌≡◌, ◌⊎◌, ℕ, List, Err, length}
 use Rattle.pcap_trace.specs.Format.{Timed}
 use Rattle.wire.specs.NewNetworks.{IsLanAnswer}
-use Rattle.scenario.specs.SoFar.{hosts_of}
+use Rattle.scenario.specs.SoFar.{Said, hosts_of}
 use Rattle.scenario.specs.declared.command.Scenario.{Scenario}
 use Rattle.scenario_bench.specs.Acts.{history}
-use Rattle.scenario_bench.specs.Benches.{AreWritten, AreWrittenUpTo, PlaysScenario, SinkState, texts_of}
+use Rattle.scenario_bench.specs.Benches.{AreWritten, AreWrittenUpTo, PlaysEvents, PlaysScenario, SinkState, StopsBefore}
+use Rattle.scenario_bench.specs.Benches.{scenario_events, texts_of}
 use Rattle.scenario_bench.specs.Puts.{put_from, wire_names, wire_texts}
 use Rattle.scenario_bench.specs.Summaries.{TellsHosts}
 use Rattle.scenario_bench.specs.declared.bench_error.BenchError.{BenchError}
@@ -13,7 +14,7 @@ use Rattle.scenario_bench.specs.declared.bench_error.BenchError.TheVariants as e
 use Rattle.scenario_bench.specs.declared.summary.Summary.{Summary}
 
 -- the trace of each wire: the frames that were put on it, in order, with the numbers of their events
-abbrev pub wire_texts_of : {scenario : Scenario} → {traces : List (List (List ℕ))} → PlaysScenario scenario traces → List (List Timed)
+abbrev pub wire_texts_of : {scenario : Scenario} → {said : List Said} → PlaysEvents scenario said → List (List Timed)
 wire_texts_of {scenario} played =
     let hosts = hosts_of scenario.plan.hosts.items in
     wire_texts hosts (put_from 0 played.acts) (wire_names hosts)
@@ -43,10 +44,11 @@ IsFailedSink texts wire_texts sinks =
     ⊎ (AreWritten (length texts) texts sinks.old sinks.new
     × ((failed : ℕ) × AreWrittenUpTo failed wire_texts sinks.wires_old sinks.wires_new))
 
--- At an error nothing was written, except if a sink failed.
+-- At an error nothing was written, except if a sink failed. If memory was refused before an event, those before it were done.
 abbrev pub StopsWires : (scenario : Scenario) → (traces : List (List (List ℕ))) → BenchError → BenchSinks → Type 0
 StopsWires scenario traces (errors.Plan error) sinks = IsLanAnswer scenario.plan.hosts.items (Err error) × AreUntouched sinks
-StopsWires scenario traces (errors.Run stopped) sinks = AreUntouched sinks
+StopsWires scenario traces (errors.Run stopped) sinks =
+    StopsBefore scenario (scenario_events scenario traces) stopped.done × AreUntouched sinks
 StopsWires scenario traces errors.Memory sinks = AreUntouched sinks
 StopsWires scenario traces (errors.Write error) sinks =
     (plays : PlaysScenario scenario traces) × IsFailedSink (texts_of plays) (wire_texts_of plays) sinks

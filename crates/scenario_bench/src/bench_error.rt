@@ -23,9 +23,9 @@ pub enum BenchError {
     /// Its plan was refused. Nothing was written.
     #[error("{0}")]
     Plan(PlanError),
-    /// Before an event, memory was refused for the frame that a socket may return. Nothing was written. `done` doesn't
-    /// count from the first event of the scenario: it is 0 at a single or a drawn event, and in a feed it counts from
-    /// the send of a frame, or from the event after that.
+    /// Before an event, memory was refused for the frames that it may return or put on wires. Nothing was written.
+    /// `done` is the number of events and drains of the scenario before this event, up to the greatest `u64`. They were
+    /// done, and this event was not. So `done` is the time that the event's frames would have in the traces.
     #[error("{0}")]
     Run(Stopped),
     /// Memory was refused elsewhere. Nothing was written.

@@ -7,8 +7,8 @@ ghost use Rattle.scenario.specs.SoFar.{Drains, event_of, hosts_of, said_of};
 ghost use Rattle.scenario_bench.specs.Benches.{AreWritten, AreWrittenUpTo, Benches, Stops};
 ghost use Rattle.scenario_bench.specs.EventLists as lists;
 ghost use Rattle.scenario_bench.specs.Given.{sockets_from};
-ghost use Rattle.scenario_bench.specs.PlayedEvents.{Begins, HasPlayed, HasPlayedScenario, IsUnplayed, IsWanting};
-ghost use Rattle.scenario_bench.specs.PlayedEvents.{StopsAtPlan, TellTallies, TellsTally, frames_of};
+ghost use Rattle.scenario_bench.specs.PlayedEvents.{Begins, HasPlayed, HasPlayedScenario, IsUnplayed, StopsAtPlan};
+ghost use Rattle.scenario_bench.specs.PlayedEvents.{StopsWithin, TellTallies, TellsTally, frames_of};
 ghost use Rattle.scenario_bench.specs.Puts.{wire_names};
 ghost use Rattle.scenario_bench.specs.SocketLists.{frames_given};
 ghost use Rattle.scenario_bench.specs.WireBenches.{BenchesWires, StopsWires};
@@ -23,7 +23,7 @@ use crate::put::PutFrames;
 use crate::record::Record;
 use crate::summary::{HostSummary, Summary};
 use crate::wire_list::wires;
-use network_plan::{Event, HostPlan, Plan};
+use network_plan::{Event, HostPlan, Plan, Stopped};
 use pcap_trace::{RecordWriter, Sink, Trace, WriteError};
 use rand_core::SeedableRng;
 use rand_core::utils::NextWord;
@@ -51,24 +51,31 @@ impl Play {
         Ok(Play { lan, record })
     }
 
-    /// Runs these events, and records what comes of them.
+    /// Runs these events, and records what comes of them. If memory is refused before an event, the error has the
+    /// number of events and drains that are recorded.
     #[tactic(auto, using(crate::proofs::PlayedEvents::played))]
     fn run(&mut self, events: &[Event]) -> Result<(), BenchError>
         ensures ok { OnOk result (HasPlayed (map event_of events.now) self.old self.new) }
-        ensures err { IfErr result IsWanting }
+        ensures err { IfErr result (StopsWithin (map event_of events.now) self.old self.new) }
     {
-        self.lan.play(events, &mut self.record)?;
+        let ran = self.lan.play(events, &mut self.record);
         if self.record.failed {
             return Err(BenchError::Memory);
         }
-        Ok(())
+        match ran {
+            Ok(()) => Ok(()),
+            Err(_stopped) => {
+                let done = self.record.number as usize;
+                Err(BenchError::Run(Stopped { done }))
+            }
+        }
     }
 
     /// Drains a host, and records the frames that it delivered. Allocates the room for them first.
     #[tactic(auto, using(crate::proofs::PlayedEvents::drained))]
     fn drain(&mut self, alloc: Global, host: usize) -> Result<(), BenchError>
         ensures ok { OnOk result (HasPlayed (Drains host ∷ []) self.old self.new) }
-        ensures err { IfErr result IsWanting }
+        ensures err { IfErr result (StopsWithin (Drains host ∷ []) self.old self.new) }
     {
         let mut drained = DrainedFrames::with_room(alloc, self.lan.drain_room(host))?;
         self.lan.drain(host, &mut drained);
@@ -87,7 +94,8 @@ impl Play {
     ) -> Result<(), BenchError>
         ensures ok { OnOk result
             (HasPlayed (flat_map (lists.fed (hosts_of plans.now) host) trace.now.frames) self.old self.new) }
-        ensures err { IfErr result IsWanting }
+        ensures err { IfErr result (StopsWithin
+            (flat_map (lists.fed (hosts_of plans.now) host) trace.now.frames) self.old self.new) }
     {
         let mut memory = EventMemory::new(alloc);
         let mut behind = Vec::new(alloc);
@@ -114,7 +122,8 @@ impl Play {
         requires { 0 < length plans.now }
         ensures ok { OnOk result (HasPlayed
             (map (lists.event_drawn (hosts_of plans.now)) (lists.words_drawn count start)) self.old self.new) }
-        ensures err { IfErr result IsWanting }
+        ensures err { IfErr result (StopsWithin
+            (map (lists.event_drawn (hosts_of plans.now)) (lists.words_drawn count start)) self.old self.new) }
     {
         let mut memory = EventMemory::new(alloc);
         let mut generator = Lcg64Xsh32::seed_from_u64(start);
@@ -141,7 +150,9 @@ impl Play {
         ensures ok { OnOk result (HasPlayed
             (lists.events_of (hosts_of plans.now) (map frames_of traces.now) (said_of command.now))
             self.old self.new) }
-        ensures err { IfErr result IsWanting }
+        ensures err { IfErr result (StopsWithin
+            (lists.events_of (hosts_of plans.now) (map frames_of traces.now) (said_of command.now))
+            self.old self.new) }
     {
         match command {
             Command::Event(event) => self.run(std::slice::from_ref(event)),
@@ -166,7 +177,8 @@ impl Play {
         requires { 0 < length plans.now }
         ensures ok { OnOk result (HasPlayed (lists.all_events (hosts_of plans.now) (map frames_of traces.now)
             (map said_of commands.now)) self.old self.new) }
-        ensures err { IfErr result IsWanting }
+        ensures err { IfErr result (StopsWithin (lists.all_events (hosts_of plans.now) (map frames_of traces.now)
+            (map said_of commands.now)) self.old self.new) }
     {
         let mut left = commands;
         while let Some((command, later)) = left.split_first() {
@@ -248,7 +260,7 @@ fn play_scenario(
 ) -> Result<(Play, Summary), BenchError>
     ensures ok { IfOk result (λ played.
         HasPlayedScenario scenario.now (map frames_of traces.now) puts played.0 played.1) }
-    ensures err { IfErr result (IsUnplayed scenario.now) }
+    ensures err { IfErr result (IsUnplayed scenario.now (map frames_of traces.now)) }
 {
     let plans = scenario.plan.hosts.as_slice();
     let mut play = Play::new(alloc, &scenario.plan, puts)?;
@@ -266,10 +278,11 @@ fn play_scenario(
 ///
 /// # Errors
 ///
-/// [`Plan`](BenchError::Plan) if the plan is refused (E40 to E46). [`Run`](BenchError::Run) (E47) and
-/// [`Memory`](BenchError::Memory) (E57) if memory is refused. At these nothing was written.
-/// [`Write`](BenchError::Write) (E67) if a sink failed: the sinks before it have their whole text, it has a beginning
-/// of its own, and those after it have nothing.
+/// [`Plan`](BenchError::Plan) if the plan is refused (E40 to E46). [`Run`](BenchError::Run) (E47) if memory is refused
+/// before an event: `done` is the number of events and drains before it, which were done. As the numbers of events, it
+/// is at most the greatest `u64`. [`Memory`](BenchError::Memory) (E57) if memory is refused elsewhere. At these nothing
+/// was written. [`Write`](BenchError::Write) (E67) if a sink failed: the sinks before it have their whole text, it has
+/// a beginning of its own, and those after it have nothing.
 pub fn bench<W: Sink>(
     alloc: Global,
     scenario: &Scenario,

@@ -6,7 +6,7 @@ ghost use Rattle.tx_engine.specs.Steps.{IfFront};
 use crate::fetching::Named;
 use crate::report::Report;
 use circular_buffer::HeapCircularBuffer;
-use frame_queue::FrameQueue;
+use frame_queue::{FrameQueue, copy_of};
 use std::alloc::{AllocError, Global};
 use std::marker::Model;
 
@@ -35,6 +35,23 @@ impl Model for TxEngine {
     ghost view = { transmitter_of };
 
     ghost invariant = { IsWhole };
+}
+
+impl Clone for TxEngine {
+    ghost is_clone = { λ engine copy. copy ≡ engine };
+
+    /// An engine in the same state.
+    ///
+    /// # Errors
+    ///
+    /// If memory was refused.
+    fn clone(&self) -> Result<TxEngine, AllocError> {
+        Ok(TxEngine {
+            frames: self.frames.clone()?,
+            reports: copy_of(&self.reports)?,
+            running: self.running,
+        })
+    }
 }
 
 impl TxEngine {

@@ -1,9 +1,10 @@
 use Rattle.std.proofs.Common.{◌≤◌, List, length, map, sym, subst}
+use Rattle.std.proofs.lemmas.Result.{err_from_is_err_and}
 use Rattle.network_plan.specs.declared.plan.HostPlan.{HostPlan}
-use Rattle.scenario.specs.SoFar.{hosts_of, said_of}
+use Rattle.scenario.specs.SoFar.{Said, hosts_of, said_of}
 use Rattle.scenario_bench.specs.EventLists.{all_events}
-use Rattle.scenario_bench.specs.PlayedEvents.{frames_of}
-use Rattle.scenario_bench.proofs.Benching.{played_as, tallies_enough, tells_as}
+use Rattle.scenario_bench.specs.PlayedEvents.{HasPlayed, frames_of}
+use Rattle.scenario_bench.proofs.Benching.{same_events, tallies_enough, tells_as, unplayed}
 use Rattle.scenario_bench.proofs.play.play_scenario.Goals as goal
 
 pub summary-requires-clause-tallies : goal.summary-requires-clause-tallies
@@ -18,9 +19,17 @@ returns-clause-ok c = record {
   first = c.in_ok-play.play;
   begins = c.in_ok-play.ensures.ok;
   recorded = c.in_ok-play.ensures.puts;
-  played = played_as c.as_slice-plans.result.now c.args.scenario.now.plan.hosts.items c.as_slice.result.now
-      c.args.scenario.now.commands.items (map frames_of c.args.traces.now) c.in_ok-play.play c.commands.new.self
-      c.as_slice-plans.ensures.value c.as_slice.ensures.value c.in_ok-commands.ensures.ok;
+  played = subst (λ (said : List Said). HasPlayed said c.in_ok-play.play c.commands.new.self)
+      (same_events c.as_slice-plans.result.now c.as_slice.result.now c.args.scenario.now (map frames_of c.args.traces.now)
+      c.as_slice-plans.ensures.value c.as_slice.ensures.value) c.in_ok-commands.ensures.ok;
   tells = tells_as c.as_slice-plans.result.now c.args.scenario.now.plan.hosts.items c.commands.new.self c.in_ok-summary.summary.hosts.items
       c.as_slice-plans.ensures.value c.in_ok-summary.ensures;
 }
+
+pub returns-in_err-commands-clause-err : goal.returns-in_err-commands-clause-err
+returns-in_err-commands-clause-err c =
+    let p = err_from_is_err_and c.from_residual-in_err-commands.result c.from_residual-in_err-commands.ensures.1 in
+    rw (p.1, p.2) (unplayed c.args.scenario.now (map frames_of c.args.traces.now) _ c.in_ok-play.play c.commands.new.self _
+    c.in_ok-play.ensures.ok
+    (same_events c.as_slice-plans.result.now c.as_slice.result.now c.args.scenario.now (map frames_of c.args.traces.now)
+    c.as_slice-plans.ensures.value c.as_slice.ensures.value) c.in_err-commands.ensures.err)

@@ -1,7 +1,8 @@
 use Rattle.std.proofs.Common.{◌≡◌, ◌∙◌, ℕ, List, ap, rules, subst, sym}
+use Rattle.std.proofs.lemmas.Result.{err_from_is_err_and}
 use Rattle.scenario.specs.SoFar.{hosts_of}
 use Rattle.scenario_bench.specs.EventLists.{behind_send, fed}
-use Rattle.scenario_bench.proofs.PlayedEvents.{HasFed, none_fed, one_sent}
+use Rattle.scenario_bench.proofs.PlayedEvents.{HasFed, behind_stops, none_fed, one_sent, send_stops}
 use Rattle.scenario_bench.proofs.play.Play.feed.Goals as goal
 
 pub loop-frame-init : goal.loop-frame-init
@@ -20,3 +21,21 @@ loop-frame-preserved c = one_sent (hosts_of c.args.plans.now) c.args.host c.in-S
     c.in_ok-run.ensures.ok
     (c.in_ok-set_behind_send.ensures ∙ ap (behind_send (hosts_of c.args.plans.now) c.args.host) c.pieces_of.ensures)
     c.as_slice.ensures.value c.in_ok-run-2.ensures.ok
+
+pub returns-in_err-run-clause-err : goal.returns-in_err-run-clause-err
+returns-in_err-run-clause-err c =
+    let p = err_from_is_err_and c.from_residual-in_err-run.result c.from_residual-in_err-run.ensures.1 in
+    rw (p.1, p.2) (send_stops (hosts_of c.args.plans.now) c.args.host c.in-Some.frame.now c.in_ok-send_event.field-0
+    c.args.trace.now.frames c.loop-frame.frame-iterator c.next.new.self c.args.self.now c.loop-frame.self c.run.new.self _
+    c.loop-frame.invariant c.in-Some.ensures.steps c.in_ok-send_event.ensures c.in_err-run.ensures.err)
+
+pub returns-in_err-run-2-clause-err : goal.returns-in_err-run-2-clause-err
+returns-in_err-run-2-clause-err c =
+    let p = err_from_is_err_and c.from_residual-in_err-run-2.result c.from_residual-in_err-run-2.ensures.1 in
+    rw (p.1, p.2) (behind_stops (hosts_of c.args.plans.now) c.args.host c.in-Some.frame.now c.in_ok-send_event.field-0
+    c.set_behind_send.new.events.items c.as_slice.result.now c.args.trace.now.frames c.loop-frame.frame-iterator
+    c.next.new.self c.args.self.now c.loop-frame.self
+    c.run.new.self c.run-in-loop-frame.new.self _ c.loop-frame.invariant c.in-Some.ensures.steps c.in_ok-send_event.ensures
+    c.in_ok-run.ensures.ok
+    (c.in_ok-set_behind_send.ensures ∙ ap (behind_send (hosts_of c.args.plans.now) c.args.host) c.pieces_of.ensures)
+    c.as_slice.ensures.value c.in_err-run-2.ensures.err)

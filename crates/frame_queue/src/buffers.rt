@@ -1,0 +1,21 @@
+// Copies of buffers.
+
+ghost use Rattle.std.specs.Prelude.{◌≡◌, IfOk};
+
+use circular_buffer::HeapCircularBuffer;
+use std::alloc::AllocError;
+
+/// A buffer of the same capacity with the same items.
+///
+/// # Errors
+///
+/// If memory was refused.
+pub fn copy_of<T: Copy>(buffer: &HeapCircularBuffer<T>) -> Result<HeapCircularBuffer<T>, AllocError>
+    ensures { IfOk result (λ copy. copy ≡ buffer.now) }
+{
+    let mut copy = HeapCircularBuffer::with_capacity(*buffer.allocator(), buffer.capacity())?;
+    let (front, wrapped) = buffer.as_slices();
+    copy.fill_from_slice(front);
+    copy.fill_from_slice(wrapped);
+    Ok(copy)
+}

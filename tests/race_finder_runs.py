@@ -1,0 +1,238 @@
+"""How the finder of races plays runs: forked ones, several at once, and those that PCT draws."""
+
+import os
+import re
+import sys
+
+from race_finder import ASK, EXCHANGE, FOUND, FRAME, PASSES, SMALL, USAGE, find, without_rate, without_reached
+from race_finder_output import script
+from server import LIMIT
+from server_pages import TOP
+
+PYTHON = [sys.executable, "-S", "-E"]
+STAGED = [*PYTHON, os.path.join(TOP, "examples", "drivers", "staged_test.py")]
+BEGIN = """
+import sys
+sys.dont_write_bytecode = True
+sys.path.insert(0, sys.argv[2])
+from race_finder.draw import ACTORS, DRIVER, Pct, Uniform, bound_of
+from race_finder.play import Mismatch
+from race_finder.schedule import Deviation, Place, parse
+from race_finder.target import Target
+"""
+# Compares forked runs with processes of their own: drawn ones, one without deviations, one with deviations also before
+# round 1, and some with later deviations. Prints what differs, what a schedule shows that meets another access, whether
+# all were forked, whether there are hosts all along the run, and whether some runs failed.
+SAME = BEGIN + """
+def shown(run):
+    rows = [(row.line, row.owner, row.place, row.name, row.answer) for row in run.rows]
+    return [run.fault, run.met, run.idle, run.unreached, run.answers, run.events, run.reached, run.places, rows]
+
+EARLY = parse("0.9 hold eeprom before read EERD\\n3.1 rx before read ICR\\n5.2 tx before read rx[0]\\n"
+              "99.1 rx before read ICR")[1]
+WAYS = [lambda: ((), None), lambda: (EARLY, None), lambda: ((), Uniform(10)),
+        lambda: ((), Uniform(2, draws_holds=True)), lambda: ((), Pct(3, 3, 300))]
+def late(run):
+    # schedules whose first deviation is later and later in this run
+    firsts = [run.places[len(run.places) * part // 20] for part in range(10, 20)]
+    schedules = [[Deviation(first.place, "rx", first.name), Deviation(Place(first.place.round, 99), "tx", "read ICR")]
+                 for first in firsts]
+    return [lambda schedule=schedule: (schedule, None) for schedule in schedules]
+
+for command in COMMANDS:
+    target, faults = Target(sys.argv[1], command, seconds=60), set()
+    run = target.play()
+    target.prepare(run)
+    for number, way in enumerate([*WAYS, *late(run)]):
+        forked, apart = shown(target.play(*way())), shown(target.play_apart(*way(), False))
+        faults.add(forked[0])
+        same = [one == two for one, two in zip(forked, apart)]
+        print(*([] if all(same[:8 if forked[0] is None else 9]) else [number, same]), end="")
+    for play in target.play, target.play_apart:
+        try:
+            play(parse("4.1 rx before read RDH")[1], None, True)
+        except Mismatch as error:
+            print(error)
+    print(target.forks.is_usable, len(target.forks.hosts) > 10, len(faults) > 1)
+    target.close()
+"""
+MISMATCH = "4.1 rx before read RDH: at this place, the test makes another access: read {}\n"
+# Tests in Python: what each does, whether its runs are forked, and its fault
+ASKS = """
+import os, sys
+def ask(text):
+    print(text, flush=True)
+    while not (line := sys.stdin.readline()).startswith(("OK", "ERR", "FAIL")):
+        if not line:
+            sys.exit("the end")
+    return line.split()[-1]
+print("early", file=sys.stderr)
+ask("writel 0xFEB02808 128")
+ask("step rxdata")
+"""
+ENDS = {
+    "passes": ("", True, None),
+    "exits": ("sys.exit(300)", True, "exit status 44: early"),
+    "exits with a text": ("sys.exit('wrong\\n')", True, "exit status 1: wrong"),
+    "raises": ("1 / 0", True, "exit status 1: ZeroDivisionError: division by zero"),
+    "has a function for its end": (
+        "import atexit; atexit.register(print, 'the end', file=sys.stderr); sys.exit(3)", True, "exit status 3: the end"),
+    "leaves a request": ("sys.stdout.write('readl 0xFEB00008'); sys.exit(2)", True, "exit status 2: early"),
+    "closes its output": ("sys.stdout.close(); sys.exit(sys.stdin.read())", False, "no end within 1 seconds"),
+    "reads by a number": (
+        "print('line'); sys.stdout.flush(); sys.exit(os.read(0, 99).decode())", False, "exit status 1: OK 0x0000000000000000"),
+    "writes by a number": (
+        "os.write(1, b'line\\n'); sys.exit(sys.stdin.readline())", False, "exit status 1: OK 0x0000000000000000"),
+    "has a thread that asks": (
+        "from threading import Thread; one = Thread(target=ask, args=['line']); one.start(); one.join(); sys.exit(2)",
+        False, "exit status 2: early"),
+    "has another thread": (
+        "from threading import Thread; one = Thread(target=abs, args=[1]); one.start(); one.join(); sys.exit(2)",
+        True, "exit status 2: early"),
+    "starts a process": (
+        "import subprocess; sys.exit(subprocess.call(['sh', '-c', 'exit 4']))", False, "exit status 4: early"),
+    "forks": ("os.fork() or os._exit(0); os.wait(); sys.exit(5)", False, "exit status 5: early"),
+    "writes a file": ("open('written', 'w').write('x'); sys.exit(6)", False, "exit status 6: early"),
+    "ends at once": ("os._exit(7)", False, "exit status 7: early"),
+    "is killed": ("os.kill(os.getpid(), 9)", False, "ended by SIGKILL: early"),
+    "waits for ever": ("sys.stdin.readline()", False, "no end within 1 seconds"),
+}
+# Prints for each script whether its runs are forked, and the faults of a run, of a second one, and of a process of its own.
+# Each script is given with the seconds of a run.
+PLAYED = BEGIN + """
+for word in sys.argv[3:]:
+    name, seconds = word.split(":")
+    target = Target(sys.argv[1], [sys.executable, "-S", "-E", name], seconds=int(seconds))
+    faults = [target.play().fault, target.play().fault, target.play_apart((), None, False).fault]
+    print([target.forks.is_usable, *faults])
+    target.close()
+"""
+
+
+def same(server):
+    """A forked run shows what a process of its own shows."""
+    commands = [[*EXCHANGE, "late"], [*STAGED, "stages", "freed"]]
+    got = script(server, f"COMMANDS = {commands!r}\n{SAME}")
+    wanted = "".join(MISMATCH.format(name) * 2 + "True True True\n" for name in ("rx[1]+8", "ICR"))
+    server.check("same: forked runs", got, (0, wanted, ""))
+
+
+def ends(server):
+    """How a test in Python may end, and what isn't forked."""
+    words = []
+    for number, (text, _, fault) in enumerate(ENDS.values()):
+        server.put(f"ends{number}.py", f"{ASKS}{text}\n".encode())
+        words.append(f"ends{number}.py:{1 if fault and fault.startswith('no end') else LIMIT}")
+    out = script(server, PLAYED, *words)
+    for (name, (_, is_forked, fault)), line in zip(ENDS.items(), out[1].splitlines()):
+        server.check(f"ends: a test that {name}", line, repr([is_forked, fault, fault, fault]))
+    server.check("ends: all of them", (out[0], len(out[1].splitlines()), out[2]), (0, len(ENDS), ""))
+    server.put("early.py", b"import threading\none = threading.Thread(target=print)\none.start()\none.join()\n" + ASKS.encode())
+    for name, command in [("a thread before the first answer", [*PYTHON, "early.py"]), ("no file", [*PYTHON, "nothing.py"]),
+                          ("no script", [*PYTHON, "-c", "1"]), ("another program", ["sh", "-c", "exit 0"])]:
+        got = [find(server, "--runs", "2", *words, command=command) for words in ([], ["--apart"])]
+        server.check(f"ends: {name}", without_rate(got[0][1]), without_rate(got[1][1]))
+    once = "import os, sys\nif os.path.exists('loaded'): os.rename('loaded', 'again')\nopen('loaded', 'w').close()\n"
+    server.put("once.py", f"{once}{ASKS}".encode())
+    folder = os.path.join(TOP, "tools", "race_finder")
+    before = sorted(os.listdir(folder))
+    find(server, "--runs", "3", command=[*PYTHON, "once.py"])
+    server.check("ends: the finder stores no code", sorted(os.listdir(folder)), before)
+    server.check("ends: a test is loaded once", (server.get("loaded"), server.get("again")), (b"", None))
+
+
+def jobs(server):
+    """The number of runs at once doesn't change what exploring and shrinking find, or how many runs they count."""
+    server.put("small", SMALL.encode())
+    cases = [("explored", ["--explore", "1"], [*STAGED, "stages", "late"]), ("explored and small", ["--explore", "2"], ["sh", "small", "fails"]),
+             ("drawn and made small", ["--seed", "4", "--runs", "1"], [*EXCHANGE, "length"]), ("nothing found", ["--explore", "3"], ["sh", "small"]),
+             ("no smaller one is tried", ["--seed", "4", "--runs", "1", "--smaller", "0"], [*EXCHANGE, "length"])]
+    for name, words, command in cases:
+        got = [find(server, "--json", *words, "--jobs", count, command=command) for count in ("1", "3")]
+        server.check(f"jobs: {name}", (got[0][0] in (PASSES, FOUND), got[0]), (True, got[1]))
+
+
+# A driver that polls a descriptor, and fails if its frame is finished meanwhile.
+POLLS = ASK + f"""
+ask "writel 0xFEB02808 128"
+ask "writeq 0 0x800"
+ask "writel 0xFEB02818 1"
+ask "writel 0xFEB00100 0x8002"
+ask "arrive {FRAME}"
+for n in 1 2 3 4 5 6 7 8 9; do
+    ask "readb 12"
+    case $answer in *3) exit 1 ;; esac
+done
+"""
+# Plays drawings in a world where each engine has some steps. Prints for each depth how many choices weren't that of the
+# actor with the highest priority, how many priorities became lower, and whether these began as a permutation, draws differ,
+# and a seed decides. Then prints who went while the driver with the highest priority polled, and some bounds.
+CHOICES = BEGIN + """
+STEPS = {"rxdata": 3, "rxdone": 0, "txtake": 4, "txput": 0}
+NEXT = {"rxdata": "rxdone", "txtake": "txput"}
+
+def play(draw, names):
+    left, wrong, went = dict(STEPS), 0, []
+    for name in names:
+        enabled = lambda: [step for step in left if left[step] and not (step == "rxdata" and left["rxdone"])]
+        before = dict(draw.priorities)
+        for step in draw.actions(name, enabled):
+            actor = next(actor for actor, steps in ACTORS.items() if step in steps)
+            could = [other for other in ACTORS if other == DRIVER or set(ACTORS[other]) & set(enabled())]
+            best = max(before[other] for other in could)
+            wrong += before[actor] != best
+            left[step] -= 1
+            if step in NEXT:
+                left[NEXT[step]] += 1
+            went.append(actor)
+            before = dict(draw.priorities)
+        went.append(DRIVER)
+    return wrong, went
+
+names = [f"write {number}" for number in range(40)]
+for depth in (1, 2, 3):
+    draws = [Pct(seed, depth, 12) for seed in range(200)]
+    first = [dict(draw.priorities) for draw in draws]
+    played = [play(draw, names) for draw in draws]
+    lower = {sum(after.priorities[actor] < before[actor] for actor in ACTORS) for after, before in zip(draws, first)}
+    begin = set(range(depth, depth + len(ACTORS)))
+    again = [play(Pct(seed, depth, 12), names) for seed in range(200)]
+    print(sum(wrong for wrong, _ in played), sorted(lower), all(set(one.values()) == begin for one in first),
+          len({tuple(went) for _, went in played}) > 10, played == again)
+draw = Pct(1, 1, 12)
+draw.priorities[DRIVER] = 9
+polled = [play(draw, ["read ICR"] * count + ["write IMS"])[1] for count in (3, 5, 8)]
+print(["".join(actor[0] for actor in went) for went in polled])
+print(bound_of(1, 50), bound_of(2, 50), bound_of(3, 50), bound_of(3, 0))
+"""
+
+
+def pct(server):
+    """PCT draws by priorities. A seed decides, the bound is printed, and a driver that polls isn't starved."""
+    wanted = "0 [0] True True True\n0 [1] True True True\n0 [1, 2] True True True\n" \
+             "['dddd', 'dddrddd', 'dddrddddrdd']\n4 200 10000 4\n"
+    got = script(server, CHOICES)
+    server.check("pct: choices", got, (0, wanted, ""))
+    server.put("small", SMALL.encode())
+    server.put("polls", POLLS.encode())
+    for seed in ("1", "2", "3", "4"):
+        out = find(server, "--pct", "1", "--runs", "1", "--seed", seed, "--smaller", "0", command=["sh", "polls"])
+        server.check(f"pct: a driver that polls, seed {seed}", (out[0], out[2]), (FOUND, ""))
+    for depth, bound in (("1", "4"), ("2", "16"), ("3", "64")):  # of four actors and four accesses
+        got = [find(server, "--pct", depth, "--runs", "20", command=["sh", "small"]) for _ in range(2)]
+        line = f"PCT of depth {depth}: 4 actors and 4 events, so each run finds a race of this depth with a probability of at least 1/{bound}\n"
+        server.check(f"pct: the bound of depth {depth}", (got[0][0], without_reached(got[0][1]).startswith(line)), (PASSES, True))
+        server.check(f"pct: a seed decides at depth {depth}", without_rate(got[0][1]), without_rate(got[1][1]))
+    status, out, errors = find(server, "--pct", "3", "--runs", "200", command=["sh", "small", "fails"])
+    seed = re.search(r"^seed (\d+): exit status 1: finished too late$", out, re.M)
+    server.check("pct: a race is found", (status, seed is not None, errors), (FOUND, True, ""))
+    again = find(server, "--pct", "3", "--runs", "1", "--seed", seed[1] if seed else "1", command=["sh", "small", "fails"])[1]
+    server.check("pct: its seed finds it again", again.partition("\nThe schedule:")[2], out.partition("\nThe schedule:")[2])
+    wanted = (USAGE, "", "races: --pct: use a depth from 1 to 100, without --explore and --holds\nFor more information, try '--help'.\n")
+    for words in (["--pct", "0"], ["--pct", "101"], ["--pct", "2", "--holds"], ["--pct", "2", "--explore", "1"]):
+        server.check(f"pct: {words}", find(server, *words, command=["true"]), wanted)
+
+
+def all_cases(server):
+    for part in [same, ends, jobs, pct]:
+        part(server)

@@ -1,0 +1,220 @@
+"""Runs of a test in Python that is loaded once, and forked for each run."""
+
+import os
+import pickle
+import re
+import select
+import signal
+import socket
+import subprocess
+import threading
+import time
+
+from race_finder.host import DOUBT, HOST, MARK, MISMATCH, RAN, READY, RUN, SIZE, WARM, receive, send
+from race_finder.play import Mismatch
+from race_finder.schedule import Place
+
+TOOLS = os.path.dirname(os.path.dirname(os.path.abspath(__file__)))
+PYTHON = re.compile(r"python(3(\.[0-9]+)?)?")
+FLAGS = re.compile(r"-[bBEIOPqsSu]+")
+FIRST, ROUND_1 = Place(0, 0), Place(1, 0)
+SPACING, MOST_HOSTS = 16, 40  # accesses from one host to the next; hosts after round 1
+END = 5  # seconds until a host that hasn't ended by itself is killed
+BEGIN = """
+import sys
+before, sys.dont_write_bytecode = sys.dont_write_bytecode, True
+sys.path.insert(0, sys.argv[1])
+from race_finder.host import main
+sys.path.remove(sys.argv[1])
+sys.dont_write_bytecode = before
+main(*sys.argv[2:])
+"""
+
+
+class Stopped(Exception):
+    """A run was ended, because its result isn't needed."""
+
+
+class Lost(Exception):
+    """A host or a child gave no result."""
+
+
+def script_of(command):
+    """The interpreter with its flags, and a script in Python with its arguments; or None if the command isn't this."""
+    at = next((at for at, word in enumerate(command[1:], 1) if not FLAGS.fullmatch(word)), len(command))
+    is_script = PYTHON.fullmatch(os.path.basename(command[0])) and at < len(command) and command[at].endswith(".py")
+    return (command[:at], command[at:]) if is_script and os.path.exists("/proc/self/fd") else None
+
+
+class Late(Lost):
+    """A child gave no result in time."""
+
+
+class Child:
+    """A child's end of a pipe, from which its result is read."""
+
+    def __init__(self, file, end, wake=None):
+        self.file, self.end, self.wake = file, end, wake
+        try:
+            mark = self.read(len(MARK) + SIZE.size)
+        except Late:
+            raise Lost from None  # it is the host that does nothing
+        if not mark.startswith(MARK):
+            raise Lost
+        self.number, = SIZE.unpack(mark[len(MARK):])
+
+    def read(self, size):
+        data = b""
+        while len(data) < size:
+            files = [self.file] if self.wake is None else [self.file, self.wake]
+            ready = select.select(files, [], [], max(0, self.end - time.monotonic()))[0]
+            if self.wake in ready:
+                raise Stopped
+            if not ready:
+                raise Late
+            more = os.read(self.file, size - len(data))
+            if not more:
+                raise Lost
+            data += more
+        return data
+
+    def result(self, wake):
+        """The kind and the value of the result. Ends the child if it has none in time."""
+        self.wake, is_ended = wake, False
+        try:
+            size, = SIZE.unpack(self.read(SIZE.size))
+            kind, value = pickle.loads(self.read(size))
+            is_ended = True
+        except pickle.UnpicklingError:
+            raise Lost from None  # the test has written there by other means
+        finally:
+            if not is_ended:
+                kill(self.number)
+        return kind, value
+
+
+def kill(number):
+    """Ends a child and the processes that it has started."""
+    try:
+        os.killpg(number, signal.SIGKILL)
+    except ProcessLookupError:
+        pass
+
+
+class Forks:
+    """The hosts of a test: processes that wait before places of the run without deviations, and are forked there."""
+
+    def __init__(self, command, settings, seconds):
+        self.command, self.settings, self.seconds = command, settings, seconds
+        self.lock, self.process = threading.Lock(), None
+        self.hosts = []  # pairs of a place and a socket, the last place first
+        self.is_usable, self.is_warm = True, False
+
+    def start(self):
+        """Starts the host before the first answer, and the one before round 1."""
+        ours, theirs = socket.socketpair()
+        self.hosts.append((FIRST, ours))
+        python, script = self.command
+        words, null = [*python, "-c", BEGIN, TOOLS, str(theirs.fileno()), *script], subprocess.DEVNULL
+        try:
+            self.process = subprocess.Popen(words, stdin=null, stdout=null, stderr=null, pass_fds=[theirs.fileno()],
+                                            start_new_session=True)
+            send(ours, self.settings)
+        except OSError:
+            self.is_usable = False  # a process of its own shows why
+        else:
+            self.add([ROUND_1])
+        finally:
+            theirs.close()
+
+    def add(self, places):
+        """Starts a host for each of these places that the run without deviations reaches."""
+        hosts, (_, parent) = [], self.hosts[0]
+        try:
+            for place in places:
+                ours, theirs = socket.socketpair()
+                ours.settimeout(self.seconds)
+                hosts.append((place, ours))
+                send(parent, (HOST, place), [theirs.fileno()])
+                theirs.close()
+        except OSError:
+            pass  # the parent has ended: so have these
+        self.hosts += filter(is_ready, hosts)
+        self.hosts.sort(key=lambda host: host[0], reverse=True)
+
+    def prepare(self, run):
+        """Before many schedules are played: starts hosts all along the run without deviations."""
+        places = [met.place for met in run.places if met.place.round][SPACING::SPACING]
+        with self.lock:
+            if self.is_usable and self.process and len(self.hosts) == 2:
+                self.add(places[:MOST_HOSTS])
+
+    def host_of(self, schedule, draw):
+        """The last host before the first deviation."""
+        first = schedule[0].place if schedule else FIRST if draw and draw.draws_holds else ROUND_1
+        return next(control for place, control in self.hosts if place <= first)
+
+    def play(self, schedule, draw, is_strict, has_places, wake):
+        """A run, or None if only a process of its own can show it. Raises Mismatch or Stopped."""
+        with self.lock:
+            if self.is_usable and self.process is None:
+                self.start()
+        if not self.is_usable:
+            return None
+        source, sink = os.pipe()
+        try:
+            with self.lock:
+                request = RUN, schedule, draw, is_strict, has_places, not self.is_warm
+                try:
+                    send(self.host_of(schedule, draw), request, [sink])
+                finally:
+                    os.close(sink)
+            kind, value = Child(source, time.monotonic() + self.seconds).result(wake)
+        except Late:
+            return None
+        except (Lost, OSError):
+            self.is_usable = False
+            return None
+        finally:
+            os.close(source)
+        if kind == MISMATCH:
+            raise Mismatch(value)
+        if kind == RAN and not self.is_warm:
+            self.warm(value)
+        if kind == DOUBT:
+            self.is_usable = False
+            return None
+        return value
+
+    def warm(self, run):
+        """Sends the requests of the first run to the last host: most of them are those of later runs, too."""
+        with self.lock:
+            if not self.is_warm and run.rows:
+                self.is_warm = True
+                send(self.hosts[0][1], (WARM, [row.line[2:] for row in run.rows if row.place and row.place.round]))
+
+    def end(self):
+        for _, control in self.hosts:
+            control.close()
+        if self.process:
+            try:
+                self.process.wait(END)
+            except subprocess.TimeoutExpired:
+                kill(self.process.pid)
+                self.process.wait()
+
+
+def is_ready(host):
+    """Waits until a host has reached its place. Ends it if it doesn't."""
+    number, control = None, host[1]
+    try:
+        number = receive(control)[0]
+        if number and receive(control)[0] == READY:
+            control.settimeout(None)
+            return True
+    except (OSError, EOFError, pickle.UnpicklingError):
+        pass
+    if number:
+        kill(number)
+    control.close()
+    return False

@@ -1,0 +1,33 @@
+"""Stores a run: its schedule, its log, and its charts."""
+
+import os
+
+from race_finder.chart import chart
+from race_finder.svg import svg
+from race_finder.vcd import vcd
+
+
+def log_of(run):
+    """The complete log of a run. After `->`, an access or an arrival has its answer, and a step its outcome."""
+    return "".join(f"{row.line} -> {row.answer}\n" if row.answer else f"{row.line}\n" for row in run.rows)
+
+
+def is_folder(path):
+    """Whether a path names a folder: one that is there, or one that is to be made."""
+    return path.endswith("/") or os.path.isdir(path)
+
+
+def texts_of(run, schedule):
+    """The files of a folder."""
+    return {"schedule.txt": schedule, "log.txt": log_of(run), "chart.txt": chart(run), "chart.svg": svg(run),
+            "run.vcd": vcd(run)}
+
+
+def store(path, run, schedule):
+    """Stores a schedule in a file, or in a folder with the log and the charts of its run. Raises OSError."""
+    if is_folder(path):
+        os.makedirs(path, exist_ok=True)
+    texts = texts_of(run, schedule) if is_folder(path) else {"": schedule}
+    for name, text in texts.items():
+        with open(os.path.join(path, name) if name else path, "w", encoding="utf-8", errors="surrogateescape") as file:
+            file.write(text)

@@ -1,0 +1,62 @@
+"""Processes that play runs of a command that isn't forked, so that several runs use several processors."""
+
+import os
+import queue
+import socket
+
+from race_finder.host import receive, send
+from race_finder.server import ServerEnded
+
+
+class Workers:
+    """Children of the finder. It starts them while it has one thread."""
+
+    def __init__(self, play, count):
+        """`play` is called in a worker, with what `Workers.play` is called with."""
+        self.free, self.children, controls = queue.SimpleQueue(), [], []
+        for _ in range(count):
+            ours, theirs = socket.socketpair()
+            controls.append(ours)
+            child = os.fork()
+            if child == 0:
+                work(play, theirs, controls)
+            theirs.close()
+            self.children.append(child)
+            self.free.put(ours)
+
+    def play(self, *words):
+        """What `play` returns in a worker that is free. Raises what it raises."""
+        control = self.free.get()
+        try:
+            send(control, words)
+            result, _ = receive(control)
+        except OSError:
+            result = None
+        finally:
+            self.free.put(control)
+        if result is None:
+            raise ServerEnded("a process of the finder has ended")
+        if isinstance(result, Exception):
+            raise result
+        return result
+
+    def end(self):
+        for _ in self.children:
+            self.free.get().close()
+        for child in self.children:
+            os.waitpid(child, 0)
+
+
+def work(play, control, others):
+    """Plays what is asked for until the finder ends, and ends this process."""
+    try:
+        for other in others:
+            other.close()  # or this process would keep the finder's end open
+        while (words := receive(control)[0]) is not None:
+            try:
+                result = play(*words)
+            except Exception as error:
+                result = error
+            send(control, result)
+    finally:
+        os._exit(0)
