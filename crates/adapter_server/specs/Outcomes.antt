@@ -1,9 +1,10 @@
 -- Which steps did something (our choice).
 use Rattle.std.specs.Prelude.{ℕ}
 use Rattle.adapter.specs.declared.outcome.Outcome.{Outcome}
-use Rattle.adapter.specs.declared.outcome.Outcome.TheVariants.{Nothing}
+use Rattle.adapter.specs.declared.outcome.Outcome.TheVariants.{Nothing, WireFull}
 
 -- 1 if a step with this outcome did something, else 0
 abbrev pub moved_by : Outcome (Unit {0}) → ℕ
 moved_by Nothing = 0
+moved_by WireFull = 0
 moved_by _ = 1

@@ -42,7 +42,7 @@ fn moved_by(outcome: Outcome<()>) -> u64
     ensures { result ≡ moved_by outcome }
 {
     match outcome {
-        Outcome::Nothing => 0,
+        Outcome::Nothing | Outcome::WireFull => 0,
         _ => 1,
     }
 }
