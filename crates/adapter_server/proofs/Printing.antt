@@ -34,11 +34,11 @@ prints one a b machine occurs state tells = record {
 }
 
 -- It happened and was printed.
-pub printed : {E : Type 0} (result : Result (Unit {0}) E) (one : Happening) (a b : Device) (machine : MachineState)
+pub printed : {T E : Type 0} (result : Result T E) (one : Happening) (a b : Device) (machine : MachineState)
     (before after : Option (List ℕ)) → Occurs (event_of one) a.machine.world → machine ≡ after_event (event_of one) a.machine
     → b ≡ told (record a { machine = machine }) → Says result before after (text_of one a machine)
-    → TellsEvents result before after a (λ unit. Prints one a b)
-printed (Ok unit) one a b machine before after occurs state tells said = record {
+    → TellsEvents result before after a (λ value. Prints one a b)
+printed (Ok value) one a b machine before after occurs state tells said = record {
   text = text_of one a machine;
   holds = prints one a b machine occurs state tells;
   written = said;

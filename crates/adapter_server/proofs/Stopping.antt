@@ -1,6 +1,6 @@
 -- Events that were printed until the server stopped.
 use Rattle.std.proofs.Common.{◌≡◌, ◌++◌, ℕ, List, [], ◌∷◌, Option, inl, inr, length, refl, replicate, subst, sym}
-use Rattle.std.specs.Prelude.{Err, IsErrAnd, Ok, Result}
+use Rattle.std.specs.Prelude.{Err, IsErr, Ok, Result}
 use Rattle.rx_engine.specs.declared.arrival.Fate.{Fate}
 use Rattle.adapter.specs.declared.step.StepKind.{StepKind}
 use Rattle.adapter_server.specs.Answers.{Reaches, TellsAnswer}
@@ -102,16 +102,16 @@ stopped_after Happens a b before now after events first part =
     (λ text rest happens later. (later.0, events_then a b later.0 text rest (events text happens) later.1)) first part
 
 -- A call stopped in its events, and so its caller stops.
-pub events_stop : {T E : Type 0} {P : E → Type 0} (result : Result T E) (a : Device) (Happens : T → Text → Type 0)
-    (before after : Option (List ℕ)) → IsErrAnd result P → TellsPart before after (Happened a) → TellsEvents result before after a Happens
-events_stop (Ok value) a Happens before after is part = absurd is
+pub events_stop : {T E : Type 0} (result : Result T E) (a : Device) (Happens : T → Text → Type 0)
+    (before after : Option (List ℕ)) → IsErr result → TellsPart before after (Happened a) → TellsEvents result before after a Happens
+events_stop (Ok value) a Happens before after is part = absurd (cc)
 events_stop (Err error) a Happens before after is part = part
 
 -- A call stopped in its answer, and so its caller stops.
-pub answer_again : {T E S : Type 0} {P : E → Type 0} (result : Result T E) (a : Device) (Answers : S → Text → Type 0) (b : S)
-    (before after : Option (List ℕ)) → IsErrAnd result P → TellsPart before after (Reaches Answers a)
+pub answer_again : {T E S : Type 0} (result : Result T E) (a : Device) (Answers : S → Text → Type 0) (b : S)
+    (before after : Option (List ℕ)) → IsErr result → TellsPart before after (Reaches Answers a)
     → TellsAnswer result before after a Answers b
-answer_again (Ok value) a Answers b before after is part = absurd is
+answer_again (Ok value) a Answers b before after is part = absurd (cc)
 answer_again (Err error) a Answers b before after is part = part
 
 pub stopped_answer : {S : Type 0} (Answers : S → Text → Type 0) (a : Device) (before after : Option (List ℕ))
@@ -119,9 +119,9 @@ pub stopped_answer : {S : Type 0} (Answers : S → Text → Type 0) (a : Device)
 stopped_answer Answers a before after part =
     part_so (Happened a) (Reaches Answers a) before after (λ text happened. inl happened) part
 
-pub answer_stops : {T E S : Type 0} {P : E → Type 0} (result : Result T E) (a : Device) (Answers : S → Text → Type 0) (b : S)
-    (before after : Option (List ℕ)) → IsErrAnd result P → TellsPart before after (Happened a) → TellsAnswer result before after a Answers b
-answer_stops (Ok value) a Answers b before after is part = absurd is
+pub answer_stops : {T E S : Type 0} (result : Result T E) (a : Device) (Answers : S → Text → Type 0) (b : S)
+    (before after : Option (List ℕ)) → IsErr result → TellsPart before after (Happened a) → TellsAnswer result before after a Answers b
+answer_stops (Ok value) a Answers b before after is part = absurd (cc)
 answer_stops (Err error) a Answers b before after is part = stopped_answer Answers a before after part
 
 -- The same things happened, of which more is known.
@@ -151,7 +151,7 @@ answer_so (Err error) P Q f a b before after so part = part_reached P Q f a befo
 pub none_arrives : (a b : Session) → a.offered ≡ [] → b ≡ a → NextArrives a b []
 none_arrives a b none same = subst (λ (offered : List (List ℕ)). OldestArrives offered a b []) (sym none) (same, refl)
 
-pub arrived : {E : Type 0} (result : Result (Unit {0}) E) (frame : List ℕ) (a : Session) (device : Device) (later : List (List ℕ))
+pub arrived : {T E : Type 0} (result : Result T E) (frame : List ℕ) (a : Session) (device : Device) (later : List (List ℕ))
     (before after : Option (List ℕ)) → a.offered ≡ frame ∷ later
     → TellsEvents result before after a.device (λ unit text. (fate : Fate) × Prints (Arrived frame fate) a.device device text)
     → TellsEvents result before after a.device (λ unit. NextArrives a (record a { device = device; offered = later }))

@@ -26,7 +26,7 @@ loop-turn-preserved g c =
 pub returns-in_err-written : goal.returns-in_err-written
 returns-in_err-written g c =
     says_stop c.from_residual.result c.args.text.now (g.W.Write.contents c.args.out.now) (g.W.Write.contents c.write_some.new.out)
-    c.from_residual.ensures.1
+    c.from_residual.ensures.0
     (said_part c.args.text.now (drop c.loop-turn.written c.args.text.now) (g.W.Write.contents c.args.out.now)
     (g.W.Write.contents c.loop-turn.out) (g.W.Write.contents c.write_some.new.out) c.loop-turn.invariant.said
     c.in_err-written.ensures.err)

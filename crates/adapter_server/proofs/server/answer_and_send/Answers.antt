@@ -6,7 +6,7 @@ use Rattle.adapter_server.proofs.server.answer_and_send.Goals as goal
 pub returns-in_err-answer_next : goal.returns-in_err-answer_next
 returns-in_err-answer_next g c =
     answer_again c.from_residual.result c.args.server.now.session.device (AnswersNext c.args.next c.args.line.now c.args.server.now) _ _ _
-    c.from_residual.ensures.1 c.in_err-answer_next.ensures
+    c.from_residual.ensures.0 c.in_err-answer_next.ensures
 
 pub returns : goal.returns
 returns g c =

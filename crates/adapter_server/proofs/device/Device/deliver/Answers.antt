@@ -21,13 +21,13 @@ same_text a fate word digits wanted shown level same-word same told = rw (told, 
 pub returns-in_err-text : goal.returns-in_err-text
 returns-in_err-text g c =
     let contents = g.W.Write.contents c.args.out.now in
-    events_stop c.from_residual.result c.args.self.now _ contents contents c.from_residual.ensures.1
+    events_stop c.from_residual.result c.args.self.now _ contents contents c.from_residual.ensures.0
     (stopped_before c.args.self.now contents)
 
 pub returns-in_err-shown : goal.returns-in_err-shown
 returns-in_err-shown g c =
     let contents = g.W.Write.contents c.args.out.now in
-    events_stop c.from_residual-in_err-shown.result c.args.self.now _ contents contents c.from_residual-in_err-shown.ensures.1
+    events_stop c.from_residual-in_err-shown.result c.args.self.now _ contents contents c.from_residual-in_err-shown.ensures.0
     (stopped_before c.args.self.now contents)
 
 pub returns : goal.returns
@@ -44,5 +44,5 @@ returns g c =
     (printed c.tell.result one a c.tell.new.self machine before after c.arrive-fate.ensures.occurs c.arrive-fate.ensures.state
     c.tell.ensures.state
     (subst (λ (text : Text). Says c.tell.result before after text)
-    (same_text a fate c.fate_word.result.now c.as_bytes-digits.result.now (encode_lower frame) _ _ c.fate_word.ensures (c.as_bytes-digits.ensures ∙ c.in_ok-text.ensures) c.in_ok-shown.ensures)
+    (same_text a fate c.fate_word.result.now c.as_bytes-digits.result.now (encode_lower frame) _ _ c.fate_word.ensures (c.as_bytes-digits.ensures.value ∙ c.in_ok-text.ensures) (c.as_slice.ensures.value ∙ c.in_ok-shown.ensures))
     c.tell.ensures.text))

@@ -39,7 +39,7 @@ returns-in_err-outcome-clause-plays g c =
     let kinds = take c.loop-kind.kind-index round in
     let a = c.args.self.now in
     let b = c.loop-kind.self in
-    events_stop c.from_residual.result a _ (contents c.args.out.now) (contents c.step.new.out) c.from_residual.ensures.1
+    events_stop c.from_residual.result a _ (contents c.args.out.now) (contents c.step.new.out) c.from_residual.ensures.0
     (stopped_after (InOrder Plays kinds (a, 0) (b, c.loop-kind.moved)) a b (contents c.args.out.now) (contents c.loop-kind.out)
     (contents c.step.new.out) (events_of_plays kinds (a, 0) (b, c.loop-kind.moved)) c.loop-kind.invariant.plays
     c.in_err-outcome.ensures)

@@ -39,6 +39,6 @@ returns-in_err-moved g c =
     let plays = c.loop-round.invariant.plays in
     let a = c.args.self.now in
     let b = c.loop-round.self in
-    events_stop c.from_residual.result a _ (contents c.args.out.now) (contents c.round.new.out) c.from_residual.ensures.1
+    events_stop c.from_residual.result a _ (contents c.args.out.now) (contents c.round.new.out) c.from_residual.ensures.0
     (stopped_after (InOrder Round plays.busy a b) a b (contents c.args.out.now) (contents c.loop-round.out) (contents c.round.new.out)
     (events_of_rounds plays.busy a b) plays.plays c.in_err-moved.ensures.plays)

@@ -24,7 +24,7 @@ same_text a kind outcome k o put shown level same-k same-o same-put = rw (same-k
 pub returns-in_err-put : goal.returns-in_err-put
 returns-in_err-put g c =
     let contents = g.W.Write.contents c.args.out.now in
-    events_stop c.from_residual.result c.args.self.now _ contents contents c.from_residual.ensures.1
+    events_stop c.from_residual.result c.args.self.now _ contents contents c.from_residual.ensures.0
     (stopped_before c.args.self.now contents)
 
 pub returns-in_err-tell : goal.returns-in_err-tell
@@ -36,9 +36,9 @@ returns-in_err-tell g c =
     let one : Happening = Logged (Steps c.args.kind a.wire_free (framed outcome adapter)) (step_said c.args.kind outcome) in
     let before = g.W.Write.contents c.args.out.now in
     let after = g.W.Write.contents c.tell.new.out in
-    let put = c.in_ok-put.ensures ∙ ap (λ (frames : List (List ℕ)). flat_map frame_line frames)
+    let put = c.as_slice.ensures.value ∙ c.in_ok-put.ensures ∙ ap (λ (frames : List (List ℕ)). flat_map frame_line frames)
     (sym (puts_next a.wire_free c.args.kind outcome a.machine.world.memory adapter c.step-outcome.ensures.occurs.1)) in
-    events_stop c.from_residual-in_err-tell.result a _ before after c.from_residual-in_err-tell.ensures.1
+    events_stop c.from_residual-in_err-tell.result a _ before after c.from_residual-in_err-tell.ensures.0
     (stopped_in one a c.tell.new.self (text_of one a machine) before after
     (prints one a c.tell.new.self machine c.step-outcome.ensures.occurs c.step-outcome.ensures.state c.in_err-tell.ensures.state)
     (subst (WritesPart before after)
@@ -54,7 +54,7 @@ returns g c =
     let one : Happening = Logged (Steps c.args.kind a.wire_free (framed outcome adapter)) (step_said c.args.kind outcome) in
     let before = g.W.Write.contents c.args.out.now in
     let after = g.W.Write.contents c.tell.new.out in
-    let put = c.in_ok-put.ensures ∙ ap (λ (frames : List (List ℕ)). flat_map frame_line frames)
+    let put = c.as_slice.ensures.value ∙ c.in_ok-put.ensures ∙ ap (λ (frames : List (List ℕ)). flat_map frame_line frames)
     (sym (puts_next a.wire_free c.args.kind outcome a.machine.world.memory adapter c.step-outcome.ensures.occurs.1)) in
     record {
       text = text_of one a machine;

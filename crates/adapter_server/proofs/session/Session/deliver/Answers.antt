@@ -16,7 +16,7 @@ returns-in_err-tell g c =
     let one : Happening = Logged (Arrives c.args.frame.now c.arrive-fate.result) c.args.said.now in
     let before = g.W.Write.contents c.args.out.now in
     let after = g.W.Write.contents c.tell.new.out in
-    answer_stops c.from_residual.result a.device _ _ before after c.from_residual.ensures.1
+    answer_stops c.from_residual.result a.device _ _ before after c.from_residual.ensures.0
     (stopped_in one a.device c.tell.new.self (text_of one a.device c.arrive-fate.new.self) before after
     (prints one a.device c.tell.new.self c.arrive-fate.new.self c.arrive-fate.ensures.occurs c.arrive-fate.ensures.state
     c.in_err-tell.ensures.state) (rw (append-nil c.args.said.now) at c.in_err-tell.ensures.text))

@@ -29,6 +29,6 @@ returns-in_err-deliver_next g c =
     let after = g.W.Write.contents c.deliver_next.new.out in
     let a = c.args.self.now in
     let b = c.loop-frame.self in
-    events_stop c.from_residual.result a.device _ before after c.from_residual.ensures.1
+    events_stop c.from_residual.result a.device _ before after c.from_residual.ensures.0
     (stopped_after (Times NextArrives c.loop-frame._frame a b) a.device b.device before now after
     (events_of_arrivals (replicate c.loop-frame._frame 0) a b) c.loop-frame.invariant c.in_err-deliver_next.ensures)

@@ -46,7 +46,7 @@ returns-in_err-play g c =
     let b = c.loop-step.self in
     let device : Session → Device = λ session. session.device in
     let part = subst (λ (d : Device). TellsPart now after (Happened d)) (ap device c.draw-choice.ensures.state) c.in_err-play.ensures in
-    events_stop c.from_residual.result c.args.self.now.device _ before after c.from_residual.ensures.1
+    events_stop c.from_residual.result c.args.self.now.device _ before after c.from_residual.ensures.0
     (subst (λ (d : Device). TellsPart before after (Happened d)) (ap device c.draw_count-count.ensures.state)
     (stopped_after (Times Draws c.loop-step._step a b) a.device b.device before now after
     (events_of_draws (replicate c.loop-step._step 0) a b) c.loop-step.invariant part))

@@ -68,27 +68,27 @@ returns-in_ok-tell-in-Some-Memory g c =
 
 pub returns-in_err-interleave-in-Some-Register : goal.returns-in_err-interleave-in-Some-Register
 returns-in_err-interleave-in-Some-Register g c =
-    answer_stops c.from_residual.result c.args.self.now.device _ _ _ _ c.from_residual.ensures.1
+    answer_stops c.from_residual.result c.args.self.now.device _ _ _ _ c.from_residual.ensures.0
     c.in_err-interleave-in-Some-Register.ensures
 
 pub returns-in_err-interleave-in-Some-Memory : goal.returns-in_err-interleave-in-Some-Memory
 returns-in_err-interleave-in-Some-Memory g c =
     answer_stops c.from_residual-in_err-interleave-in-Some-Memory.result c.args.self.now.device _ _ _ _
-    c.from_residual-in_err-interleave-in-Some-Memory.ensures.1 c.in_err-interleave-in-Some-Memory.ensures
+    c.from_residual-in_err-interleave-in-Some-Memory.ensures.0 c.in_err-interleave-in-Some-Memory.ensures
 
 pub returns-in_err-bytes-in-Some-Memory : goal.returns-in_err-bytes-in-Some-Memory
 returns-in_err-bytes-in-Some-Memory g c =
     let device = c.args.self.now.device in
     let contents = g.W.Write.contents c.args.out.now in
     answer_stops c.from_residual-in_err-bytes-in-Some-Memory.result device _ _ contents contents
-    c.from_residual-in_err-bytes-in-Some-Memory.ensures.1 (stopped_before device contents)
+    c.from_residual-in_err-bytes-in-Some-Memory.ensures.0 (stopped_before device contents)
 
 pub returns-in_err-tell-in-Some-Register : goal.returns-in_err-tell-in-Some-Register
 returns-in_err-tell-in-Some-Register g c =
     let middle = c.interleave.new.self in
     let with : MachineState → Session = λ machine. record middle { device = record middle.device { machine = machine } } in
     answer_stops c.from_residual-in_err-tell-in-Some-Register.result c.args.self.now.device _ _ _ _
-    c.from_residual-in_err-tell-in-Some-Register.ensures.1
+    c.from_residual-in_err-tell-in-Some-Register.ensures.0
     (access_stopped (Reads c.in-Some-Register.offset c.read-value.result) c.args.said.now c.args.self.now middle
     (with c.read-value.new.self) _ _ _
     (record {
@@ -101,7 +101,7 @@ pub returns-in_err-tell-in-Some-Memory : goal.returns-in_err-tell-in-Some-Memory
 returns-in_err-tell-in-Some-Memory g c =
     let middle = c.interleave-in-Some-Memory.new.self in
     answer_stops c.from_residual-in_err-tell-in-Some-Memory.result c.args.self.now.device _ _ _ _
-    c.from_residual-in_err-tell-in-Some-Memory.ensures.1
+    c.from_residual-in_err-tell-in-Some-Memory.ensures.0
     (access_stopped (Loads c.args.address (size_of c.args.wanted)) c.args.said.now c.args.self.now middle middle _ _ _
     (record { steps = c.in_ok-interleave-in-Some-Memory.ensures; occurs = tt; after = refl }) c.in_err-tell-in-Some-Memory.ensures.text)
 

@@ -9,7 +9,7 @@ use Rattle.adapter_server.proofs.session.Session.settle.Goals as goal
 
 pub returns-in_err-deliver_all : goal.returns-in_err-deliver_all
 returns-in_err-deliver_all g c =
-    answer_stops c.from_residual.result c.args.self.now.device _ _ _ _ c.from_residual.ensures.1 c.in_err-deliver_all.ensures
+    answer_stops c.from_residual.result c.args.self.now.device _ _ _ _ c.from_residual.ensures.0 c.in_err-deliver_all.ensures
 
 pub returns-in_err-moved : goal.returns-in_err-moved
 returns-in_err-moved g c =
@@ -18,7 +18,7 @@ returns-in_err-moved g c =
     let before = g.W.Write.contents c.args.out.now in
     let now = g.W.Write.contents c.deliver_all.new.out in
     let after = g.W.Write.contents c.settle.new.out in
-    answer_stops c.from_residual-in_err-moved.result a.device _ _ before after c.from_residual-in_err-moved.ensures.1
+    answer_stops c.from_residual-in_err-moved.result a.device _ _ before after c.from_residual-in_err-moved.ensures.0
     (stopped_after (AllArrive a middle) a.device middle.device before now after (events_of_all a middle) c.in_ok-deliver_all.ensures
     c.in_err-moved.ensures)
 

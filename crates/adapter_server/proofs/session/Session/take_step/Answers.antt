@@ -8,7 +8,7 @@ use Rattle.adapter_server.proofs.session.Session.take_step.Goals as goal
 
 pub returns-in_err-outcome : goal.returns-in_err-outcome
 returns-in_err-outcome g c =
-    answer_stops c.from_residual.result c.args.self.now.device _ _ _ _ c.from_residual.ensures.1 c.in_err-outcome.ensures
+    answer_stops c.from_residual.result c.args.self.now.device _ _ _ _ c.from_residual.ensures.0 c.in_err-outcome.ensures
 
 pub returns : goal.returns
 returns g c =

@@ -48,13 +48,13 @@ returns g c =
 
 pub returns-in_err-interleave : goal.returns-in_err-interleave
 returns-in_err-interleave g c =
-    answer_stops c.from_residual.result c.args.self.now.device _ _ _ _ c.from_residual.ensures.1 c.in_err-interleave.ensures
+    answer_stops c.from_residual.result c.args.self.now.device _ _ _ _ c.from_residual.ensures.0 c.in_err-interleave.ensures
 
 pub returns-in_err-tell : goal.returns-in_err-tell
 returns-in_err-tell g c =
     let middle = c.interleave.new.self in
     let with : MachineState → Session = λ machine. record middle { device = record middle.device { machine = machine } } in
-    answer_stops c.from_residual-in_err-tell.result c.args.self.now.device _ _ _ _ c.from_residual-in_err-tell.ensures.1
+    answer_stops c.from_residual-in_err-tell.result c.args.self.now.device _ _ _ _ c.from_residual-in_err-tell.ensures.0
     (elim c.match-place.branch [
       | in-Register w ↦
           access_stopped (Writes w.in-Register.offset (from_le_bytes w32 c.args.bytes.now)) c.args.said.now c.args.self.now middle

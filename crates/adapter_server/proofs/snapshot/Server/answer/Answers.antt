@@ -1,9 +1,10 @@
 use mir.Val.{bool_byte}
-use Rattle.std.proofs.Common.{◌≡◌, ◌∙◌, ◌++◌, ◌∷◌, [], Bool, true, false, ap, codes, if◌then◌else◌, length, refl}
-use Rattle.adapter_server.specs.Answers.{AnswersArrival, AnswersSettle, AnswersStep, ReadsAt, WritesAt, line_number}
+use Rattle.std.proofs.Common.{◌≡◌, ◌∙◌, ◌++◌, ◌∷◌, [], Bool, List, true, false, ap, codes, if◌then◌else◌, length, refl, subst, ℕ}
+use Rattle.adapter_server.specs.Answers.{AnswersArrival, AnswersSettle, AnswersStep, ReadsAt, Replies, TellsAnswer, WritesAt, line_number}
 use Rattle.adapter_server.specs.Sessions.{place_in}
 use Rattle.adapter_server.specs.Texts.{number_line, ok_line, word_line}
 use Rattle.adapter_server.specs.Widths.{size_of}
+use Rattle.adapter_server.specs.declared.snapshot.Server.{Server}
 use Rattle.adapter_server.proofs.Printing.{lifted, replied}
 use Rattle.adapter_server.proofs.Stopping.{answer_stops, stopped_before}
 use Rattle.adapter_server.proofs.snapshot.Server.answer.Goals as goal
@@ -80,19 +81,22 @@ returns-in-Wire g c =
     (record a { session = record a.session { device = record a.session.device { wire_free = c.in-Wire.free } } }) _ _
     c.say-in-Wire.ensures)
 
-pub returns-in_err-push : goal.returns-in_err-push
-returns-in_err-push g c =
+pub returns-in_err-push-in-Offer : goal.returns-in_err-push-in-Offer
+returns-in_err-push-in-Offer g c =
     let device = c.args.self.now.session.device in
     let contents = g.W.Write.contents c.args.out.now in
-    answer_stops c.from_residual.result device _ _ contents contents c.from_residual.ensures.1 (stopped_before device contents)
+    answer_stops c.from_residual.result device _ _ contents contents c.from_residual.ensures.0 (stopped_before device contents)
 
-pub returns-in_ok-push : goal.returns-in_ok-push
-returns-in_ok-push g c =
+pub returns-in_ok-push-in-Offer : goal.returns-in_ok-push-in-Offer
+returns-in_ok-push-in-Offer g c =
     let a = c.args.self.now in
-    let frame = c.in-Offer.frame in
-    rw (c.in-Offer.is, ← c.as_slice-in-Offer.ensures, ← c.in_ok-push.ensures)
-    (replied c.say-in-Offer.result a.session.device ok_line (record a { session = record a.session { offered = c.push.new.self } }) _ _
-    c.say-in-Offer.ensures)
+    let with : List (List ℕ) → Server = λ offered. record a { session = record a.session { offered = offered } } in
+    let added = c.in_ok-push-in-Offer.ensures ∙ ap (λ (frame : List ℕ). a.session.offered ++ frame ∷ []) c.as_slice-in-Offer.ensures in
+    rw c.in-Offer.is
+    (subst
+    (λ (offered : List (List ℕ)). TellsAnswer c.say-in-Offer.result (g.W.Write.contents c.args.out.now)
+    (g.W.Write.contents c.say-in-Offer.new.out) a.session.device (Replies ok_line (with offered)) (with c.push.new.self)) added
+    (replied c.say-in-Offer.result a.session.device ok_line (with c.push.new.self) _ _ c.say-in-Offer.ensures))
 
 pub returns-in-Save : goal.returns-in-Save
 returns-in-Save g c = rw c.in-Save.is c.save.ensures
