@@ -23,7 +23,7 @@ def restored(server):
         (f"readl {BASE + ICR}", "IRQ lower 0\n" + number(0x80)), ("restore", "OK"), ("readb 12", ZERO), ("step rxdone", "IRQ raise 0\nOK done"),
         ("readb 12", number(3)), ("step rxdone", "OK nothing")])
     server.talks("states: the EEPROM and the PHY", [
-        ("writel 0xFEB00014 1", "OK"), ("writel 0xFEB00020 0x04201200", "OK"), ("writel 0xFEB00000 0x40", "OK"), ("save", "OK"), *[("settle", number(3)), ("readl 0xFEB00014", number(0x00020010)),
+        ("writel 0xFEB00014 1", "OK"), ("writel 0xFEB00020 0x04201200", "OK"), ("writel 0xFEB00000 0x40", "OK"), ("save", "OK"), *[("settle", number(4)), ("readl 0xFEB00014", number(0x00020010)),
         ("readl 0xFEB00008", number(0x83)), ("settle", ZERO), ("restore", "OK"), ("readl 0xFEB00014", ZERO), ("readl 0xFEB00008", number(0))] * 2],
         "--link", "2")
     server.talks("states: the log and the wire", [
