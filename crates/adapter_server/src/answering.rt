@@ -77,7 +77,8 @@ impl Server {
                 self.session.read(alloc, out, said, *wanted, *address)
             }
             Request::Write(address, payload) => {
-                self.session.write(alloc, out, said, *address, payload.as_slice())
+                self.session
+                    .write(alloc, out, said, *address, payload.as_slice())
             }
             Request::Endianness => say_word(alloc, out, b"little"),
             Request::Step(kind) => self.session.take_step(alloc, out, *kind),
