@@ -176,7 +176,7 @@ def play(draw, names):
     for name in names:
         enabled = lambda: [step for step in left if left[step] and not (step == "rxdata" and left["rxdone"])]
         before = dict(draw.priorities)
-        for step in draw.actions(name, enabled):
+        for step in draw.actions(name, enabled, False):
             actor = next(actor for actor, steps in ACTORS.items() if step in steps)
             could = [other for other in ACTORS if other == DRIVER or set(ACTORS[other]) & set(enabled())]
             best = max(before[other] for other in could)

@@ -23,6 +23,7 @@ class Adapter:
         self.line = False  # whether the interrupt line is asserted
         self.wire = []  # the frames that were put onto the wire
         self.told = []  # the lines of the log
+        self.arrived = []  # the frames that arrived, each as a pair with its fate
         self.handler = None  # if set, it is called as soon as the line is asserted, between any two requests
         self.takes_interrupts = True  # whether the processor takes interrupts, so that the handler may be called
 
@@ -78,7 +79,10 @@ class Adapter:
                 self.line = rest == "raise 0"
             if word == "frame":
                 self.wire.append(bytes.fromhex(rest))
-            if word in ("IRQ", "frame", "#"):
+            if word == "arrived":
+                fate, _, frame = rest.partition(" ")
+                self.arrived.append((fate, bytes.fromhex(frame)))
+            if word in ("IRQ", "frame", "arrived", "#"):
                 self.told.append(f"{word} {rest}")
             else:
                 raise Refused(f"{request}: {word} {rest}")
@@ -125,7 +129,13 @@ class Adapter:
 
     def arrive(self, frame):
         """Lets a frame arrive from the wire, and returns its fate."""
-        return self.ask(f"arrive {frame.hex()}")[0]
+        fate = self.ask(f"arrive {frame.hex()}")[0]
+        self.arrived.append((fate, frame))
+        return fate
+
+    def offer(self, frame):
+        """Offers a frame. It arrives when the adapter settles, or earlier if a schedule of `tools/races` plays this."""
+        self.ask(f"offer {frame.hex()}")
 
     def settle(self):
         """Plays steps until nothing is left to do, and returns the number of steps that did something."""

@@ -151,7 +151,8 @@ class Forks:
 
     def host_of(self, schedule, draw):
         """The last host before the first deviation."""
-        first = schedule[0].place if schedule else FIRST if draw and draw.draws_holds else ROUND_1
+        first = min(one.place or FIRST for one in schedule) if schedule else \
+            FIRST if draw and draw.draws_holds else ROUND_1
         return next(control for place, control in self.hosts if place <= first)
 
     def play(self, schedule, draw, is_strict, has_places, wake):

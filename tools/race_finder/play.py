@@ -1,15 +1,19 @@
 """Plays a schedule between a test and `nicbench serve`."""
 
 import hashlib
+import re
+from collections import Counter
 from typing import NamedTuple
 
 from race_finder.names import DEFAULT_REGISTERS, access_of, number_of, words_of
-from race_finder.schedule import ENGINES, HOLDS, ROUNDS, Deviation, Place, steps_of
+from race_finder.schedule import ARRIVE, ENGINES, HOLDS, ROUNDS, Deviation, Place, steps_of
 from race_finder.shadow import MATTER, Shadow
 
 # The most bytes of requests that are sent before answers are read: every pipe holds at least this many.
 MOST_AT_ONCE = 4096
 MOST_INTERLEAVED = 65535
+FRAME = re.compile("(?:[0-9a-fA-F]{2})+")
+LONGEST = 131_200  # bytes of a request
 # Who made a request.
 TEST, DEFAULT, DEVIATION = "test", "default", "deviation"
 
@@ -28,6 +32,7 @@ class Request(NamedTuple):
     name: str = None
     holds: tuple = ()
     drawn: Deviation = None  # that this step was drawn for
+    frame: str = None  # the digits of a frame that the test has offered, and that arrives
 
 
 class Met(NamedTuple):
@@ -52,10 +57,17 @@ def is_interleave(words):
     return count is not None and count <= MOST_INTERLEAVED
 
 
+def frame_of(request, words):
+    """The digits of the frame that a request offers, or None if it isn't a valid one that offers a frame."""
+    is_offer = len(words) == 2 and words[0] == "offer" and len(request) <= LONGEST
+    return words[1].lower() if is_offer and FRAME.fullmatch(words[1]) else None
+
+
 class Play:
     """Takes requests of the test, and returns what answers them."""
 
     def __init__(self, server, schedule=(), draw=None, is_strict=True, base=DEFAULT_REGISTERS):
+        self.counts = Counter()  # of accesses, by their names, if the schedule needs them
         self.begin(server, schedule, draw, is_strict)
         self.shadow = Shadow(base)
         self.waiting, self.size = [], 0  # requests that aren't sent yet, and their bytes
@@ -64,19 +76,24 @@ class Play:
         self.stop, self.at_stop = None, None  # a place, and what is called when the run reaches it
         self.begun = []  # the texts of the requests before this place
         self.out = []  # lines for the test
+        self.offered, self.offers = [], 0  # frames that wait for their arrival, the oldest one first; how many there were
         self.met, self.idle = [], []  # the deviations that did something, and those that did nothing
         self.places, self.rows = [], []
         self.reached, self.counted = frozenset(), 0  # what was reached by the first rows, and how many these are
-        self.events = 0  # accesses, and steps of engines that did something, from round 1 on
+        # Accesses, steps of engines that did something, and arrivals of offered frames, from round 1 on
+        self.events = 0
         self.answers = hashlib.sha1()
         self.queue(Request("log on", DEFAULT))
 
     def begin(self, server, schedule, draw, is_strict):
         """Plays this schedule. Nothing that it does is before the next request."""
         self.server, self.draw, self.is_strict = server, draw, is_strict
-        self.left = {}  # deviations whose place isn't reached yet
+        self.schedule = list(schedule)
+        self.left, self.named = {}, {}  # deviations whose access isn't reached yet: by places, and by names and numbers
         for deviation in schedule:
-            self.left.setdefault(deviation.place, []).append(deviation)
+            by_place, name = (self.left, deviation.place), (deviation.before, deviation.number)
+            some, key = (self.named, name) if deviation.number else by_place
+            some.setdefault(key, []).append(deviation)
 
     # The server
 
@@ -100,7 +117,7 @@ class Play:
 
     def answer(self, request):
         """Returns the answer to a request, after the lines before it."""
-        row, line = None, self.server.line()
+        row, line, at = None, self.server.line(), len(self.out) + self.is_logged
         while not line.startswith(("OK", "ERR", "FAIL")):
             if line.startswith("# step "):
                 self.hear_step(line, request.owner)
@@ -112,6 +129,9 @@ class Play:
             row.answer = text
         if line == "OK stored":
             self.shadow.waiting += 1
+        if request.frame:
+            self.events += 1
+            self.out.insert(at, f"arrived {text} {request.frame}")  # after the line of the log, before the interrupt line
         if request.owner == TEST:
             self.out.append(line)
         elif request.drawn and line != "OK nothing":
@@ -134,7 +154,7 @@ class Play:
         if is_logged and request.access:
             row.place, row.name = request.place, request.name
             # No schedule gets longer than a drawn one.
-            enabled = () if self.draw else tuple(self.shadow.enabled())
+            enabled = () if self.draw else tuple(self.possible())
             self.places.append(Met(request.place, request.name, enabled, request.holds))
             if request.register and request.access.kind == "write":
                 self.shadow.write(request.register, request.access.value)
@@ -169,7 +189,7 @@ class Play:
             self.flush()
             self.out.append("OK")  # the schedule takes the place of random steps
         elif words[:1] and words[0] in ROUNDS:
-            self.begin_round(request)
+            self.begin_round(request, words)
         else:
             self.queue(Request(request, TEST))
 
@@ -180,9 +200,19 @@ class Play:
             self.stop = None
             self.at_stop()
 
-    def begin_round(self, request):
+    def begin_round(self, request, words):
         self.reach(Place(self.round + 1, 0))
         self.round, self.access_number = self.round + 1, 0
+        frame = frame_of(request, words)
+        if frame:
+            self.flush()
+            self.offered.append(frame)
+            self.offers += 1
+            self.out.append("OK")
+            return
+        self.flush()
+        while words == ["settle"] and self.offered:
+            self.arrive(DEFAULT)
         self.queue(Request(request, TEST))
         self.flush()  # so the same steps follow, however many requests are sent at once
 
@@ -194,25 +224,47 @@ class Play:
         self.events += self.round > 0
         register = self.shadow.register(access)
         name = f"{access.kind} {register or self.shadow.memory(access)}"
-        due = self.left.pop(place, ())
+        due = self.due(place, name)
         for deviation in due:
-            if self.is_strict and deviation.before != name:
+            if self.is_strict and deviation.before != name:  # given by its place
                 raise Mismatch(f"{deviation}: at this place, the test makes another access: {name}")
         holds = self.tick(place, name, due)
         for deviation in due:
             if deviation.action not in HOLDS:
-                self.play(Deviation(place, deviation.action, name))
+                self.play(deviation, place, name)
         if self.draw and self.round:
-            for action in self.draw.actions(name, self.enabled):
-                self.queue(Request(f"step {action}", DEVIATION, drawn=Deviation(place, action, name)))
+            for action in self.draw.actions(name, self.enabled, bool(self.offered)):
+                drawn = Deviation(place, action, name)
+                if action == ARRIVE:
+                    self.arrive(DEVIATION, drawn)
+                else:
+                    self.queue(Request(f"step {action}", DEVIATION, drawn=drawn))
         self.queue(Request(request, TEST, access, register, place, name, holds))
         if access.kind == "write" and register in MATTER:
             self.flush()
 
+    def due(self, place, name):
+        """The deviations before this access, in the order in which the schedule has them."""
+        due = self.left.pop(place, [])
+        if self.named:
+            self.counts[name] += 1
+            due += self.named.pop((name, self.counts[name]), ())
+            due.sort(key=self.schedule.index)
+        return due
+
+    def possible(self):
+        """The steps of engines and the arrivals that would do something, after what is answered."""
+        return [*self.shadow.enabled(), *([ARRIVE] if self.offered else [])]
+
     def enabled(self):
-        """The steps of engines that would do something now."""
+        """The steps of engines and the arrivals that would do something now."""
         self.flush()
-        return self.shadow.enabled()
+        return self.possible()
+
+    def arrive(self, owner, drawn=None):
+        """The oldest frame that the test has offered arrives."""
+        frame = self.offered.pop(0)
+        self.queue(Request(f"arrive {frame}", owner, drawn=drawn, frame=frame))
 
     def tick(self, place, name, due):
         """Plays the default steps. Returns the holds that would leave out one that does something."""
@@ -233,20 +285,22 @@ class Play:
                     found.append(hold)
         return tuple(found)
 
-    def play(self, deviation):
-        """Plays the steps of a deviation, and records those that did something."""
+    def play(self, deviation, place, name):
+        """Plays the steps of a deviation before this access, or its arrival. Records what did something."""
         self.flush()
         steps = steps_of(deviation.action)
-        for kind in steps:
-            self.queue(Request(f"step {kind}", DEVIATION))
+        if deviation.action == ARRIVE and self.offered:
+            steps = (ARRIVE,)
+            self.arrive(DEVIATION)
+        else:
+            for kind in steps:
+                self.queue(Request(f"step {kind}", DEVIATION))
         did = [kind for kind, outcome in zip(steps, self.flush()) if outcome != "nothing"]
-        if len(did) == len(steps):
-            self.met.append(deviation)
-        elif did:
-            self.met.append(deviation._replace(action=did[0]))
+        if did:
+            self.met.append(Deviation(place, deviation.action if len(did) == len(steps) else did[0], name))
         else:
             self.idle.append(deviation)
 
     def unreached(self):
-        """The deviations whose places the run didn't reach."""
-        return [deviation for some in self.left.values() for deviation in some]
+        """The deviations whose accesses the run didn't reach."""
+        return [deviation for some in (*self.left.values(), *self.named.values()) for deviation in some]

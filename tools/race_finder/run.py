@@ -11,7 +11,7 @@ class Run:
     def __init__(self, fault, play):
         self.fault, self.met, self.idle, self.unreached = fault, play.met, play.idle, play.unreached()
         self.places, self.rows, self.answers = play.places, play.rows, play.answers.digest()
-        self.events = play.events
+        self.events, self.offers = play.events, play.offers
         self.reached = play.reached | reached_by(play.rows[play.counted:])
 
     def reduced(self, has_places, has_rows):
