@@ -42,13 +42,13 @@ def commands(server):
 
 def columns(server):
     """The requests in two pages have the answers next to them. `...` at the end of a line means any text."""
-    for names, first, width in [(("crates", "adapter_server", "README.md"), "readl", 30), (("docs", "SERVE.md"), "memset", 48)]:
+    for names, first, width in [(("crates", "adapter_server", "README.md"), "readl", 30), (("docs", "SERVE.md"), "memset", 48), (("docs", "SERVE.md"), "save", 48)]:
         block = re.search(rf"^```\n({first} .*?)^```$", read_page(*names), re.M | re.S)[1]
         rows = [(row[:width].strip(), row[width:]) for row in block.splitlines()]
-        server.check(f"columns: {names[-1]} has some", len(rows) > 6, True)
+        server.check(f"columns: {names[-1]} has some for {first}", len(rows) > 6, True)
         status, out, errors = server.serve(lines(request for request, _ in rows if request))
         shown = "".join(f"{told}\n" for _, told in rows)
-        server.check(f"columns: {names[-1]}", (status, follow(out.decode(), shown), errors), (0, True, b""))
+        server.check(f"columns: {names[-1]}: {first}", (status, follow(out.decode(), shown), errors), (0, True, b""))
 
 
 def page(server):
