@@ -1,8 +1,8 @@
 """Draws schedules.
 
-`actions(name, enabled, has_frames)` yields the steps that are played before the access with this name, and arrivals of
-frames that the test has offered. `enabled` returns those that would do something at this time, after those that were
-yielded before. With `has_frames`, an offered frame waits.
+`actions(name, enabled, has_frames)` returns the steps that are played before the access with this name, and arrivals of
+frames that the test has offered, one by one. `enabled` returns those that would do something at this time, after those
+that were returned before. With `has_frames`, an offered frame waits.
 """
 
 import random
@@ -41,14 +41,24 @@ class Uniform:
         return random.Random(self.seed).random
 
     def actions(self, _, enabled, has_frames):
-        draw, chance, possible = self.random, self.chance, enabled()
-        order = sorted([(draw(), action) for action in (OFFERED if has_frames else ENGINES)])
-        drawn = [action for _, action in order if draw() < chance]  # as many draws if no action is possible
-        if possible:
-            for action in drawn:
-                if action in possible:
-                    possible = (*possible, PARTNERS[action])
-                    yield action
+        draw, actions, possible = self.random, OFFERED if has_frames else ENGINES, enabled()
+        if not possible:
+            for _ in actions:  # as many numbers as if an action is possible
+                draw(), draw()
+            return ()
+        order = sorted([(draw(), action) for action in actions])
+        drawn = [action for _, action in order if draw() < self.chance]
+        return self.those_possible(drawn, possible)
+
+    @staticmethod
+    def those_possible(drawn, possible):
+        """Those of the drawn actions that would do something, each after those before it."""
+        found = []
+        for action in drawn:
+            if action in possible:
+                possible = (*possible, PARTNERS[action])
+                found.append(action)
+        return found
 
     def holds(self):
         """Whether a default step of the EEPROM or the PHY is left out."""

@@ -53,7 +53,7 @@ class Row:
 
 class Known:
     """The access of a request: its name, its register (None for memory), and what follows from these."""
-    __slots__ = ("access", "register", "name", "bit", "matters", "is_quiet", "is_causes")
+    __slots__ = ("access", "register", "name", "bit", "matters", "is_quiet", "is_causes", "has_effect")
 
     def __init__(self, access, register, name, memory):
         is_write = access.kind == "write"
@@ -63,6 +63,7 @@ class Known:
         is_stored = register is None and 0 < access.size <= memory - access.address
         self.is_quiet = is_write and (register in QUIET or is_stored)
         self.is_causes = register == "ICR" and not is_write
+        self.has_effect = self.is_causes or self.matters
 
 
 def is_interleave(words):
@@ -134,12 +135,13 @@ class Play:
             self.has_log = has_log
 
     def queue(self, text, owner, known=None, met=None, drawn=None, frame=None, outcomes=None):
-        size = len(text) + 1
-        if self.waiting and self.size + size > MOST_AT_ONCE:
+        self.size += len(text) + 1
+        if self.size > MOST_AT_ONCE and self.waiting:
             self.flush()
+            self.size = len(text) + 1
         self.waiting.append((text, owner, known, met, drawn, frame, outcomes))
-        self.size += size
-        self.untold += owner is not TOLD
+        if owner is not TOLD:
+            self.untold += 1
 
     def flush(self):
         """Sends all requests that wait, and returns their answers."""
@@ -171,7 +173,11 @@ class Play:
             self.out.append(line)
         if known:
             if line[0] == "O":
-                self.hear_access(known, owner, met, text)
+                self.reached |= known.bit
+                if met:
+                    self.places.append(met)
+                if known.has_effect:
+                    self.hear_access(known, owner, text)
         elif outcomes:
             self.take_step(*outcomes[line])
         elif line in FATES:
@@ -184,11 +190,8 @@ class Play:
             self.met.append(drawn)
         return text
 
-    def hear_access(self, known, owner, met, text):
-        """An access that was valid."""
-        self.reached |= known.bit
-        if met:
-            self.places.append(met)
+    def hear_access(self, known, owner, text):
+        """A valid access of a register after which something is known."""
         if known.is_causes:
             self.reached |= bits_of_causes(causes_of(number_in(known.access, text) or 0))
         elif known.matters and owner is not TOLD:
@@ -231,22 +234,22 @@ class Play:
     def feed(self, requests, is_last=False):
         """Returns the lines that answer these requests of the test, as bytes."""
         for request in requests:
-            self.take(request)
+            known = self.known.get(request) or self.learn(request)
+            if known:
+                self.access(request, known)
+            else:
+                self.take(request)
         if self.untold or is_last:
             self.flush()
         if not self.out:
             return b""
-        self.out.append("")
-        data = "\n".join(self.out).encode(errors="surrogateescape")
+        data = ("\n".join(self.out) + "\n").encode(errors="surrogateescape")
         self.out = []
         self.answers.update(data)
         return data
 
     def take(self, request):
-        known = self.known.get(request) or self.learn(request)
-        if known:
-            self.access(request, known)
-            return
+        """A request of the test that isn't an access."""
         words = words_of(request)
         if words in LOG:
             self.flush()
@@ -320,7 +323,8 @@ class Play:
                 if deviation.action not in HOLDS:
                     self.play(deviation, known.name)
         if self.draw and self.round:
-            self.play_drawn(known.name)
+            for action in self.draw.actions(known.name, self.enabled, bool(self.offered)):
+                self.play_drawn(action, known.name)
         met = None
         if self.has_places:
             # No schedule gets longer than a drawn one.
@@ -386,15 +390,13 @@ class Play:
                     found.append(hold)
         return tuple(found)
 
-    def play_drawn(self, name):
+    def play_drawn(self, action, name):
         """Plays what is drawn before an access with this name."""
-        place = self.round, self.access_number
-        for action in self.draw.actions(name, self.enabled, bool(self.offered)):
-            drawn = Deviation(Place(*place), action, name)
-            if action == ARRIVE:
-                self.arrive(DEVIATION, drawn)
-            else:
-                self.step(action, DEVIATION, drawn)
+        drawn = Deviation(Place(self.round, self.access_number), action, name)
+        if action == ARRIVE:
+            self.arrive(DEVIATION, drawn)
+        else:
+            self.step(action, DEVIATION, drawn)
 
     def play(self, deviation, name):
         """Plays the steps of a deviation before an access with this name, or an arrival. Records what did something."""

@@ -29,10 +29,8 @@ class Server:
         """Sends requests, of which there is at least one."""
         data = ("\n".join(requests) + "\n").encode(errors="surrogateescape")
         try:
-            size = os.write(self.sink, data)
-            while size < len(data):
-                data = data[size:]
-                size = os.write(self.sink, data)
+            while size := os.write(self.sink, data) - len(data):
+                data = data[size:]  # what wasn't written: the size is below 0
         except BrokenPipeError:
             self.fail()
 
@@ -41,8 +39,11 @@ class Server:
             more = os.read(self.source, 8192)
             if not more:
                 self.fail()
-            whole, _, self.rest = (self.rest + more).rpartition(b"\n")
-            self.lines = whole.decode(errors="surrogateescape").split("\n")[::-1] if whole else []
+            if self.rest:
+                more = self.rest + more
+            whole, _, self.rest = more.rpartition(b"\n")
+            self.lines = whole.decode(errors="surrogateescape").split("\n") if whole else []
+            self.lines.reverse()
         return self.lines.pop()
 
     def repeat(self, requests):
