@@ -89,7 +89,8 @@ def requests(draw):
 
 def played(asked, size, draw=None):
     server = Server(sys.argv[1], [])
-    play = Checked(server, draw=draw)
+    play = Checked()
+    play.begin(server, draw=draw)
     lines = [line for at in range(0, len(asked), size) for line in play.feed(asked[at:at + size]).splitlines()]
     server.end()
     return lines, play.met, play.places, [(row.line, row.owner, row.place, row.name, row.answer) for row in play.rows]

@@ -3,6 +3,7 @@
 import json
 import os
 import re
+import shlex
 import shutil
 import sys
 
@@ -14,6 +15,7 @@ from server import lines
 from server_pages import TOP, follow, read_page
 
 sys.path.append(os.path.join(TOP, "examples", "drivers"))
+from arrivals import MISSED  # noqa: E402
 from driver import RIGHT  # noqa: E402
 
 OTHER = f"{FRAME[:-2]}ff"
@@ -135,18 +137,26 @@ def drivers(server):
     server.check("arrivals: by request, no schedule of depth 1 shows it", (status, "schedules fails" in without_reached(out), errors), (PASSES, True, ""))
     status, out, errors = find(server, "--runs", "30", command=[*STAGED, "arrives", "rxo"])
     server.check("arrivals: by request, no drawn schedule shows it", (status, "\nno run fails\n" in out, errors), (PASSES, True, ""))
-    command, wanted = re.search(r"^```\n\$ tools/races -- python3 (\S+ groups group)\n(.*?)^```$", read_page("examples", "drivers", "README.md"), re.M | re.S).groups()
-    server.check("arrivals: the command with a group", command, "examples/drivers/staged_test.py groups group")
-    status, out, errors = find(server, command=[*STAGED, "groups", "group"])
-    server.check("arrivals: a group is no race", (status, follow(without_rate(out), without_rate(wanted)), errors), (FOUND, True, ""))
     for name in RIGHT:
-        for test, words in [("offers", ["--runs", "30"]), ("arrives", ["--runs", "10"]), ("groups", ["--runs", "3"])]:
+        for test, words in [("offers", ["--runs", "30"]), ("arrives", ["--runs", "10"]), ("groups", ["--runs", "3"]),
+                            ("misses", ["--runs", "10", "--options", f"--missed {MISSED}"])]:
             status, out, errors = find(server, *words, command=[*STAGED, test, name])
             server.check(f"arrivals: {name} passes {test}", (status, "\nno run fails\n" in out, errors), (PASSES, True, ""))
     status, out, errors = find(server, "--pct", "3", "--runs", "30", command=[*STAGED, "offers", "right"])
     server.check("arrivals: right passes offers by PCT", (status, "\nno run fails\n" in out, errors), (PASSES, True, ""))
 
 
+def page(server):
+    """The sessions on the page of examples/drivers show bugs that are no races."""
+    block = re.search(r"^```\n(\$ tools/races -- python3 \S+ groups group\n.*?)^```$", read_page("examples", "drivers", "README.md"), re.M | re.S)[1]
+    for words, test, wanted in re.findall(r"^\$ tools/races (.*)-- python3 examples/drivers/staged_test.py (.*)\n((?:(?!\$ ).*\n)*)", block, re.M):
+        status, out, errors = find(server, *shlex.split(words), command=[*STAGED, *test.split()])
+        server.check(f"arrivals: {test}", (status, follow(without_rate(out), without_rate(wanted)), errors), (FOUND, True, ""))
+    server.check("arrivals: both are shown", block.count("\nno race: "), 2)
+    status, out, _ = find(server, command=[*STAGED, "misses"])
+    server.check("arrivals: misses without its option", (status, f"start the server with --missed {MISSED}\n" in out), (FOUND, True))
+
+
 def all_cases(server):
-    for part in [talks, searches, actors, drivers]:
+    for part in [talks, searches, actors, drivers, page]:
         part(server)

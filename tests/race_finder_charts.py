@@ -30,7 +30,7 @@ SECTIONS = {
     "cuts": "The handler cuts in on a send", "rxo": "A frame is missed while misses are counted",
 }
 # The bugs that are no races have no chart.
-NO_RACES = ["group"]
+NO_RACES = ["group", "wraps"]
 CHART = re.compile(r"^```\n\$ ([^\n]*examples/drivers/staged_test\.py (?:stages|cuts|offers) (\S+))\n(.*?)^```$", re.M | re.S)
 
 

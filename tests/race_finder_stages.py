@@ -24,7 +24,8 @@ sys.dont_write_bytecode = True
 sys.path.insert(0, sys.argv[1])
 from race_finder.draw import Uniform
 from race_finder.target import Target
-target = Target(sys.argv[2], sys.argv[5:], seconds=60)
+options = sys.argv[3].removeprefix("--options=").split() if sys.argv[3].startswith("--options=") else []
+target = Target(sys.argv[2], sys.argv[5:], options, seconds=60)
 for seed in range(1, int(sys.argv[4]) + 1):
     if target.run(draw=Uniform(seed, draws_holds=sys.argv[3] == "--holds")).fault:
         print(seed)
@@ -57,13 +58,13 @@ def table(server):
         command, right, text = [*STAGED, test, bug], [*STAGED, test, "right"], "".join(f"{line}\n" for line in deviations)
         server.check(f"table: {bug}, its first seed", first_seed(server, options, int(seed), command), (seed, ""))
         server.check(f"table: {bug} needs at most one deviation", len(deviations) <= 1, True)
-        status, out, errors = replay(server, text, command=command)
+        status, out, errors = replay(server, text, *options, command=command)
         is_fault = out.endswith("\n") and out.splitlines()[-1].startswith("   exit status 1: ")
         server.check(f"table: {bug} is shown by its schedule", (status, is_fault, errors), (FOUND, True, ""))
         server.check(f"table: {bug}, each deviation is played", re.findall("did nothing|doesn't reach", out), [])
         if deviations:
             server.check(f"table: {bug} isn't shown without a deviation", replay(server, "", command=command)[::2], (PASSES, ""))
-        status, out, errors = replay(server, text, "--any-access", command=right)
+        status, out, errors = replay(server, text, *options, "--any-access", command=right)
         server.check(f"table: right passes the schedule of {bug}", (status, out.splitlines()[-1:], errors), (PASSES, ["   The test passes."], ""))
         if bug in AGAIN:
             status, _, errors = find(server, *AGAIN[bug], "--out", "found", command=command)
@@ -84,7 +85,7 @@ def right_drivers(server):
 def usage(server):
     """Words that name no test or no driver."""
     names = "|".join([*RIGHT, *BUGS, *MORE_BUGS])
-    staged = f"staged_test.py stages|cuts|offers|arrives|groups [{names}|{'|'.join(ARRIVAL_BUGS)}]"
+    staged = f"staged_test.py stages|cuts|offers|arrives|groups|misses [{names}|{'|'.join(ARRIVAL_BUGS)}]"
     for script, words, begin in [(STAGED, [], staged), (STAGED, ["exchange"], staged), (STAGED, ["cuts", "lat"], staged), (STAGED, ["cuts", "late", "x"], staged),
                                  (EXCHANGE, ["lat"], f"exchange_test.py [{names}]"), (EXCHANGE, ["late", "x"], f"exchange_test.py [{names}]")]:
         ran = subprocess.run([*script, *words], stdin=subprocess.DEVNULL, capture_output=True, timeout=LIMIT)

@@ -48,6 +48,10 @@ class Adapter:
         Sends many before it reads the first answer, but a long one alone. If a handler is set, sends each one alone. So
         the handler may cut in between any two requests.
         """
+        if len(requests) == 1:
+            answers = self.ask_at_once(requests)
+            self.cut_in()
+            return answers
         answers, some, size = [], [], 0
         for request in requests:
             if some and (self.handler or size + len(request) + 1 > MOST_AT_ONCE):
@@ -63,7 +67,7 @@ class Adapter:
     def ask_at_once(self, requests):
         """Sends these requests, then reads and returns their answers."""
         try:
-            self.requests.write("".join(f"{request}\n" for request in requests).encode())
+            self.requests.write(("\n".join(requests) + "\n").encode())
             self.requests.flush()
         except BrokenPipeError:
             raise Refused(f"{requests[0]}: the server has ended") from None

@@ -10,6 +10,8 @@ from traffic import OTHER, SELF, fault_of, frame_of
 # Two groups whose bit of MTA is the same, and another one
 GROUPS = bytes.fromhex("01005e001001"), bytes.fromhex("01005e011001"), bytes.fromhex("01005e001002")
 ROUNDS_OF_MISSES = 3
+# MPC at the start of the test `misses`, by the option --missed of the server
+MISSED = 4_294_967_295
 
 
 class Arrivals(Traffic):
@@ -18,6 +20,7 @@ class Arrivals(Traffic):
     def __init__(self, adapter, driver, is_offered=True):
         super().__init__(adapter, driver)
         self.is_offered = is_offered
+        self.missed = driver.missed  # before the test
 
     def offer(self, slots):
         """Offers a frame, or lets it arrive at once if frames aren't offered."""
@@ -29,10 +32,11 @@ class Arrivals(Traffic):
     def finish(self):
         """Lets the adapter do all that is left. Then all stored frames must be received, and all missed ones counted."""
         self.settle()
-        fates = [fate for fate, _ in self.adapter.arrived]
-        self.check(fault_of("received", [frame for fate, frame in self.adapter.arrived if fate == "stored"], self.driver.received))
-        if self.driver.missed != fates.count("missed"):
-            raise Fault(f"{self.driver.missed} missed frames were counted instead of {fates.count('missed')}")
+        stored = [frame for fate, frame in self.adapter.arrived if fate == "stored"]
+        self.check(fault_of("received", stored, self.driver.received))
+        missed = self.missed + sum(fate == "missed" for fate, _ in self.adapter.arrived)
+        if self.driver.missed != missed:
+            raise Fault(f"{self.driver.missed} missed frames were counted instead of {missed}")
 
 
 def offers(adapter, driver, is_offered=True):
@@ -84,6 +88,21 @@ def groups(adapter, driver):
         driver.leave(second)
         arrive("filtered", first, second)
         arrive("stored", other)
+    except Fault as fault:
+        return str(fault)
+    return None
+
+
+def misses(adapter, driver):
+    """The driver has counted MISSED frames, and then a frame is missed. Returns the first fault, or None."""
+    if driver.missed != MISSED:
+        return f"the driver has read {driver.missed} from MPC: start the server with --missed {MISSED}"
+    run = Arrivals(adapter, driver)
+    adapter.write((PBA, 2))
+    try:
+        run.arrive(1)
+        run.arrive(1)
+        run.finish()
     except Fault as fault:
         return str(fault)
     return None

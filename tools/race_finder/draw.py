@@ -1,11 +1,12 @@
 """Draws schedules.
 
-`actions(name, enabled, has_frames)` yields the steps that are played before the access with this name, and arrivals of
-frames that the test has offered. `enabled` returns those that would do something at this time, after those that were
-yielded before. With `has_frames`, an offered frame waits.
+`actions(name, enabled, has_frames)` returns the steps that are played before the access with this name, and arrivals of
+frames that the test has offered, one by one. `enabled` returns those that would do something at this time, after those
+that were returned before. With `has_frames`, an offered frame waits.
 """
 
 import random
+from functools import cached_property
 
 from race_finder.schedule import ARRIVE, ENGINES, PAIRS
 
@@ -16,6 +17,7 @@ DRIVER = "driver"
 # The actors of PCT, and their steps. Frames that arrive by requests of the test belong to the driver.
 ACTORS = {DRIVER: (), "receive": PAIRS["rx"], "fetch": ("txtake",), "put": ("txput",)}
 WIRE = {"wire": (ARRIVE,)}  # one more actor if the test offers frames
+OFFERED = *ENGINES, ARRIVE
 PATIENCE = 4  # reads of one register in a row
 
 
@@ -31,21 +33,36 @@ class Uniform:
     """
 
     def __init__(self, seed, chance=0.5, draws_holds=False):
-        self.random, self.chance, self.draws_holds = random.Random(seed), chance, draws_holds
+        self.seed, self.chance, self.draws_holds = seed, chance, draws_holds
+
+    @cached_property
+    def random(self):
+        """Of this generator, only the numbers of `random` are the same in all versions of Python."""
+        return random.Random(self.seed).random
 
     def actions(self, _, enabled, has_frames):
-        # Of this generator, only the numbers of `random` are the same in all versions of Python.
-        order = sorted((*ENGINES, ARRIVE) if has_frames else ENGINES, key=lambda _: self.random.random())
-        drawn = [action for action in order if self.random.random() < self.chance]
-        possible = set(enabled()) if drawn else set()
+        draw, actions, possible = self.random, OFFERED if has_frames else ENGINES, enabled()
+        if not possible:
+            for _ in actions:  # as many numbers as if an action is possible
+                draw(), draw()
+            return ()
+        order = sorted([(draw(), action) for action in actions])
+        drawn = [action for _, action in order if draw() < self.chance]
+        return self.those_possible(drawn, possible)
+
+    @staticmethod
+    def those_possible(drawn, possible):
+        """Those of the drawn actions that would do something, each after those before it."""
+        found = []
         for action in drawn:
             if action in possible:
-                possible.add(PARTNERS[action])
-                yield action
+                possible = (*possible, PARTNERS[action])
+                found.append(action)
+        return found
 
     def holds(self):
         """Whether a default step of the EEPROM or the PHY is left out."""
-        return self.draws_holds and self.random.random() < 0.5
+        return self.draws_holds and self.random() < 0.5
 
 
 class Pct:
