@@ -90,7 +90,7 @@ def names(library):
     constants = {name: int(value, 16) for name, value in re.findall(r"^    pub const (\w+): u32 = (0x[0-9A-F]{4});$", rust, re.M)}
     library.check("the registers of the crate in Rust", constants, found)
     exported = set(re.findall(r'extern "C" fn (nic82540em_\w+)', text_of("crates", "nic82540em", "src", "lib.rt")))
-    library.check("the header's calls", set(re.findall(r"(nic82540em_\w+)\(struct", header)), exported)
+    library.check("the header's calls", set(re.findall(r"^(?!static).*?(nic82540em_\w+)\(struct", header, re.M)), exported)
     library.check("the calls of the crate in Rust", set(re.findall(r"fn (nic82540em_\w+)\(", rust)), exported)
     library.check("the calls in Python", {f"nic82540em_{name}" for name in nic82540em.CALLS}, exported)
     outcomes = re.findall(r"^    NIC_(\w+),?", header[header.index("NIC_NOTHING"):header.index("/* The fates")], re.M)
@@ -224,7 +224,7 @@ def has_fuzzer(library):
 def examples_in_c(library):
     if not library.is_there("cc", "the examples in C"):
         return
-    for name, extra in ("first", []), ("frames", []), ("fuzz", ["-DALONE"]):
+    for name, extra in ("first", []), ("frames", []), ("state", []), ("fuzz", ["-DALONE"]):
         source, wanted = os.path.join(EXAMPLES, f"{name}.c"), text_of("examples", "library", f"{name}.txt")
         for how, words in ("", []), ("_sanitized", [SANITIZERS, "-g"]):
             target = library.path(name + how)
@@ -237,7 +237,7 @@ def examples_in_c(library):
             ran = subprocess.run([fuzzer, "-runs=20000", "-seed=1"], cwd=library.folder, capture_output=True, timeout=600)
             library.check("fuzz by libFuzzer: runs", (ran.returncode, b"Done 20000 runs" in ran.stderr), (0, True))
     if library.is_there("valgrind", "the examples in C by valgrind"):
-        for name in "first", "frames":
+        for name in "first", "frames", "state":
             library.prints(f"{name}: by valgrind", ["valgrind", "-q", "--leak-check=full", "--error-exitcode=9",
                                                     library.path(name)], text_of("examples", "library", f"{name}.txt"))
 

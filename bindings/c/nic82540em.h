@@ -21,6 +21,7 @@
 #include <stdbool.h>
 #include <stddef.h>
 #include <stdint.h>
+#include <stdio.h>
 
 #ifdef __cplusplus
 extern "C" {
@@ -89,7 +90,8 @@ bool nic82540em_new(struct nic82540em *nic, const struct nic82540em_options *opt
 /* Frees the adapter. Its handle may be used for nic82540em_new again. */
 void nic82540em_free(struct nic82540em *nic);
 
-/* Accesses of a driver. Each is counted. After nic82540em_interleave, random steps are played before each. */
+/* Accesses of a driver: nic82540em_read, _write, _load and _store. Each is counted, and steps may be played before it
+ * (nic82540em_schedule, nic82540em_interleave). */
 
 /* Reads the register at an offset in bytes. Returns 0 at an offset without a register. */
 uint32_t nic82540em_read(struct nic82540em *nic, uint32_t offset);
@@ -105,8 +107,17 @@ bool nic82540em_load(struct nic82540em *nic, uint64_t address, void *into, size_
  * nothing changed, and no access is counted. */
 bool nic82540em_store(struct nic82540em *nic, uint64_t address, const void *bytes, size_t count);
 
-/* The number of accesses so far. */
+/* The number of accesses so far. So it is the number of the next access; the first has number 0. */
 uint64_t nic82540em_accesses(struct nic82540em *nic);
+
+/* Stores the address of the first byte of the host's memory in `into`, if memory has a byte, and returns its size in
+ * bytes. Use it for rings and buffers that your driver accesses by pointers. The address stays the same until
+ * nic82540em_free. Such an access is none of the accesses above: it isn't counted, and no step is played before it. */
+uint64_t nic82540em_memory(struct nic82540em *nic, void **into);
+
+/* Stores the value that a read of the register at an offset would return now in `into`. Nothing else changes: it is no
+ * access, and clears no register. It copies the host's memory meanwhile; returns false if the copy is refused. */
+bool nic82540em_peek(struct nic82540em *nic, uint32_t offset, uint32_t *into);
 
 /* What the adapter and the wire do. */
 
@@ -132,6 +143,11 @@ uint64_t nic82540em_settle(struct nic82540em *nic);
  * they are those of `nicbench serve --seed SEED` after its first `interleave COUNT`. Returns false, and changes nothing,
  * if `count` is above 65,535. */
 bool nic82540em_interleave(struct nic82540em *nic, uint32_t count, uint64_t seed);
+
+/* Adds a step of this kind to the end of the schedule. Before each access, the first steps of the schedule whose
+ * `access` is at most the number of the access are played, before random steps. So add steps in the order of their
+ * accesses. Returns false, and changes nothing, if there is no such kind, or 4,096 steps wait. */
+bool nic82540em_schedule(struct nic82540em *nic, uint64_t access, uint32_t kind);
 
 #ifdef __cplusplus
 }
@@ -239,5 +255,43 @@ enum {
 #define NIC_TXD_IFCS (1u << 1)
 #define NIC_TXD_RS (1u << 3)
 #define NIC_TXD_DD (1u << 0)
+
+/* The state of an adapter as text. */
+
+/* A register and its name. */
+struct nic82540em_register {
+    const char *name;
+    uint32_t offset;
+};
+
+/* Prints the registers by name, heads and tails among them, and the interrupt line into `into`, as snprintf does: at
+ * most `room` bytes with a null byte at the end. Returns the number of bytes that the whole text has. It clears no
+ * register. */
+static inline size_t nic82540em_print(struct nic82540em *nic, char *into, size_t room)
+{
+    static const struct nic82540em_register table[] = {
+        { "CTRL", NIC_CTRL },   { "STATUS", NIC_STATUS }, { "EERD", NIC_EERD },   { "MDIC", NIC_MDIC },
+        { "VET", NIC_VET },     { "ICR", NIC_ICR },       { "IMS", NIC_IMS },     { "RCTL", NIC_RCTL },
+        { "TCTL", NIC_TCTL },   { "PBA", NIC_PBA },       { "RDBAL", NIC_RDBAL }, { "RDBAH", NIC_RDBAH },
+        { "RDLEN", NIC_RDLEN }, { "RDH", NIC_RDH },       { "RDT", NIC_RDT },     { "TDBAL", NIC_TDBAL },
+        { "TDBAH", NIC_TDBAH }, { "TDLEN", NIC_TDLEN },   { "TDH", NIC_TDH },     { "TDT", NIC_TDT },
+        { "MPC", NIC_MPC },     { "GPRC", NIC_GPRC },     { "GPTC", NIC_GPTC },   { "RNBC", NIC_RNBC },
+        { "RAL0", NIC_RAL },    { "RAH0", NIC_RAH },
+    };
+    size_t size = 0, place;
+    uint32_t value;
+    int count;
+
+    for (place = 0; place < sizeof table / sizeof *table; place++) {
+        value = 0;
+        nic82540em_peek(nic, table[place].offset, &value);
+        count = snprintf(size < room ? into + size : NULL, size < room ? room - size : 0, "%-6s %08lx\n",
+                         table[place].name, (unsigned long)value);
+        size += count > 0 ? (size_t)count : 0;
+    }
+    count = snprintf(size < room ? into + size : NULL, size < room ? room - size : 0, "line   %d\n",
+                     (int)nic82540em_line(nic));
+    return size + (count > 0 ? (size_t)count : 0);
+}
 
 #endif

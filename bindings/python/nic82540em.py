@@ -42,12 +42,15 @@ CALLS = {
     "load": (ctypes.c_bool, [ctypes.c_uint64, ctypes.c_void_p, ctypes.c_size_t]),
     "store": (ctypes.c_bool, [ctypes.c_uint64, ctypes.c_char_p, ctypes.c_size_t]),
     "accesses": (ctypes.c_uint64, []),
+    "memory": (ctypes.c_uint64, [ctypes.POINTER(ctypes.c_void_p)]),
+    "peek": (ctypes.c_bool, [ctypes.c_uint32, ctypes.POINTER(ctypes.c_uint32)]),
     "step": (ctypes.c_uint32, [ctypes.c_uint32]),
     "arrive": (ctypes.c_uint32, [ctypes.c_char_p, ctypes.c_size_t]),
     "take_put": (ctypes.c_size_t, [ctypes.c_void_p, ctypes.c_size_t]),
     "line": (ctypes.c_bool, []),
     "settle": (ctypes.c_uint64, []),
     "interleave": (ctypes.c_bool, [ctypes.c_uint32, ctypes.c_uint64]),
+    "schedule": (ctypes.c_bool, [ctypes.c_uint64, ctypes.c_uint32]),
 }
 
 
@@ -116,6 +119,19 @@ class Nic:
         """Returns the number of accesses so far."""
         return self.call("accesses")
 
+    def memory(self):
+        """Returns the host's memory as an array of bytes. Don't use the array after `free`."""
+        address = ctypes.c_void_p()
+        size = self.call("memory", ctypes.byref(address))
+        return (ctypes.c_uint8 * size).from_address(address.value) if size else (ctypes.c_uint8 * 0)()
+
+    def peek(self, register):
+        """Returns the value that a read of a register would return now. Nothing changes."""
+        value = ctypes.c_uint32()
+        if not self.call("peek", register, ctypes.byref(value)):
+            raise Refused(f"peek {register:#x}")
+        return value.value
+
     # What the adapter and the wire do
 
     def step(self, kind):
@@ -147,12 +163,19 @@ class Nic:
         if not (0 <= count < 1 << 32 and 0 <= seed < 1 << 64 and self.call("interleave", count, seed)):
             raise Refused(f"interleave {count} {seed}")
 
+    def schedule(self, access, kind):
+        """Adds a step to the end of the schedule. It is played before the access with this number; the first has number 0."""
+        if kind not in KINDS or not 0 <= access < 1 << 64 or not self.call("schedule", access, KINDS.index(kind)):
+            raise Refused(f"schedule {access} {kind}")
+
 
 def options_of(words):
     """The settings of `Nic`, and the seed, from options of `serve`: --memory, --link, --rxa, --address and --seed."""
     names = {"--memory": "memory", "--link": "link", "--rxa": "rxa", "--seed": "seed"}
     settings = {"seed": 0}
-    for name, value in zip(words[::2], words[1::2], strict=True):
+    if len(words) % 2:
+        raise Refused(f"{words[-1]} has no value")
+    for name, value in zip(words[::2], words[1::2]):
         if name == "--address":
             settings["address"] = bytes.fromhex(value.replace(":", ""))
         elif name in names:

@@ -1,4 +1,4 @@
-/* Receives a frame and sends one, by descriptors in the host's memory; then uses each call on a handle without an
+/* Receives a frame and sends one, by descriptors in the host's memory. Uses each call, also on a handle without an
  * adapter, and with numbers out of range. */
 #include <inttypes.h>
 #include <nic82540em.h>
@@ -58,18 +58,42 @@ static void send(struct nic82540em *nic)
     printf("the wire is empty: %zu\n", nic82540em_take_put(nic, out, sizeof out));
 }
 
+/* Uses the host's memory by a pointer, a step before an access, and a register without a read. */
+static void more(struct nic82540em *nic)
+{
+    uint8_t byte = 0;
+    uint32_t causes = 0;
+    void *memory = NULL;
+
+    printf("memory: %" PRIu64 " bytes\n", nic82540em_memory(nic, &memory));
+    ((uint8_t *)memory)[0x5000] = 0x5A;
+    nic82540em_load(nic, 0x5000, &byte, 1);
+    printf("stored by the pointer: %02x\n", byte);
+    nic82540em_write(nic, NIC_EERD, NIC_EERD_START | NIC_EERD_ADDR(2));
+    printf("scheduled: %d\n", nic82540em_schedule(nic, nic82540em_accesses(nic) + 1, NIC_EEPROM));
+    printf("EERD: %08" PRIx32, nic82540em_read(nic, NIC_EERD));
+    printf(", and after the step %08" PRIx32 "\n", nic82540em_read(nic, NIC_EERD));
+    nic82540em_peek(nic, NIC_ICR, &causes);
+    printf("ICR: %08" PRIx32 ", the same when read: %d", causes, nic82540em_read(nic, NIC_ICR) == causes);
+    printf(", and then %08" PRIx32 "\n", nic82540em_read(nic, NIC_ICR));
+}
+
 /* What each call returns if the handle has no adapter. */
 static void without(struct nic82540em *nic)
 {
     uint8_t bytes[4] = { 1, 2, 3, 4 };
+    uint32_t value = 5;
+    void *memory = bytes;
 
     nic82540em_write(nic, NIC_IMS, 1);
     nic82540em_free(nic);
-    printf("no adapter: %" PRIx32 " %d %d %" PRIx32 " %" PRIx32 " %zu %d %" PRIu64 " %d %" PRIu64 " %d\n",
+    printf("no adapter: %" PRIx32 " %d %d %" PRIx32 " %" PRIx32 " %zu %d %" PRIu64 " %d %" PRIu64,
            nic82540em_read(nic, NIC_VET), nic82540em_load(nic, 0, bytes, 4), nic82540em_store(nic, 0, bytes, 4),
            nic82540em_step(nic, NIC_PHY), nic82540em_arrive(nic, bytes, 4), nic82540em_take_put(nic, bytes, 4),
-           nic82540em_line(nic), nic82540em_settle(nic), nic82540em_interleave(nic, 1, 1), nic82540em_accesses(nic),
-           bytes[0] == 1);
+           nic82540em_line(nic), nic82540em_settle(nic), nic82540em_interleave(nic, 1, 1), nic82540em_accesses(nic));
+    printf(" %d %d %" PRIu64, nic82540em_schedule(nic, 0, NIC_PHY), nic82540em_peek(nic, NIC_VET, &value),
+           nic82540em_memory(nic, &memory));
+    printf(", %s\n", bytes[0] == 1 && value == 5 && memory == bytes ? "and nothing changed" : "and something changed");
 }
 
 static void refusals(struct nic82540em *nic)
@@ -82,6 +106,7 @@ static void refusals(struct nic82540em *nic)
            nic82540em_store(nic, UINT64_MAX, bytes, 4));
     printf("no such step: %" PRIx32 "\n", nic82540em_step(nic, 6));
     printf("too many steps: %d\n", nic82540em_interleave(nic, 65536, 1));
+    printf("no such step in a schedule: %d\n", nic82540em_schedule(nic, 0, 6));
     printf("accesses: %" PRIu64 "\n", nic82540em_accesses(nic));
     nic82540em_free(nic);
     options.link = 65536;
@@ -107,6 +132,7 @@ int main(void)
         return 1;
     receive(&nic);
     send(&nic);
+    more(&nic);
     nic82540em_interleave(&nic, 3, 7);
     printf("read with steps before it: %08" PRIx32 "\n", nic82540em_read(&nic, NIC_PBA));
     refusals(&nic);

@@ -15,17 +15,15 @@ const DONE: u8 = 1;
 const RXT0: u32 = 1 << 7;
 const FRAMES: u8 = 2;
 
-/// Two steps, each before the access with its number.
+/// Two steps, each before an access of the handler, from 0 on.
 type Schedule = [(u64, Step); 2];
 
-/// A driver that receives frames, and the schedule of its handler.
+/// A driver that receives frames.
 struct Driver {
     nic: Nic,
     next: u64,
     received: Vec<u8>,
     is_late: bool,
-    schedule: Option<Schedule>,
-    first_access: u64,
 }
 
 impl Driver {
@@ -44,21 +42,10 @@ impl Driver {
         ] {
             nic.write(register, value);
         }
-        Driver { nic, next: 0, received: Vec::new(), is_late, schedule: None, first_access: 0 }
-    }
-
-    /// Plays the steps before the next access.
-    fn play(&mut self) {
-        let number = self.nic.accesses() - self.first_access;
-        for (access, step) in self.schedule.into_iter().flatten() {
-            if access == number {
-                self.nic.step(step);
-            }
-        }
+        Driver { nic, next: 0, received: Vec::new(), is_late }
     }
 
     fn read_icr(&mut self) {
-        self.play();
         self.nic.read(registers::ICR);
     }
 
@@ -66,13 +53,11 @@ impl Driver {
     fn take_frames(&mut self) {
         loop {
             let mut descriptor = [0; DESCRIPTOR_BYTES as usize];
-            self.play();
             self.nic.load(RING + self.next * DESCRIPTOR_BYTES, &mut descriptor).expect("a descriptor");
             if descriptor[STATUS] & DONE == 0 {
                 return;
             }
             let mut first = [0];
-            self.play();
             self.nic.load(BUFFERS + self.next * BUFFER_BYTES + 14, &mut first).expect("a frame");
             self.received.push(first[0]);
             self.next = (self.next + 1) % SLOTS;
@@ -105,11 +90,12 @@ fn run(is_late: bool, schedule: Option<Schedule>) -> (Vec<u8>, u64) {
     }
     driver.nic.step(Step::RxData);
     driver.nic.step(Step::RxDone);
-    driver.schedule = schedule;
-    driver.first_access = driver.nic.accesses();
+    let first = driver.nic.accesses();
+    for (access, step) in schedule.into_iter().flatten() {
+        driver.nic.schedule(first + access, step).expect("room");
+    }
     driver.interrupt();
-    let accesses = driver.nic.accesses() - driver.first_access;
-    driver.schedule = None;
+    let accesses = driver.nic.accesses() - first;
     driver.nic.settle();
     while driver.nic.line() {
         driver.interrupt();

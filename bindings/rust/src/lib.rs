@@ -133,7 +133,7 @@ pub enum Error {
     New,
     /// Some of the bytes are outside memory.
     OutOfRange,
-    /// The number of steps before an access is above 65,535.
+    /// The number of steps before an access is above 65,535, or 4,096 steps wait for their accesses.
     TooManySteps,
 }
 
@@ -142,7 +142,7 @@ impl fmt::Display for Error {
         f.write_str(match self {
             Error::New => "an option is out of range, or memory is refused",
             Error::OutOfRange => "some of the bytes are outside memory",
-            Error::TooManySteps => "the number of steps before an access is above 65,535",
+            Error::TooManySteps => "the number of steps before an access is above 65,535, or 4,096 steps wait for their accesses",
         })
     }
 }
@@ -184,12 +184,15 @@ extern "C" {
     fn nic82540em_load(nic: &mut Handle, address: u64, into: *mut u8, count: usize) -> bool;
     fn nic82540em_store(nic: &mut Handle, address: u64, bytes: *const u8, count: usize) -> bool;
     fn nic82540em_accesses(nic: &mut Handle) -> u64;
+    fn nic82540em_memory(nic: &mut Handle, into: &mut *mut u8) -> u64;
+    fn nic82540em_peek(nic: &mut Handle, offset: u32, into: &mut u32) -> bool;
     fn nic82540em_step(nic: &mut Handle, kind: u32) -> u32;
     fn nic82540em_arrive(nic: &mut Handle, frame: *const u8, count: usize) -> u32;
     fn nic82540em_take_put(nic: &mut Handle, into: *mut u8, room: usize) -> usize;
     fn nic82540em_line(nic: &mut Handle) -> bool;
     fn nic82540em_settle(nic: &mut Handle) -> u64;
     fn nic82540em_interleave(nic: &mut Handle, count: u32, seed: u64) -> bool;
+    fn nic82540em_schedule(nic: &mut Handle, access: u64, kind: u32) -> bool;
 }
 
 /// An adapter with its host's memory and its wire. It is freed when it is dropped.
@@ -237,6 +240,23 @@ impl Nic {
         unsafe { nic82540em_accesses(&mut self.handle) }
     }
 
+    /// The host's memory. Bytes that are read and written here are no accesses.
+    pub fn memory(&mut self) -> &mut [u8] {
+        let mut address = null_mut();
+        let size = unsafe { nic82540em_memory(&mut self.handle, &mut address) };
+        if size == 0 {
+            return &mut [];
+        }
+        unsafe { std::slice::from_raw_parts_mut(address, size as usize) }
+    }
+
+    /// The value that a read of the register at an offset would return now. Nothing changes. `None` if memory for a copy
+    /// of the host's memory is refused.
+    pub fn peek(&mut self, offset: u32) -> Option<u32> {
+        let mut value = 0;
+        unsafe { nic82540em_peek(&mut self.handle, offset, &mut value) }.then_some(value)
+    }
+
     /// Makes the adapter take a step of this kind.
     pub fn step(&mut self, kind: Step) -> Outcome {
         OUTCOMES[unsafe { nic82540em_step(&mut self.handle, kind as u32) } as usize]
@@ -268,6 +288,13 @@ impl Nic {
     /// From now on, plays up to `count` random steps before each access. The seed determines them.
     pub fn interleave(&mut self, count: u32, seed: u64) -> Result<(), Error> {
         let is_done = unsafe { nic82540em_interleave(&mut self.handle, count, seed) };
+        is_done.then_some(()).ok_or(Error::TooManySteps)
+    }
+
+    /// Adds a step to the end of the schedule. It is played before the access with number `access`; the first access has
+    /// number 0. Add steps in the order of their accesses. At most 4,096 steps wait.
+    pub fn schedule(&mut self, access: u64, kind: Step) -> Result<(), Error> {
+        let is_done = unsafe { nic82540em_schedule(&mut self.handle, access, kind as u32) };
         is_done.then_some(()).ok_or(Error::TooManySteps)
     }
 }

@@ -1,3 +1,3 @@
 pub mod Playing
 pub mod Rounds
-pub mod Wires
+pub mod Schedules

@@ -1,5 +1,5 @@
 -- Steps that are played in order, and accesses after them.
-use Rattle.std.proofs.Common.{◌≡◌, ◌∙◌, ◌+◌, ◌≤◌, ◌++◌, [], ◌∷◌, ℕ, List, true, ap, arith, length, nat_le, refl, subst, sym}
+use Rattle.std.proofs.Common.{◌≡◌, ◌∙◌, ◌+◌, ◌≤◌, ◌++◌, [], ◌∷◌, ℕ, List, true, ap, arith, length, refl, subst}
 use Rattle.std.proofs.lemmas.Bool.Decides.{nat_tests}
 use Rattle.rand_pcg.specs.Lcg.{Lcg}
 use Rattle.adapter.specs.declared.outcome.Outcome.{Outcome}
@@ -7,12 +7,12 @@ use Rattle.adapter.specs.declared.step.StepKind.{StepKind}
 use Rattle.adapter_server.specs.Sessions.{drawn_count, drawn_kind}
 use Rattle.bus.proofs.Trails.{event_happens}
 use Rattle.bus.specs.Trails.{Occurs}
-use Rattle.bus.specs.declared.event.Access.{Access}
 use Rattle.bus.specs.declared.event.Event.TheVariants.{Accesses}
-use Rattle.linked_adapter.specs.LinkedAdapters.{Accessed, DrawsStep, Interleaves, PlaysStep, QuietAccessesAreExact}
-use Rattle.linked_adapter.specs.LinkedAdapters.{after_access, counted, has_bytes, step_of}
+use Rattle.linked_adapter.specs.LinkedAdapters.{DrawsStep, Interleaves, PlaysScheduled, PlaysStep, Prepares}
+use Rattle.linked_adapter.specs.LinkedAdapters.{QuietAccessesAreExact, after_access, counted, due_in, has_bytes, step_of, without_next}
 use Rattle.linked_adapter.specs.Order.{InOrder, Times}
 use Rattle.linked_adapter.specs.declared.linked_adapter.LinkedAdapter.{LinkedAdapter}
+use Rattle.linked_adapter.specs.declared.scheduling.ScheduledStep.{ScheduledStep}
 
 module _ {X S : Type 0} (Happens : X → S → S → Type 0) where
   -- One more thing happens.
@@ -46,17 +46,24 @@ draws a drawn b kind outcome kind_is drawn_is plays = record {
 abbrev size_of : LinkedAdapter → ℕ
 size_of linked = length linked.machine.world.memory
 
-step_keeps : (a b : LinkedAdapter) → DrawsStep a b → size_of b ≡ size_of a
-step_keeps a b drawn =
-    let from : LinkedAdapter = record a { generator = (drawn_kind a.generator).1 } in
-    ap size_of drawn.plays.1
-    ∙ (event_happens (step_of (drawn_kind a.generator).0 drawn.outcome from) from.machine.world tt drawn.plays.0).steady.size
+step_keeps : (kind : StepKind) (outcome : Outcome (Unit {0})) (a b : LinkedAdapter) → PlaysStep kind outcome a b → size_of b ≡ size_of a
+step_keeps kind outcome a b plays =
+    ap size_of plays.1 ∙ (event_happens (step_of kind outcome a) a.machine.world tt plays.0).steady.size
+
+drawn_keeps : (a b : LinkedAdapter) → DrawsStep a b → size_of b ≡ size_of a
+drawn_keeps a b drawn = step_keeps (drawn_kind a.generator).0 drawn.outcome _ b drawn.plays
+
+scheduled_keeps : (step : ScheduledStep) (a b : LinkedAdapter) → PlaysScheduled step a b → size_of b ≡ size_of a
+scheduled_keeps step a b played = step_keeps step.kind played.outcome (without_next a) b played.plays
 
 -- The steps before an access leave its bytes in memory.
-pub still_fits : (a b : LinkedAdapter) (address count : ℕ) → has_bytes a address count ≡ true → Interleaves (counted a) b
-    → address + count ≤ size_of b
+pub still_fits : (a b : LinkedAdapter) (address count : ℕ) → has_bytes a address count ≡ true → Prepares a b → address + count ≤ size_of b
 still_fits a b address count fits steps =
-    let kept : size_of b ≡ size_of a = in_order_keeps (λ (turn : ℕ). DrawsStep) size_of (λ turn. step_keeps) _ _ b steps in
+    let first : size_of steps.waited ≡ size_of a = in_order_keeps PlaysScheduled size_of scheduled_keeps (due_in a) a steps.waited
+    steps.scheduled in
+    let later : size_of steps.drawn ≡ size_of steps.waited = in_order_keeps (λ (turn : ℕ). DrawsStep) size_of (λ turn. drawn_keeps) _ _
+    steps.drawn steps.interleaves in
+    let kept : size_of b ≡ size_of a = ap size_of steps.after ∙ later ∙ first in
     let before : address + count ≤ size_of a = grind (arith, nat_tests) in
     omega arith
 
@@ -68,7 +75,13 @@ none_drawn a b none steps =
     (ap (λ (most : ℕ). drawn_count most a.generator) none) steps
 
 pub quiet_accesses : QuietAccessesAreExact
-quiet_accesses access a b none accessed =
-    let same : accessed.middle ≡ counted a = none_drawn (counted a) accessed.middle none accessed.steps in
-    (subst (λ (linked : LinkedAdapter). Occurs (Accesses access) linked.machine.world) same accessed.occurs,
-    accessed.after ∙ ap (after_access access) same)
+quiet_accesses access a b none_is_drawn none_is_due accessed =
+    let steps = accessed.steps in
+    let waited : steps.waited ≡ a = subst (λ (due : List ScheduledStep). InOrder PlaysScheduled due a steps.waited) none_is_due
+    steps.scheduled in
+    let drawn : steps.drawn ≡ steps.waited = none_drawn steps.waited steps.drawn
+    (ap (λ (linked : LinkedAdapter). linked.most_steps) waited ∙ none_is_drawn) steps.interleaves in
+    let same : accessed.middle ≡ counted a = steps.after ∙ ap counted (drawn ∙ waited) in (
+      subst (λ (linked : LinkedAdapter). Occurs (Accesses access) linked.machine.world) same accessed.occurs,
+      accessed.after ∙ ap (after_access access) same,
+    )

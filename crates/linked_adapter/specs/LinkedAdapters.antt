@@ -1,6 +1,7 @@
 -- An adapter in the process of its driver: what each call does (our choice; steps are drawn as `nicbench serve` draws them).
-use Rattle.std.specs.Prelude.{◌≡◌, ◌+◌, ◌++◌, ◌<◌, ◌≤◌, ◌==◌, [], ◌∷◌, ℕ, Bool, false, true, List, Option, Some, None, All}
-use Rattle.std.specs.Prelude.{drop, length, min, nat_le, nat_lt, replicate, sum}
+use denote.RawPtr.{Ptr}
+use Rattle.std.specs.Prelude.{◌≡◌, ◌+◌, ◌++◌, ◌<◌, ◌≤◌, ◌&&◌, [], ◌∷◌, ℕ, Bool, false, true, List, Option, Some, None, All}
+use Rattle.std.specs.Prelude.{drop, if◌then◌else◌, length, min, nat_le, nat_lt, replicate, sum, IfSome}
 use Rattle.rand_core.specs.Pcg32Seed.{pcg32_seed}
 use Rattle.rand_pcg.specs.Pcg.{pcg32_of_seed}
 use Rattle.adapter.specs.Outcomes.{framed, put_by}
@@ -27,6 +28,7 @@ use Rattle.linked_adapter.specs.Numbers.{fate_number, is_receive_share, kind_wit
 use Rattle.linked_adapter.specs.Order.{InOrder, Times}
 use Rattle.linked_adapter.specs.declared.linked_adapter.LinkedAdapter.{LinkedAdapter}
 use Rattle.linked_adapter.specs.declared.numbers.AdapterOptions.{AdapterOptions}
+use Rattle.linked_adapter.specs.declared.scheduling.ScheduledStep.{ScheduledStep}
 
 -- A new adapter.
 
@@ -34,16 +36,18 @@ use Rattle.linked_adapter.specs.declared.numbers.AdapterOptions.{AdapterOptions}
 abbrev pub adapter_of : AdapterOptions → Link → AdapterState
 adapter_of options link = after_write pba options.receive_kilobytes (new_adapter (image_with options.address) link)
 
--- memory of zeros, an empty wire of 64 frames, no steps before accesses, and no access so far
-unfoldable pub new_linked : AdapterOptions → Link → LinkedAdapter
-new_linked options link = record {
+-- memory of zeros, an empty wire of 64 frames, no steps before accesses, and no access so far; the address of memory is any
+unfoldable pub new_linked : AdapterOptions → Link → Option Ptr → LinkedAdapter
+new_linked options link address = record {
   machine = record {
     world = record { memory = replicate options.memory 0; adapter = adapter_of options link };
     reported = is_asserted (adapter_of options link);
   };
+  address = address;
   wire = record { capacity = 64; frames = [] };
   generator = pcg32_of_seed (pcg32_seed 16 0);
   most_steps = 0;
+  scheduled = record { items = []; capacity = 4096 };
   accesses = 0;
 }
 
@@ -52,7 +56,7 @@ pub record IsNew (options : AdapterOptions) (linked : LinkedAdapter) : Type 0 wh
   pub link : Link
   pub link_is : link_with options.link ≡ Some link
   pub share : is_receive_share options.receive_kilobytes ≡ true
-  pub new : linked ≡ new_linked options link
+  pub new : linked ≡ new_linked options link linked.address
 
 -- Steps.
 
@@ -124,9 +128,9 @@ pub record AnswersTaking (old new : List ℕ) (answer : ℕ) (a b : LinkedAdapte
   pub same_bytes : length old < answer → new ≡ old
   pub same : length old < answer → b ≡ a
 
--- Accesses.
+-- Steps before an access.
 
--- the greatest maximum of steps before an access
+-- the greatest maximum of steps that are drawn before an access
 abbrev pub most_drawn : ℕ
 most_drawn = 65535
 
@@ -140,18 +144,54 @@ abbrev pub Interleaves : LinkedAdapter → LinkedAdapter → Type 0
 Interleaves a b =
     Times DrawsStep (drawn_count a.most_steps a.generator).0 (record a { generator = (drawn_count a.most_steps a.generator).1 }) b
 
+-- the steps at the front of a schedule that are due before an access: their numbers aren't greater
+abbrev pub due : (access : ℕ) → List ScheduledStep → List ScheduledStep
+due access [] = []
+due access (step ∷ later) = if nat_le step.access access then step ∷ due access later else []
+
+-- the steps that are due before the next access
+abbrev pub due_in : LinkedAdapter → List ScheduledStep
+due_in linked = due linked.accesses linked.scheduled.items
+
+-- the step at the front of the schedule no longer waits
+abbrev pub without_next : LinkedAdapter → LinkedAdapter
+without_next linked = record linked { scheduled = record linked.scheduled { items = drop 1 linked.scheduled.items } }
+
+-- A step of the schedule is played, and no longer waits.
+pub record PlaysScheduled (step : ScheduledStep) (a b : LinkedAdapter) : Type 0 where
+  pub outcome : Outcome (Unit {0})
+  pub plays : PlaysStep step.kind outcome (without_next a) b
+
+-- A step is added at the end of the schedule, if its number stands for a kind, and the schedule has room.
+pub record AnswersSchedule (access number : ℕ) (answer : Bool) (a b : LinkedAdapter) : Type 0 where
+  pub range : answer ≡ (nat_lt number 6 && nat_lt (length a.scheduled.items) a.scheduled.capacity)
+  pub taken : answer ≡ true → IfSome (kind_with number) (λ kind. b ≡ record a {
+    scheduled = record a.scheduled { items = a.scheduled.items ++ record { access = access; kind = kind } ∷ [] };
+  })
+  pub refused : answer ≡ false → b ≡ a
+
 -- an access is counted
 abbrev pub counted : LinkedAdapter → LinkedAdapter
 counted linked = record linked { accesses = min (linked.accesses + 1) most_accesses }
+
+-- The steps of the schedule that are due are played, and then the steps that the generator chooses. The access is counted.
+pub record Prepares (a b : LinkedAdapter) : Type 0 where
+  pub waited : LinkedAdapter
+  pub drawn : LinkedAdapter
+  pub scheduled : InOrder PlaysScheduled (due_in a) a waited
+  pub interleaves : Interleaves waited drawn
+  pub after : b ≡ counted drawn
+
+-- Accesses.
 
 -- after an access alone
 abbrev pub after_access : Access → LinkedAdapter → LinkedAdapter
 after_access access linked = record linked { machine = after_event (Accesses access) linked.machine }
 
--- An access is counted. The steps that the generator chooses are played, and then the access happens.
+-- The steps before an access are played, and then the access happens.
 pub record Accessed (access : Access) (a b : LinkedAdapter) : Type 0 where
   pub middle : LinkedAdapter
-  pub steps : Interleaves (counted a) middle
+  pub steps : Prepares a middle
   pub occurs : Occurs (Accesses access) middle.machine.world
   pub after : b ≡ after_access access middle
 
@@ -181,7 +221,7 @@ pub record AnswersInterleave (count seed : ℕ) (answer : Bool) (a b : LinkedAda
 -- An access without steps before it happens alone.
 abbrev pub QuietAccessesAreExact : Type 0
 QuietAccessesAreExact =
-    (access : Access) (a b : LinkedAdapter) → a.most_steps ≡ 0 → Accessed access a b
+    (access : Access) (a b : LinkedAdapter) → a.most_steps ≡ 0 → due_in a ≡ [] → Accessed access a b
     → Occurs (Accesses access) a.machine.world × (b ≡ after_access access (counted a))
 
 -- Rounds.

@@ -2,7 +2,7 @@
 
 ghost use Rattle.std.specs.Prelude.{◌≡◌};
 ghost use Rattle.adapter_server.specs.Sessions.{drawn_count, drawn_kind};
-ghost use Rattle.linked_adapter.specs.LinkedAdapters.{Interleaves, counted};
+ghost use Rattle.linked_adapter.specs.LinkedAdapters.{Interleaves, Prepares, counted};
 
 use crate::linked_adapter::LinkedAdapter;
 use crate::numbers::kind_numbered;
@@ -53,11 +53,12 @@ impl LinkedAdapter {
         }
     }
 
-    /// Counts an access, and plays the steps before it.
+    /// Plays the steps before an access, and counts the access.
     pub(crate) fn prepare(&mut self)
-        ensures { Interleaves (counted self.old) self.new }
+        ensures { Prepares self.old self.new }
     {
-        self.count();
+        self.play_scheduled();
         self.interleave_steps();
+        self.count();
     }
 }

@@ -9,8 +9,11 @@ mod draws;
 mod law;
 mod linked_adapter;
 mod numbers;
+mod peeking;
+mod scheduling;
 mod settling;
 
 pub use law::quiet_accesses_are_exact;
 pub use linked_adapter::{LinkedAdapter, WIRE_FRAMES};
 pub use numbers::{AdapterOptions, REFUSED};
+pub use scheduling::ScheduledStep;

@@ -10,10 +10,14 @@ ghost use Rattle.linked_adapter.specs.LinkedAdapters.{AnswersArrival, AnswersInt
 ghost use Rattle.linked_adapter.specs.LinkedAdapters.{AnswersTaking, IsNew, after_step, new_linked, next_frames};
 ghost use Rattle.linked_adapter.specs.LinkedAdapters.{step_of};
 
-use crate::numbers::{AdapterOptions, REFUSED, fate_number, is_receive_share, kind_with, link_with, outcome_number};
+use crate::numbers::{
+    AdapterOptions, REFUSED, fate_number, is_receive_share, kind_with, link_with, outcome_number,
+};
+use crate::scheduling::{MOST_SCHEDULED, ScheduledStep};
 use adapter::offsets::PBA;
 use adapter::{Adapter, Outcome, StepKind};
 use bus::Machine;
+use circular_buffer::HeapCircularBuffer;
 use dma_memory::HostMemory;
 use eeprom::Image;
 use frame_queue::FrameQueue;
@@ -21,6 +25,7 @@ use mdic_phy::Link;
 use rand_core::SeedableRng;
 use rand_pcg::Lcg64Xsh32;
 use std::alloc::{AllocError, Global};
+use std::ptr::from_ref;
 
 /// The number of frames that fit on the wire (our choice).
 pub const WIRE_FRAMES: u8 = 64;
@@ -33,12 +38,16 @@ const MOST_DRAWN: u32 = 65_535;
 pub struct LinkedAdapter {
     /// The adapter and its host's memory.
     pub machine: Machine,
+    /// The address of the first byte of memory, if there is one.
+    pub address: Option<*const u8>,
     /// The frames that the adapter put on the wire and that nobody has taken, the oldest first.
     pub wire: FrameQueue,
-    /// The generator of steps before accesses.
+    /// The generator of steps that are drawn before accesses.
     pub generator: Lcg64Xsh32,
-    /// The maximum number of steps before an access.
+    /// The maximum number of steps that are drawn before an access.
     pub most_steps: u16,
+    /// The steps that wait for their accesses.
+    pub scheduled: HeapCircularBuffer<ScheduledStep>,
     /// The number of accesses so far, up to the greatest `u64`.
     pub accesses: u64,
 }
@@ -52,6 +61,15 @@ fn adapter_of(alloc: Global, options: &AdapterOptions, link: Link) -> Result<Ada
     let mut adapter = Adapter::new(alloc, &image, link)?;
     adapter.write(PBA, options.receive_kilobytes);
     Ok(adapter)
+}
+
+/// The address of the first byte of memory, if there is one.
+fn address_of(memory: &HostMemory) -> Option<*const u8> {
+    let Ok(bytes) = memory.view(0, 1) else {
+        return None;
+    };
+    let first = bytes.first()?;
+    Some(from_ref(first))
 }
 
 impl LinkedAdapter {
@@ -78,15 +96,18 @@ impl LinkedAdapter {
         options: &AdapterOptions,
         link: Link,
     ) -> Result<LinkedAdapter, AllocError>
-        ensures { IfOk result (λ linked. linked ≡ new_linked options.now link) }
+        ensures { IfOk result (λ linked. linked ≡ new_linked options.now link linked.address) }
     {
         let memory = HostMemory::new(alloc, options.memory)?;
+        let address = address_of(&memory);
         let adapter = adapter_of(alloc, options, link)?;
         Ok(LinkedAdapter {
             machine: Machine::new(adapter, memory),
+            address,
             wire: FrameQueue::new(alloc, WIRE_FRAMES)?,
             generator: Lcg64Xsh32::seed_from_u64(0),
             most_steps: 0,
+            scheduled: HeapCircularBuffer::with_capacity(alloc, MOST_SCHEDULED)?,
             accesses: 0,
         })
     }
@@ -106,9 +127,11 @@ impl LinkedAdapter {
     /// Copies the frame that the adapter puts next, if there is one, to the end of the wire, which has room.
     fn put_oldest(&mut self)
         requires { length self.old.wire.frames < self.old.wire.capacity }
-        ensures { self.new ≡ record self.old { wire = record self.old.wire {
-          frames = self.old.wire.frames ++ next_frames self.old.machine.world.adapter.transmitter.buffer;
-        } } }
+        ensures { self.new ≡ record self.old {
+          wire = record self.old.wire {
+            frames = self.old.wire.frames ++ next_frames self.old.machine.world.adapter.transmitter.buffer;
+          };
+        } }
     {
         if let Some(frame) = self.machine.to_put() {
             self.wire.push(frame);
@@ -155,6 +178,13 @@ impl LinkedAdapter {
         ensures { result ≡ is_asserted self.now.machine.world.adapter }
     {
         self.machine.line()
+    }
+
+    /// The size of memory in bytes.
+    pub fn memory_size(&self) -> u64
+        ensures { result ≡ length self.now.machine.world.memory }
+    {
+        self.machine.size()
     }
 
     /// From now on, up to `count` steps are played before each access. A generator with this seed draws them. With 0,

@@ -6,7 +6,7 @@ use denote.RawPtr.{Ptr, null_ptr, ptr_val}
 use mir.Val.{Val}
 use Rattle.std.specs.Box.Ownership.{box_owns}
 use Rattle.std.specs.Global.{Global}
-use Rattle.std.specs.Prelude.{[], ◌∷◌, List}
+use Rattle.std.specs.Prelude.{[], ◌∷◌, List, None}
 use Rattle.std_heap.specs.contracts.GlobalAllocator.TheImpl.{ghosts}
 use Rattle.adapter.specs.Registers.{new_adapter}
 use Rattle.linked_adapter.specs.contracts.linked_adapter.LinkedAdapter.{the_row}
@@ -25,8 +25,10 @@ value_coded = the_row.coded
 abbrev pub no_adapter : LinkedAdapter
 no_adapter = record {
   machine = record { world = record { memory = []; adapter = new_adapter [] Never }; reported = false };
+  address = None;
   wire = record { capacity = 0; frames = [] };
   generator = record { state = 0; increment = 0 };
   most_steps = 0;
+  scheduled = record { items = []; capacity = 0 };
   accesses = 0;
 }

@@ -7,11 +7,13 @@
 
 mod owner;
 
-ghost use Rattle.std.specs.Prelude.{◌≡◌, false, true};
+ghost use Rattle.std.specs.Prelude.{◌≡◌, IfSome, false, length, true};
+ghost use Rattle.adapter.specs.Registers.{answer_at};
 ghost use Rattle.bus.specs.Machines.{is_asserted};
 ghost use Rattle.bus.specs.declared.event.Access.TheVariants.{Reads, Writes};
 ghost use Rattle.linked_adapter.specs.LinkedAdapters.{Accessed, AnswersArrival, AnswersInterleave, AnswersLoad};
-ghost use Rattle.linked_adapter.specs.LinkedAdapters.{AnswersStep, AnswersStore, AnswersTaking, IsNew, Settles};
+ghost use Rattle.linked_adapter.specs.LinkedAdapters.{AnswersSchedule, AnswersStep, AnswersStore, AnswersTaking};
+ghost use Rattle.linked_adapter.specs.LinkedAdapters.{IsNew, Settles};
 
 use crate::owner::Owner;
 use linked_adapter::{AdapterOptions, LinkedAdapter, REFUSED};
@@ -241,7 +243,8 @@ pub extern "C" fn nic82540em_interleave(alloc: Global, nic: &mut Nic, count: u32
     requires sound { nic.old.owner.full ≡ nic.old.held }
     ensures sound { nic.new.owner.full ≡ nic.new.held }
     ensures held { nic.new.held ≡ nic.old.held }
-    ensures done { nic.old.held ≡ true → AnswersInterleave count seed result nic.old.owner.value nic.new.owner.value }
+    ensures done { nic.old.held ≡ true →
+        AnswersInterleave count seed result nic.old.owner.value nic.new.owner.value }
     ensures none { nic.old.held ≡ false → (result ≡ false) × (nic.new ≡ nic.old) }
 {
     if !nic.held {
@@ -270,4 +273,80 @@ pub extern "C" fn nic82540em_accesses(alloc: Global, nic: &mut Nic) -> u64
     let answer = adapter.accesses();
     nic.owner.put(adapter);
     answer
+}
+
+/// Adds a step of this kind to the end of the schedule. It is played before the access with number `access`. Returns
+/// `false`, and changes nothing, if no step has this number, or 4,096 steps wait.
+#[unsafe(no_mangle)]
+pub extern "C" fn nic82540em_schedule(
+    alloc: Global,
+    nic: &mut Nic,
+    access: u64,
+    number: u32,
+) -> bool
+    requires sound { nic.old.owner.full ≡ nic.old.held }
+    ensures sound { nic.new.owner.full ≡ nic.new.held }
+    ensures held { nic.new.held ≡ nic.old.held }
+    ensures done { nic.old.held ≡ true → AnswersSchedule access number result nic.old.owner.value nic.new.owner.value }
+    ensures none { nic.old.held ≡ false → (result ≡ false) × (nic.new ≡ nic.old) }
+{
+    if !nic.held {
+        return false;
+    }
+    let mut adapter = nic.owner.take(alloc);
+    let answer = adapter.schedule(access, number);
+    nic.owner.put(adapter);
+    answer
+}
+
+/// Stores the value that a read of the register at an offset would return now in `into`. No access happens. Returns
+/// `false`, and changes nothing, if memory is refused.
+#[unsafe(no_mangle)]
+pub extern "C" fn nic82540em_peek(alloc: Global, nic: &mut Nic, offset: u32, into: &mut u32) -> bool
+    requires sound { nic.old.owner.full ≡ nic.old.held }
+    ensures sound { nic.new.owner.full ≡ nic.new.held }
+    ensures held { nic.new.held ≡ nic.old.held }
+    ensures value { nic.old.held ≡ true →
+        result ≡ true → into.new ≡ answer_at offset nic.old.owner.value.machine.world.adapter }
+    ensures refused { nic.old.held ≡ true → result ≡ false → into.new ≡ into.old }
+    ensures same { nic.old.held ≡ true → nic.new.owner.value ≡ nic.old.owner.value }
+    ensures none { nic.old.held ≡ false → (result ≡ false) × (into.new ≡ into.old) × (nic.new ≡ nic.old) }
+{
+    if !nic.held {
+        return false;
+    }
+    let adapter = nic.owner.take(alloc);
+    let answer = adapter.peek(offset);
+    nic.owner.put(adapter);
+    match answer {
+        Some(value) => {
+            *into = value;
+            true
+        }
+        None => false,
+    }
+}
+
+/// Stores the address of the first byte of the host's memory in `into`, if memory has a byte. Returns the size of
+/// memory in bytes.
+#[unsafe(no_mangle)]
+pub extern "C" fn nic82540em_memory(alloc: Global, nic: &mut Nic, into: &mut *const u8) -> u64
+    requires sound { nic.old.owner.full ≡ nic.old.held }
+    ensures sound { nic.new.owner.full ≡ nic.new.held }
+    ensures held { nic.new.held ≡ nic.old.held }
+    ensures size { nic.old.held ≡ true → result ≡ length nic.old.owner.value.machine.world.memory }
+    ensures address { nic.old.held ≡ true → IfSome nic.old.owner.value.address (λ address. into.new ≡ address) }
+    ensures same { nic.old.held ≡ true → nic.new.owner.value ≡ nic.old.owner.value }
+    ensures none { nic.old.held ≡ false → (result ≡ 0) × (into.new ≡ into.old) × (nic.new ≡ nic.old) }
+{
+    if !nic.held {
+        return 0;
+    }
+    let adapter = nic.owner.take(alloc);
+    if let Some(address) = adapter.address {
+        *into = address;
+    }
+    let size = adapter.memory_size();
+    nic.owner.put(adapter);
+    size
 }
