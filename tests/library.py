@@ -1,11 +1,12 @@
 #!/usr/bin/env python3
 """Checks the C library: its header and bindings, the examples, and that it answers as `nicbench serve` does.
 
-usage: tests/library.py FOLDER PROGRAM
+usage: tests/library.py PROGRAM [FOLDER]
 
-FOLDER is what `tools/library FOLDER` wrote, and PROGRAM is `nicbench`. Examples in C, C++ and Rust are compiled and run
-if there is a compiler, also with AddressSanitizer and valgrind. For a compiler or tool that isn't there, the script
-prints a line. The last line is 'N passed, M failed', and the exit status is 1 if anything failed.
+PROGRAM is `nicbench`, and FOLDER is what `tools/library FOLDER` wrote. Without FOLDER, the script lets `tools/library`
+write .build/library. Examples in C, C++ and Rust are compiled and run if there is a compiler, also with AddressSanitizer
+and valgrind. For a compiler or tool that isn't there, the script prints a line. The last line is 'N passed, M failed',
+and the exit status is 1 if anything failed.
 """
 
 import os
@@ -196,6 +197,42 @@ def same_answers(library):
             library.check(f"{REQUESTS} requests of seed {seed}, in process and served", differ, None)
 
 
+# The calls that `serve` hasn't.
+
+def steps_by_schedule(library):
+    """A step before an access, requested of `serve` and scheduled in process, has the same effect."""
+    for seed in 2, 4:
+        inside, asked = InProcess(library.shared, MEMORY), requests_of(seed)
+        frames, answers, wanted, scheduled = [], [], [], 0
+        with Served(library.program, "--memory", str(MEMORY)) as served:
+            for request, later in zip(asked, [*asked[1:], ""]):
+                answer, put, _ = served.reply(request)
+                frames += put
+                if request.startswith("step") and later.startswith(("readl", "writel")):
+                    inside.nic.schedule(inside.nic.accesses(), request.split()[1])
+                    scheduled += 1
+                else:
+                    wanted.append((request, answer))
+                    answers.append((request, inside.reply(request, 0)))
+        library.check(f"steps of seed {seed} by schedule", [(request, got[0]) for request, got in answers], wanted)
+        library.check(f"frames of seed {seed} by schedule", [frame for _, got in answers for frame in got[1]], frames)
+        library.check(f"seed {seed} has steps that are scheduled", scheduled > 10, True)
+
+
+def state_without_accesses(library):
+    """A register without a read, and memory by its pointer, are what accesses return."""
+    inside = InProcess(library.shared, MEMORY)
+    for request in requests_of(6):
+        inside.reply(request, 0)
+    accesses, memory = inside.nic.accesses(), bytes(inside.nic.memory())
+    registers = {offset: inside.nic.peek(offset) for offset in (*range(0, 0x5810, 4), 0x1FFFC)}
+    library.check("peeks are no accesses", inside.nic.accesses(), accesses)
+    library.check("memory by its pointer", memory, inside.nic.load(0, MEMORY))
+    library.check("registers that were peeked", registers, {offset: inside.nic.read(offset) for offset in registers})
+    inside.nic.memory()[7] = 0x5A
+    library.check("a store by the pointer", inside.nic.load(7, 1), b"\x5a")
+
+
 # A driver in Python, over the pipe and in process.
 
 def drivers(library):
@@ -260,14 +297,28 @@ def examples_in_other_languages(library):
                 library.prints("two_steps: runs", [target], text_of("examples", "library", "two_steps.txt"))
 
 
+def is_built(library):
+    """Builds the library. Returns whether it is there."""
+    if not all([library.is_there(tool, "everything that needs the built library") for tool in ("cc", "ar")]):
+        return False
+    ran = subprocess.run([os.path.join(TOP, "tools", "library"), library.root], stdout=subprocess.PIPE, stderr=subprocess.STDOUT,
+                         text=True)
+    library.check("the library is built", (ran.returncode, ran.stdout[-2000:] if ran.returncode else ""), (0, ""))
+    return ran.returncode == 0
+
+
 def main():
-    if len(sys.argv) != 3:
+    if len(sys.argv) not in (2, 3):
         sys.exit(__doc__)
-    root, program = map(os.path.abspath, sys.argv[1:])
+    program = os.path.abspath(sys.argv[1])
+    root = os.path.abspath(sys.argv[2] if sys.argv[2:] else os.path.join(TOP, ".build", "library"))
     with tempfile.TemporaryDirectory() as folder:
         library = Library(root, program, folder)
-        for part in names, same_answers, drivers, examples_in_c, examples_in_other_languages:
-            part(library)
+        names(library)
+        if sys.argv[2:] or is_built(library):
+            for part in (same_answers, steps_by_schedule, state_without_accesses, drivers, examples_in_c,
+                         examples_in_other_languages):
+                part(library)
     print(f"{library.passed} passed, {library.failed} failed")
     sys.exit(1 if library.failed else 0)
 

@@ -1,6 +1,6 @@
 //! An Intel 82540EM and its host's memory in the process of a driver, by `libnic82540em.a`.
 //!
-//! ```no_run
+//! ```
 //! use nic82540em::{Nic, Options, registers};
 //!
 //! let mut nic = Nic::new(&Options::default()).unwrap();
