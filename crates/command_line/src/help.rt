@@ -172,6 +172,9 @@ pub(crate) const RXA_HELP: &str =
 
 pub(crate) const SEED_HELP: &str = "Seed of the random steps of interleave [0]";
 
+pub(crate) const MISSED_HELP: &str =
+    "The count of missed frames (MPC) at the start, such as 4294967294 [0]";
+
 pub(crate) const SERVE_NOTE: &str =
     "An Intel 82540EM and the memory of its host: a driver in any language reads and writes registers and
 memory through a pipe. A request is a line on standard input. Its answer is a line on standard output,
@@ -219,6 +222,24 @@ standard error:
   E67 Write     Standard output could not be written, or nobody reads it any more, status 3. Free space
                 there, or read all answers
   E68 Open      The file of --image couldn't be opened or is a device, status 3. Check its path";
+
+pub(crate) const DRIVE_ABOUT: &str = "Run the driver on an adapter that another program models";
+
+pub(crate) const DRIVE_MEMORY_HELP: &str =
+    "Bytes of memory that the driver may use, from address 0, such as 0x100000 [1048576]";
+
+pub(crate) const EXPECT_HELP: &str = "Stop after N frames were received; status 1 if fewer were";
+
+pub(crate) const IDLE_HELP: &str =
+    "Stop after N calls of the handler in a row that received no frame";
+
+pub(crate) const DRIVE_NOTE: &str =
+    "The driver initializes the adapter, sends the frames of IN and receives frames. It writes a request for
+each access to standard output, and reads the answer from standard input, in QEMU's qtest protocol: the
+adapter may be that of nicbench serve, QEMU's e1000, or your own. OUT gets the received frames.
+
+If drive fails, it prints 'nicbench: CODE NAME' on standard error. What each code means, and what to do:
+nicbench --help";
 
 /// An example; what each exit status and each code on standard error means, and what a user can do.
 pub(crate) const PROGRAM_NOTE: &str =

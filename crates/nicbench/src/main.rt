@@ -63,6 +63,7 @@ fn obey<R: Files + Input + Print + Watched + AllocGlobal>(rt: &R, job: &Job<'_>)
         Job::Run(job) => run_scenario(rt, job),
         Job::Show(job) => run_show(rt, job),
         Job::Serve(job) => run_serve(rt, job),
+        Job::Drive(_) => Err(Fault::Memory),
     };
     match outcome {
         Ok(()) => ExitCode::SUCCESS,
