@@ -71,11 +71,15 @@ pub record Exchanges {B : Type 0} (bus : Ghosts B) (accepted : List (List ℕ)) 
   pub flows : IsReadyHost bus true (host_moment old) → HostFlows bus accepted received (host_moment old) (host_moment new)
 
 -- The first frames of a list were handed to the driver, in order, and counted: those that it accepted, and those that have fewer than 14 or
--- more than 1,518 bytes. A count stays at the greatest u64.
-pub record SendsFront {B : Type 0} (bus : Ghosts B) (frames : List (List ℕ)) (sent illegal : ℕ) (old new : ExchangeMoment B) : Type 0 where
-  pub handed : List (List ℕ)
-  pub left : List (List ℕ)
-  pub parts : frames ≡ handed ++ left
-  pub sent_is : sent ≡ saturated (count_by is_sendable handed)
-  pub illegal_is : illegal ≡ saturated (count_by is_illegal handed)
-  pub exchanges : Exchanges bus (accepted_of_all handed) old new
+-- more than 1,518 bytes. A count stays at the greatest u64. The frames `left` are left.
+pub record SendsUpTo {B : Type 0} (bus : Ghosts B) (frames left : List (List ℕ)) (sent illegal : ℕ) (old new : ExchangeMoment B) : Type 0
+  where
+    pub handed : List (List ℕ)
+    pub parts : frames ≡ handed ++ left
+    pub sent_is : sent ≡ saturated (count_by is_sendable handed)
+    pub illegal_is : illegal ≡ saturated (count_by is_illegal handed)
+    pub exchanges : Exchanges bus (accepted_of_all handed) old new
+
+-- The same, whatever is left.
+abbrev pub SendsFront : {B : Type 0} → Ghosts B → (frames : List (List ℕ)) → (sent illegal : ℕ) → (old new : ExchangeMoment B) → Type 0
+SendsFront bus frames sent illegal old new = (left : List (List ℕ)) × SendsUpTo bus frames left sent illegal old new

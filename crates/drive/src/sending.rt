@@ -1,10 +1,10 @@
 // A host sends the frames of a list.
 
-ghost use Rattle.std.specs.Prelude.{◌≡◌, ◌<◌, ◌≤◌, [], List, ℕ, Option, IfOk, OnOk, if◌then◌else◌};
+ghost use Rattle.std.specs.Prelude.{◌≡◌, ◌<◌, ◌≤◌, ◌+◌, [], List, ℕ, Option, IfOk, OnOk, if◌then◌else◌};
 ghost use Rattle.std.specs.Io.KnownBytes.{append_known};
 ghost use Rattle.descriptors.specs.Frames.{is_sendable};
 ghost use Rattle.dma_memory.specs.Layout.{size_of};
-ghost use Rattle.drive.specs.Exchanging.{Exchanges, SendsFront, accepted_of, exchange_at};
+ghost use Rattle.drive.specs.Exchanging.{Exchanges, SendsFront, accepted_of, exchange_at, saturated};
 
 use crate::exchange::Exchange;
 use crate::{DriveError, WatchedBus};
@@ -24,6 +24,20 @@ pub(crate) struct Handed {
     pub(crate) sent: u64,
     /// Those that have fewer than 14 or more than 1,518 bytes.
     pub(crate) illegal: u64,
+}
+
+impl Handed {
+    /// Counts a frame that was handed to the driver.
+    fn count(&mut self, frame: &[u8])
+        ensures sent { self.new.sent ≡ (if is_sendable frame.now then saturated (self.old.sent + 1) else self.old.sent) }
+        ensures illegal { self.new.illegal ≡ (if is_sendable frame.now then self.old.illegal else saturated (self.old.illegal + 1)) }
+    {
+        if is_sendable(frame) {
+            self.sent = self.sent.saturating_add(1);
+        } else {
+            self.illegal = self.illegal.saturating_add(1);
+        }
+    }
 }
 
 /// Whether a frame can be sent: whether it has 14 to 1,518 bytes.
@@ -78,6 +92,25 @@ impl Exchange {
         Ok(false)
     }
 
+    /// Has a turn if the interrupt line is asserted.
+    fn answer_line<B: WatchedBus, S: Sink>(
+        &mut self,
+        bus: &mut B,
+        sink: &mut S,
+    ) -> Result<(), DriveError>
+        requires memory { size_of self.old.host.driver.layout ≤ B.Bus.extent bus.old }
+        requires countable { S.failures sink.old < u64.MAX }
+        ensures exchanges { OnOk result (Exchanges B.Bus []
+            (exchange_at bus.old self.old.host (append_known (S.taken sink.old) self.old.writer) self.old.received)
+            (exchange_at bus.new self.new.host (append_known (S.taken sink.new) self.new.writer) self.new.received)) }
+        ensures failures { OnOk result (S.failures sink.new ≡ S.failures sink.old) }
+    {
+        if !bus.is_asserted() {
+            return Ok(());
+        }
+        self.turn(bus, sink)
+    }
+
     /// Hands the frames of a list to the driver, in order, until one isn't handed. After each one it has a turn if the
     /// interrupt line is asserted.
     pub(crate) fn send_all<B: WatchedBus, S: Sink>(
@@ -102,14 +135,8 @@ impl Exchange {
             if !self.send(bus, sink, frame, idle)? {
                 break;
             }
-            if is_sendable(frame) {
-                handed.sent = handed.sent.saturating_add(1);
-            } else {
-                handed.illegal = handed.illegal.saturating_add(1);
-            }
-            if bus.is_asserted() {
-                self.turn(bus, sink)?;
-            }
+            handed.count(frame);
+            self.answer_line(bus, sink)?;
         }
         Ok(handed)
     }
