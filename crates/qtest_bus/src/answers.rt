@@ -30,7 +30,7 @@ pub(crate) struct Answers<R> {
 enum Line {
     /// The interrupt line was asserted, or deasserted.
     Interrupt(bool),
-    /// A frame that was put on the wire, or a line of a log.
+    /// A frame that was put on the wire or arrived, or a line of a log.
     Report,
     /// An answer.
     Answer,
@@ -42,7 +42,7 @@ fn kind_of(line: &[u8]) -> Line {
         Line::Interrupt(true)
     } else if line.starts_with(b"IRQ lower ") {
         Line::Interrupt(false)
-    } else if line.starts_with(b"frame ") || line.starts_with(b"#") {
+    } else if line.starts_with(b"frame ") || line.starts_with(b"arrived ") || line.starts_with(b"#") {
         Line::Report
     } else {
         Line::Answer
