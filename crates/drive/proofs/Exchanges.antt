@@ -1,5 +1,5 @@
 -- Intervals of an exchange, one after the other, and those of single calls.
-use Rattle.std.proofs.Common.{◌≡◌, ◌≤◌, ◌+◌, ◌-◌, ◌^◌, ◌++◌, ◌∷◌, [], ℕ, Bool, true, false, List, Option, Ok, Err, arith, length, ◌<◌, map, min, refl, sym, ap, subst}
+use Rattle.std.proofs.Common.{◌≡◌, ◌≤◌, ◌++◌, ◌∷◌, [], ℕ, Bool, true, false, List, Option, Ok, Err, arith, length, ◌<◌, map, refl, sym, ap, subst}
 use Rattle.std.proofs.Common.{◌∙◌, take}
 use Rattle.std.specs.Io.KnownBytes.{Appends}
 use Rattle.std.proofs.KnownBytes.{Appends-nil, Appends-trans}
@@ -21,8 +21,7 @@ use Rattle.driver.specs.SendSteps.{SendAnswer, accepted_by}
 use Rattle.driver.specs.declared.interrupt.Handled.{Handled}
 use Rattle.driver.specs.declared.interrupt.Handled.TheVariants as answers
 use Rattle.packet_socket.specs.HostCalls.{Given, HostFlowsTo, HostGoesTo, HostHandles, HostMoment, HostTransmits, IsReadyHost, ReturnsBy}
-use Rattle.packet_socket.specs.HostCalls.{HostInWorld, HostDid, WhereReadyHost, did, did_both, given_first, host_at, in_world}
-use Rattle.packet_socket.specs.HostState.{HostState}
+use Rattle.packet_socket.specs.HostCalls.{HostInWorld, HostDid, WhereReadyHost, did, given_first, in_world}
 use Rattle.packet_socket.proofs.Stretches.{host-happens, host-join, interval-of}
 use Rattle.pcap_trace.specs.Format.{packet_of}
 use Rattle.drive.specs.Exchanging.{ExchangeMoment, Exchanges, HostFlows, exchange_at, accepted_of, given_of, host_moment}
