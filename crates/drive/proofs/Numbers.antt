@@ -12,7 +12,8 @@ number_after-append n (x ∷ xs) ys = number_after-append (next_number n) xs ys
 
 numbered-append : (n : ℕ) (xs ys : List (List ℕ)) → numbered n (xs ++ ys) ≡ numbered n xs ++ numbered (number_after n xs) ys
 numbered-append n [] ys = refl
-numbered-append n (x ∷ xs) ys = ap (λ (later : List Timed). record { time = n; frame = x } ∷ later) (numbered-append (next_number n) xs ys)
+numbered-append n (x ∷ xs) ys = ap (λ (later : List Timed). record { time = n; frame = x } ∷ later) (numbered-append
+    (next_number n) xs ys)
 
 pub packets_of-append : (n : ℕ) (xs ys : List (List ℕ)) → packets_of n (xs ++ ys) ≡ packets_of n xs ++ packets_of (number_after n xs) ys
 packets_of-append n xs ys =

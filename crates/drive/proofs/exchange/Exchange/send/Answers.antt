@@ -57,7 +57,8 @@ returns-then-hand-clause-exchanges g c =
     c.hand.new.self.received in
     let one = subst (λ (done : Bool). Exchanges g.B.Bus (if done then accepted_of c.args.frame.now else []) now next) c.if-hand.true
     (c.hand.ensures.exchanges (g.S.Sink.taken l.sink)) in
-    exchanges-on g.B.Bus g.met.B.Bus.composes (exchange_at c.args.bus.now c.args.self.now.host (append_known (g.S.Sink.taken c.args.sink.now) c.args.self.now.writer)
+    exchanges-on g.B.Bus g.met.B.Bus.composes (exchange_at c.args.bus.now c.args.self.now.host (append_known
+    (g.S.Sink.taken c.args.sink.now) c.args.self.now.writer)
     c.args.self.now.received) now next [] (accepted_of c.args.frame.now) l.invariant.exchanges one
 
 pub turn-requires-clause-memory : goal.turn-requires-clause-memory

@@ -10,7 +10,8 @@ pub loop-frame-init : goal.loop-frame-init
 loop-frame-init g c = record {
   memory = c.requires.memory;
   failures = refl;
-  so_far = sends-start g.B.Bus g.met.B.Bus.composes c.args.frames.now c.into_iter-frame-iterator.result (exchange_at c.args.bus.now c.args.self.now.host (append_known (g.S.Sink.taken c.args.sink.now) c.args.self.now.writer)
+  so_far = sends-start g.B.Bus g.met.B.Bus.composes c.args.frames.now c.into_iter-frame-iterator.result
+      (exchange_at c.args.bus.now c.args.self.now.host (append_known (g.S.Sink.taken c.args.sink.now) c.args.self.now.writer)
       c.args.self.now.received)
       (c.into_iter-frame-iterator.ensures.into_iter_gives ∙ c.iter-frame-items.ensures);
 }
