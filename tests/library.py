@@ -279,6 +279,16 @@ def examples_in_c(library):
                                                     library.path(name)], text_of("examples", "library", f"{name}.txt"))
 
 
+def refused_memory(library):
+    """Each allocation fails in turn, with a heap that counts."""
+    if library.is_there("cc", "refused memory"):
+        target = library.path("refused")
+        source = os.path.join(TOP, "tests", "library_refused.c")
+        if library.compiles("refused memory", "cc", "-std=c99", *WARNINGS, SANITIZERS, "-g", "-o", target, source, *library.flags):
+            library.prints("refused memory: runs", [target], "new: refused at each of 10 allocations\n"
+                           "peek: refused at each of 6 allocations\nno block is left\n")
+
+
 def examples_in_other_languages(library):
     if library.is_there("c++", "the first example as C++"):
         target = library.path("first_cpp")
@@ -316,8 +326,8 @@ def main():
         library = Library(root, program, folder)
         names(library)
         if sys.argv[2:] or is_built(library):
-            for part in (same_answers, steps_by_schedule, state_without_accesses, drivers, examples_in_c,
-                         examples_in_other_languages):
+            for part in (same_answers, steps_by_schedule, state_without_accesses, drivers, refused_memory,
+                         examples_in_c, examples_in_other_languages):
                 part(library)
     print(f"{library.passed} passed, {library.failed} failed")
     sys.exit(1 if library.failed else 0)
