@@ -230,6 +230,7 @@ Options:
       --link <N|never>       Ticks of the PHY until the link is up, 1 to 65535 [1]
       --rxa <N>              KB of the receive packet buffer, an even number from 2 to 48 [48]
       --seed <N>             Seed of the random steps of interleave [0]
+      --missed <N>           The count of missed frames (MPC) at the start, such as 4294967294 [0]
   -h, --help                 Print help
 
 An Intel 82540EM and the memory of its host: a driver in any language reads and writes registers and
@@ -254,20 +255,23 @@ The requests. QEMU's qtest protocol has the first six lines of this list, too:
   endianness              little
   step KIND               a step of the adapter: txtake, txput, rxdata, rxdone, eeprom or phy
   arrive HEX              a frame arrives from the wire
-  settle                  steps in rounds, until a round does nothing
+  settle                  all offered frames arrive; then steps in rounds, until a round does nothing
   line                    1 if the interrupt line is asserted, else 0
   interleave COUNT        from now on, plays up to COUNT random steps before each access; COUNT is at
                           most 65535, and 0 turns this off
   wire full, wire free    wire full makes the wire full: the step txput puts no frame, and its outcome is
                           wirefull; wire free makes room again, as there is at the start
   log on, log off         log on prints each step, access and arrival from now on; log off stops this
+  offer HEX               a frame waits: it arrives at the next settle, or before that as a random step
+  save, restore           save keeps a copy of the state of the adapter, of memory and of these settings;
+                          restore brings the last copy back
 
 Numbers are decimal, or hexadecimal after 0x. A register is read and written as four bytes, by readl,
 writel, read, write or memset. The adapter takes no step by itself: each step is a request, or random,
 and the same seed gives the same steps. Lines between a request and its answer say what happened: 'IRQ
-raise 0', 'IRQ lower 0', 'frame HEX' for a frame put on the wire, and '# ...' while the log is on. If the
-answer isn't OK, the request changed nothing. Such an answer is 'FAIL unknown', or 'ERR' and one reason:
-count, value, size, address, text or long.
+raise 0', 'IRQ lower 0', 'frame HEX' for a frame put on the wire, 'arrived FATE HEX' for an offered frame,
+and '# ...' while the log is on. If the answer isn't OK, the request changed nothing. Such an answer is
+'FAIL unknown', or 'ERR' and one reason: count, value, size, address, text, long or saved.
 
 At the end of its input the server ends with exit status 0. If it fails, it prints 'nicbench: CODE NAME' on
 standard error:

@@ -64,9 +64,10 @@ def of_a_form(draw):
         size = draw.choice([0, 1, 2, 3, 4, 5, 8, 255, 256, 257])
         words[2] = draw.choice([str(size), str(size), str(size), some_number(draw)])
         words[3] = "0x" + draw.choice([some_digits(draw), "a5" * size, "5A" * size, "3c" * size + "3"])
-    elif name in ("step", "log", "wire", "arrive"):
+    elif name in ("step", "log", "wire", "arrive", "offer"):
         words[1] = draw.choice({"step": KINDS, "log": ["on", "off"], "wire": ["full", "free"],
-                                "arrive": [some_digits(draw), "ff" * 60, "0x00", "f" * 121]}[name])
+                                "arrive": [some_digits(draw), "ff" * 60, "0x00", "f" * 121],
+                                "offer": [some_digits(draw), "ff" * 60, "0x00", "f" * 121]}[name])
     elif name in ("read", "memset"):
         words[2] = draw.choice([some_number(draw), str(draw.randrange(9)), "4", str(65_536 + draw.randrange(3))])
         words[3:] = [draw.choice([some_number(draw), str(draw.randrange(260))])] if name == "memset" else []
@@ -151,6 +152,7 @@ def short_lines(server):
         plays(server, f"short lines: seed {seed}", talk, "--memory", str(MEMORY))
     server.check("short lines: refusals of each kind", [counts.get(answer, 0) > 100 for answer in [
         b"ERR text\n", b"FAIL unknown\n", b"ERR count\n", b"ERR value\n", b"ERR size\n", b"ERR address\n"]], [True] * 6)
+    server.check("short lines: a state was restored before any was saved", counts.get(b"ERR saved\n", 0) > 0, True)
 
 
 def long_forms(size):
@@ -181,7 +183,7 @@ def long_lines(server):
 SESSION = [
     b"log on", b"write 0x10 4 0x01020304", b"  readl\t0x10 ", b"writeb 1 255", b"readb 0x11", b"writew 2 0x1234", b"readw 2", b"writel 0xFEB000D0 0x80",
     b"writel 0xFEB000C8 0x80", b"line", b"readl 0xFEB000C0", b"writeq 8 0x1122334455667788", b"readq 8", b"memset 4 9 200", b"read 0 32",
-    b"endianness", b"step phy", b"arrive ffffffffffff", b"settle", b"interleave 0", b"", b"fly", b"read 0 65537", b"readl", b"writel 4 x",
+    b"endianness", b"step phy", b"restore", b"offer ff", b"save", b"arrive ffffffffffff", b"settle", b"restore", b"settle", b"interleave 0", b"", b"fly", b"read 0 65537", b"readl", b"writel 4 x",
     b"readb 256", b"\xc3\xa9", b"\xff", b"write 0xFEB02800 4 0x00010000", b"read 0xFEB02800 4", b"log off", b"readl 0xFEB02800"]
 
 

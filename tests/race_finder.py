@@ -89,7 +89,8 @@ def requests(draw):
 
 def played(asked, size, draw=None):
     server = Server(sys.argv[1], [])
-    play = Checked(server, draw=draw)
+    play = Checked()
+    play.begin(server, draw=draw)
     lines = [line for at in range(0, len(asked), size) for line in play.feed(asked[at:at + size]).splitlines()]
     server.end()
     return lines, play.met, play.places, [(row.line, row.owner, row.place, row.name, row.answer) for row in play.rows]
@@ -244,7 +245,39 @@ def replays(server):
         server.check(f"replays: options {name}", replay(server, text, *words, command=command)[0], status)
 
 
-ACTIONS = "use txtake, txput, rxdata, rxdone, tx, rx, hold eeprom or hold phy"
+def names(server):
+    """A schedule without places names its accesses by numbers. It is still met if the test makes other accesses, too."""
+    small, text = ["sh", "small", "fails"], "rxdata before read RDH#2\nrxdone before read rx[0]+12#2\n"
+    server.put("small", SMALL.encode())
+    status, out, errors = find(server, "--explore", "2", "--by-name", "--out", "found", command=small)
+    wanted = f"# sh small fails\n# exit status 1: finished too late\n{text}"
+    server.check("names: what is stored", (status, (server.get("found") or b"").decode(), errors), (FOUND, wanted, ""))
+    server.check("names: what is printed", f"\nThe schedule:\n{wanted}\nThe end" in out, True)
+    server.check("names: of a replay", replay(server, SMALLEST, "--by-name", "--out", "found", command=small)[0], FOUND)
+    server.check("names: what a replay stores", (server.get("found") or b"").decode(), wanted)
+    one, two = text.splitlines(), SMALLEST.splitlines()
+    for name, lines_ in [("both", one), ("the first one", [one[0], two[1]]), ("the second one", [two[0], one[1]]), ("both, in another order", one[::-1])]:
+        server.check(f"names: {name}", replay(server, "\n".join(lines_), command=small), (FOUND, CHART, ""))
+    for lines_, name in [(["rxdata before read RDH#2", "1.2 rxdone before read RDH"], "rx"), (["1.2 rxdone before read RDH", "rxdata before read RDH#2"], "rxdata")]:
+        replay(server, "\n".join(lines_), "--by-name", "--out", "found", command=["sh", "small"])
+        found = [line.split()[0] for line in (server.get("found") or b"").decode().splitlines()[2:]]
+        server.check(f"names: before one access, the order of the lines decides: {name}", found, ["rxdata", "rxdone"] if name == "rx" else ["rxdata"])
+    server.put("small", SMALL.replace('ask "readl 0xFEB02810"; head', 'ask "readl 0xFEB02818"\nask "readl 0xFEB02810"; head').encode())
+    status, out, _ = replay(server, SMALLEST, command=small)
+    server.check("names: places in another driver", (status, out), (FOUND, f"{two[0]}: at this place, the test makes another access: read RDT\n"))
+    status, out, _ = replay(server, text, command=small)
+    server.check("names: numbers in another driver", (status, out.splitlines()[-1]), (FOUND, "   exit status 1: finished too late"))
+    for line, wanted in [("rx before read RDH#3", "rx before read RDH#3: the run makes this access 2 times"), ("tx before read RDT#2", "tx before read RDT#2: the run makes this access 1 time"),
+                         ("rx before read ICR#1", "rx before read ICR#1: the run makes this access 0 times")]:
+        status, out, _ = replay(server, line, command=["sh", "small"])
+        server.check(f"names: {line}", (status, out.splitlines()[0]), (FOUND, wanted))
+        server.check(f"names: {line}, with any access", replay(server, line, "--any-access", command=["sh", "small"])[0], PASSES)
+    status, out, _ = replay(server, "tx before read RDH#2 # nothing to send", command=["sh", "small"])
+    server.check("names: what did nothing", (status, out.splitlines()[0]), (PASSES, "tx before read RDH#2: it did nothing"))
+
+
+ACTIONS = "use txtake, txput, rxdata, rxdone, tx, rx, arrive, hold eeprom or hold phy"
+NO_NUMBER = "the access has no number: begin the line with ROUND.ACCESS, such as 4.6, or end it with a number from 1, such as 'before read ICR#3'"
 BAD = {
     "x": "'x' isn't a place: use ROUND.ACCESS, such as 4.6, and count accesses from 1",
     "4 rx before read ICR": "'4' isn't a place: use ROUND.ACCESS, such as 4.6, and count accesses from 1",
@@ -256,6 +289,11 @@ BAD = {
     "4.6 rx": "no access is named: end the line with the access that it expects, such as 'before read ICR'",
     "4.6 rx before ICR": "no access is named: end the line with the access that it expects, such as 'before read ICR'",
     "4.6 rx before # read ICR": "no access is named: end the line with the access that it expects, such as 'before read ICR'",
+    "rx before read ICR": NO_NUMBER, "rx before read ICR#0": NO_NUMBER,
+    "hold before read ICR#1": f"'hold' isn't a deviation: {ACTIONS}",
+    "rx before ICR#1": "no access is named: end the line with the access that it expects, such as 'before read ICR'",
+    "4.6 rx before read ICR#1": "use either ROUND.ACCESS or a number after #",
+    "4.6 rx before read ICR\nrx before read RDH#1\n4.5 rx before read ICR": "4.5 is before 4.6: sort the lines by place",
     "options\noptions": "'options' must be the first line, and given once",
     "4.6 rx before read ICR\n4.5 rx before read ICR": "4.5 is before 4.6: sort the lines by place",
     "4.6 rx before read ICR\n3.7 rx before read ICR": "3.7 is before 4.6: sort the lines by place",
@@ -324,5 +362,5 @@ def shadow(server):
 
 
 def all_cases(server):
-    for part in [talks, shadow, replays, errors, ends, explored, drawn, holds, bugs, page, right]:
+    for part in [talks, shadow, replays, names, errors, ends, explored, drawn, holds, bugs, page, right]:
         part(server)

@@ -3,10 +3,11 @@
 import json
 import os
 import re
+import shutil
 import subprocess
 import sys
 
-from race_finder import EXCHANGE, FOUND, FRAME, NOT_RUN, PASSES, SMALL, SMALLEST, USAGE, find, replay, without_rate, without_reached
+from race_finder import EXCHANGE, FINDER, FOUND, FRAME, NOT_RUN, PASSES, SMALL, SMALLEST, USAGE, find, replay, without_rate, without_reached
 from server import LIMIT, lines
 from server_pages import TOP, follow, read_page
 
@@ -77,7 +78,7 @@ REGISTERS = {
 READ = [name for name in REGISTERS if name not in ("ICS", "IMC")]
 WRITTEN = [name for name in REGISTERS if name not in ("STATUS", "MPC", "GPRC", "GPTC", "RNBC")]
 CAUSES = ["TXDW", "TXQE", "LSC", "RXDMT0", "RXO", "RXT0", "MDAC"]
-STEPS = ["txtake took", "txtake fault", "txput put", "rxdata part", "rxdata moved", "rxdata fault", "rxdone done", "eeprom ticked", "phy ticked"]
+STEPS = ["txtake took", "txtake fault", "txput put", "txput wirefull", "rxdata part", "rxdata moved", "rxdata fault", "rxdone done", "eeprom ticked", "phy ticked"]
 FATES = ["stored", "missed", "filtered", "illegal", "off"]
 ALL = [READ, WRITTEN, CAUSES, STEPS, FATES]
 
@@ -104,7 +105,8 @@ def whole():
     yield from [write("RDLEN", 128), write("RDT", 7), "writeq 0 0x800", "writeq 16 0x800", "writeq 32 0x800", "writeq 48 0x800", write("RCTL", 0x38002)]
     yield from ["arrive 00", f"arrive {other}", f"arrive {FRAME.ljust(1200, '0')}", "settle", write("PBA", 2), *[f"arrive {FRAME}"] * 2]
     yield from [write("RDT", 3), "settle"]
-    yield from [write("TDBAL", 0x400), write("TDLEN", 128), "write 0x400 16 0x00100000000000004000000900000000", write("TDT", 1), write("TCTL", 0xA), "settle"]
+    yield from [write("TDBAL", 0x400), write("TDLEN", 128), "write 0x400 16 0x00100000000000004000000900000000", write("TDT", 1), write("TCTL", 0xA)]
+    yield from ["wire full", "settle", "wire free", "settle"]
     yield from [write("TDH", 8), "step txtake", "readb 0x400", write("RDH", 8), f"arrive {FRAME}", "step rxdata"]
     yield from map(read, READ)
 
@@ -146,6 +148,7 @@ def reached(server):
     requests = list(whole())
     server.check("reached: all", reached_by(server, requests), (PASSES, shown(REACHED, ALL) + shown(NEVER, [[]] * 5), ""))
     for at, name, request in [(0, "MPC", read("MPC")), (0, "RAH", read("RAH")), (1, "VFTA", write("VFTA", 0)), (3, "txtake fault", "step txtake"),
+                              (3, "txput wirefull", "wire full"),
                               (3, "rxdata fault", "step rxdata"), (4, "illegal", "arrive 00"), (4, "off", requests[0])]:
         never = [[name] if at == key else [] for key in range(5)]
         requests.remove(request)
@@ -267,6 +270,25 @@ def shards(server):
             USAGE, "", f"races: --shard: {text!r} isn't K/N with K from 1 to N\nFor more information, try '--help'.\n"))
 
 
+def parallel(server):
+    """The command on the page searches in two parts, here on one machine: a race is found, and without one, all schedules are tried."""
+    command = re.search(r"^\$ (parallel .*)$", read_page("tools", "race_finder", "README.md"), re.M)[1]
+    if not shutil.which("parallel"):
+        print("parallel: GNU parallel (Debian: package parallel) isn't installed, so the command on the page isn't run")
+        return
+    server.put("small", SMALL.encode())
+    here = command.replace(" --sshlogin one,two --workdir $PWD", "").replace("-j 1", "-j 2 --will-cite")
+    here = here.replace("tools/races", " ".join([*FINDER, "--server", server.program])).replace(".build/", "")
+    server.check("parallel: the command has these options", (here.count("--sshlogin"), here.count("--shard {}/2"), here.count("COMMAND")), (0, 1, 1))
+    for words, status in (("sh small", PASSES), ("sh small fails", FOUND)):
+        ran = subprocess.run(here.replace("COMMAND", words), shell=True, cwd=server.folder, capture_output=True, timeout=LIMIT)
+        out = ran.stdout.decode()
+        wanted = 2 if status == PASSES else 0
+        server.check(f"parallel: {words}", (ran.returncode, out.count("\nnone of 12 schedules fails\n")), (status, wanted))
+        found = [server.get(f"found{part}/schedule.txt") for part in (1, 2) if os.path.exists(server.path(f"found{part}/schedule.txt"))]
+        server.check(f"parallel: {words}, what is stored", any(text.decode().endswith(SMALLEST) for text in found), status == FOUND)
+
+
 def page(server):
     """What the right driver of the examples never reaches is on the page of the finder."""
     wanted = re.search(r"^```\n(never:\n.*?)^```$", read_page("tools", "race_finder", "README.md"), re.M | re.S)[1]
@@ -275,5 +297,5 @@ def page(server):
 
 
 def all_cases(server):
-    for part in [jobs, reached, json_found, json_replayed, shards, page]:
+    for part in [jobs, reached, json_found, json_replayed, shards, parallel, page]:
         part(server)

@@ -26,7 +26,9 @@ from race_finder.target import Target
 SAME = BEGIN + """
 def shown(run):
     rows = [(row.line, row.owner, row.place, row.name, row.answer) for row in run.rows]
-    return [run.fault, run.met, run.idle, run.unreached, run.answers, run.events, run.reached, run.places, rows]
+    # That of a drawn run doesn't know what would do something, so places and names are compared.
+    places = [met[:2] for met in run.places]
+    return [run.fault, run.met, run.idle, run.unreached, run.answers, run.events, run.reached, places, rows]
 
 EARLY = parse("0.9 hold eeprom before read EERD\\n3.1 rx before read ICR\\n5.2 tx before read rx[0]\\n"
               "99.1 rx before read ICR")[1]
@@ -152,6 +154,28 @@ def jobs(server):
         server.check(f"jobs: {name}", (got[0][0] in (PASSES, FOUND), got[0]), (True, got[1]))
 
 
+# A server that can't save its state
+NO_SAVE = """#!/bin/sh
+shift
+sed -u 's/^save$/saves/' | "{}" serve "$@"
+"""
+# A test that saves and restores, which isn't possible in the finder.
+SAVES = f"{ASKS}assert ask('save') == ask('restore') == 'unknown'\nask('readl 0xFEB00008')\nsys.exit(4)\n"
+
+
+def saved(server):
+    """A server that can't save its state is started for each run, and leads to the same results."""
+    server.put("no_save", NO_SAVE.format(server.program).encode())
+    os.chmod(server.path("no_save"), 0o755)
+    for name, words, command in [("explored", ["--explore", "1"], [*STAGED, "stages", "late"]), ("drawn", ["--seed", "4", "--runs", "1"], [*EXCHANGE, "length"]),
+                                 ("nothing found", ["--runs", "6", "--jobs", "3"], [*STAGED, "offers"]), ("held", ["--holds", "--runs", "2"], [*STAGED, "stages", "eerd"])]:
+        got = [find(server, "--json", *words, *more, command=command) for more in ([], ["--server", server.path("no_save")], ["--apart"])]
+        server.check(f"saved: {name}", (got[0][0] in (PASSES, FOUND), got[0], got[0]), (True, *got[1:]))
+    server.put("saves.py", SAVES.encode())
+    got = [find(server, "--runs", "1", "--smaller", "0", *words, command=[*PYTHON, "saves.py"])[1].splitlines()[1:2] for words in ([], ["--apart"])]
+    server.check("saved: a test can't save and restore", got, [["seed 1: exit status 4: early"]] * 2)
+
+
 # A driver that polls a descriptor, and fails if its frame is finished meanwhile.
 POLLS = ASK + f"""
 ask "writel 0xFEB02808 128"
@@ -176,7 +200,7 @@ def play(draw, names):
     for name in names:
         enabled = lambda: [step for step in left if left[step] and not (step == "rxdata" and left["rxdone"])]
         before = dict(draw.priorities)
-        for step in draw.actions(name, enabled):
+        for step in draw.actions(name, enabled, False):
             actor = next(actor for actor, steps in ACTORS.items() if step in steps)
             could = [other for other in ACTORS if other == DRIVER or set(ACTORS[other]) & set(enabled())]
             best = max(before[other] for other in could)
@@ -234,5 +258,5 @@ def pct(server):
 
 
 def all_cases(server):
-    for part in [same, ends, jobs, pct]:
+    for part in [same, ends, jobs, saved, pct]:
         part(server)

@@ -10,12 +10,12 @@ from server import LIMIT
 from server_pages import TOP, read_page
 
 sys.path.append(os.path.join(TOP, "examples", "drivers"))
-from driver import BUGS, MORE_BUGS, RIGHT  # noqa: E402
+from driver import ARRIVAL_BUGS, BUGS, MORE_BUGS, RIGHT  # noqa: E402
 
 STAGED = [sys.executable, "-S", "-E", os.path.join(TOP, "examples", "drivers", "staged_test.py")]
 HEADING = "| Bug | Test | Options | Seed | Schedule |"
 # Bugs whose schedules the finder finds again here, and how. The others take longer.
-AGAIN = {"late": ["--explore", "1"], "length": ["--explore", "1"], "masks-late": ["--explore", "1"], "cuts": ["--runs", "1"]}
+AGAIN = {"late": ["--explore", "1"], "length": ["--explore", "1"], "masks-late": ["--explore", "1"], "cuts": ["--runs", "1"], "rxo": ["--explore", "1"]}
 RIGHT_SEEDS = 20
 # Draws the schedules of the seeds 1 to argv[4] until one fails. Prints this seed, or `none`. Doesn't shrink the schedule.
 DRAW = """
@@ -24,7 +24,8 @@ sys.dont_write_bytecode = True
 sys.path.insert(0, sys.argv[1])
 from race_finder.draw import Uniform
 from race_finder.target import Target
-target = Target(sys.argv[2], sys.argv[5:], seconds=60)
+options = sys.argv[3].removeprefix("--options=").split() if sys.argv[3].startswith("--options=") else []
+target = Target(sys.argv[2], sys.argv[5:], options, seconds=60)
 for seed in range(1, int(sys.argv[4]) + 1):
     if target.run(draw=Uniform(seed, draws_holds=sys.argv[3] == "--holds")).fault:
         print(seed)
@@ -57,20 +58,20 @@ def table(server):
         command, right, text = [*STAGED, test, bug], [*STAGED, test, "right"], "".join(f"{line}\n" for line in deviations)
         server.check(f"table: {bug}, its first seed", first_seed(server, options, int(seed), command), (seed, ""))
         server.check(f"table: {bug} needs at most one deviation", len(deviations) <= 1, True)
-        status, out, errors = replay(server, text, command=command)
+        status, out, errors = replay(server, text, *options, command=command)
         is_fault = out.endswith("\n") and out.splitlines()[-1].startswith("   exit status 1: ")
         server.check(f"table: {bug} is shown by its schedule", (status, is_fault, errors), (FOUND, True, ""))
         server.check(f"table: {bug}, each deviation is played", re.findall("did nothing|doesn't reach", out), [])
         if deviations:
             server.check(f"table: {bug} isn't shown without a deviation", replay(server, "", command=command)[::2], (PASSES, ""))
-        status, out, errors = replay(server, text, "--any-access", command=right)
+        status, out, errors = replay(server, text, *options, "--any-access", command=right)
         server.check(f"table: right passes the schedule of {bug}", (status, out.splitlines()[-1:], errors), (PASSES, ["   The test passes."], ""))
         if bug in AGAIN:
             status, _, errors = find(server, *AGAIN[bug], "--out", "found", command=command)
             found = (server.get("found") or b"").decode().splitlines()[2:]
             server.check(f"table: the schedule of {bug} is found", (status, found, errors), (FOUND, deviations, ""))
             server.remove("found")
-    server.check("table: its bugs", seen, [*BUGS, *MORE_BUGS])
+    server.check("table: its bugs", seen, [*BUGS, *MORE_BUGS, *ARRIVAL_BUGS])
 
 
 def right_drivers(server):
@@ -84,11 +85,11 @@ def right_drivers(server):
 def usage(server):
     """Words that name no test or no driver."""
     names = "|".join([*RIGHT, *BUGS, *MORE_BUGS])
-    for script, words, begin in [(STAGED, [], "staged_test.py stages|cuts"), (STAGED, ["exchange"], "staged_test.py stages|cuts"),
-                                 (STAGED, ["cuts", "lat"], "staged_test.py stages|cuts"), (STAGED, ["cuts", "late", "x"], "staged_test.py stages|cuts"),
-                                 (EXCHANGE, ["lat"], "exchange_test.py"), (EXCHANGE, ["late", "x"], "exchange_test.py")]:
+    staged = f"staged_test.py stages|cuts|offers|arrives|groups|misses [{names}|{'|'.join(ARRIVAL_BUGS)}]"
+    for script, words, begin in [(STAGED, [], staged), (STAGED, ["exchange"], staged), (STAGED, ["cuts", "lat"], staged), (STAGED, ["cuts", "late", "x"], staged),
+                                 (EXCHANGE, ["lat"], f"exchange_test.py [{names}]"), (EXCHANGE, ["late", "x"], f"exchange_test.py [{names}]")]:
         ran = subprocess.run([*script, *words], stdin=subprocess.DEVNULL, capture_output=True, timeout=LIMIT)
-        server.check(f"usage: {begin}: {words}", (ran.returncode, ran.stdout, ran.stderr.decode()), (1, b"", f"usage: {begin} [{names}]\n"))
+        server.check(f"usage: {begin}: {words}", (ran.returncode, ran.stdout, ran.stderr.decode()), (1, b"", f"usage: {begin}\n"))
 
 
 def all_cases(server):

@@ -79,7 +79,7 @@ FORMS = {
     **{f"write{letter}": [ADDRESS, at_most((1 << 8 * size) - 1)] for letter, size in WIDTHS.items()},
     "read": [ADDRESS, size_in], "write": [ADDRESS, size_in, payload_in], "memset": [ADDRESS, size_in, at_most(255)], "endianness": [],
     "step": [one_of(*KINDS)], "arrive": [hex_in], "settle": [], "line": [], "interleave": [at_most(MOST_STEPS)], "log": [one_of("on", "off")],
-    "wire": [one_of("full", "free")],
+    "wire": [one_of("full", "free")], "offer": [hex_in], "save": [], "restore": [],
 }
 
 
@@ -123,6 +123,8 @@ class Model:
     def __init__(self, size):
         self.memory = bytearray(size)
         self.log = False
+        self.offered = []
+        self.saved = None
         self.power_on()
         self.packet_buffer = PBA_RESET
 
@@ -133,6 +135,21 @@ class Model:
 
     def copy(self):
         return copy.deepcopy(self)
+
+    def state(self):
+        """A copy of all that `save` keeps."""
+        return copy.deepcopy({name: value for name, value in vars(self).items() if name != "saved"})
+
+    def restore(self):
+        if self.saved is None:
+            raise Refused("ERR saved")
+        vars(self).update(copy.deepcopy(self.saved))
+
+    def arrivals(self):
+        """The lines of the arrivals of all offered frames, at an adapter that is off."""
+        told = [line for frame in self.offered for line in (f"# arrive {frame.hex()}", f"arrived off {frame.hex()}")]
+        self.offered = []
+        return told
 
     def read(self, offset):
         """The value of a register."""
@@ -177,34 +194,43 @@ class Model:
         return [] if before == after else ["IRQ raise 0" if after else "IRQ lower 0"]
 
     def does(self, name, values):
-        """The lines of the log, the IRQ lines and the answer of a request."""
+        """The lines before the answer of a request, and the answer. Lines that begin with # are printed only if the log is on."""
         before = bool(self.causes & self.mask)
         quiet = {"endianness": "OK little", "line": number(int(before))}
         if name in quiet:
-            return [], [], quiet[name]
+            return [], quiet[name]
         if name == "wire":  # no frame waits for the wire
-            return [], [], "OK"
+            return [], "OK"
+        if name == "offer":
+            self.offered.append(values[0])
+            return [], "OK"
+        if name == "save":
+            self.saved = self.state()
+            return [], "OK"
+        if name == "restore":
+            self.restore()
+            return self.line_changes(before), "OK"
         if name in ("log", "interleave"):
             if values[0] in ("on", "off"):
                 self.log = values[0] == "on"
             elif values[0]:
                 raise Unknown
-            return [], [], "OK"
+            return [], "OK"
         if name == "step":
-            return [f"# step {values[0]} -> nothing"], [], "OK nothing"
+            return [f"# step {values[0]} -> nothing"], "OK nothing"
         if name == "settle":
-            return [f"# step {kind} -> nothing" for kind in KINDS], [], ZERO
+            return [*self.arrivals(), *(f"# step {kind} -> nothing" for kind in KINDS)], ZERO
         if name == "arrive":
-            return ["# {}"], [], "OK off"
+            return ["# {}"], "OK off"
         got = self.access(*access_in(name, values))
         answer = f"OK 0x{got.hex()}" if name == "read" else number(int.from_bytes(got, "little")) if name.startswith("read") else "OK"
-        return ["# {}"], self.line_changes(before), answer
+        return ["# {}", *self.line_changes(before)], answer
 
     def answer(self, line):
         """The bytes of the lines up to the answer to this line, and whether it is refused; the model is then unchanged."""
         try:
-            logged, changes, answer = self.does(*request_in(line))
+            told, answer = self.does(*request_in(line))
         except Refused as refused:
             return f"{refused}\n".encode(), True
-        told = [text.encode().replace(b"{}", line) for text in logged if self.log]
-        return b"".join(text + b"\n" for text in [*told, *(text.encode() for text in changes + [answer])]), False
+        texts = [text.encode().replace(b"{}", line) for text in told if self.log or not text.startswith("#")]
+        return b"".join(text + b"\n" for text in [*texts, answer.encode()]), False

@@ -31,7 +31,7 @@ def commands(server):
     shown = []
     for names in (("examples", "drivers", "README.md"), ("docs", "SERVE.md"), ("README.md",)):
         shown += re.findall(r"^```\n\$ ((?:python3|printf) [^\n]*)\n(.*?)^```$", read_page(*names), re.M | re.S)
-    words = ["python3"] * 4 + ["printf", "python3", "python3", "printf"]
+    words = ["python3"] * 4 + ["printf", "python3", "printf"]
     server.check("commands: these are shown", [command.split()[0] for command, _ in shown], words)
     for command, wanted in shown:
         command = command.replace(".build/nicbench", server.program).replace("./nicbench", server.program)
@@ -42,13 +42,13 @@ def commands(server):
 
 def columns(server):
     """The requests in two pages have the answers next to them. `...` at the end of a line means any text."""
-    for names, first, width in [(("crates", "adapter_server", "README.md"), "readl", 30), (("docs", "SERVE.md"), "memset", 48)]:
+    for names, first, width in [(("crates", "adapter_server", "README.md"), "readl", 30), (("docs", "SERVE.md"), "memset", 48), (("docs", "SERVE.md"), "save", 48)]:
         block = re.search(rf"^```\n({first} .*?)^```$", read_page(*names), re.M | re.S)[1]
         rows = [(row[:width].strip(), row[width:]) for row in block.splitlines()]
-        server.check(f"columns: {names[-1]} has some", len(rows) > 6, True)
+        server.check(f"columns: {names[-1]} has some for {first}", len(rows) > 6, True)
         status, out, errors = server.serve(lines(request for request, _ in rows if request))
         shown = "".join(f"{told}\n" for _, told in rows)
-        server.check(f"columns: {names[-1]}", (status, follow(out.decode(), shown), errors), (0, True, b""))
+        server.check(f"columns: {names[-1]}: {first}", (status, follow(out.decode(), shown), errors), (0, True, b""))
 
 
 def page(server):

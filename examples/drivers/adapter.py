@@ -23,6 +23,7 @@ class Adapter:
         self.line = False  # whether the interrupt line is asserted
         self.wire = []  # the frames that were put onto the wire
         self.told = []  # the lines of the log
+        self.arrived = []  # the frames that arrived, each as a pair with its fate
         self.handler = None  # if set, it is called as soon as the line is asserted, between any two requests
         self.takes_interrupts = True  # whether the processor takes interrupts, so that the handler may be called
 
@@ -47,6 +48,10 @@ class Adapter:
         Sends many before it reads the first answer, but a long one alone. If a handler is set, sends each one alone. So
         the handler may cut in between any two requests.
         """
+        if len(requests) == 1:
+            answers = self.ask_at_once(requests)
+            self.cut_in()
+            return answers
         answers, some, size = [], [], 0
         for request in requests:
             if some and (self.handler or size + len(request) + 1 > MOST_AT_ONCE):
@@ -62,7 +67,7 @@ class Adapter:
     def ask_at_once(self, requests):
         """Sends these requests, then reads and returns their answers."""
         try:
-            self.requests.write("".join(f"{request}\n" for request in requests).encode())
+            self.requests.write(("\n".join(requests) + "\n").encode())
             self.requests.flush()
         except BrokenPipeError:
             raise Refused(f"{requests[0]}: the server has ended") from None
@@ -78,7 +83,10 @@ class Adapter:
                 self.line = rest == "raise 0"
             if word == "frame":
                 self.wire.append(bytes.fromhex(rest))
-            if word in ("IRQ", "frame", "#"):
+            if word == "arrived":
+                fate, _, frame = rest.partition(" ")
+                self.arrived.append((fate, bytes.fromhex(frame)))
+            if word in ("IRQ", "frame", "arrived", "#"):
                 self.told.append(f"{word} {rest}")
             else:
                 raise Refused(f"{request}: {word} {rest}")
@@ -125,7 +133,13 @@ class Adapter:
 
     def arrive(self, frame):
         """Lets a frame arrive from the wire, and returns its fate."""
-        return self.ask(f"arrive {frame.hex()}")[0]
+        fate = self.ask(f"arrive {frame.hex()}")[0]
+        self.arrived.append((fate, frame))
+        return fate
+
+    def offer(self, frame):
+        """Offers a frame. It arrives when the adapter settles, or earlier if a schedule of `tools/races` plays this."""
+        self.ask(f"offer {frame.hex()}")
 
     def settle(self):
         """Plays steps until nothing is left to do, and returns the number of steps that did something."""

@@ -80,13 +80,17 @@ class Traffic:
             self.driver.interrupt()
         raise Fault(f"the line is still asserted after {PATIENCE} calls of the handler")
 
-    def finish(self):
-        """Lets the adapter do all that is left. Only interrupts call the handler. Then all frames must have arrived."""
+    def settle(self):
+        """Lets the adapter do all that is left. Only interrupts call the handler."""
         self.handle()
         for _ in range(PATIENCE):
-            if self.adapter.settle() == 0:
+            if self.adapter.settle() == 0 and not self.adapter.line:
                 break
             self.handle()
+
+    def finish(self):
+        """Lets the adapter do all that is left. Then all frames must have arrived."""
+        self.settle()
         self.check(fault_of("received", self.came, self.driver.received))
         self.check(fault_of("sent", self.sent, self.adapter.wire))
 

@@ -16,11 +16,16 @@ class Streams(Adapter):
         return sys.stdout.buffer, sys.stdin.buffer
 
 
-def fault_of_run(test, name):
-    """Initializes the driver with this name, and runs the test. Returns the fault, or None."""
+def fault_of_run(test, name, takes_over=False):
+    """Initializes the driver with this name, and runs the test. Returns the fault, or None.
+
+    With `takes_over`, the driver first counts what the adapter has missed before.
+    """
     adapter = Streams(None)
     driver = driver_of(name, adapter)
     try:
+        if takes_over:
+            driver.take_over()
         driver.bring_up()
         return test(adapter, driver)
     except (DeviceError, Refused) as error:

@@ -5,7 +5,7 @@
 
 from typing import NamedTuple
 
-from race_finder.names import SLOT, access_of, fields_of, value_in, words_of
+from race_finder.names import SLOT, access_of, fields_of, number_in, value_in
 from race_finder.play import DEVIATION
 from race_finder.shadow import Shadow
 
@@ -30,13 +30,6 @@ def bytes_in(value, size):
     return text if len(text) <= SHORT else text[:SHORT - 8] + ".."
 
 
-def answer_to(access, words, answer):
-    """The number that a read was answered with, or None."""
-    if access.kind == "write" or not answer or not answer.startswith("0x"):
-        return None
-    return int.from_bytes(bytes.fromhex(answer[2:]), "little") if words[0] == "read" else int(answer, 0)
-
-
 def memory_text(name, size, value):
     """An access of memory: its place, and the fields of a descriptor, or bytes."""
     fields = fields_of(name, size, value) if value is not None else None
@@ -48,7 +41,7 @@ def of_access(row):
     """The row of an access: what the driver does, and a register, or memory."""
     access, name = access_of(row.line[2:]), row.name.partition(" ")[2]
     is_write = access.kind == "write"
-    value = access.value if is_write else answer_to(access, words_of(row.line[2:]), row.answer)
+    value = access.value if is_write else number_in(access, row.answer)
     if name[0].isupper() or name.startswith("register"):
         column, text = "registers", name if value is None else f"{name} {value_in(name, value)}"
     else:

@@ -12,15 +12,16 @@ fails is made smaller, and printed with the end of the log and a chart.
   --seed N             the seed of the first one (default 1); the next ones have the next seeds
   --jobs N             N runs at once, at most 64 (default: the number of processors)
   --pct DEPTH          draws by PCT instead: the actor with the highest priority goes first, and DEPTH - 1 times, the
-                       one that goes gets the lowest priority. The actors are the driver, the receive engine, and the
-                       fetching and the putting of frames to be sent. Prints the least probability with which a run
-                       finds a race of this depth
+                       one that goes gets the lowest priority. The actors are the driver, the receive engine, the
+                       fetching and the putting of frames to be sent, and the wire if COMMAND offers frames. Prints the
+                       least probability with which a run finds a race of this depth
   --explore DEPTH      tries all schedules of up to DEPTH deviations instead
   --shard K/N          only each Nth of these runs, or of the schedules with DEPTH deviations, from the Kth on
   --holds              also leaves out steps of the EEPROM and the PHY
   --smaller N          tries at most N schedules with fewer deviations than the one that fails (default 1000)
   --out PATH           stores the schedule that was found or replayed in this file; if PATH is a folder or ends with /,
                        stores there schedule.txt, log.txt, chart.txt, chart.svg and run.vcd (waves, for GTKWave)
+  --by-name            prints and stores the schedule without places: before read ICR#3 is before the third read of ICR
   --replay FILE        plays one schedule
   --reached            prints what the runs reached and what they never did, also if one fails
   --json               prints one JSON object instead of the text
@@ -41,12 +42,12 @@ import time
 from contextlib import closing
 
 from race_finder.chart import chart, end_of
-from race_finder.draw import ACTORS, Pct, Uniform, bound_of
+from race_finder.draw import Pct, Uniform, actors_of, bound_of
 from race_finder.explore import Search, explore
 from race_finder.jobs import MOST_JOBS, in_order, processors
 from race_finder.play import Mismatch
 from race_finder.reached import lines_of, tables_of
-from race_finder.schedule import HOLDS, ScheduleError, parse, text_of
+from race_finder.schedule import HOLDS, ScheduleError, by_name, parse, text_of
 from race_finder.server import ServerEnded
 from race_finder.shrink import Shrinker
 from race_finder.store import store
@@ -60,7 +61,7 @@ DEEPEST = 100  # of --pct
 NUMBERS = {"runs": 1000, "seed": 1, "explore": None, "smaller": 1000, "seconds": 10, "jobs": processors(), "pct": None}
 TEXTS = {"server": os.path.join(TOP, ".build", "nicbench"), "options": None, "out": None, "replay": None,
          "shard": "1/1"}
-FLAGS = ("holds", "any-access", "reached", "json", "apart")
+FLAGS = ("holds", "any-access", "by-name", "reached", "json", "apart")
 
 
 class UsageError(Exception):
@@ -110,6 +111,14 @@ def deviations(count):
     return f"{count} deviation" + ("" if count == 1 else "s")
 
 
+def lack_of(run, deviation):
+    """Why a run didn't reach the access of a deviation."""
+    if not deviation.number:
+        return f"{deviation}: the run doesn't reach this place"
+    count = sum(row.place is not None and row.name == deviation.before for row in run.rows)
+    return f"{deviation}: the run makes this access {count} time" + ("" if count == 1 else "s")
+
+
 def progress(line):
     """Shows a line on a terminal until the next line is printed."""
     if sys.stderr.isatty():
@@ -134,14 +143,16 @@ class Finder:
         """What draws the schedule of this seed."""
         if self.given["pct"] is None:
             return Uniform(seed, draws_holds=self.given["holds"])
-        return Pct(seed, self.given["pct"], self.events)
+        return Pct(seed, self.given["pct"], self.events, self.offers_frames)
 
     def measure(self):
         """Prints the bound of PCT, by the events of a run without deviations. Returns that run if it fails."""
         run, depth = self.target.run(), self.given["pct"]
-        self.events = run.events
-        self.say(f"PCT of depth {depth}: {len(ACTORS)} actors and {self.events} events, so each run finds a race of"
-                 f" this depth with a probability of at least 1/{bound_of(depth, self.events):,}")
+        self.events, self.offers_frames = run.events, run.offers > 0
+        count, bound = len(actors_of(self.offers_frames)), bound_of(depth, self.events, self.offers_frames)
+        self.say(f"PCT of depth {depth}: {count} actors and {self.events} events, so each run finds a race of"
+                 f" this depth with a probability of at least 1/{bound:,}")
+        self.result["pct"] = {"depth": depth, "actors": count, "events": self.events, "bound": 1 / bound}
         return run if run.fault else None
 
     def draw(self):
@@ -194,7 +205,7 @@ class Finder:
             self.say("no race: the test fails by itself, without any deviation")
         elif is_smallest:
             self.say("smallest: no schedule with fewer deviations fails")
-        self.note("fails", small.fault, small.met)
+        self.note("fails", small.fault, self.shown(small))
         self.show(small)
         return FOUND
 
@@ -231,9 +242,15 @@ class Finder:
         self.say(f"\nThe schedule:\n{text}\nThe end of the log:\n{shown}\n{chart(run)}", end="")
         self.store(run, text)
 
+    def shown(self, run):
+        """The schedule of a run as it is printed and stored."""
+        if not self.given["by-name"]:
+            return run.met
+        return by_name(run.met, [(row.place, row.name) for row in run.rows if row.place])
+
     def text_of(self, run):
         """The schedule of a run, with comments."""
-        return text_of(run.met, self.target.options, [" ".join(self.target.command), end_of(run)])
+        return text_of(self.shown(run), self.target.options, [" ".join(self.target.command), end_of(run)])
 
     def store(self, run, text):
         """Stores a run, if this is wanted. Returns whether this is possible."""
@@ -266,13 +283,14 @@ class Finder:
             return FOUND
         for deviation in run.idle:
             self.say(f"{deviation}: it did nothing")
-        for deviation in run.unreached:
-            self.say(f"{deviation}: the run doesn't reach this place")
+        unreached = [lack_of(run, deviation) for deviation in run.unreached]
+        for lack in unreached:
+            self.say(lack)
         self.say(chart(run), end="")
         if run.fault:
             self.note("fails", run.fault, schedule)
-        elif is_strict and run.unreached:
-            self.note("mismatch", f"{run.unreached[0]}: the run doesn't reach this place", schedule)
+        elif is_strict and unreached:
+            self.note("mismatch", unreached[0], schedule)
         is_stored = self.store(run, self.text_of(run))
         return FOUND if self.result["result"] != "passes" else PASSES if is_stored else USAGE
 

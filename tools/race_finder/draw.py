@@ -1,40 +1,68 @@
 """Draws schedules.
 
-`actions(name, enabled)` yields the steps that are played before the access with this name. `enabled` returns the steps
-that would do something at this time, after those that were yielded before.
+`actions(name, enabled, has_frames)` returns the steps that are played before the access with this name, and arrivals of
+frames that the test has offered, one by one. `enabled` returns those that would do something at this time, after those
+that were returned before. With `has_frames`, an offered frame waits.
 """
 
 import random
+from functools import cached_property
 
-from race_finder.schedule import ENGINES, PAIRS
+from race_finder.schedule import ARRIVE, ENGINES, PAIRS
 
-# One of the steps of a pair makes the other one possible.
+# One of the steps of a pair makes the other one possible; so does an arrival.
 PARTNERS = {step: other for one, two in PAIRS.values() for step, other in ((one, two), (two, one))}
+PARTNERS[ARRIVE] = "rxdata"
 DRIVER = "driver"
-# The actors of PCT, and their steps. The frames that arrive are the test's own: they belong to the driver.
+# The actors of PCT, and their steps. Frames that arrive by requests of the test belong to the driver.
 ACTORS = {DRIVER: (), "receive": PAIRS["rx"], "fetch": ("txtake",), "put": ("txput",)}
+WIRE = {"wire": (ARRIVE,)}  # one more actor if the test offers frames
+OFFERED = *ENGINES, ARRIVE
 PATIENCE = 4  # reads of one register in a row
 
 
+def actors_of(offers_frames):
+    """The actors of PCT, and their steps."""
+    return {**ACTORS, **WIRE} if offers_frames else ACTORS
+
+
 class Uniform:
-    """Before each access, draws each step of an engine with some probability, in a random order. The seed decides."""
+    """Before each access, draws each step of an engine with some probability, in a random order. The seed decides.
+
+    While an offered frame waits, its arrival is drawn like a step.
+    """
 
     def __init__(self, seed, chance=0.5, draws_holds=False):
-        self.random, self.chance, self.draws_holds = random.Random(seed), chance, draws_holds
+        self.seed, self.chance, self.draws_holds = seed, chance, draws_holds
 
-    def actions(self, _, enabled):
-        # Of this generator, only the numbers of `random` are the same in all versions of Python.
-        order = sorted(ENGINES, key=lambda _: self.random.random())
-        drawn = [action for action in order if self.random.random() < self.chance]
-        possible = set(enabled()) if drawn else set()
+    @cached_property
+    def random(self):
+        """Of this generator, only the numbers of `random` are the same in all versions of Python."""
+        return random.Random(self.seed).random
+
+    def actions(self, _, enabled, has_frames):
+        draw, actions, possible = self.random, OFFERED if has_frames else ENGINES, enabled()
+        if not possible:
+            for _ in actions:  # as many numbers as if an action is possible
+                draw(), draw()
+            return ()
+        order = sorted([(draw(), action) for action in actions])
+        drawn = [action for _, action in order if draw() < self.chance]
+        return self.those_possible(drawn, possible)
+
+    @staticmethod
+    def those_possible(drawn, possible):
+        """Those of the drawn actions that would do something, each after those before it."""
+        found = []
         for action in drawn:
             if action in possible:
-                possible.add(PARTNERS[action])
-                yield action
+                possible = (*possible, PARTNERS[action])
+                found.append(action)
+        return found
 
     def holds(self):
         """Whether a default step of the EEPROM or the PHY is left out."""
-        return self.draws_holds and self.random.random() < 0.5
+        return self.draws_holds and self.random() < 0.5
 
 
 class Pct:
@@ -47,9 +75,10 @@ class Pct:
 
     draws_holds = False
 
-    def __init__(self, seed, depth, events):
+    def __init__(self, seed, depth, events, offers_frames=False):
         draw = random.Random(seed).random
-        self.priorities = {actor: depth + at for at, actor in enumerate(sorted(ACTORS, key=lambda _: draw()))}
+        self.actors = actors_of(offers_frames)
+        self.priorities = {actor: depth + at for at, actor in enumerate(sorted(self.actors, key=lambda _: draw()))}
         self.changes = {1 + int(draw() * events): priority for priority in range(depth - 1, 0, -1)}
         self.events, self.last, self.reads = 0, None, 0
 
@@ -61,7 +90,7 @@ class Pct:
     def waiting(self, enabled):
         """The actors that could take a step, each with its step."""
         possible = enabled()
-        return {actor: step for actor, steps in ACTORS.items() for step in steps if step in possible}
+        return {actor: step for actor, steps in self.actors.items() for step in steps if step in possible}
 
     def polls(self, name):
         """Whether a driver that polls must wait before this access."""
@@ -69,7 +98,7 @@ class Pct:
         self.last, self.reads = name, self.reads + 1 if is_again else 1
         return self.reads % PATIENCE == 0
 
-    def actions(self, name, enabled):
+    def actions(self, name, enabled, _):
         must_wait = self.polls(name)
         while waiting := self.waiting(enabled):
             first = max(waiting, key=self.priorities.get)
@@ -84,6 +113,6 @@ class Pct:
         return False
 
 
-def bound_of(depth, events):
+def bound_of(depth, events, offers_frames=False):
     """One divided by this is the least probability that a run finds a race of this depth, by the events of a run."""
-    return len(ACTORS) * max(1, events) ** (depth - 1)
+    return len(actors_of(offers_frames)) * max(1, events) ** (depth - 1)

@@ -4,7 +4,8 @@ from race_finder.jobs import first_to_fail
 from race_finder.schedule import HOLDS, PAIRS, Deviation, keys_of
 
 # Before one access, deviations of different actors can be exchanged; so they are tried in this order of actors.
-ACTORS = {"hold eeprom": 0, "hold phy": 1, "txtake": 2, "txput": 2, "tx": 2, "rxdata": 3, "rxdone": 3, "rx": 3}
+ACTORS = {"hold eeprom": 0, "hold phy": 1, "txtake": 2, "txput": 2, "tx": 2, "rxdata": 3, "rxdone": 3, "rx": 3,
+          "arrive": 3}
 
 
 def children(run, with_holds):

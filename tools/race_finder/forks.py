@@ -2,6 +2,7 @@
 
 import os
 import pickle
+import queue
 import re
 import select
 import signal
@@ -18,7 +19,8 @@ TOOLS = os.path.dirname(os.path.dirname(os.path.abspath(__file__)))
 PYTHON = re.compile(r"python(3(\.[0-9]+)?)?")
 FLAGS = re.compile(r"-[bBEIOPqsSu]+")
 FIRST, ROUND_1 = Place(0, 0), Place(1, 0)
-SPACING, MOST_HOSTS = 16, 40  # accesses from one host to the next; hosts after round 1
+SPACING, MOST_HOSTS = 16, 40  # the least number of accesses from one host to the next; hosts after round 1
+MOST_SERVERS = 256  # of all hosts
 END = 5  # seconds until a host that hasn't ended by itself is killed
 BEGIN = """
 import sys
@@ -104,8 +106,12 @@ def kill(number):
 class Forks:
     """The hosts of a test: processes that wait before places of the run without deviations, and are forked there."""
 
-    def __init__(self, command, settings, seconds):
+    def __init__(self, command, settings, seconds, jobs):
         self.command, self.settings, self.seconds = command, settings, seconds
+        self.jobs, self.slots = jobs, queue.LifoQueue()  # numbers of servers that no run uses
+        for slot in range(jobs):
+            self.slots.put(slot)
+        self.lost = set()  # servers whose runs were ended, each as a pair of a host and a slot
         self.lock, self.process = threading.Lock(), None
         self.hosts = []  # pairs of a place and a socket, the last place first
         self.is_usable, self.is_warm = True, False
@@ -144,39 +150,36 @@ class Forks:
 
     def prepare(self, run):
         """Before many schedules are played: starts hosts all along the run without deviations."""
-        places = [met.place for met in run.places if met.place.round][SPACING::SPACING]
+        places = [met.place for met in run.places if met.place.round]
+        count = max(1, min(MOST_HOSTS, MOST_SERVERS // self.jobs))
+        spacing = max(SPACING, -(-len(places) // (count + 1)))
         with self.lock:
             if self.is_usable and self.process and len(self.hosts) == 2:
-                self.add(places[:MOST_HOSTS])
+                self.add(places[spacing::spacing][:count])
 
     def host_of(self, schedule, draw):
         """The last host before the first deviation."""
-        first = schedule[0].place if schedule else FIRST if draw and draw.draws_holds else ROUND_1
+        first = min(one.place or FIRST for one in schedule) if schedule else \
+            FIRST if draw and draw.draws_holds else ROUND_1
         return next(control for place, control in self.hosts if place <= first)
 
-    def play(self, schedule, draw, is_strict, has_places, wake):
+    def play(self, schedule, draw, is_strict, has_places, has_rows, wake):
         """A run, or None if only a process of its own can show it. Raises Mismatch or Stopped."""
         with self.lock:
             if self.is_usable and self.process is None:
                 self.start()
         if not self.is_usable:
             return None
-        source, sink = os.pipe()
+        slot = self.slots.get()
         try:
-            with self.lock:
-                request = RUN, schedule, draw, is_strict, has_places, not self.is_warm
-                try:
-                    send(self.host_of(schedule, draw), request, [sink])
-                finally:
-                    os.close(sink)
-            kind, value = Child(source, time.monotonic() + self.seconds).result(wake)
+            kind, value = self.result(slot, wake, schedule, draw, is_strict, has_places, has_rows or not self.is_warm)
         except Late:
             return None
         except (Lost, OSError):
             self.is_usable = False
             return None
         finally:
-            os.close(source)
+            self.slots.put(slot)
         if kind == MISMATCH:
             raise Mismatch(value)
         if kind == RAN and not self.is_warm:
@@ -185,6 +188,25 @@ class Forks:
             self.is_usable = False
             return None
         return value
+
+    def result(self, slot, wake, schedule, draw, *words):
+        """The kind and the value of the result of a run that uses the server in this slot."""
+        (source, sink), is_ended = os.pipe(), False
+        host = self.host_of(schedule, draw)
+        try:
+            with self.lock:
+                try:
+                    send(host, (RUN, (slot, (host, slot) in self.lost), schedule, draw, *words), [sink])
+                finally:
+                    os.close(sink)
+                self.lost.discard((host, slot))
+            result = Child(source, time.monotonic() + self.seconds).result(wake)
+            is_ended = True
+            return result
+        finally:
+            os.close(source)
+            if not is_ended:
+                self.lost.add((host, slot))
 
     def warm(self, run):
         """Sends the requests of the first run to the last host: most of them are those of later runs, too."""

@@ -2,8 +2,8 @@
 
 `forks.py` starts `main` in the interpreter of the test. The test runs until it reads its first answer. Then this
 process is forked for each run. In the child, the test goes on: its standard streams lead to `Play` in the same process,
-which asks a server of its own. Other hosts are children that go on until a later place of the run without deviations,
-and are forked there.
+which asks a server. Other hosts are children that go on until a later place of the run without deviations, and are forked
+there. A host has some servers in the state at its place, which are restored for each run (`Servers`).
 
 A test isn't forked if its runs could differ from those of a process of its own: if it starts processes, opens files for
 writing, or uses its standard streams from other threads, or by other means than `sys.stdin` and `sys.stdout`. Then the
@@ -27,11 +27,9 @@ import types
 from importlib.machinery import SourceFileLoader
 
 from race_finder.draw import Pct, Uniform
-from race_finder.names import access_of
 from race_finder.play import Mismatch, Play
-from race_finder.reached import reached_by
 from race_finder.run import Run, fault_of
-from race_finder.server import Server
+from race_finder.server import Server, Servers
 
 SIZE = struct.Struct("<I")
 # A child writes this and its number first. Anything else in its place was written by the test itself.
@@ -111,6 +109,7 @@ class Host:
         self.requests, self.rest, self.unread = b"", b"", b""
         self.is_doubtful = self.is_watched = False
         self.number, self.thread = None, threading.get_ident()
+        self.servers = Servers(settings)
 
     # Streams
 
@@ -154,12 +153,13 @@ class Host:
 
     def feed(self, is_last=False):
         """Plays the requests that the test has written."""
-        data, self.requests = self.rest + self.requests, b""
-        *lines, self.rest = data.split(b"\n")
-        if is_last and self.rest:
-            lines.append(self.rest)
+        data, self.requests = (self.rest + self.requests).decode(errors="surrogateescape"), b""
+        *lines, rest = data.split("\n")
+        if is_last and rest:
+            lines.append(rest)
+        self.rest = rest.encode(errors="surrogateescape") if rest else b""
         try:
-            self.unread += self.play.feed([line.decode(errors="surrogateescape") for line in lines])
+            self.unread += self.play.feed(lines, is_last)
         except Mismatch as error:
             self.end(MISMATCH, str(error))
         except Exception:
@@ -176,10 +176,13 @@ class Host:
             message, files = receive(self.control)
             children -= ended(children, 0 if message is None else os.WNOHANG)
             if message is None:
+                self.servers.end()
                 os._exit(0)
             if message[0] == WARM:
-                warm(message[1])
+                self.warm(message[1])
                 continue
+            if message[0] == RUN:
+                self.prepare(*message[1], begun)
             child = os.fork()
             if child == 0:
                 break
@@ -194,36 +197,37 @@ class Host:
         except Exception:
             self.doubt()
 
-    def become_run(self, result, begun, schedule, draw, is_strict, has_places, has_rows):
+    def prepare(self, slot, is_lost, begun):
+        """Before a run: it will have a server."""
+        try:
+            self.servers.prepare(slot, is_lost, begun)
+        except Exception:
+            os._exit(1)  # the test must not see this
+
+    def become_run(self, result, begun, slot, schedule, draw, is_strict, has_places, has_rows):
         self.result, self.has_places, self.has_rows = result, has_places, has_rows
         os.write(result, MARK + SIZE.pack(os.getpid()))
         os.dup2(result, 1)
         self.renew()
-        self.begin(begun, schedule, draw, is_strict)
+        self.begin(self.servers.of(slot[0], begun), schedule, draw, is_strict, has_places, has_rows)
 
     def become_host(self, control, begun, place):
         """Goes on until this place, and is forked there."""
         self.control = socket.socket(fileno=control)
+        self.servers.leave()
         self.renew()
         send(self.control, os.getpid())
-        self.begin(begun, (), None, False)
+        self.begin(self.servers.new(begun), (), None, False)
         self.play.stop, self.play.at_stop, self.play.begun = place, self.at_stop, [*begun]
 
-    def begin(self, begun, *words):
-        """Starts a run, or lets it go on: with a new server, in the state after the requests so far."""
-        program, options, base = self.settings
-        server = Server(program, options)
-        if self.play is None:
-            self.play = Play(server, *words, base)
-        else:
-            self.play.begin(server, *words)
-            server.repeat([*begun[1:], *begun[:1]])  # the log is turned on at the end
+    def begin(self, server, schedule, draw, is_strict, has_places=True, has_rows=True):
+        """Starts a run, or lets it go on, with a server in the state after the requests so far."""
+        self.play = self.play or Play(*self.settings[2:])
+        self.play.begin(server, schedule, draw, is_strict, has_places, has_rows)
 
     def at_stop(self):
         self.check_host()
-        self.play.server.end()
-        self.play.reached |= reached_by(self.play.rows[self.play.counted:])
-        self.play.counted = len(self.play.rows)
+        self.servers.keep(self.play.server)
         send(self.control, READY)
         self.serve(self.play.begun)
 
@@ -265,8 +269,7 @@ class Host:
             with contextlib.suppress(OSError):  # nobody reads it
                 while data:
                     data = data[os.write(self.result, data):]
-            if self.play:
-                self.play.server.end()
+            self.servers.leave_alone(self.play and self.play.server)
         os._exit(1)
 
     def finish(self, status):
@@ -290,18 +293,17 @@ class Host:
         run = Run(fault_of(status, written(2)), self.play)
         self.end(RAN, run.reduced(self.has_places, self.has_rows))
 
+    def warm(self, requests):
+        """Lets children find the accesses of these requests."""
+        for request in requests:
+            self.play.learn(request)
+        gc.freeze()
+
     def audit(self, event, arguments):
         """Notes what a test that is forked doesn't do. Importing a module may write a file, which is no harm."""
         writes = event == "open" and self.result is not None and arguments[2] & WRITES and ".pyc." not in str(arguments[0])
         if self.is_watched and (event in DOUBTFUL or writes):
             self.is_doubtful = True
-
-
-def warm(requests):
-    """Lets children find these requests of the test in the cache of `access_of`."""
-    for request in requests:
-        access_of(request)
-    gc.freeze()
 
 
 def ended(children, options):

@@ -35,10 +35,10 @@ def in_order(target, calls, jobs, ahead=AHEAD):
         target.resume()
 
 
-def first_to_fail(target, schedules, ahead=AHEAD, has_places=False):
+def first_to_fail(target, schedules, ahead=AHEAD, **words):
     """Plays schedules up to the first one in their order that fails: yields a pair of each and its run."""
     schedules = list(schedules)
-    calls = ({"schedule": schedule, "has_places": has_places} for schedule in schedules)
+    calls = ({"schedule": schedule, "has_places": False, **words} for schedule in schedules)
     with closing(in_order(target, calls, target.jobs, ahead)) as runs:
         for schedule, run in zip(schedules, runs):
             yield schedule, target.count(run)

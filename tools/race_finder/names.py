@@ -5,6 +5,7 @@ from functools import lru_cache
 from typing import NamedTuple
 
 DEFAULT_REGISTERS, REGISTERS_SIZE = 0xFEB00000, 0x20000
+DEFAULT_MEMORY = 1 << 20
 REGISTERS = {
     0x0000: "CTRL", 0x0008: "STATUS", 0x0014: "EERD", 0x0020: "MDIC", 0x0038: "VET",
     0x00C0: "ICR", 0x00C8: "ICS", 0x00D0: "IMS", 0x00D8: "IMC", 0x0100: "RCTL", 0x0400: "TCTL", 0x1000: "PBA",
@@ -33,21 +34,24 @@ FIELD_BITS = {"rx status": {0: "DD", 1: "EOP"}, "tx status": {0: "DD"}, "tx comm
 SLOT = re.compile(r"(rx|tx)\[[0-9]+\](?:\+([0-9]+))?")
 SIZES = {"b": 1, "w": 2, "l": 4, "q": 8}
 NUMBER = re.compile(r"0x[0-9a-fA-F]+|[0-9]+")
-HEX = re.compile(r"0x((?:[0-9a-fA-F]{2})*)")
 MOST_BYTES = 65536
 
 
 class Access(NamedTuple):
-    """An access: 'read' or 'write', its bytes, and what it writes, as a number (None if it reads)."""
+    """An access: 'read' or 'write', its bytes, and what it writes, as a number (None if it reads).
+
+    Its answer may have bytes in the order of memory (`is_bytes`), or a number.
+    """
     kind: str
     address: int
     size: int
     value: int
+    is_bytes: bool = False
 
 
 def words_of(request):
     """The words of a request, which only spaces and tabs separate."""
-    return [word for word in re.split("[ \t]", request) if word]
+    return [word for word in request.replace("\t", " ").split(" ") if word]
 
 
 def number_of(word):
@@ -73,6 +77,17 @@ def access_of(request):
     return Access(kind, address, size, value if kind == "write" else None)
 
 
+def bytes_of(word, size):
+    """The bytes in a word such as 0x0a0b, or None if it has another form or another number of bytes."""
+    if not word.startswith("0x") or len(word) != 2 + 2 * size:
+        return None
+    try:
+        data = bytes.fromhex(word[2:])
+    except ValueError:
+        return None
+    return data if len(data) == size else None  # `fromhex` skips white space
+
+
 def access_of_bytes(name, words):
     """The access of a request `read`, `write` or `memset`, or None if it has an invalid form."""
     if len(words) != (2 if name == "read" else 3):
@@ -81,14 +96,20 @@ def access_of_bytes(name, words):
     if None in (address, size) or size > MOST_BYTES:
         return None
     if name == "read":
-        return Access("read", address, size, None)
+        return Access("read", address, size, None, True)
     if name == "memset":
         byte = number_of(words[2])
         data = None if byte is None or byte > 255 else bytes([byte]) * size
     else:
-        found = HEX.fullmatch(words[2])
-        data = bytes.fromhex(found[1]) if found and len(found[1]) == 2 * size else None
-    return None if data is None else Access("write", address, size, int.from_bytes(data, "little"))
+        data = bytes_of(words[2], size)
+    return None if data is None else Access("write", address, size, int.from_bytes(data, "little"), True)
+
+
+def number_in(access, text):
+    """The number that an access has read, by the text of its answer; or None."""
+    if access.kind == "write" or not text or not text.startswith("0x"):
+        return None
+    return int.from_bytes(bytes.fromhex(text[2:]), "little") if access.is_bytes else int(text, 0)
 
 
 def bits_of(word, names):

@@ -1,33 +1,38 @@
 """Plays a schedule between a test and `nicbench serve`."""
 
 import hashlib
+import re
+from collections import Counter
 from typing import NamedTuple
 
-from race_finder.names import DEFAULT_REGISTERS, access_of, number_of, words_of
-from race_finder.schedule import ENGINES, HOLDS, ROUNDS, Deviation, Place, steps_of
+from race_finder.names import DEFAULT_REGISTERS, access_of, causes_of, number_in, number_of, words_of
+from race_finder.reached import STEP_KINDS, access_bit, bits_of_causes, bits_of_fates, bits_of_steps
+from race_finder.schedule import ARRIVE, ENGINES, HOLDS, ROUNDS, Deviation, Place, steps_of
 from race_finder.shadow import MATTER, Shadow
 
 # The most bytes of requests that are sent before answers are read: every pipe holds at least this many.
 MOST_AT_ONCE = 4096
 MOST_INTERLEAVED = 65535
-# Who made a request.
-TEST, DEFAULT, DEVIATION = "test", "default", "deviation"
+FRAME = re.compile("(?:[0-9a-fA-F]{2})+")
+LONGEST = 131_200  # bytes of a request
+# Who made a request. The test was told the answer to a request that is TOLD before it was sent.
+TEST, TOLD, DEFAULT, DEVIATION = "test", "told", "default", "deviation"
+# A step with one of these outcomes changed nothing.
+IDLE = ("nothing", "wirefull")
+IDLE_ANSWERS = tuple(f"OK {outcome}" for outcome in IDLE)
+# Each write of one of these registers is valid, and never changes the interrupt line.
+QUIET = ("RDT", "TDT")
+# Requests that only the finder sends: the state that is saved is that of a fork.
+OURS = ["save"], ["restore"]
+LOG, WIRE = (["log", "on"], ["log", "off"]), (["wire", "full"], ["wire", "free"])
+FATES, STEPS = bits_of_fates(), bits_of_steps()
+# For each step that the finder requests, the same by its answer
+OUTCOMES = {kind: {f"OK {value[2]}": value for value in STEPS.values() if value[1] == kind} for kind in STEP_KINDS}
+MOST_KNOWN = 65536  # requests whose accesses are kept
 
 
 class Mismatch(Exception):
     """A schedule meets another access than it expects."""
-
-
-class Request(NamedTuple):
-    """A request on its way to the server: who made it, and of an access its register (or None), its place, and so on."""
-    text: str
-    owner: str
-    access: object = None
-    register: str = None
-    place: Place = None
-    name: str = None
-    holds: tuple = ()
-    drawn: Deviation = None  # that this step was drawn for
 
 
 class Met(NamedTuple):
@@ -46,132 +51,236 @@ class Row:
         self.line, self.owner, self.place, self.name, self.answer = line, owner, place, name, None
 
 
+class Known:
+    """The access of a request: its name, its register (None for memory), and what follows from these."""
+    __slots__ = ("access", "register", "name", "bit", "matters", "is_quiet", "is_causes", "has_effect")
+
+    def __init__(self, access, register, name, memory):
+        is_write = access.kind == "write"
+        self.access, self.register, self.name = access, register, name
+        self.bit = access_bit(access.kind, register)
+        self.matters = is_write and register in MATTER
+        is_stored = register is None and 0 < access.size <= memory - access.address
+        self.is_quiet = is_write and (register in QUIET or is_stored)
+        self.is_causes = register == "ICR" and not is_write
+        self.has_effect = self.is_causes or self.matters
+
+
 def is_interleave(words):
     """Whether a request turns random steps on or off, and has a valid form."""
     count = number_of(words[1]) if words[:1] == ["interleave"] and len(words) == 2 else None
     return count is not None and count <= MOST_INTERLEAVED
 
 
-class Play:
-    """Takes requests of the test, and returns what answers them."""
+def frame_of(request, words):
+    """The digits of the frame that a request offers, or None if it isn't a valid one that offers a frame."""
+    is_offer = len(words) == 2 and words[0] == "offer" and len(request) <= LONGEST
+    return words[1].lower() if is_offer and FRAME.fullmatch(words[1]) else None
 
-    def __init__(self, server, schedule=(), draw=None, is_strict=True, base=DEFAULT_REGISTERS):
-        self.begin(server, schedule, draw, is_strict)
-        self.shadow = Shadow(base)
+
+class Play:
+    """Takes requests of the test, and returns what answers them.
+
+    A request on its way to the server is a tuple: its text, who made it, its access if it is one (`Known`), what is
+    recorded of the access (`Met`), the deviation that it was drawn for, the digits of a frame that was offered, and the
+    outcomes of a step by its answer if the server doesn't log it. Rows need the log. Without them, the server logs only
+    what happens at the test's own `step` and `settle`.
+    """
+
+    def __init__(self, base=DEFAULT_REGISTERS, memory=0):
+        self.shadow, self.memory = Shadow(base), memory  # of `memory` bytes, the finder knows that they are there
+        self.known = {}  # accesses by requests
         self.waiting, self.size = [], 0  # requests that aren't sent yet, and their bytes
+        self.untold = 0  # how many of these the test must be told the answers to
         self.round = self.access_number = 0
         self.is_logged = False  # whether the test wants the log
         self.stop, self.at_stop = None, None  # a place, and what is called when the run reaches it
         self.begun = []  # the texts of the requests before this place
         self.out = []  # lines for the test
+        self.offered, self.offers = [], 0  # frames that wait for their arrival, the oldest one first; how many there were
         self.met, self.idle = [], []  # the deviations that did something, and those that did nothing
         self.places, self.rows = [], []
-        self.reached, self.counted = frozenset(), 0  # what was reached by the first rows, and how many these are
-        self.events = 0  # accesses, and steps of engines that did something, from round 1 on
+        self.reached = 0  # a bit for each item of reached.py
+        self.others = 0  # steps of engines that did something, and arrivals of offered frames, from round 1 on
+        self.accesses = 0  # from round 1 on, in rounds before this one
         self.answers = hashlib.sha1()
-        self.queue(Request("log on", DEFAULT))
+        self.counts = Counter()  # of accesses, by their names, if the schedule needs them
 
-    def begin(self, server, schedule, draw, is_strict):
-        """Plays this schedule. Nothing that it does is before the next request."""
+    def begin(self, server, schedule=(), draw=None, is_strict=True, has_places=True, has_rows=True):
+        """Plays this schedule. Nothing that it does is before the next request. The log of the server is off.
+
+        Places and rows are recorded from now on if this is wanted.
+        """
         self.server, self.draw, self.is_strict = server, draw, is_strict
-        self.left = {}  # deviations whose place isn't reached yet
+        self.has_places, self.has_rows = has_places or has_rows, has_rows
+        self.has_log = False
+        self.set_log(has_rows or self.is_logged)
+        self.schedule = list(schedule)
+        self.left, self.named = {}, {}  # deviations whose access isn't reached yet: by places, and by names and numbers
         for deviation in schedule:
-            self.left.setdefault(deviation.place, []).append(deviation)
+            by_place, name = (self.left, deviation.place), (deviation.before, deviation.number)
+            some, key = (self.named, name) if deviation.number else by_place
+            some.setdefault(key, []).append(deviation)
+
+    def events(self):
+        """The number of accesses, of steps of engines that did something, and of arrivals of offered frames, from round 1 on."""
+        return self.others + self.accesses + (self.access_number if self.round else 0)
 
     # The server
 
-    def queue(self, request):
-        size = len(request.text) + 1
-        if self.waiting and self.size + size > MOST_AT_ONCE:
+    def set_log(self, has_log):
+        """Turns the log of the server on or off."""
+        if self.has_log != has_log:
+            self.queue("log on" if has_log else "log off", DEFAULT)
+            self.has_log = has_log
+
+    def queue(self, text, owner, known=None, met=None, drawn=None, frame=None, outcomes=None):
+        self.size += len(text) + 1
+        if self.size > MOST_AT_ONCE and self.waiting:
             self.flush()
-        self.waiting.append(request)
-        self.size += size
+            self.size = len(text) + 1
+        self.waiting.append((text, owner, known, met, drawn, frame, outcomes))
+        if owner is not TOLD:
+            self.untold += 1
 
     def flush(self):
         """Sends all requests that wait, and returns their answers."""
-        if not self.waiting:
-            return []
-        requests, self.waiting, self.size = self.waiting, [], 0
-        texts = [request.text for request in requests]
+        requests = self.waiting
+        if not requests:
+            return requests
+        self.waiting, self.size, self.untold = [], 0, 0
+        texts = [request[0] for request in requests]
         if self.stop:
-            self.begun += texts
+            self.begun += [text for text in texts if text not in ("log on", "log off")]
         self.server.send(texts)
-        return [self.answer(request) for request in requests]
+        answer = self.answer
+        return [answer(*request) for request in requests]
 
-    def answer(self, request):
+    def answer(self, _, owner, known, met, drawn, frame, outcomes):
         """Returns the answer to a request, after the lines before it."""
-        row, line = None, self.server.line()
-        while not line.startswith(("OK", "ERR", "FAIL")):
-            if line.startswith("# step "):
-                self.hear_step(line, request.owner)
+        next_line, row, at = self.server.line, None, len(self.out) + self.is_logged
+        line = next_line()
+        while line[0] not in "OEF":  # OK, ERR or FAIL
+            if line in STEPS:
+                self.hear_step(line, owner)
             else:
-                row = self.hear(line, request) or row
-            line = self.server.line()
+                row = self.hear(line, owner, met) or row
+            line = next_line()
         text = line[3:]
         if row:
             row.answer = text
-        if line == "OK stored":
-            self.shadow.waiting += 1
-        if request.owner == TEST:
+        if owner is TEST:
             self.out.append(line)
-        elif request.drawn and line != "OK nothing":
-            self.met.append(request.drawn)
+        if known:
+            if line[0] == "O":
+                self.reached |= known.bit
+                if met:
+                    self.places.append(met)
+                if known.has_effect:
+                    self.hear_access(known, owner, text)
+        elif outcomes:
+            self.take_step(*outcomes[line])
+        elif line in FATES:
+            self.reached |= FATES[line]
+            self.shadow.arrive(line == "OK stored")
+            if frame:
+                self.others += 1
+                self.out.insert(at, f"arrived {text} {frame}")  # after the line of the log, before the interrupt line
+        if drawn and line not in IDLE_ANSWERS:
+            self.met.append(drawn)
         return text
+
+    def hear_access(self, known, owner, text):
+        """A valid access of a register after which something is known."""
+        if known.is_causes:
+            self.reached |= bits_of_causes(causes_of(number_in(known.access, text) or 0))
+        elif known.matters and owner is not TOLD:
+            self.write(known)
+
+    def take_step(self, bit, kind, outcome, is_idle):
+        """The adapter took a step. Returns the slot that it used, or None."""
+        self.reached |= bit
+        if not is_idle and self.round and kind in ENGINES:
+            self.others += 1
+        return self.shadow.step(kind, outcome)
 
     def hear_step(self, line, owner):
         """A line of the log for a step."""
-        _, _, kind, _, outcome = line.split(" ")
-        name = self.shadow.step(kind, outcome)
-        self.events += outcome != "nothing" and kind in ENGINES
-        if outcome != "nothing" or owner == TEST:
-            self.rows.append(Row(line, owner, None, name))
+        step = STEPS[line]
+        slot = self.take_step(*step)
+        if step[2] != "nothing" or owner is TEST:
+            if self.has_rows:
+                self.rows.append(Row(line, owner, None, slot))
             if self.is_logged:
                 self.out.append(line)
 
-    def hear(self, line, request):
+    def hear(self, line, owner, met):
         """Another line before the answer to a request. Returns the row of an access or an arrival."""
-        row, is_logged = Row(line, request.owner), line[0] == "#"
-        if is_logged and request.access:
-            row.place, row.name = request.place, request.name
-            # No schedule gets longer than a drawn one.
-            enabled = () if self.draw else tuple(self.shadow.enabled())
-            self.places.append(Met(request.place, request.name, enabled, request.holds))
-            if request.register and request.access.kind == "write":
-                self.shadow.write(request.register, request.access.value)
-        self.rows.append(row)
-        if self.is_logged or not is_logged:
+        is_request = line[0] == "#"
+        if self.is_logged or not is_request:
             self.out.append(line)
-        return row if is_logged else None
+        if not self.has_rows:
+            return None
+        self.rows.append(Row(line, owner, *(met[:2] if is_request and met else ())))
+        return self.rows[-1] if is_request else None
+
+    def write(self, known):
+        """A register was written. If a ring has moved, names of accesses are other ones."""
+        if self.shadow.write(known.register, known.access.value):
+            self.known.clear()
 
     # The test
 
-    def feed(self, requests):
+    def feed(self, requests, is_last=False):
         """Returns the lines that answer these requests of the test, as bytes."""
         for request in requests:
-            self.take(request)
-        self.flush()
-        data = "".join([f"{line}\n" for line in self.out]).encode(errors="surrogateescape")
+            known = self.known.get(request) or self.learn(request)
+            if known:
+                self.access(request, known)
+            else:
+                self.take(request)
+        if self.untold or is_last:
+            self.flush()
+        if not self.out:
+            return b""
+        data = ("\n".join(self.out) + "\n").encode(errors="surrogateescape")
         self.out = []
         self.answers.update(data)
         return data
 
     def take(self, request):
-        access = access_of(request)
-        if access:
-            self.access(request, access)
-            return
+        """A request of the test that isn't an access."""
         words = words_of(request)
-        if words in (["log", "on"], ["log", "off"]):
+        if words in LOG:
             self.flush()
             self.is_logged = words == ["log", "on"]
+            self.set_log(self.has_rows or self.is_logged)
             self.out.append("OK")
         elif is_interleave(words):
             self.flush()
             self.out.append("OK")  # the schedule takes the place of random steps
+        elif words[:1] in OURS:
+            self.flush()
+            self.out.append("FAIL unknown")
         elif words[:1] and words[0] in ROUNDS:
-            self.begin_round(request)
+            self.begin_round(request, words)
+        elif words in WIRE:
+            self.queue(request, TEST)
+            if self.flush()[-1] == "":
+                self.shadow.set_wire(words == ["wire", "free"])
         else:
-            self.queue(Request(request, TEST))
+            self.queue(request, TEST)
+
+    def learn(self, request):
+        """The access of a request, or None if it is none."""
+        access = access_of(request)
+        if not access:
+            return None
+        register = self.shadow.register(access)
+        known = Known(access, register, f"{access.kind} {register or self.shadow.memory(access)}", self.memory)
+        if len(self.known) < MOST_KNOWN:
+            self.known[request] = known
+        return known
 
     def reach(self, place):
         """The run is before this place, and all requests before it are answered if it stops here."""
@@ -180,44 +289,91 @@ class Play:
             self.stop = None
             self.at_stop()
 
-    def begin_round(self, request):
-        self.reach(Place(self.round + 1, 0))
+    def begin_round(self, request, words):
+        if self.stop:
+            self.reach(Place(self.round + 1, 0))
+        self.accesses += self.access_number if self.round else 0
         self.round, self.access_number = self.round + 1, 0
-        self.queue(Request(request, TEST))
+        frame = frame_of(request, words)
+        if frame:
+            self.flush()
+            self.offered.append(frame)
+            self.offers += 1
+            self.out.append("OK")
+            return
+        if self.offered and words == ["settle"]:
+            self.flush()
+            while self.offered:
+                self.arrive(DEFAULT)
+        self.set_log(True)
+        self.queue(request, TEST)
+        self.set_log(self.has_rows or self.is_logged)
         self.flush()  # so the same steps follow, however many requests are sent at once
 
-    def access(self, request, access):
+    def access(self, request, known):
         """An access of the test, after what the schedule plays before it."""
         self.access_number += 1
-        place = Place(self.round, self.access_number)
-        self.reach(place)
-        self.events += self.round > 0
-        register = self.shadow.register(access)
-        name = f"{access.kind} {register or self.shadow.memory(access)}"
-        due = self.left.pop(place, ())
+        if self.stop:
+            self.reach((self.round, self.access_number))
+        due = self.due(known.name) if self.left or self.named else ()
+        shadow, holds = self.shadow, ()
+        if due or shadow.eeprom or shadow.phy:
+            holds = self.tick(known.name, due)
+            for deviation in due:
+                if deviation.action not in HOLDS:
+                    self.play(deviation, known.name)
+        if self.draw and self.round:
+            for action in self.draw.actions(known.name, self.enabled, bool(self.offered)):
+                self.play_drawn(action, known.name)
+        met = None
+        if self.has_places:
+            # No schedule gets longer than a drawn one.
+            enabled = () if self.draw else self.possible()
+            met = Met(Place(self.round, self.access_number), known.name, enabled, holds)
+        if known.is_quiet and not (self.untold or self.is_logged or self.has_rows):
+            self.queue(request, TOLD, known, met)
+            self.out.append("OK")
+            if known.matters:
+                self.write(known)
+            return
+        self.queue(request, TEST, known, met)
+        if known.matters:
+            self.flush()
+
+    def due(self, name):
+        """The deviations before this access, in the order in which the schedule has them."""
+        due = self.left.pop((self.round, self.access_number), [])
         for deviation in due:
             if self.is_strict and deviation.before != name:
                 raise Mismatch(f"{deviation}: at this place, the test makes another access: {name}")
-        holds = self.tick(place, name, due)
-        for deviation in due:
-            if deviation.action not in HOLDS:
-                self.play(Deviation(place, deviation.action, name))
-        if self.draw and self.round:
-            for action in self.draw.actions(name, self.enabled):
-                self.queue(Request(f"step {action}", DEVIATION, drawn=Deviation(place, action, name)))
-        self.queue(Request(request, TEST, access, register, place, name, holds))
-        if access.kind == "write" and register in MATTER:
-            self.flush()
+        if self.named:
+            self.counts[name] += 1
+            due += self.named.pop((name, self.counts[name]), ())
+            due.sort(key=self.schedule.index)
+        return due
+
+    def possible(self):
+        """The steps of engines and the arrivals that would do something, after what is answered."""
+        enabled = self.shadow.enabled()
+        return (*enabled, ARRIVE) if self.offered else enabled
 
     def enabled(self):
-        """The steps of engines that would do something now."""
-        self.flush()
-        return self.shadow.enabled()
+        """The steps of engines and the arrivals that would do something now."""
+        if self.untold:
+            self.flush()
+        return self.possible()
 
-    def tick(self, place, name, due):
+    def arrive(self, owner, drawn=None):
+        """The oldest frame that the test has offered arrives."""
+        frame = self.offered.pop(0)
+        self.queue(f"arrive {frame}", owner, drawn=drawn, frame=frame)
+
+    def step(self, kind, owner, drawn=None):
+        """The adapter takes a step."""
+        self.queue(f"step {kind}", owner, drawn=drawn, outcomes=None if self.has_log else OUTCOMES[kind])
+
+    def tick(self, name, due):
         """Plays the default steps. Returns the holds that would leave out one that does something."""
-        if not (due or self.shadow.eeprom or self.shadow.phy):
-            return ()
         held = {deviation.action for deviation in due}
         found = []
         for hold, kind in HOLDS.items():
@@ -225,28 +381,40 @@ class Play:
                 self.idle += [deviation for deviation in due if deviation.action == hold]
             elif hold in held or self.draw and self.draw.holds():
                 self.flush()
-                self.met.append(Deviation(place, hold, name))
-                self.rows.append(Row(f"# {hold}", DEVIATION))
+                self.met.append(Deviation(Place(self.round, self.access_number), hold, name))
+                if self.has_rows:
+                    self.rows.append(Row(f"# {hold}", DEVIATION))
             else:
-                self.queue(Request(f"step {kind}", DEFAULT))
+                self.step(kind, DEFAULT)
                 if self.flush()[-1] != "nothing":
                     found.append(hold)
         return tuple(found)
 
-    def play(self, deviation):
-        """Plays the steps of a deviation, and records those that did something."""
+    def play_drawn(self, action, name):
+        """Plays what is drawn before an access with this name."""
+        drawn = Deviation(Place(self.round, self.access_number), action, name)
+        if action == ARRIVE:
+            self.arrive(DEVIATION, drawn)
+        else:
+            self.step(action, DEVIATION, drawn)
+
+    def play(self, deviation, name):
+        """Plays the steps of a deviation before an access with this name, or an arrival. Records what did something."""
         self.flush()
         steps = steps_of(deviation.action)
-        for kind in steps:
-            self.queue(Request(f"step {kind}", DEVIATION))
-        did = [kind for kind, outcome in zip(steps, self.flush()) if outcome != "nothing"]
-        if len(did) == len(steps):
-            self.met.append(deviation)
-        elif did:
-            self.met.append(deviation._replace(action=did[0]))
+        if deviation.action == ARRIVE and self.offered:
+            steps = (ARRIVE,)
+            self.arrive(DEVIATION)
+        else:
+            for kind in steps:
+                self.step(kind, DEVIATION)
+        did = [kind for kind, outcome in zip(steps, self.flush()) if outcome not in IDLE]
+        if did:
+            action = deviation.action if len(did) == len(steps) else did[0]
+            self.met.append(Deviation(Place(self.round, self.access_number), action, name))
         else:
             self.idle.append(deviation)
 
     def unreached(self):
-        """The deviations whose places the run didn't reach."""
-        return [deviation for some in self.left.values() for deviation in some]
+        """The deviations whose accesses the run didn't reach."""
+        return [deviation for some in (*self.left.values(), *self.named.values()) for deviation in some]

@@ -2,22 +2,22 @@
 
 import signal
 
-from race_finder.reached import reached_by
-
 
 class Run:
     """What a run showed: its fault (None if the test passed), and what was played."""
 
     def __init__(self, fault, play):
         self.fault, self.met, self.idle, self.unreached = fault, play.met, play.idle, play.unreached()
-        self.places, self.rows, self.answers = play.places, play.rows, play.answers.digest()
-        self.events = play.events
-        self.reached = play.reached | reached_by(play.rows[play.counted:])
+        self.places, self.rows = play.places if play.has_places else (), play.rows if play.has_rows else ()
+        self.answers, self.events = play.answers.digest(), play.events()
+        self.offers, self.reached = play.offers, play.reached
 
     def reduced(self, has_places, has_rows):
-        """Drops places and rows if this run isn't asked for them. They are needed if it failed."""
-        self.places = self.places if has_places or self.fault else ()
-        self.rows = self.rows if has_rows or self.fault else ()
+        """Drops what this run isn't asked for. It is needed if the run failed."""
+        if not (has_rows or self.fault):
+            self.rows = ()
+        if not (has_places or self.fault):
+            self.places = self.met = self.idle = self.unreached = ()
         return self
 
 

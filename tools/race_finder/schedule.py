@@ -5,19 +5,23 @@ happens at the test's own requests. A schedule is a list of deviations from this
 """
 
 import re
-from typing import NamedTuple
+from collections import Counter
+from typing import NamedTuple, Optional
 
 ENGINES = ("txtake", "txput", "rxdata", "rxdone")
 # The whole way of a frame, or of a piece of it, counts as one deviation.
 PAIRS = {"tx": ("txtake", "txput"), "rx": ("rxdata", "rxdone")}
+# The oldest frame that the test has offered arrives.
+ARRIVE = "arrive"
 # The default step of an actor is left out.
 HOLDS = {"hold eeprom": "eeprom", "hold phy": "phy"}
-ACTIONS = (*ENGINES, *PAIRS, *HOLDS)
+ACTIONS = (*ENGINES, *PAIRS, ARRIVE, *HOLDS)
 # A round of the test begins with each of these requests.
-ROUNDS = ("arrive", "step", "settle")
+ROUNDS = ("arrive", "offer", "step", "settle")
 
 PLACE = re.compile(r"([0-9]{1,9})\.([0-9]{1,9})")
-ACCESS = re.compile(r"(read|write) \S+")
+ACCESS = re.compile(r"((?:read|write) [^\s#]+)(?:#([0-9]{1,9}))?")
+COMMENT = re.compile(r"(^|\s)#.*")
 
 
 class Place(NamedTuple):
@@ -30,13 +34,18 @@ class Place(NamedTuple):
 
 
 class Deviation(NamedTuple):
-    """What happens, before which access, and the name of this access."""
-    place: Place
+    """What happens, before which access, and the name of this access.
+
+    The access is given by its place; or by its number among those of the run with this name, from 1, and without a place.
+    """
+    place: Optional[Place]
     action: str
     before: str
+    number: Optional[int] = None
 
     def __str__(self):
-        return f"{self.place} {self.action} before {self.before}"
+        return f"{self.action} before {self.before}#{self.number}" if self.number else \
+            f"{self.place} {self.action} before {self.before}"
 
     def key(self):
         return self.place, self.action
@@ -52,30 +61,45 @@ class ScheduleError(Exception):
 
 
 def steps_of(action):
-    """The steps of a deviation; none for a hold."""
-    return PAIRS.get(action, () if action in HOLDS else (action,))
+    """The steps of a deviation; none for a hold or an arrival."""
+    return (action,) if action in ENGINES else PAIRS.get(action, ())
+
+
+def place_of(word):
+    """The place in a word, or None for the first word of a deviation, which has none."""
+    found = PLACE.fullmatch(word)
+    if found and found[2].strip("0"):
+        return Place(int(found[1]), int(found[2]))
+    if word not in {action.split()[0] for action in ACTIONS}:
+        raise ScheduleError(f"{word!r} isn't a place: use ROUND.ACCESS, such as 4.6, and count accesses from 1")
+    return None
 
 
 def deviation_of(line):
     """The deviation in a line without comment. Raises ScheduleError with what is wrong."""
     words = line.split()
+    place = place_of(words[0])
+    words = words[place is not None:]
     end = words.index("before") if "before" in words else len(words)
-    found, action, before = PLACE.fullmatch(words[0]), " ".join(words[1:end]), " ".join(words[end + 1:])
-    if not found or found[2].strip("0") == "":
-        raise ScheduleError(f"{words[0]!r} isn't a place: use ROUND.ACCESS, such as 4.6, and count accesses from 1")
+    action, found = " ".join(words[:end]), ACCESS.fullmatch(" ".join(words[end + 1:]))
     if action not in ACTIONS:
         raise ScheduleError(f"{action!r} isn't a deviation: use {', '.join(ACTIONS[:-1])} or {ACTIONS[-1]}")
-    if not ACCESS.fullmatch(before):
+    if not found:
         raise ScheduleError("no access is named: end the line with the access that it expects,"
                             " such as 'before read ICR'")
-    return Deviation(Place(int(found[1]), int(found[2])), action, before)
+    if place and found[2]:
+        raise ScheduleError("use either ROUND.ACCESS or a number after #")
+    if not place and (found[2] or "").strip("0") == "":
+        raise ScheduleError("the access has no number: begin the line with ROUND.ACCESS, such as 4.6, or end it with a"
+                            " number from 1, such as 'before read ICR#3'")
+    return Deviation(place, action, found[1], None if place else int(found[2]))
 
 
 def parse(text):
     """The options of the server, or None, and the deviations of a schedule."""
-    options, deviations = None, []
+    options, deviations, last = None, [], Place(0, 0)
     for number, line in enumerate(text.splitlines(), 1):
-        line = line.partition("#")[0].strip()
+        line = COMMENT.sub("", line).strip()
         try:
             if line.split()[:1] == ["options"]:
                 if options is not None or deviations:
@@ -83,12 +107,25 @@ def parse(text):
                 options = line.split()[1:]
             elif line:
                 deviations.append(deviation_of(line))
-                before, last = deviations[-2:][0].place, deviations[-1].place
+                before, last = last, deviations[-1].place or last
                 if last < before:
                     raise ScheduleError(f"{last} is before {before}: sort the lines by place")
         except ScheduleError as error:
             raise ScheduleError(f"line {number}: {error}") from None
     return options, deviations
+
+
+def by_name(schedule, accesses):
+    """The same schedule without places: each access is given by its number among those with its name.
+
+    `accesses` has the place and the name of each access of its run. A deviation whose place the run didn't reach keeps
+    its place.
+    """
+    counts, numbers = Counter(), {}
+    for place, name in accesses:
+        counts[name] += 1
+        numbers[place] = name, counts[name]
+    return [Deviation(None, one.action, *numbers[one.place]) if one.place in numbers else one for one in schedule]
 
 
 def text_of(deviations, options=(), comments=()):

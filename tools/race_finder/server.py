@@ -26,27 +26,28 @@ class Server:
         self.rest = b""
 
     def send(self, requests):
-        data = "".join([f"{request}\n" for request in requests]).encode(errors="surrogateescape")
+        """Sends requests, of which there is at least one."""
+        data = ("\n".join(requests) + "\n").encode(errors="surrogateescape")
         try:
-            while data:
-                data = data[os.write(self.sink, data):]
+            while size := os.write(self.sink, data) - len(data):
+                data = data[size:]  # what wasn't written: the size is below 0
         except BrokenPipeError:
             self.fail()
 
     def line(self):
         while not self.lines:
-            more = os.read(self.source, 65536)
+            more = os.read(self.source, 8192)
             if not more:
                 self.fail()
-            whole, _, self.rest = (self.rest + more).rpartition(b"\n")
-            self.lines = whole.decode(errors="surrogateescape").split("\n")[::-1] if whole else []
+            if self.rest:
+                more = self.rest + more
+            whole, _, self.rest = more.rpartition(b"\n")
+            self.lines = whole.decode(errors="surrogateescape").split("\n") if whole else []
+            self.lines.reverse()
         return self.lines.pop()
 
     def repeat(self, requests):
-        """Brings a new server to the state after these requests, which were answered before; drops their answers.
-
-        A server that can save and restore its state would be restored here, and wouldn't have to be a new one.
-        """
+        """Brings a new server to the state after these requests, which were answered before; drops their answers."""
         text, end = "".join([f"{request}\n" for request in [*requests, "endianness"]]), b""
         data = text.encode(errors="surrogateescape")
         os.set_blocking(self.sink, False)
@@ -61,12 +62,98 @@ class Server:
                 end = (end + more)[-len(LAST):]
         os.set_blocking(self.sink, True)
 
+    def ask(self, request):
+        """The answer to a request; lines before it are dropped."""
+        self.send([request])
+        while not (line := self.line()).startswith(("OK", "ERR", "FAIL")):
+            pass
+        return line
+
+    def save(self):
+        """Keeps the state. Returns whether the server can do this."""
+        return self.ask("save") == "OK"
+
+    def restore(self):
+        """Brings the server to the state that was saved. The interrupt line of a test doesn't change."""
+        if self.ask("restore") != "OK":
+            raise ServerEnded("the server can't restore its state")
+
+    def leave(self):
+        """Closes the pipes of a server, which another process may use."""
+        self.process.stdin.close()
+        self.process.stdout.close()
+
     def fail(self):
         raise ServerEnded(f"the server has ended with exit status {self.process.wait()}")
 
     def end(self):
         """Ends the server. Nothing that it stores is needed later, so it needn't notice the end of its input."""
         self.process.kill()
-        self.process.stdin.close()
-        self.process.stdout.close()
+        self.leave()
         self.process.wait()
+
+
+class Servers:
+    """The servers of a host, in the state at its place. Each run of several at once has one, by its slot.
+
+    A server that can't save its state is a new one for each run, which repeats the requests so far.
+    """
+
+    def __init__(self, settings):
+        self.program, self.options = settings[:2]
+        self.saved, self.can_save = {}, True  # by slots
+        self.spare = None  # a server in this state that has no slot yet
+        self.others = []  # of another host
+
+    def new(self, begun):
+        """A new server in the state after these requests. Its log is off."""
+        server = Server(self.program, self.options)
+        if begun:
+            server.repeat(begun)
+        return server
+
+    def keep(self, server):
+        """Takes over the server that has brought the host to its place."""
+        self.spare = server
+
+    def prepare(self, slot, is_lost, begun):
+        """Before a run: the slot has a server, if servers can save their state. That of a run that was ended is lost."""
+        if is_lost and slot in self.saved:
+            self.saved.pop(slot).end()
+        if slot in self.saved or not self.can_save:
+            return
+        server, self.spare = self.spare or self.new(begun), None
+        server.ask("log off")
+        self.can_save = server.save()
+        if self.can_save:
+            self.saved[slot] = server
+        else:
+            server.end()
+
+    def of(self, slot, begun):
+        """In a run: its server."""
+        server = self.saved.get(slot)
+        if not server:
+            return self.new(begun)
+        server.restore()
+        return server
+
+    def all(self):
+        return [*self.saved.values(), *([self.spare] if self.spare else [])]
+
+    def end(self):
+        """At the end of a host."""
+        for server in self.all():
+            server.end()
+
+    def leave(self):
+        """In a child that is another host: has none of these servers."""
+        others = self.all()
+        for server in others:
+            server.leave()
+        self.saved, self.spare, self.others = {}, None, self.others + others
+
+    def leave_alone(self, server):
+        """At the end of a run: ends its server if no other run uses it."""
+        if server and server not in self.saved.values():
+            server.end()

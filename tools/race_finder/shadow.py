@@ -20,6 +20,7 @@ class Shadow:
     def __init__(self, base=DEFAULT_REGISTERS):
         self.base = base
         self.eeprom = self.phy = False  # whether a step of it may have work
+        self.is_wire_free = True
         self.reset()
 
     def reset(self):
@@ -29,6 +30,7 @@ class Shadow:
         self.taken = []  # the slots of the frames in the transmit packet buffer
         self.piece = None  # the slot of the piece in progress
         self.stopped = set()  # engines that a fault has stopped
+        self.found = None  # what `enabled` returned, if nothing has changed since then
 
     def register(self, access):
         """The name of the register that an access goes to, or None if it goes to memory."""
@@ -54,17 +56,30 @@ class Shadow:
         return f"{address:#x}"
 
     def write(self, register, value):
-        """A register was written."""
+        """A register was written. Returns whether places in memory may have other names now."""
+        self.found = None
         if register == "CTRL" and value & RESET:
             self.reset()
-        elif register in KEPT:
+            return True
+        if register in KEPT:
             self.registers[register] = value & KEPT[register]
             if register in MOVE:
                 self.names.clear()
+                return True
         elif register == "EERD":
             self.eeprom = bool(value & START)
         elif register == "MDIC":
             self.phy = True
+        return False
+
+    def set_wire(self, is_free):
+        """Whether the wire has room for a frame from now on."""
+        self.is_wire_free, self.found = is_free, None
+
+    def arrive(self, is_stored):
+        """A frame arrived."""
+        self.waiting += is_stored
+        self.found = None
 
     def advance(self, letter):
         """The head of a ring advances; returns the slot that it was at."""
@@ -74,7 +89,11 @@ class Shadow:
 
     def step(self, kind, outcome):
         """A step was taken. Returns the slot that it used, such as rx[3], or None."""
-        slot = None
+        if outcome == "nothing":
+            if kind == "eeprom" or kind == "phy":
+                setattr(self, kind, False)
+            return None
+        slot, self.found = None, None
         if outcome == "fault":
             self.stopped.add(kind[:2])
         elif outcome in ("part", "moved"):
@@ -87,21 +106,26 @@ class Shadow:
             self.taken.append(slot)
         elif outcome == "put":
             slot = self.taken.pop(0) if self.taken else None
-        elif kind == "eeprom" or kind == "phy" and outcome == "nothing":
-            setattr(self, kind, False)
+        elif kind == "eeprom":
+            self.eeprom = False
         return None if slot is None else f"{kind[:2]}[{slot}]"
 
     def enabled(self):
         """The steps of engines that would do something now."""
-        found, has = [], self.registers
+        if self.found is None:
+            self.found = tuple(self.look())
+        return self.found
+
+    def look(self):
+        """The same, by what is known now."""
+        has = self.registers
         has_room = "tx" not in self.stopped and len(self.taken) < TRANSMIT_ROOM
         if has["TCTL"] & ENABLE and has_room and has["TDH"] != has["TDT"]:
-            found.append("txtake")
-        if self.taken:
-            found.append("txput")
+            yield "txtake"
+        if self.taken and self.is_wire_free:
+            yield "txput"
         is_free = self.piece is None and "rx" not in self.stopped
         if has["RCTL"] & ENABLE and is_free and self.waiting and has["RDH"] != has["RDT"]:
-            found.append("rxdata")
+            yield "rxdata"
         if self.piece is not None:
-            found.append("rxdone")
-        return found
+            yield "rxdone"

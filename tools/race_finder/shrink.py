@@ -21,7 +21,7 @@ class Shrinker:
         keys = [keys_of(schedule) for schedule in schedules]
         known = next((at for at, key in enumerate(keys) if self.seen.get(key)), len(keys))
         new = {key: schedule for key, schedule in zip(keys[:known], schedules) if key not in self.seen}
-        for key, (_, run) in zip(new, first_to_fail(self.target, new.values(), ahead=1)):
+        for key, (_, run) in zip(new, first_to_fail(self.target, new.values(), ahead=1, has_rows=True)):
             self.seen[key] = run if run.fault else None
         return next((self.seen[key] for key in keys if self.seen.get(key)), None)
 

@@ -8,7 +8,7 @@ import tempfile
 import time
 
 from race_finder.forks import Forks, Stopped, script_of
-from race_finder.names import DEFAULT_REGISTERS, number_of
+from race_finder.names import DEFAULT_MEMORY, DEFAULT_REGISTERS, number_of
 from race_finder.play import Play
 from race_finder.run import Run, fault_of
 from race_finder.server import Server
@@ -23,13 +23,16 @@ class TooLong(Exception):
     """A run didn't end in time."""
 
 
-def base_of(options):
-    """The address of the first register, by the options of the server."""
+def option_of(options, name, default):
+    """The number of an option of the server."""
     words = " ".join(options).replace("=", " ").split()
-    if "--registers" in words[:-1]:
-        base = number_of(words[words.index("--registers") + 1])
-        return DEFAULT_REGISTERS if base is None else base
-    return DEFAULT_REGISTERS
+    number = number_of(words[words.index(name) + 1]) if name in words[:-1] else None
+    return default if number is None else number
+
+
+def addresses_of(options):
+    """The address of the first register, and the size of memory, by the options of the server."""
+    return (option_of(options, "--registers", DEFAULT_REGISTERS), option_of(options, "--memory", DEFAULT_MEMORY))
 
 
 class Target:
@@ -38,10 +41,10 @@ class Target:
     def __init__(self, server, command, options=(), seconds=10.0, jobs=1, is_forked=True):
         self.server, self.command, self.options = server, command, tuple(options)
         self.seconds, self.jobs = seconds, jobs
-        self.runs, self.reached = 0, set()  # of the runs that are counted
+        self.runs, self.reached = 0, 0  # of the runs that are counted
         self.wake = os.pipe()  # holds a byte while runs must end
         script = script_of(command) if is_forked else None
-        self.forks = Forks(script, (server, self.options, base_of(self.options)), seconds) if script else None
+        self.forks = Forks(script, (server, self.options, *addresses_of(self.options)), seconds, jobs) if script else None
         self.workers = None
 
     def start(self):
@@ -76,12 +79,12 @@ class Target:
         """After `stop`, and after these runs have ended: runs are possible again."""
         os.read(self.wake[0], 1)
 
-    def play(self, schedule=(), draw=None, is_strict=False, has_places=True):
+    def play(self, schedule=(), draw=None, is_strict=False, has_places=True, has_rows=False):
         """Runs the command once, perhaps at the same time as others.
 
-        A run that passes may have no rows, and without `has_places` no places.
+        A run that passes may have no rows without `has_rows`, and without `has_places` nothing of its schedule.
         """
-        run = self.forks and self.forks.play(schedule, draw, is_strict, has_places, self.wake[0])
+        run = self.forks and self.play_forked(schedule, draw, is_strict, has_places, has_rows)
         if not run:
             if self.workers:
                 run = self.workers.play(schedule, draw, is_strict, has_places)
@@ -89,6 +92,15 @@ class Target:
                 run = self.play_apart(schedule, draw, is_strict)
             if self.forks and run.fault != self.late():
                 self.forks.is_usable = False  # it had no result in time
+        return run
+
+    def play_forked(self, schedule, draw, is_strict, has_places, has_rows):
+        """A forked run, or None. If it fails, the same is played again and recorded."""
+        run = self.forks.play(schedule, draw, is_strict, has_places, has_rows, self.wake[0])
+        if run and run.fault and not run.rows:
+            same = schedule if draw is None else run.met
+            again = self.forks.play(same, None, False, True, True, self.wake[0])
+            return again if again and again.fault == run.fault else run
         return run
 
     def late(self):
@@ -102,7 +114,8 @@ class Target:
         """Runs the command in a process of its own."""
         server = Server(self.server, self.options)
         try:
-            play = Play(server, schedule, draw, is_strict, base_of(self.options))
+            play = Play(*addresses_of(self.options))
+            play.begin(server, schedule, draw, is_strict)
             with tempfile.TemporaryFile() as errors:
                 fault = self.run_command(play, errors)
         finally:
@@ -150,7 +163,7 @@ def serve(test, play, end, wake):
         *lines, rest = (rest + data).split(b"\n")
         if not data and rest:
             lines, rest = [rest], b""
-        out = play.feed([line.decode(errors="surrogateescape") for line in lines])
+        out = play.feed([line.decode(errors="surrogateescape") for line in lines], is_last=not data)
         if not write(sink, out, end, wake) or not data:
             return
 

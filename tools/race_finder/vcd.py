@@ -7,8 +7,7 @@ or the access that causes them.
 
 import re
 
-from race_finder.chart import answer_to
-from race_finder.names import REGISTERS, access_of, words_of
+from race_finder.names import REGISTERS, access_of, number_in
 from race_finder.play import DEVIATION
 from race_finder.reached import ALL
 from race_finder.schedule import HOLDS
@@ -135,7 +134,7 @@ def dump_access(dump, shadow, row):
         return
     if kind == "write":
         shadow.write(name, access.value)
-    value = access.value if kind == "write" else answer_to(access, words_of(row.line[2:]), row.answer)
+    value = access.value if kind == "write" else number_in(access, row.answer)
     if name not in HEADS and value is not None:
         dump.change(identifier(name), value)
 

@@ -10,7 +10,7 @@ use Rattle.adapter_server.specs.Verbs.{verb_named, word_count}
 use Rattle.adapter_server.specs.declared.refusal.Refusal.TheVariants as refusals
 use Rattle.adapter_server.specs.declared.verb.Verb.{Verb}
 use Rattle.adapter_server.specs.declared.verb.Verb.TheVariants.{ReadNumber, WriteNumber, Read, Write, Memset, Endianness, Step, Arrive}
-use Rattle.adapter_server.specs.declared.verb.Verb.TheVariants.{Settle, Line, Interleave, Log, Wire}
+use Rattle.adapter_server.specs.declared.verb.Verb.TheVariants.{Settle, Line, Interleave, Log, Wire, Offer, Save, Restore}
 
 counts_few : (verb : Verb) → word_count verb ≤ 4
 counts_few (ReadNumber width) = omega arith
@@ -26,6 +26,9 @@ counts_few Line = omega arith
 counts_few Interleave = omega arith
 counts_few Log = omega arith
 counts_few Wire = omega arith
+counts_few Offer = omega arith
+counts_few Save = omega arith
+counts_few Restore = omega arith
 
 differs : (n count : ℕ) → count < n → (n == count) ≡ false
 differs n count more = grind (arith, nat_tests)

@@ -3,9 +3,9 @@ use Rattle.std.proofs.Common.{◌≡◌, ◌++◌, ◌+◌, ◌≤◌, ◌∙◌
 use Rattle.std.proofs.Common.{append_assoc, ap, drop, length, refl, subst, sym, take}
 use Rattle.std.proofs.lemmas.List.{append-nil, drop-drop, take-append-drop}
 use lib.ListN.{drop_of_length-le}
-use Rattle.std.specs.Prelude.{Err, Ok, OnErr, Result}
+use Rattle.std.specs.Prelude.{Err, IsErr, Ok, OnErr, Result}
 use Rattle.std.specs.Io.KnownBytes.{Appends, Keeps}
-use Rattle.adapter_server.specs.Order.{Begins, Tells, TellsPart}
+use Rattle.adapter_server.specs.Order.{Begins, Says, Tells, TellsPart, WritesPart}
 use Rattle.adapter_server.specs.Texts.{Text}
 use Rattle.adapter_server.proofs.Writing.{appends_kept, appends_none, appends_then, tells_so}
 
@@ -93,6 +93,12 @@ said_part text rest before now after said kept = record {
 
 pub nothing_said : (whole : Text) (before : Option (List ℕ)) → TellsPart before before (λ text. text ≡ whole)
 nothing_said whole before = part_none (λ (text : Text). text ≡ whole) whole before refl
+
+-- A call stopped, and so its caller stops.
+pub says_stop : {T E : Type 0} (result : Result T E) (text : Text) (before after : Option (List ℕ)) → IsErr result
+    → WritesPart before after text → Says result before after text
+says_stop (Ok value) text before after is part = absurd (cc)
+says_stop (Err error) text before after is part = part
 
 -- what holds holds at any error
 pub whatever_err : {T E : Type 0} (result : Result T E) (P : Type 0) → P → OnErr result P

@@ -1,175 +1,168 @@
 -- What is printed for an event and for its request.
-use Rattle.std.proofs.Common.{◌≡◌, ◌++◌, ℕ, List, [], Option, ap, inr, refl, subst, ◌∙◌}
+use Rattle.std.proofs.Common.{◌≡◌, ◌++◌, ℕ, List, [], Option, ap, inr, refl, subst, sym, ◌∙◌}
 use Rattle.std.proofs.lemmas.List.{append-nil}
-use Rattle.std.proofs.lemmas.Result.{on_err_weaker, on_ok_weaker}
-use Rattle.std.specs.Prelude.{OnErr, OnOk, Result}
+use Rattle.std.specs.Prelude.{Err, Ok, Result}
 use Rattle.std.specs.Io.KnownBytes.{Appends}
 use Rattle.bus.specs.Machines.{MachineState, after_event, is_asserted}
-use Rattle.bus.specs.Trails.{Occurs, past_of_event}
+use Rattle.bus.specs.Trails.{Occurs}
 use Rattle.bus.specs.declared.event.Access.{Access}
-use Rattle.bus.specs.declared.event.Event.{Event}
 use Rattle.bus.specs.declared.event.Event.TheVariants.{Accesses}
-use Rattle.adapter_server.specs.Answers.{Accessed, Answered, OnDevice, Reaches, Replies}
-use Rattle.adapter_server.specs.Devices.{Happened, Prints, told}
-use Rattle.adapter_server.specs.Order.{Tells, TellsPart, WritesPart}
-use Rattle.adapter_server.specs.Sessions.{Interleaves}
+use Rattle.adapter_server.specs.Answers.{Accessed, Answered, OnSession, Reaches, Replies, TellsAnswer}
+use Rattle.adapter_server.specs.Devices.{Happened, Prints, TellsEvents, told}
+use Rattle.adapter_server.specs.Happenings.{Happening, Logged, event_of, said_of, shown_of}
+use Rattle.adapter_server.specs.Order.{Joins, Says, Tells, TellsPart, WritesPart}
+use Rattle.adapter_server.specs.Sessions.{Interleaves, OnDevice}
 use Rattle.adapter_server.specs.Texts.{Text, line_moved, said_log}
 use Rattle.adapter_server.specs.declared.device.Device.{Device}
 use Rattle.adapter_server.specs.declared.session.Session.{Session}
+use Rattle.adapter_server.specs.declared.snapshot.Server.{Server}
 use Rattle.adapter_server.proofs.PartsWritten.{part_so, part_then}
-use Rattle.adapter_server.proofs.Stopping.{events_of_interleaves, stopped_after, stopped_answer, stopped_in}
-use Rattle.adapter_server.proofs.Writing.{appends_then}
+use Rattle.adapter_server.proofs.Stopping.{answer_so, events_of_interleaves, stopped_after, stopped_in}
+use Rattle.adapter_server.proofs.Writing.{appends_then, tells_so}
 
--- An event that puts no frame is printed.
-pub printed : (event : Event) (said : Text) (a b : Device) (machine : MachineState) (before after : Option (List ℕ))
-    → (past_of_event event).put ≡ [] → Occurs event a.machine.world → machine ≡ after_event event a.machine
-    → b ≡ told (record a { machine = machine })
-    → Appends before after (said_log a.log (said ++ []) ++ line_moved machine.reported b.machine.reported)
-    → Tells before after (Prints event said a b)
-printed event said a b machine before after none occurs state tells written = record {
-  text = said_log a.log (said ++ []) ++ line_moved machine.reported b.machine.reported;
-  holds = record {
-    occurs = occurs;
-    after = tells ∙ ap (λ (m : MachineState). told (record a { machine = m })) state;
-    text_is = rw (append-nil, none, state) refl;
-  };
-  written = written;
+-- the text of what happens
+abbrev pub text_of : Happening → Device → MachineState → Text
+text_of one a machine = said_log a.log (said_of one) ++ (shown_of one ++ line_moved machine.reported (is_asserted machine.world.adapter))
+
+-- It happened, and this is its text.
+pub prints : (one : Happening) (a b : Device) (machine : MachineState) → Occurs (event_of one) a.machine.world
+    → machine ≡ after_event (event_of one) a.machine → b ≡ told (record a { machine = machine }) → Prints one a b (text_of one a machine)
+prints one a b machine occurs state tells = record {
+  occurs = occurs;
+  after = tells ∙ ap (λ (m : MachineState). told (record a { machine = m })) state;
+  text_is = rw (tells, state) refl;
 }
 
--- What happens to the device has a result, and the answer tells it.
-pub answered : {R T E : Type 0} (answer : Result T E) (Happens : R → Device → Device → Text → Type 0) (line : R → Text) (result : R)
-    (a : Session) (device : Device) (before now after : Option (List ℕ)) → Tells before now (Happens result a.device device)
-    → OnOk answer (Appends now after (line result))
-    → OnOk answer (Tells before after (λ text. (r : R) × Answered (OnDevice (Happens r) a (record a { device = device })) (line r) text))
-answered answer Happens line result a device before now after tells ok =
-    on_ok_weaker answer
-    (λ written. record {
-      text = tells.text ++ line result;
-      holds = (result, record { told = tells.text; happens = record { happens = tells.holds; after = refl }; text_is = refl });
-      written = appends_then before now after tells.text (line result) tells.written written;
-    }) ok
+-- It happened and was printed.
+pub printed : {T E : Type 0} (result : Result T E) (one : Happening) (a b : Device) (machine : MachineState)
+    (before after : Option (List ℕ)) → Occurs (event_of one) a.machine.world → machine ≡ after_event (event_of one) a.machine
+    → b ≡ told (record a { machine = machine }) → Says result before after (text_of one a machine)
+    → TellsEvents result before after a (λ value. Prints one a b)
+printed (Ok value) one a b machine before after occurs state tells said = record {
+  text = text_of one a machine;
+  holds = prints one a b machine occurs state tells;
+  written = said;
+}
+printed (Err error) one a b machine before after occurs state tells said =
+    stopped_in one a b (text_of one a machine) before after (prints one a b machine occurs state tells) said
 
--- The same where the answer stops.
-pub answered_part : {R T E : Type 0} (answer : Result T E) (Happens : R → Device → Device → Text → Type 0) (line : R → Text) (result : R)
-    (a : Session) (device : Device) (before now after : Option (List ℕ)) → Tells before now (Happens result a.device device)
-    → OnErr answer (WritesPart now after (line result))
-    → OnErr answer (TellsPart before after (Reaches (λ b text. (r : R) × Answered (OnDevice (Happens r) a b) (line r) text) a))
-answered_part {R} answer Happens line result a device before now after tells err =
-    on_err_weaker answer
-    (part_then (Happens result a.device device) (λ (text : Text). text ≡ line result)
-    (Reaches (λ b text. (r : R) × Answered (OnDevice (Happens r) a b) (line r) text) a) before now after
-    (λ first later happens same.
-    inr (
-      record a { device = device },
-      (
-        result,
-        record {
-          told = first;
-          happens = record { happens = happens; after = refl };
-          text_is = ap (λ (text : Text). first ++ text) same;
-        },
-      ),
-    )) tells) err
+-- Something was told, and then the line of an answer.
+pub answers_then : {T E S : Type 0} (answer : Result T E) (a : Device) (Answers : S → Text → Type 0) (b : S) (P : Text → Type 0)
+    (line : Text) (before now after : Option (List ℕ)) → ((first : Text) → P first → Answers b (first ++ line)) → Tells before now P
+    → Says answer now after line → TellsAnswer answer before after a Answers b
+answers_then (Ok value) a Answers b P line before now after so tells said = record {
+  text = tells.text ++ line;
+  holds = so tells.text tells.holds;
+  written = appends_then before now after tells.text line tells.written said;
+}
+answers_then (Err error) a Answers b P line before now after so tells said =
+    part_then P (λ (text : Text). text ≡ line) (Reaches Answers a) before now after
+    (λ first later holds same. inr (b, subst (λ (t : Text). Answers b (first ++ t)) (sym same) (so first holds))) tells said
 
--- An answer that is a line and nothing else stops.
-pub replied_part : {T E : Type 0} (answer : Result T E) (line : Text) (a b : Session) (before after : Option (List ℕ))
-    → OnErr answer (WritesPart before after line) → OnErr answer (TellsPart before after (Reaches (Replies line b) a))
-replied_part answer line a b before after err =
-    on_err_weaker answer
-    (part_so (λ (text : Text). text ≡ line) (Reaches (Replies line b) a) before after
-    (λ text same. inr (b, record { after = refl; text_is = same }))) err
+-- Something happened to the device.
+pub on_device : (Happens : Device → Device → Text → Type 0) (a : Session) (device : Device) (before after : Option (List ℕ))
+    → Tells before after (Happens a.device device) → Tells before after (OnDevice Happens a (record a { device = device }))
+on_device Happens a device before after tells =
+    tells_so (Happens a.device device) (OnDevice Happens a (record a { device = device })) before after
+    (λ text happens. record { happens = happens; after = refl }) tells
 
--- The printing of an event that puts no frame stops.
-pub printed_part : (event : Event) (said : Text) (a : Device) (machine : MachineState) (before after : Option (List ℕ))
-    → (past_of_event event).put ≡ [] → Occurs event a.machine.world → machine ≡ after_event event a.machine
-    → WritesPart before after (said_log a.log (said ++ []) ++ line_moved machine.reported (is_asserted machine.world.adapter))
-    → TellsPart before after (Happened a)
-printed_part event said a machine before after none occurs state part =
-    stopped_in event said a (told (record a { machine = machine }))
-    (said_log a.log (said ++ []) ++ line_moved machine.reported (is_asserted machine.world.adapter)) before after (record {
-      occurs = occurs;
-      after = ap (λ (m : MachineState). told (record a { machine = m })) state;
-      text_is = rw (append-nil, none, state) refl;
-    }) part
+-- One thing happened, and then another.
+pub joined : {S : Type 0} (First Later : S → Text → Type 0) (middle : S) (before now after : Option (List ℕ))
+    → Tells before now (First middle) → Tells now after (Later middle) → Tells before after (Joins First Later)
+joined First Later middle before now after first later = record {
+  text = first.text ++ later.text;
+  holds = record {
+    middle = middle;
+    first = first.text;
+    rest = later.text;
+    happens = first.holds;
+    goes_on = later.holds;
+    text_is = refl;
+  };
+  written = appends_then before now after first.text later.text first.written later.written;
+}
 
--- The steps before an access are printed, and the access.
-accessed_told : (access : Access) (said : Text) (a middle moved : Session) (device : Device) (before now then : Option (List ℕ))
-    → Tells before now (Interleaves a middle) → Occurs (Accesses access) middle.device.machine.world
-    → moved ≡ record middle { device = record middle.device { machine = after_event (Accesses access) middle.device.machine } }
-    → device ≡ told moved.device
-    → Appends now then (said_log moved.device.log (said ++ []) ++ line_moved moved.device.machine.reported device.machine.reported)
-    → Tells before then (Accessed access said a (record moved { device = device }))
-accessed_told access said a middle moved device before now then steps occurs state tells written =
-    let event = Accesses access in
-    let first : moved.device ≡ record middle.device { machine = after_event event middle.device.machine } =
-    ap (λ (s : Session). s.device) state in
-    let told = printed event said middle.device device (after_event event middle.device.machine) now then refl occurs refl
-    (tells ∙ ap told first)
-    (subst (λ (d : Device). Appends now then (said_log d.log (said ++ []) ++ line_moved d.machine.reported device.machine.reported)) first
-    written) in
-    record {
-      text = steps.text ++ told.text;
-      holds = record {
-        middle = middle;
-        first = steps.text;
-        rest = told.text;
-        happens = steps.holds;
-        goes_on = record { happens = told.holds; after = ap (λ (s : Session). record s { device = device }) state };
-        text_is = refl;
-      };
-      written = appends_then before now then steps.text told.text steps.written told.written;
-    }
+-- Something happened that has a result, and the answer tells it.
+pub answered : {R T E : Type 0} (answer : Result T E) (a : Device) (Happens : R → Session → Text → Type 0) (line : R → Text) (result : R)
+    (b : Session) (before now after : Option (List ℕ)) → Tells before now (Happens result b) → Says answer now after (line result)
+    → TellsAnswer answer before after a (λ b text. (r : R) × Answered (Happens r b) (line r) text) b
+answered {R} answer a Happens line result b before now after tells said =
+    answers_then answer a (λ b text. (r : R) × Answered (Happens r b) (line r) text) b (Happens result b) (line result) before now after
+    (λ first happens. (result, record { told = first; happens = happens; text_is = refl })) tells said
 
--- The steps before an access are printed, the access, and its answer.
-pub accessed : {T E : Type 0} (answer : Result T E) (access : Access) (said line : Text) (a middle moved : Session) (device : Device)
-    (before now then after : Option (List ℕ)) → Tells before now (Interleaves a middle)
-    → Occurs (Accesses access) middle.device.machine.world
-    → moved ≡ record middle { device = record middle.device { machine = after_event (Accesses access) middle.device.machine } }
-    → device ≡ told moved.device
-    → Appends now then (said_log moved.device.log (said ++ []) ++ line_moved moved.device.machine.reported device.machine.reported)
-    → OnOk answer (Appends then after line)
-    → OnOk answer (Tells before after (Answered (Accessed access said a (record moved { device = device })) line))
-accessed answer access said line a middle moved device before now then after steps occurs state tells written ok =
-    let told = accessed_told access said a middle moved device before now then steps occurs state tells written in
-    on_ok_weaker answer
-    (λ answered. record {
-      text = told.text ++ line;
-      holds = record { told = told.text; happens = told.holds; text_is = refl };
-      written = appends_then before then after told.text line told.written answered;
-    }) ok
+-- An answer that is a line and nothing else.
+pub replied : {T E S : Type 0} (answer : Result T E) (a : Device) (line : Text) (b : S) (before after : Option (List ℕ))
+    → Says answer before after line → TellsAnswer answer before after a (Replies line b) b
+replied (Ok value) a line b before after said = record {
+  text = line;
+  holds = record { after = refl; text_is = refl };
+  written = said;
+}
+replied (Err error) a line b before after said =
+    part_so (λ (text : Text). text ≡ line) (Reaches (Replies line b) a) before after
+    (λ text same. inr (b, record { after = refl; text_is = same })) said
 
--- The same where the answer stops.
-pub accessed_part : {T E : Type 0} (answer : Result T E) (access : Access) (said line : Text) (Answers : Session → Text → Type 0)
-    (a middle moved : Session) (device : Device) (before now then after : Option (List ℕ)) → Tells before now (Interleaves a middle)
-    → Occurs (Accesses access) middle.device.machine.world
-    → moved ≡ record middle { device = record middle.device { machine = after_event (Accesses access) middle.device.machine } }
-    → device ≡ told moved.device
-    → Appends now then (said_log moved.device.log (said ++ []) ++ line_moved moved.device.machine.reported device.machine.reported)
+-- The answer of a session is that of its server.
+pub lifted : {T E : Type 0} (answer : Result T E) (Answers : Session → Session → Text → Type 0) (a : Server) (b : Session)
+    (before after : Option (List ℕ)) → TellsAnswer answer before after a.session.device (Answers a.session) b
+    → TellsAnswer answer before after a.session.device (OnSession Answers a) (record a { session = b })
+lifted answer Answers a b before after tells =
+    answer_so answer (Answers a.session) (OnSession Answers a) (λ (s : Session). record a { session = s }) a.session.device b before after
+    (λ s text answers. record { answers = answers; after = refl }) tells
+
+-- Accesses.
+
+-- An access was made after the steps before it.
+pub record IsMade (access : Access) (a middle moved : Session) (before now : Option (List ℕ)) : Type 0 where
+  pub steps : Tells before now (Interleaves a middle)
+  pub occurs : Occurs (Accesses access) middle.device.machine.world
+  pub after : moved ≡ record middle { device = record middle.device { machine = after_event (Accesses access) middle.device.machine } }
+
+-- the text of an access
+abbrev pub access_text : (said : Text) → Device → Text
+access_text said moved = said_log moved.log (said ++ []) ++ line_moved moved.machine.reported (is_asserted moved.machine.world.adapter)
+
+access_prints : (access : Access) (said : Text) (a middle moved : Session) (before now : Option (List ℕ))
+    → IsMade access a middle moved before now
+    → Prints (Logged (Accesses access) said) middle.device (told moved.device) (access_text said moved.device)
+access_prints access said a middle moved before now made =
+    rw (made.after, append-nil)
+    (prints (Logged (Accesses access) said) middle.device
+    (told (record middle.device { machine = after_event (Accesses access) middle.device.machine }))
+    (after_event (Accesses access) middle.device.machine) made.occurs refl refl)
+
+-- It was printed, and its answer.
+pub accessed : {T E : Type 0} (answer : Result T E) (access : Access) (said line : Text) (Answers : Session → Text → Type 0)
+    (a middle moved : Session) (device : Device) (before now then after : Option (List ℕ)) → IsMade access a middle moved before now
+    → device ≡ told moved.device → Appends now then (access_text said moved.device)
     → ((text : Text) → Answered (Accessed access said a (record moved { device = device })) line text
     → Answers (record moved { device = device }) text)
-    → OnErr answer (WritesPart then after line) → OnErr answer (TellsPart before after (Reaches Answers a))
-accessed_part answer access said line Answers a middle moved device before now then after steps occurs state tells written so err =
-    let b : Session = record moved { device = device } in
-    on_err_weaker answer
-    (part_then (Accessed access said a b) (λ (text : Text). text ≡ line) (Reaches Answers a) before then after
-    (λ first later happens same.
-    inr (b, so (first ++ later) (record { told = first; happens = happens; text_is = ap (λ (text : Text). first ++ text) same })))
-    (accessed_told access said a middle moved device before now then steps occurs state tells written)) err
+    → Says answer then after line → TellsAnswer answer before after a.device Answers (record moved { device = device })
+accessed answer access said line Answers a middle moved device before now then after made tells written so says =
+    answers_then answer a.device Answers (record moved { device = device }) (Accessed access said a (record moved { device = device })) line
+    before then after (λ first happens. so (first ++ line) (record { told = first; happens = happens; text_is = refl }))
+    (record {
+      text = made.steps.text ++ access_text said moved.device;
+      holds = record {
+        middle = middle;
+        first = made.steps.text;
+        rest = access_text said moved.device;
+        happens = made.steps.holds;
+        goes_on = record {
+          happens = subst (λ (d : Device). Prints (Logged (Accesses access) said) middle.device d (access_text said moved.device))
+              (sym tells) (access_prints access said a middle moved before now made);
+          after = ap (λ (s : Session). record s { device = device }) made.after;
+        };
+        text_is = refl;
+      };
+      written = appends_then before now then made.steps.text (access_text said moved.device) made.steps.written written;
+    }) says
 
--- The steps before an access are printed, and the printing of the access stops.
-pub accessing_part : (access : Access) (said : Text) (Answers : Session → Text → Type 0) (a middle moved : Session)
-    (before now after : Option (List ℕ)) → Tells before now (Interleaves a middle)
-    → Occurs (Accesses access) middle.device.machine.world
-    → moved ≡ record middle { device = record middle.device { machine = after_event (Accesses access) middle.device.machine } }
-    → WritesPart now after
-    (said_log moved.device.log (said ++ []) ++ line_moved moved.device.machine.reported (is_asserted moved.device.machine.world.adapter))
-    → TellsPart before after (Reaches Answers a)
-accessing_part access said Answers a middle moved before now after steps occurs state part =
-    let event = Accesses access in
-    stopped_answer Answers a before after
-    (stopped_after (Interleaves a middle) a.device middle.device before now after (events_of_interleaves a middle) steps
-    (printed_part event said middle.device (after_event event middle.device.machine) now after refl occurs refl
-    (subst
-    (λ (d : Device). WritesPart now after
-    (said_log d.log (said ++ []) ++ line_moved d.machine.reported (is_asserted d.machine.world.adapter)))
-    (ap (λ (s : Session). s.device) state) part)))
+-- Its printing stopped.
+pub access_stopped : (access : Access) (said : Text) (a middle moved : Session) (before now after : Option (List ℕ))
+    → IsMade access a middle moved before now → WritesPart now after (access_text said moved.device)
+    → TellsPart before after (Happened a.device)
+access_stopped access said a middle moved before now after made part =
+    stopped_after (Interleaves a middle) a.device middle.device before now after (events_of_interleaves a middle) made.steps
+    (stopped_in (Logged (Accesses access) said) middle.device (told moved.device) (access_text said moved.device) now after
+    (access_prints access said a middle moved before now made) part)

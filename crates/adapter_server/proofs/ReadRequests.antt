@@ -7,7 +7,7 @@ use Rattle.adapter_server.specs.declared.refusal.Refusal.{Refusal}
 use Rattle.adapter_server.specs.declared.refusal.Refusal.TheVariants as refusals
 use Rattle.adapter_server.specs.declared.refusal.Stop.TheVariants.{Refused}
 use Rattle.adapter_server.specs.declared.request.Request.{Request}
-use Rattle.adapter_server.specs.declared.session.Session.{Session}
+use Rattle.adapter_server.specs.declared.snapshot.Server.{Server}
 
 abbrev refused : Refusal → Result Request Refusal
 refused refusal = Err refusal
@@ -18,14 +18,14 @@ not_both request refusal e = cc
 same_refusal : (one two : Refusal) → refused one ≡ refused two → one ≡ two
 same_refusal one two e = cc
 
-pub answers_read : (line : Text) (request : Request) (a b : Session) (text : Text) → IsRead line (Ok request) → Does request line a b text
+pub answers_read : (line : Text) (request : Request) (a b : Server) (text : Text) → IsRead line (Ok request) → Does request line a b text
     → AnswersLine line a b text
 answers_read line request a b text read does = record {
   asked = λ is. subst (λ (asked : Result Request Refusal). AnswersTo asked line a b text) (sym (read.text is)) does;
   other = λ is. absurd (not_both request refusals.Text (read.other is));
 }
 
-pub answers_refused : (line : Text) (refusal : Refusal) (a b : Session) (text : Text) → IsRead line (Err (Refused refusal))
+pub answers_refused : (line : Text) (refusal : Refusal) (a b : Server) (text : Text) → IsRead line (Err (Refused refusal))
     → Refuses refusal a b text → AnswersLine line a b text
 answers_refused line refusal a b text read refuses = record {
   asked = λ is. subst (λ (asked : Result Request Refusal). AnswersTo asked line a b text) (sym (read.text is)) refuses;

@@ -3,7 +3,7 @@ use Rattle.std.proofs.Common.{◌≡◌, ◌≢◌, ◌<◌, ◌≤◌, ◌++◌
 use Rattle.std.proofs.Common.{ap, append_assoc, arith, refl, sym, subst, ◌∙◌}
 use Rattle.std.proofs.lemmas.Bool.Decides.{nat_tests}
 use Rattle.std.proofs.lemmas.List.{append-nil}
-use Rattle.std.specs.Prelude.{Err, IfErr, IfSome, MatchBool, Ok, OnOk, Result}
+use Rattle.std.specs.Prelude.{Err, IfErr, IfSome, MatchBool, Ok, Result}
 use Rattle.std.specs.Io.KnownBytes.{Appends, Keeps}
 use Rattle.adapter_server.specs.Answers.{AnswersLine, Refuses}
 use Rattle.adapter_server.specs.Order.{Tells}
@@ -18,22 +18,22 @@ use Rattle.adapter_server.specs.declared.line_reader.NextLine.{NextLine}
 use Rattle.adapter_server.specs.declared.line_reader.NextLine.TheVariants.{End, Whole, Long}
 use Rattle.adapter_server.specs.declared.refusal.Refusal.TheVariants as refusals
 use Rattle.adapter_server.specs.declared.serve_error.ServeError.TheVariants as errors
-use Rattle.adapter_server.specs.declared.session.Session.{Session}
+use Rattle.adapter_server.specs.declared.snapshot.Server.{Server}
 use Rattle.adapter_server.proofs.ReadingLines.{known_same, known_then, lines_some}
 use Rattle.adapter_server.proofs.Writing.{appends_kept, appends_none, appends_then, in_order_more}
 
 -- The lines that were read up to here are served by this text.
-pub record Served (begin now : Session) (text : Text) (old new : List ℕ) : Type 0 where
+pub record Served (begin now : Server) (text : Text) (old new : List ℕ) : Type 0 where
   pub front : List Text
   pub lines : lines_of old ≡ front ++ lines_of new
   pub serves : Serves front begin now text
 
-pub record ServesOn (old new : Option (List ℕ)) (begin now : Session) (before after : Option (List ℕ)) : Type 0 where
+pub record ServesOn (old new : Option (List ℕ)) (begin now : Server) (before after : Option (List ℕ)) : Type 0 where
   pub text : Text
   pub written : Appends before after text
   pub goes : BothKnown old new (Served begin now text)
 
-pub serves_none : (bytes : Option (List ℕ)) (begin : Session) (before : Option (List ℕ)) → ServesOn bytes bytes begin begin before before
+pub serves_none : (bytes : Option (List ℕ)) (begin : Server) (before : Option (List ℕ)) → ServesOn bytes bytes begin begin before before
 serves_none bytes begin before = record {
   text = [];
   written = appends_none before;
@@ -41,7 +41,7 @@ serves_none bytes begin before = record {
 }
 
 -- one more line
-more_served : (begin now next : Session) (text first : Text) (old new later : List ℕ) → Served begin now text old new → new ≢ []
+more_served : (begin now next : Server) (text first : Text) (old new later : List ℕ) → Served begin now text old new → new ≢ []
     → later ≡ behind_line new → Turns (first_line new) now next first → Served begin next (text ++ first) old later
 more_served begin now next text first old new later on some later_is turn = record {
   front = on.front ++ first_line new ∷ [];
@@ -57,19 +57,19 @@ is_short n short = grind (arith, nat_tests)
 is_long : (n : ℕ) → most_line_bytes < n → nat_lt most_line_bytes n ≡ true
 is_long n long = grind (arith, nat_tests)
 
-pub short_turn : (line : Text) (a b : Session) (text : Text) → length line ≤ most_line_bytes → AnswersLine line a b text
+pub short_turn : (line : Text) (a b : Server) (text : Text) → length line ≤ most_line_bytes → AnswersLine line a b text
     → Turns line a b text
 short_turn line a b text short answers =
     subst (λ (is : Bool). MatchBool is (Refuses refusals.Long a b text) (AnswersLine line a b text)) (sym (is_short (length line) short))
     answers
 
-pub long_turn : (line : Text) (a b : Session) (text : Text) → most_line_bytes < length line → Refuses refusals.Long a b text
+pub long_turn : (line : Text) (a b : Server) (text : Text) → most_line_bytes < length line → Refuses refusals.Long a b text
     → Turns line a b text
 long_turn line a b text long refuses =
     subst (λ (is : Bool). MatchBool is (Refuses refusals.Long a b text) (AnswersLine line a b text)) (sym (is_long (length line) long))
     refuses
 
-serves_whole : (old new later : Option (List ℕ)) (begin now next : Session) (line : Text) (before middle after : Option (List ℕ))
+serves_whole : (old new later : Option (List ℕ)) (begin now next : Server) (line : Text) (before middle after : Option (List ℕ))
     → ServesOn old new begin now before middle → BothKnown new later (IsWhole line)
     → Tells middle after (AnswersLine line now next) → ServesOn old later begin next before after
 serves_whole old new later begin now next line before middle after on whole told = record {
@@ -83,7 +83,7 @@ serves_whole old new later begin now next line before middle after on whole told
       on.goes whole;
 }
 
-serves_long : (old new later : Option (List ℕ)) (begin now next : Session) (before middle after : Option (List ℕ))
+serves_long : (old new later : Option (List ℕ)) (begin now next : Server) (before middle after : Option (List ℕ))
     → ServesOn old new begin now before middle → BothKnown new later IsLong
     → Tells middle after (Refuses refusals.Long now next) → ServesOn old later begin next before after
 serves_long old new later begin now next before middle after on long told = record {
@@ -97,7 +97,7 @@ serves_long old new later begin now next before middle after on long told = reco
 }
 
 -- The end of the input isn't a line.
-serves_end : (old new later : Option (List ℕ)) (begin now next : Session) (before middle after : Option (List ℕ))
+serves_end : (old new later : Option (List ℕ)) (begin now next : Server) (before middle after : Option (List ℕ))
     → ServesOn old new begin now before middle → BothKnown new later AtEnd
     → Tells middle after (λ text. (next ≡ now) × (text ≡ [])) → ServesOn old later begin next before after
 serves_end old new later begin now next before middle after on ends told =
@@ -110,11 +110,11 @@ serves_end old new later begin now next before middle after on ends told =
             front = goes.front;
             lines = goes.lines ∙ ap (λ (bytes : List ℕ). goes.front ++ lines_of bytes) (end.none ∙ sym end.still);
             serves = subst (λ (t : Text). Serves goes.front begin next t) same
-                (subst (λ (s : Session). Serves goes.front begin s on.text) (sym told.holds.0) goes.serves);
+                (subst (λ (s : Server). Serves goes.front begin s on.text) (sym told.holds.0) goes.serves);
           }) on.goes ends;
     }
 
-pub serves_next : (what : NextLine) (old new later : Option (List ℕ)) (begin now next : Session) (line : Text)
+pub serves_next : (what : NextLine) (old new later : Option (List ℕ)) (begin now next : Server) (line : Text)
     (before middle after : Option (List ℕ)) → ServesOn old new begin now before middle → IsNextLine what line new later
     → Tells middle after (AnswersNext what line now next) → ServesOn old later begin next before after
 serves_next End old new later begin now next line before middle after on read told =
@@ -124,7 +124,7 @@ serves_next Whole old new later begin now next line before middle after on read 
 serves_next Long old new later begin now next line before middle after on read told =
     serves_long old new later begin now next before middle after on read told
 
-pub serves_lines : (old new later : Option (List ℕ)) (begin now : Session) (before after : Option (List ℕ))
+pub serves_lines : (old new later : Option (List ℕ)) (begin now : Server) (before after : Option (List ℕ))
     → ServesOn old new begin now before after → BothKnown new later AtEnd
     → IfSome old (λ bytes. Tells before after (ServesWhole bytes begin))
 serves_lines None new later begin now before after on ends = tt
@@ -139,7 +139,7 @@ serves_lines (Some old) (Some new) (Some later) begin now before after on ends =
       written = on.written;
     }
 
-pub serves_front : (old new : Option (List ℕ)) (begin now : Session) (before after : Option (List ℕ))
+pub serves_front : (old new : Option (List ℕ)) (begin now : Server) (before after : Option (List ℕ))
     → ServesOn old new begin now before after → IfSome old (λ bytes. Tells before after (ServesFront bytes begin))
 serves_front None new begin now before after on = tt
 serves_front (Some old) None begin now before after on = absurd on.goes
@@ -173,7 +173,3 @@ never_read causes.Write same = cc
 pub whatever_error : {T E : Type 0} (result : Result T E) (Q : E → Type 0) (P : Type 0) → P → IfErr result (λ error. Q error → P)
 whatever_error (Ok value) Q P holds = tt
 whatever_error (Err error) Q P holds = λ q. holds
-
-pub whatever_result : {T E : Type 0} (result : Result T E) (P : Type 0) → P → OnOk result P
-whatever_result (Ok value) P holds = holds
-whatever_result (Err error) P holds = tt

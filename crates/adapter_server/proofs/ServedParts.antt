@@ -3,32 +3,33 @@ use Rattle.std.proofs.Common.{◌≡◌, ◌≢◌, ◌++◌, ℕ, List, [], ◌
 use Rattle.std.proofs.lemmas.List.{append-nil}
 use Rattle.std.specs.Prelude.{Err, IfErr, IfSome, IsErrAnd, Ok, OnOk, Result}
 use Rattle.std.specs.Io.KnownBytes.{Keeps}
-use Rattle.adapter_server.specs.Answers.{AnswersLine, Reaches, Refuses}
+use Rattle.adapter_server.specs.Answers.{AnswersLine, Reaches, Refuses, TellsAnswer}
 use Rattle.adapter_server.specs.Order.{Begins, Tells, TellsPart}
 use Rattle.adapter_server.specs.Lines.{behind_line, first_line, lines_of}
 use Rattle.adapter_server.specs.LinesRead.{BothKnown, IsLong, IsNextLine, IsWhole}
-use Rattle.adapter_server.specs.Serving.{AnswersNext, BeginsNext, Serves, ServesBegun, Turns}
+use Rattle.adapter_server.specs.Serving.{AnswersNext, BeginsNext, ServesBegun, Turns}
 use Rattle.adapter_server.specs.Statuses.{ended_by}
 use Rattle.adapter_server.specs.Texts.{Text}
+use Rattle.adapter_server.specs.declared.device.Device.{Device}
 use Rattle.adapter_server.specs.declared.answer_error.AnswerError.{AnswerError}
 use Rattle.adapter_server.specs.declared.line_reader.NextLine.{NextLine}
 use Rattle.adapter_server.specs.declared.line_reader.NextLine.TheVariants.{End, Whole, Long}
 use Rattle.adapter_server.specs.declared.refusal.Refusal.TheVariants as refusals
 use Rattle.adapter_server.specs.declared.serve_error.ServeError.{ServeError}
 use Rattle.adapter_server.specs.declared.serve_error.ServeError.TheVariants as errors
-use Rattle.adapter_server.specs.declared.session.Session.{Session}
-use Rattle.adapter_server.proofs.PartsWritten.{part_so, part_whole}
+use Rattle.adapter_server.specs.declared.snapshot.Server.{Server}
+use Rattle.adapter_server.proofs.PartsWritten.{part_whole}
 use Rattle.adapter_server.proofs.ReadingLines.{lines_some}
 use Rattle.adapter_server.proofs.ServedLines.{Served, ServesOn, long_turn, never_read, short_turn, tells_sent}
-use Rattle.adapter_server.proofs.Stopping.{events_none, reaches_so}
+use Rattle.adapter_server.proofs.Stopping.{events_none, part_reached}
 use Rattle.adapter_server.proofs.Writing.{appends_then, tells_so}
 
-begins_nothing : (lines : List Text) (a : Session) → BeginsNext lines a []
+begins_nothing : (lines : List Text) (a : Server) → BeginsNext lines a []
 begins_nothing [] a = refl
-begins_nothing (line ∷ later) a = record { text = []; rest = []; holds = inl (a.device, events_none a.device); text_is = refl }
+begins_nothing (line ∷ later) a = record { text = []; rest = []; holds = inl (a.session.device, events_none a.session.device); text_is = refl }
 
 -- Nothing of a next answer was written.
-pub serves_stopped : (old new : Option (List ℕ)) (begin now : Session) (before after : Option (List ℕ))
+pub serves_stopped : (old new : Option (List ℕ)) (begin now : Server) (before after : Option (List ℕ))
     → ServesOn old new begin now before after → IfSome old (λ bytes. Tells before after (ServesBegun bytes begin))
 serves_stopped None new begin now before after on = tt
 serves_stopped (Some old) None begin now before after on = absurd on.goes
@@ -48,8 +49,8 @@ serves_stopped (Some old) (Some new) begin now before after on = record {
   written = on.written;
 }
 
-in_line : (begin now : Session) (text part : Text) (old new : List ℕ) → Served begin now text old new → new ≢ []
-    → Begins (Reaches (Turns (first_line new) now) now) part → ServesBegun old begin (text ++ part)
+in_line : (begin now : Server) (text part : Text) (old new : List ℕ) → Served begin now text old new → new ≢ []
+    → Begins (Reaches (Turns (first_line new) now) now.session.device) part → ServesBegun old begin (text ++ part)
 in_line begin now text part old new on some begins = record {
   answered = on.front;
   left = first_line new ∷ lines_of (behind_line new);
@@ -62,18 +63,18 @@ in_line begin now text part old new on some begins = record {
   text_is = refl;
 }
 
-module _ (Is : List ℕ → List ℕ → Type 0) (now : Session) (Answers : Session → Text → Type 0)
+module _ (Is : List ℕ → List ℕ → Type 0) (now : Server) (Answers : Server → Text → Type 0)
     (some : (new later : List ℕ) → Is new later → new ≢ [])
-    (turn : (new later : List ℕ) → Is new later → (b : Session) (text : Text) → Answers b text → Turns (first_line new) now b text) where
-  serves_in : (old new later : Option (List ℕ)) (begin : Session) (before middle after : Option (List ℕ))
-      → ServesOn old new begin now before middle → BothKnown new later Is → TellsPart middle after (Reaches Answers now)
+    (turn : (new later : List ℕ) → Is new later → (b : Server) (text : Text) → Answers b text → Turns (first_line new) now b text) where
+  serves_in : (old new later : Option (List ℕ)) (begin : Server) (before middle after : Option (List ℕ))
+      → ServesOn old new begin now before middle → BothKnown new later Is → TellsPart middle after (Reaches Answers now.session.device)
       → IfSome old (λ bytes. Tells before after (ServesBegun bytes begin))
   serves_in None new later begin before middle after on is part = tt
   serves_in (Some old) None later begin before middle after on is part = absurd on.goes
   serves_in (Some old) (Some new) None begin before middle after on is part = absurd is
   serves_in (Some old) (Some new) (Some later) begin before middle after on is part =
-      let all = part_so (Reaches Answers now) (Reaches (Turns (first_line new) now) now) middle after
-      (reaches_so Answers (Turns (first_line new) now) now (turn new later is)) part in
+      let all = part_reached Answers (Turns (first_line new) now) (λ (s : Server). s) now.session.device middle after
+      (turn new later is) part in
       record {
         text = on.text ++ all.text;
         holds = in_line begin now on.text all.text old new on.goes (some new later is) all.holds;
@@ -81,9 +82,9 @@ module _ (Is : List ℕ → List ℕ → Type 0) (now : Session) (Answers : Sess
       }
 
 -- The answer to the next line stops.
-pub serves_part : (what : NextLine) (old new later : Option (List ℕ)) (begin now : Session) (line : Text)
+pub serves_part : (what : NextLine) (old new later : Option (List ℕ)) (begin now : Server) (line : Text)
     (before middle after : Option (List ℕ)) → ServesOn old new begin now before middle → IsNextLine what line new later → what ≢ End
-    → TellsPart middle after (Reaches (AnswersNext what line now) now)
+    → TellsPart middle after (Reaches (AnswersNext what line now) now.session.device)
     → IfSome old (λ bytes. Tells before after (ServesBegun bytes begin))
 serves_part End old new later begin now line before middle after on read more part = absurd (more refl)
 serves_part Whole old new later begin now line before middle after on read more part =
@@ -102,10 +103,11 @@ pub answering_stopped : {T : Type 0} (result : Result T ServeError) (cause : Ans
 answering_stopped (Ok value) cause Done Front stopped = absurd stopped
 answering_stopped (Err error) cause Done Front stopped = (tt, λ read. absurd (never_read cause (sym stopped ∙ read)))
 
--- The whole answer is written, and flushing it fails.
-pub part_sent : (Answers : Session → Text → Type 0) (a b : Session) (before after sent : Option (List ℕ))
-    → Tells before after (Answers b) → Keeps after sent → TellsPart before sent (Reaches Answers a)
-part_sent Answers a b before after sent told kept =
+-- The answer is written, and flushed or not.
+pub answer_sent : {T E S : Type 0} (result : Result T E) (a : Device) (Answers : S → Text → Type 0) (b : S)
+    (before after sent : Option (List ℕ)) → Tells before after (Answers b) → Keeps after sent → TellsAnswer result before sent a Answers b
+answer_sent (Ok value) a Answers b before after sent told kept = tells_sent before after sent (Answers b) told kept
+answer_sent (Err error) a Answers b before after sent told kept =
     part_whole (Reaches Answers a) before sent
     (tells_so (Answers b) (Reaches Answers a) before sent (λ text answers. inr (b, answers))
     (tells_sent before after sent (Answers b) told kept))

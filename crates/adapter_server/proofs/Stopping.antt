@@ -1,32 +1,30 @@
 -- Events that were printed until the server stopped.
-use Rattle.std.proofs.Common.{◌≡◌, ◌++◌, ℕ, List, [], ◌∷◌, Option, inl, inr, refl, replicate, subst, sym, ap, ◌∙◌}
-use Rattle.std.proofs.lemmas.List.{append-nil}
-use Rattle.bus.specs.Machines.{MachineState, after_event, is_asserted}
-use Rattle.bus.specs.Trails.{Occurs, past_of_event}
-use Rattle.bus.specs.declared.event.Access.{Access}
-use Rattle.bus.specs.declared.event.Event.{Event}
-use Rattle.bus.specs.declared.event.Event.TheVariants.{Accesses}
+use Rattle.std.proofs.Common.{◌≡◌, ◌++◌, ℕ, List, [], ◌∷◌, Option, inl, inr, length, refl, replicate, subst, sym}
+use Rattle.std.specs.Prelude.{Err, IsErr, Ok, Result}
+use Rattle.rx_engine.specs.declared.arrival.Fate.{Fate}
 use Rattle.adapter.specs.declared.step.StepKind.{StepKind}
-use Rattle.adapter_server.specs.Answers.{Accessed, Reaches}
-use Rattle.adapter_server.specs.Devices.{Events, Happened, Plays, Prints, Round, Settles, Steps, round, told, with_last}
+use Rattle.adapter_server.specs.Answers.{Reaches, TellsAnswer}
+use Rattle.adapter_server.specs.Devices.{Events, Happened, Plays, Prints, Round, TellsEvents, round}
+use Rattle.adapter_server.specs.Happenings.{Arrived, Happening}
 use Rattle.adapter_server.specs.Order.{InOrder, Tells, TellsPart, WritesPart}
-use Rattle.adapter_server.specs.Sessions.{DrawsStep, Interleaves, drawn_count}
-use Rattle.adapter_server.specs.Texts.{Text, line_moved, said_log}
+use Rattle.adapter_server.specs.Sessions.{AllArrive, Chosen, Draws, Interleaves, NextArrives, OldestArrives, drawn, drawn_count}
+use Rattle.adapter_server.specs.Texts.{Text}
 use Rattle.adapter_server.specs.declared.device.Device.{Device}
+use Rattle.adapter_server.specs.declared.interleaving.Choice.{Choice}
+use Rattle.adapter_server.specs.declared.interleaving.Choice.TheVariants.{Step, Arrival}
 use Rattle.adapter_server.specs.declared.session.Session.{Session}
 use Rattle.adapter_server.proofs.PartsWritten.{part_none, part_so, part_then}
-use Rattle.adapter_server.proofs.Writing.{in_order_joined, in_order_one}
+use Rattle.adapter_server.proofs.Writing.{in_order_joined, in_order_one, tells_so}
 
 pub events_none : (a : Device) → Events a a []
 events_none a = ([], (refl, refl))
 
-pub events_one : (event : Event) (said : Text) (a b : Device) (text : Text) → Prints event said a b text → Events a b text
-events_one event said a b text prints =
-    ((event, said) ∷ [], in_order_one (λ (event : Event × Text). Prints event.0 event.1) (event, said) a b text prints)
+pub events_one : (one : Happening) (a b : Device) (text : Text) → Prints one a b text → Events a b text
+events_one one a b text prints = (one ∷ [], in_order_one Prints one a b text prints)
 
 pub events_then : (a b c : Device) (first rest : Text) → Events a b first → Events b c rest → Events a c (first ++ rest)
 events_then a b c first rest one two =
-    (one.0 ++ two.0, in_order_joined (λ (event : Event × Text). Prints event.0 event.1) one.0 two.0 a b c first rest one.1 two.1)
+    (one.0 ++ two.0, in_order_joined Prints one.0 two.0 a b c first rest one.1 two.1)
 
 module _ {X S : Type 0} (Happens : X → S → S → Text → Type 0) (device : S → Device)
     (each : (x : X) (a b : S) (text : Text) → Happens x a b text → Events (device a) (device b) text) where
@@ -43,7 +41,7 @@ module _ {X S : Type 0} (Happens : X → S → S → Text → Type 0) (device : 
 pub events_of_plays : (kinds : List StepKind) (a b : Device × ℕ) (text : Text) → InOrder Plays kinds a b text → Events a.0 b.0 text
 events_of_plays kinds a b text all =
     events_in_order Plays (λ (played : Device × ℕ). played.0)
-    (λ kind from to here plays. events_one _ _ from.0 to.0 here plays.steps) kinds a b text all
+    (λ kind from to here plays. events_one _ from.0 to.0 here plays.steps) kinds a b text all
 
 pub events_of_round : (moved : ℕ) (a b : Device) (text : Text) → Round moved a b text → Events a b text
 events_of_round moved a b text all = events_of_plays round (a, 0) (b, moved) text all
@@ -51,27 +49,49 @@ events_of_round moved a b text all = events_of_plays round (a, 0) (b, moved) tex
 pub events_of_rounds : (rounds : List ℕ) (a b : Device) (text : Text) → InOrder Round rounds a b text → Events a b text
 events_of_rounds rounds a b text all = events_in_order Round (λ (device : Device). device) events_of_round rounds a b text all
 
-pub events_of_drawn : (turns : List ℕ) (a b : Session) (text : Text) → InOrder (λ (turn : ℕ). DrawsStep) turns a b text
+events_of_oldest : (offered : List (List ℕ)) (a b : Session) (text : Text) → OldestArrives offered a b text
     → Events a.device b.device text
-events_of_drawn turns a b text all =
-    events_in_order (λ (turn : ℕ). DrawsStep) (λ (session : Session). session.device)
-    (λ turn from to here draws. events_one _ _ from.device to.device here draws.steps) turns a b text all
+events_of_oldest [] a b text same =
+    subst (λ (s : Session). Events a.device s.device text) (sym same.0)
+    (subst (λ (t : Text). Events a.device a.device t) (sym same.1) (events_none a.device))
+events_of_oldest (frame ∷ later) a b text arrives = events_one (Arrived frame arrives.fate) a.device b.device text arrives.prints
+
+pub events_of_arrivals : (turns : List ℕ) (a b : Session) (text : Text) → InOrder (λ (turn : ℕ). NextArrives) turns a b text
+    → Events a.device b.device text
+events_of_arrivals turns a b text all =
+    events_in_order (λ (turn : ℕ). NextArrives) (λ (session : Session). session.device)
+    (λ turn from to here arrives. events_of_oldest from.offered from to here arrives) turns a b text all
+
+pub events_of_all : (a b : Session) (text : Text) → AllArrive a b text → Events a.device b.device text
+events_of_all a b text all = events_of_arrivals (replicate (length a.offered) 0) a b text all
+
+events_of_chosen : (choice : Choice) (a b : Session) (text : Text) → Chosen choice a b text → Events a.device b.device text
+events_of_chosen (Step kind) a b text played = events_one _ a.device b.device text played.1.happens
+events_of_chosen Arrival a b text arrives = events_of_oldest a.offered a b text arrives
+
+pub events_of_draws : (turns : List ℕ) (a b : Session) (text : Text) → InOrder (λ (turn : ℕ). Draws) turns a b text
+    → Events a.device b.device text
+events_of_draws turns a b text all =
+    events_in_order (λ (turn : ℕ). Draws) (λ (session : Session). session.device)
+    (λ turn from to here draws.
+    events_of_chosen (drawn from.offered from.generator).0 (record from { generator = (drawn from.offered from.generator).1 }) to here draws)
+    turns a b text all
 
 pub events_of_interleaves : (a b : Session) (text : Text) → Interleaves a b text → Events a.device b.device text
 events_of_interleaves a b text all =
-    events_of_drawn (replicate (drawn_count a.most_steps a.generator).0 0)
+    events_of_draws (replicate (drawn_count a.most_steps a.generator).0 0)
     (record a { generator = (drawn_count a.most_steps a.generator).1 }) b text all
 
 -- Nothing has happened yet.
 pub stopped_before : (a : Device) (before : Option (List ℕ)) → TellsPart before before (Happened a)
 stopped_before a before = part_none (Happened a) [] before (a, events_none a)
 
--- A part of an event's text was written.
-pub stopped_in : (event : Event) (said : Text) (a b : Device) (whole : Text) (before after : Option (List ℕ)) → Prints event said a b whole
+-- A part of the text of one was written.
+pub stopped_in : (one : Happening) (a b : Device) (whole : Text) (before after : Option (List ℕ)) → Prints one a b whole
     → WritesPart before after whole → TellsPart before after (Happened a)
-stopped_in event said a b whole before after prints part =
+stopped_in one a b whole before after prints part =
     part_so (λ (text : Text). text ≡ whole) (Happened a) before after
-    (λ text same. (b, events_one event said a b text (subst (λ (t : Text). Prints event said a b t) (sym same) prints))) part
+    (λ text same. (b, events_one one a b text (subst (λ (t : Text). Prints one a b t) (sym same) prints))) part
 
 -- Some events were printed, and then a part of the text of others.
 pub stopped_after : (Happens : Text → Type 0) (a b : Device) (before now after : Option (List ℕ))
@@ -81,13 +101,64 @@ stopped_after Happens a b before now after events first part =
     part_then Happens (Happened b) (Happened a) before now after
     (λ text rest happens later. (later.0, events_then a b later.0 text rest (events text happens) later.1)) first part
 
--- What stopped in its events stopped in its answer.
-pub stopped_answer : (Answers : Session → Text → Type 0) (a : Session) (before after : Option (List ℕ))
-    → TellsPart before after (Happened a.device) → TellsPart before after (Reaches Answers a)
-stopped_answer Answers a before after part =
-    part_so (Happened a.device) (Reaches Answers a) before after (λ text happened. inl happened) part
+-- A call stopped in its events, and so its caller stops.
+pub events_stop : {T E : Type 0} (result : Result T E) (a : Device) (Happens : T → Text → Type 0)
+    (before after : Option (List ℕ)) → IsErr result → TellsPart before after (Happened a) → TellsEvents result before after a Happens
+events_stop (Ok value) a Happens before after is part = absurd (cc)
+events_stop (Err error) a Happens before after is part = part
 
-pub reaches_so : (P Q : Session → Text → Type 0) (a : Session) → ((b : Session) (text : Text) → P b text → Q b text) → (text : Text)
-    → Reaches P a text → Reaches Q a text
-reaches_so P Q a so text (inl happened) = inl happened
-reaches_so P Q a so text (inr answered) = inr (answered.0, so answered.0 text answered.1)
+-- A call stopped in its answer, and so its caller stops.
+pub answer_again : {T E S : Type 0} (result : Result T E) (a : Device) (Answers : S → Text → Type 0) (b : S)
+    (before after : Option (List ℕ)) → IsErr result → TellsPart before after (Reaches Answers a)
+    → TellsAnswer result before after a Answers b
+answer_again (Ok value) a Answers b before after is part = absurd (cc)
+answer_again (Err error) a Answers b before after is part = part
+
+pub stopped_answer : {S : Type 0} (Answers : S → Text → Type 0) (a : Device) (before after : Option (List ℕ))
+    → TellsPart before after (Happened a) → TellsPart before after (Reaches Answers a)
+stopped_answer Answers a before after part =
+    part_so (Happened a) (Reaches Answers a) before after (λ text happened. inl happened) part
+
+pub answer_stops : {T E S : Type 0} (result : Result T E) (a : Device) (Answers : S → Text → Type 0) (b : S)
+    (before after : Option (List ℕ)) → IsErr result → TellsPart before after (Happened a) → TellsAnswer result before after a Answers b
+answer_stops (Ok value) a Answers b before after is part = absurd (cc)
+answer_stops (Err error) a Answers b before after is part = stopped_answer Answers a before after part
+
+-- The same things happened, of which more is known.
+pub events_so : {T E : Type 0} (result : Result T E) (a : Device) (P : T → Text → Type 0) (Q : T → Text → Type 0)
+    (before after : Option (List ℕ)) → ((value : T) (text : Text) → P value text → Q value text) → TellsEvents result before after a P
+    → TellsEvents result before after a Q
+events_so (Ok value) a P Q before after so tells = tells_so (P value) (Q value) before after (so value) tells
+events_so (Err error) a P Q before after so tells = tells
+
+reaches_so : {S U : Type 0} (P : S → Text → Type 0) (Q : U → Text → Type 0) (f : S → U) (a : Device)
+    → ((b : S) (text : Text) → P b text → Q (f b) text) → (text : Text) → Reaches P a text → Reaches Q a text
+reaches_so P Q f a so text (inl happened) = inl happened
+reaches_so P Q f a so text (inr answered) = inr (f answered.0, so answered.0 text answered.1)
+
+pub part_reached : {S U : Type 0} (P : S → Text → Type 0) (Q : U → Text → Type 0) (f : S → U) (a : Device) (before after : Option (List ℕ))
+    → ((b : S) (text : Text) → P b text → Q (f b) text) → TellsPart before after (Reaches P a) → TellsPart before after (Reaches Q a)
+part_reached P Q f a before after so part = part_so (Reaches P a) (Reaches Q a) before after (reaches_so P Q f a so) part
+
+-- The same answer, of which more is known.
+pub answer_so : {T E S U : Type 0} (result : Result T E) (P : S → Text → Type 0) (Q : U → Text → Type 0) (f : S → U) (a : Device) (b : S)
+    (before after : Option (List ℕ)) → ((b : S) (text : Text) → P b text → Q (f b) text) → TellsAnswer result before after a P b
+    → TellsAnswer result before after a Q (f b)
+answer_so (Ok value) P Q f a b before after so tells = tells_so (P b) (Q (f b)) before after (so b) tells
+answer_so (Err error) P Q f a b before after so part = part_reached P Q f a before after so part
+
+-- The oldest frame arrived.
+pub none_arrives : (a b : Session) → a.offered ≡ [] → b ≡ a → NextArrives a b []
+none_arrives a b none same = subst (λ (offered : List (List ℕ)). OldestArrives offered a b []) (sym none) (same, refl)
+
+pub arrived : {T E : Type 0} (result : Result T E) (frame : List ℕ) (a : Session) (device : Device) (later : List (List ℕ))
+    (before after : Option (List ℕ)) → a.offered ≡ frame ∷ later
+    → TellsEvents result before after a.device (λ unit text. (fate : Fate) × Prints (Arrived frame fate) a.device device text)
+    → TellsEvents result before after a.device (λ unit. NextArrives a (record a { device = device; offered = later }))
+arrived result frame a device later before after is tells =
+    let b : Session = record a { device = device; offered = later } in
+    events_so result a.device (λ unit text. (fate : Fate) × Prints (Arrived frame fate) a.device device text) (λ unit. NextArrives a b)
+    before after
+    (λ unit text prints.
+    subst (λ (offered : List (List ℕ)). OldestArrives offered a b text) (sym is)
+    (record { fate = prints.0; prints = prints.1; after = refl })) tells

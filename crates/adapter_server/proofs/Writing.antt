@@ -1,8 +1,8 @@
 -- Texts that are written one after another, as things happen in order.
-use Rattle.std.proofs.Common.{◌≡◌, ◌++◌, ℕ, List, [], ◌∷◌, Option, Some, None, append_assoc, refl, subst, sym, ap, ◌∙◌}
-use Rattle.std.proofs.lemmas.List.{append-nil}
+use Rattle.std.proofs.Common.{◌≡◌, ◌+◌, ◌++◌, ℕ, List, [], ◌∷◌, Option, Some, None, append_assoc, refl, replicate, subst, sym, ap, ◌∙◌}
+use Rattle.std.proofs.lemmas.List.{append-nil, replicate_more}
 use Rattle.std.specs.Io.KnownBytes.{Appends, Keeps}
-use Rattle.adapter_server.specs.Order.{InOrder, Tells}
+use Rattle.adapter_server.specs.Order.{InOrder, Tells, Times}
 use Rattle.adapter_server.specs.Texts.{Text}
 
 pub appends_then : (a b c : Option (List ℕ)) (first rest : List ℕ) → Appends a b first → Appends b c rest → Appends a c (first ++ rest)
@@ -75,3 +75,10 @@ module _ {X S : Type 0} (Happens : X → S → S → Text → Type 0) where
   in_order_keeps size keeps [] a b text all = ap size all.0
   in_order_keeps size keeps (x ∷ later) a b text all =
       in_order_keeps size keeps later all.middle b all.rest all.goes_on ∙ keeps x a all.middle all.first all.happens
+
+-- It happens once more.
+pub times_more : {S : Type 0} (Happens : S → S → Text → Type 0) (count : ℕ) (a b c : S) (before now after : Option (List ℕ))
+    → Tells before now (Times Happens count a b) → Tells now after (Happens b c) → Tells before after (Times Happens (count + 1) a c)
+times_more Happens count a b c before now after so_far next =
+    subst (λ (turns : List ℕ). Tells before after (InOrder (λ (turn : ℕ). Happens) turns a c)) (replicate_more count 0)
+    (tells_more (λ (turn : ℕ). Happens) (replicate count 0) 0 a b c before now after so_far next)

@@ -35,4 +35,5 @@ default_options = record {
   link = default_link;
   receive_kilobytes = default_kilobytes;
   seed = default_seed;
+  missed = 0;
 }

@@ -1,7 +1,6 @@
 -- What happens to the served adapter and its memory, and what is printed (our choice).
 use Rattle.std.specs.Prelude.{◌≡◌, ◌+◌, ◌++◌, ◌<◌, ◌≤◌, [], ◌∷◌}
-use Rattle.std.specs.Prelude.{ℕ, Bool, List, All, flat_map, if◌then◌else◌, length, map, nat_lt, sum, take}
-use Rattle.std.specs.Prelude.{true}
+use Rattle.std.specs.Prelude.{ℕ, Bool, List, All, Option, Result, Ok, Err, if◌then◌else◌, length, map, nat_lt, sum, take}
 use Rattle.adapter.specs.Outcomes.{framed}
 use Rattle.adapter.specs.State.{AdapterState}
 use Rattle.adapter.specs.declared.outcome.Outcome.{Outcome}
@@ -9,39 +8,43 @@ use Rattle.adapter.specs.declared.step.StepKind.{StepKind}
 use Rattle.adapter.specs.declared.step.StepKind.TheVariants.{TxTake, TxPut, RxData, RxDone, EepromTick, PhyTick}
 use Rattle.tx_engine.specs.Transmitter.{Queued}
 use Rattle.bus.specs.Machines.{after_event, is_asserted}
-use Rattle.bus.specs.Trails.{Occurs, past_of_event}
-use Rattle.bus.specs.declared.event.Event.{Event}
+use Rattle.bus.specs.Trails.{Occurs}
 use Rattle.bus.specs.declared.event.Event.TheVariants as event
-use Rattle.adapter_server.specs.Order.{InOrder}
+use Rattle.adapter_server.specs.Happenings.{Happening, Logged, event_of, said_of, shown_of}
+use Rattle.adapter_server.specs.Order.{InOrder, Tells, TellsPart}
 use Rattle.adapter_server.specs.Outcomes.{moved_by}
-use Rattle.adapter_server.specs.Texts.{Text, frame_line, line_moved, said_log, step_said}
+use Rattle.adapter_server.specs.Texts.{Text, line_moved, said_log, step_said}
 use Rattle.adapter_server.specs.declared.device.Device.{Device}
 
 -- the device after the level of its interrupt line was reported
 abbrev pub told : Device → Device
 told device = record device { machine = record device.machine { reported = is_asserted device.machine.world.adapter } }
 
--- An event happens. A line of the log is printed, the frame that the event put onto the wire, and a change of the interrupt line.
-pub record Prints (event : Event) (said : Text) (a b : Device) (text : Text) : Type 0 where
-  pub occurs : Occurs event a.machine.world
-  pub after : b ≡ told (record a { machine = after_event event a.machine })
-  pub text_is : text
-      ≡ said_log a.log said ++ (flat_map frame_line (past_of_event event).put ++ line_moved a.machine.reported b.machine.reported)
+-- It happens, and is printed: a line of the log, what is always printed of it, and a change of the interrupt line.
+pub record Prints (happening : Happening) (a b : Device) (text : Text) : Type 0 where
+  pub occurs : Occurs (event_of happening) a.machine.world
+  pub after : b ≡ told (record a { machine = after_event (event_of happening) a.machine })
+  pub text_is : text ≡ said_log a.log (said_of happening) ++ (shown_of happening ++ line_moved a.machine.reported b.machine.reported)
 
--- Events happen in order. Each is printed, with what the log says of it.
+-- Some things happen in order, and are printed.
 abbrev pub Events : Device → Device → Text → Type 0
-Events a b text = (events : List (Event × Text)) × InOrder (λ (event : Event × Text). Prints event.0 event.1) events a b text
+Events a b text = (events : List Happening) × InOrder Prints events a b text
 
 -- the text of some events that happen in order
 abbrev pub Happened : Device → Text → Type 0
 Happened a text = (b : Device) × Events a b text
+
+-- It happened and was printed. At an error, a beginning of the text of some events was written.
+abbrev pub TellsEvents : {T E : Type 0} → Result T E → (before after : Option (List ℕ)) → Device → (Happens : T → Text → Type 0) → Type 0
+TellsEvents (Ok value) before after device Happens = Tells before after (Happens value)
+TellsEvents (Err error) before after device Happens = TellsPart before after (Happened device)
 
 -- Steps.
 
 -- a step of this kind with this outcome, and with the room that the wire has
 abbrev pub Steps : StepKind → Outcome (Unit {0}) → Device → Device → Text → Type 0
 Steps kind outcome a b text =
-    Prints (event.Steps kind a.wire_free (framed outcome a.machine.world.adapter)) (step_said kind outcome) a b text
+    Prints (Logged (event.Steps kind a.wire_free (framed outcome a.machine.world.adapter)) (step_said kind outcome)) a b text
 
 -- the frame that a step of this kind puts on a wire with room
 abbrev pub next_put : StepKind → AdapterState → List (List ℕ)

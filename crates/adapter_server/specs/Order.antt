@@ -1,5 +1,5 @@
 -- Things that happen in order, and the text that is written for them.
-use Rattle.std.specs.Prelude.{◌≡◌, ◌++◌, ℕ, List, [], ◌∷◌, Option, replicate}
+use Rattle.std.specs.Prelude.{◌≡◌, ◌++◌, ℕ, List, [], ◌∷◌, Option, Result, Ok, Err, replicate}
 use Rattle.std.specs.Io.KnownBytes.{Appends}
 use Rattle.adapter_server.specs.Texts.{Text}
 
@@ -23,6 +23,11 @@ TellsPart before after Holds = Tells before after (Begins Holds)
 -- A beginning of this text was written.
 abbrev pub WritesPart : (before after : Option (List ℕ)) → Text → Type 0
 WritesPart before after whole = TellsPart before after (λ text. text ≡ whole)
+
+-- A text was written, or at an error a beginning of it.
+abbrev pub Says : {T E : Type 0} → Result T E → (before after : Option (List ℕ)) → Text → Type 0
+Says (Ok value) before after text = Appends before after text
+Says (Err error) before after text = WritesPart before after text
 
 -- One thing happens, and then another. Their texts are joined.
 pub record Joins {S : Type 0} (First Later : S → Text → Type 0) (text : Text) : Type 0 where

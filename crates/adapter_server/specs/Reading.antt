@@ -18,7 +18,7 @@ use Rattle.adapter_server.specs.declared.request.Width.{Width}
 use Rattle.adapter_server.specs.declared.request.Width.TheVariants as width
 use Rattle.adapter_server.specs.declared.verb.Verb.{Verb}
 use Rattle.adapter_server.specs.declared.verb.Verb.TheVariants.{ReadNumber, WriteNumber, Read, Write, Memset, Endianness, Step, Arrive}
-use Rattle.adapter_server.specs.declared.verb.Verb.TheVariants.{Settle, Line, Interleave, Log, Wire}
+use Rattle.adapter_server.specs.declared.verb.Verb.TheVariants.{Settle, Line, Interleave, Log, Wire, Offer, Save, Restore}
 
 -- the greatest number of a width
 abbrev pub greatest : Width → ℕ
@@ -87,6 +87,9 @@ read_in words = do
 abbrev pub arrive_in : Text → Result Request Refusal
 arrive_in word = bytes_in word >>= λ bytes. Ok (requests.Arrive bytes)
 
+abbrev pub offer_in : Text → Result Request Refusal
+offer_in word = bytes_in word >>= λ bytes. Ok (requests.Offer bytes)
+
 abbrev pub interleave_in : Text → Result Request Refusal
 interleave_in word = number_below most_steps word >>= λ count. Ok (requests.Interleave count)
 
@@ -105,6 +108,9 @@ request_with Line words = Ok requests.Line
 request_with Interleave words = interleave_in (word 1 words)
 request_with Log words = log_in (word 1 words)
 request_with Wire words = wire_in (word 1 words)
+request_with Offer words = offer_in (word 1 words)
+request_with Save words = Ok requests.Save
+request_with Restore words = Ok requests.Restore
 
 abbrev pub request_if : Option Verb → List Text → Result Request Refusal
 request_if (Some verb) words = if length words == word_count verb then request_with verb words else Err refusals.Count

@@ -1,5 +1,5 @@
 -- What a server answers to all of its input (our choice).
-use Rattle.std.specs.Prelude.{◌≡◌, ◌++◌, ℕ, List, [], ◌∷◌, MatchBool, Option, length, nat_lt}
+use Rattle.std.specs.Prelude.{◌≡◌, ◌++◌, ℕ, List, [], ◌∷◌, MatchBool, None, Option, length, nat_lt}
 use Rattle.adapter_server.specs.Answers.{AnswersLine, Reaches, Refuses}
 use Rattle.adapter_server.specs.Lines.{lines_of, most_line_bytes}
 use Rattle.adapter_server.specs.Order.{Begins, InOrder, Tells}
@@ -9,59 +9,63 @@ use Rattle.adapter_server.specs.declared.line_reader.NextLine.{NextLine}
 use Rattle.adapter_server.specs.declared.line_reader.NextLine.TheVariants.{End, Whole, Long}
 use Rattle.adapter_server.specs.declared.options.ServeOptions.{ServeOptions}
 use Rattle.adapter_server.specs.declared.refusal.Refusal.TheVariants as refusals
-use Rattle.adapter_server.specs.declared.session.Session.{Session}
+use Rattle.adapter_server.specs.declared.snapshot.Server.{Server}
+
+-- a server before the first request
+abbrev pub new_server : ServeOptions → Server
+new_server options = record { session = new_session options; saved = None }
 
 -- A line is answered, and one that is too long is refused. At the end of the input nothing happens.
-abbrev pub AnswersNext : NextLine → Text → Session → Session → Text → Type 0
+abbrev pub AnswersNext : NextLine → Text → Server → Server → Text → Type 0
 AnswersNext End line a b text = (b ≡ a) × (text ≡ [])
 AnswersNext Whole line a b text = AnswersLine line a b text
 AnswersNext Long line a b text = Refuses refusals.Long a b text
 
 -- A line is answered; one that is too long is refused.
-abbrev pub Turns : Text → Session → Session → Text → Type 0
+abbrev pub Turns : Text → Server → Server → Text → Type 0
 Turns line a b text = MatchBool (nat_lt most_line_bytes (length line)) (Refuses refusals.Long a b text) (AnswersLine line a b text)
 
 -- Lines are answered in order, each in the state after those before it.
-abbrev pub Serves : List Text → Session → Session → Text → Type 0
+abbrev pub Serves : List Text → Server → Server → Text → Type 0
 Serves lines a b text = InOrder Turns lines a b text
 
 -- All lines of these bytes are answered, in order.
-abbrev pub ServesWhole : (bytes : List ℕ) → Session → Text → Type 0
-ServesWhole bytes begin text = (last : Session) × Serves (lines_of bytes) begin last text
+abbrev pub ServesWhole : (bytes : List ℕ) → Server → Text → Type 0
+ServesWhole bytes begin text = (last : Server) × Serves (lines_of bytes) begin last text
 
 -- The first lines of these bytes are answered, each in full, in order, and nothing else is written.
-pub record ServesFront (bytes : List ℕ) (begin : Session) (text : Text) : Type 0 where
+pub record ServesFront (bytes : List ℕ) (begin : Server) (text : Text) : Type 0 where
   pub answered : List Text
   pub left : List Text
   pub lines : lines_of bytes ≡ answered ++ left
-  pub last : Session
+  pub last : Server
   pub serves : Serves answered begin last text
 
 -- a beginning of the text of some events that happen in order, or of the answer to the first of these lines
-abbrev pub BeginsNext : List Text → Session → Text → Type 0
+abbrev pub BeginsNext : List Text → Server → Text → Type 0
 BeginsNext [] a text = text ≡ []
-BeginsNext (line ∷ later) a text = Begins (Reaches (Turns line a) a) text
+BeginsNext (line ∷ later) a text = Begins (Reaches (Turns line a) a.session.device) text
 
 -- The first lines of these bytes are answered, each in full, in order. Then at most a part of the next answer is written.
-pub record ServesBegun (bytes : List ℕ) (begin : Session) (text : Text) : Type 0 where
+pub record ServesBegun (bytes : List ℕ) (begin : Server) (text : Text) : Type 0 where
   pub answered : List Text
   pub left : List Text
   pub lines : lines_of bytes ≡ answered ++ left
-  pub last : Session
+  pub last : Server
   pub front : Text
   pub part : Text
   pub serves : Serves answered begin last front
   pub begun : BeginsNext left last part
   pub text_is : text ≡ front ++ part
 
--- From a new session on, all lines are answered.
+-- From a new server on, all lines are answered.
 abbrev pub ServesAll : ServeOptions → (bytes : List ℕ) → (before after : Option (List ℕ)) → Type 0
-ServesAll options bytes before after = Tells before after (ServesWhole bytes (new_session options))
+ServesAll options bytes before after = Tells before after (ServesWhole bytes (new_server options))
 
--- From a new session on, the first lines are answered.
+-- From a new server on, the first lines are answered.
 abbrev pub ServesSome : ServeOptions → (bytes : List ℕ) → (before after : Option (List ℕ)) → Type 0
-ServesSome options bytes before after = Tells before after (ServesFront bytes (new_session options))
+ServesSome options bytes before after = Tells before after (ServesFront bytes (new_server options))
 
--- From a new session on, the first lines are answered, and at most a part of the next answer is written.
+-- From a new server on, the first lines are answered, and at most a part of the next answer is written.
 abbrev pub ServesPart : ServeOptions → (bytes : List ℕ) → (before after : Option (List ℕ)) → Type 0
-ServesPart options bytes before after = Tells before after (ServesBegun bytes (new_session options))
+ServesPart options bytes before after = Tells before after (ServesBegun bytes (new_server options))

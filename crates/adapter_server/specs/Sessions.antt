@@ -1,5 +1,5 @@
--- The state of a server, and the steps before an access (our choice).
-use Rattle.std.specs.Prelude.{◌≡◌, ◌==◌, ◌+◌, ◌-◌, ◌%◌, ◌&&◌}
+-- The state of an adapter that is served, and what happens before an access (our choice).
+use Rattle.std.specs.Prelude.{◌≡◌, ◌==◌, ◌+◌, ◌-◌, ◌%◌, ◌&&◌, ◌∷◌, [], List}
 use Rattle.std.specs.Prelude.{ℕ, Option, Some, None, true, false, Bool, if◌then◌else◌, length, nat_le, nat_lt}
 use Rattle.std.specs.Prelude.{replicate}
 use Rattle.rand_core.specs.Pcg32Seed.{pcg32_seed}
@@ -7,11 +7,16 @@ use Rattle.rand_pcg.specs.Lcg.{Lcg}
 use Rattle.rand_pcg.specs.Pcg.{pcg32, pcg32_of_seed}
 use Rattle.adapter.specs.Registers.{after_write, new_adapter}
 use Rattle.adapter.specs.declared.outcome.Outcome.{Outcome}
-use Rattle.adapter.specs.declared.step.StepKind.{StepKind}
-use Rattle.adapter_server.specs.Devices.{Steps}
-use Rattle.adapter_server.specs.Kinds.{kind_numbered}
+use Rattle.adapter.specs.State.{AdapterState}
+use Rattle.rx_engine.specs.declared.arrival.Fate.{Fate}
+use Rattle.adapter_server.specs.Choices.{choice_numbered, choices}
+use Rattle.adapter_server.specs.Devices.{Prints, Steps}
+use Rattle.adapter_server.specs.Happenings.{Arrived}
 use Rattle.adapter_server.specs.Order.{Times}
 use Rattle.adapter_server.specs.Texts.{Text}
+use Rattle.adapter_server.specs.declared.device.Device.{Device}
+use Rattle.adapter_server.specs.declared.interleaving.Choice.{Choice}
+use Rattle.adapter_server.specs.declared.interleaving.Choice.TheVariants.{Step, Arrival}
 use Rattle.adapter_server.specs.declared.options.ServeOptions.{ServeOptions}
 use Rattle.adapter_server.specs.declared.session.Place.{Place}
 use Rattle.adapter_server.specs.declared.session.Place.TheVariants.{Register, Memory}
@@ -21,14 +26,21 @@ use Rattle.adapter_server.specs.declared.session.Session.{Session}
 abbrev pub pba : ℕ
 pba = 0x1000
 
--- a server before the first request: memory of zeros, and a new adapter whose PBA was written once
+abbrev pub with_missed : ℕ → AdapterState → AdapterState
+with_missed count adapter = record adapter { missed_packets = count }
+
+-- a new adapter, whose PBA was written once, and whose MPC begins with a count
+abbrev pub first_adapter : ServeOptions → AdapterState
+first_adapter options = with_missed options.missed (after_write pba options.receive_kilobytes (new_adapter options.image options.link))
+
+-- the state before the first request: memory of zeros, a new adapter, and no offered frame
 unfoldable pub new_session : ServeOptions → Session
 new_session options = record {
   device = record {
     machine = record {
       world = record {
         memory = replicate options.memory 0;
-        adapter = after_write pba options.receive_kilobytes (new_adapter options.image options.link);
+        adapter = first_adapter options;
       };
       reported = false;
     };
@@ -38,7 +50,13 @@ new_session options = record {
   registers = options.registers;
   generator = pcg32_of_seed (pcg32_seed 16 options.seed);
   most_steps = 0;
+  offered = [];
 }
+
+-- Something happens to the device, and nothing else changes.
+pub record OnDevice (Happens : Device → Device → Text → Type 0) (a b : Session) (text : Text) : Type 0 where
+  pub happens : Happens a.device b.device text
+  pub after : b ≡ record a { device = b.device }
 
 -- The target of an access.
 
@@ -64,22 +82,47 @@ place_in session address count =
 
 -- What the words of the generator choose (its 32-bit words are those of rand_pcg's Lcg64Xsh32).
 
--- the kind of a step
-abbrev pub drawn_kind : Lcg → StepKind × Lcg
-drawn_kind generator = let word = pcg32 generator in (kind_numbered (word.0 % 6), word.1)
+-- a choice, of one more if a frame waits
+abbrev pub drawn : (offered : List (List ℕ)) → Lcg → Choice × Lcg
+drawn offered generator = let word = pcg32 generator in (choice_numbered (word.0 % choices offered), word.1)
 
 -- the number of steps before an access, up to a maximum; no word is used if the maximum is 0
 abbrev pub drawn_count : (most : ℕ) → Lcg → ℕ × Lcg
 drawn_count most generator =
     if most == 0 then (0, generator) else (let word = pcg32 generator in (word.0 % (most + 1), word.1))
 
--- A step of the kind that the next word chooses is played.
-pub record DrawsStep (a b : Session) (text : Text) : Type 0 where
-  pub outcome : Outcome (Unit {0})
-  pub steps : Steps (drawn_kind a.generator).0 outcome a.device b.device text
-  pub after : b ≡ record a { device = b.device; generator = (drawn_kind a.generator).1 }
+-- Offered frames.
 
--- The generator chooses a number of steps, and then the kind of each. The steps are played, and nothing else happens.
+-- An offered frame arrives, and those after it still wait.
+pub record FrameArrives (frame : List ℕ) (later : List (List ℕ)) (a b : Session) (text : Text) : Type 0 where
+  pub fate : Fate
+  pub prints : Prints (Arrived frame fate) a.device b.device text
+  pub after : b ≡ record a { device = b.device; offered = later }
+
+-- The oldest of these frames arrives, if there is one.
+abbrev pub OldestArrives : (offered : List (List ℕ)) → Session → Session → Text → Type 0
+OldestArrives [] a b text = (b ≡ a) × (text ≡ [])
+OldestArrives (frame ∷ later) a b text = FrameArrives frame later a b text
+
+abbrev pub NextArrives : Session → Session → Text → Type 0
+NextArrives a b text = OldestArrives a.offered a b text
+
+-- All offered frames arrive, the oldest first.
+abbrev pub AllArrive : Session → Session → Text → Type 0
+AllArrive a b text = Times NextArrives (length a.offered) a b text
+
+-- What comes before an access.
+
+-- A choice is played.
+abbrev pub Chosen : Choice → Session → Session → Text → Type 0
+Chosen (Step kind) a b text = (outcome : Outcome (Unit {0})) × OnDevice (Steps kind outcome) a b text
+Chosen Arrival a b text = NextArrives a b text
+
+-- The next word chooses, and the choice is played.
+abbrev pub Draws : Session → Session → Text → Type 0
+Draws a b text = Chosen (drawn a.offered a.generator).0 (record a { generator = (drawn a.offered a.generator).1 }) b text
+
+-- The generator chooses a number, and then so many choices. They are played, and nothing else happens.
 abbrev pub Interleaves : Session → Session → Text → Type 0
 Interleaves a b text =
-    Times DrawsStep (drawn_count a.most_steps a.generator).0 (record a { generator = (drawn_count a.most_steps a.generator).1 }) b text
+    Times Draws (drawn_count a.most_steps a.generator).0 (record a { generator = (drawn_count a.most_steps a.generator).1 }) b text

@@ -1,7 +1,5 @@
--- The lines that a server writes (QEMU, docs/devel/testing/qtest: OK, ERR, FAIL and IRQ; frame and # are our choice).
+-- The lines that a server writes (QEMU, docs/devel/testing/qtest: OK, ERR, FAIL and IRQ; frame, arrived and # are our choice).
 use Rattle.std.specs.Prelude.{◌++◌, ℕ, List, [], ◌∷◌, Bool, true, false, Option, Some, None, codes, map}
-use Rattle.std.specs.Prelude.{String, string_bytes}
-use Rattle.std.specs.declared.alloc.Global.{Global}
 use Rattle.std.specs.Borrow.{Bor}
 use Rattle.std.specs.Int.{to_be_bytes, w64}
 use Rattle.std.specs.List.{concat}
@@ -61,20 +59,27 @@ said_log false said = []
 abbrev pub step_said : StepKind → Outcome (Unit {0}) → Text
 step_said kind outcome = concat (codes "step " ∷ kind_word kind ∷ codes " -> " ∷ outcome_word outcome ∷ [])
 
+-- what the log says of the arrival of an offered frame
+abbrev pub arrive_said : List ℕ → Text
+arrive_said frame = concat (codes "arrive " ∷ encode_lower frame ∷ [])
+
 -- Frames and the interrupt line.
 
 -- the line of these digits of a frame
 abbrev pub digits_line : Text → Text
 digits_line digits = codes "frame " ++ digits ++ codes "\n"
 
--- the digits of a frame that was put onto the wire, if there was one
-abbrev pub digits_told : Option (String Global) → Text
-digits_told (Some digits) = digits_line (string_bytes digits)
-digits_told None = []
-
 -- a frame that was put onto the wire
 abbrev pub frame_line : List ℕ → Text
 frame_line frame = digits_line (encode_lower frame)
+
+-- the line of an offered frame that arrived, from the word of its fate and its digits
+unfoldable pub digits_arrived : (fate digits : Text) → Text
+digits_arrived fate digits = codes "arrived " ++ fate ++ codes " " ++ digits ++ codes "\n"
+
+-- an offered frame that arrived, and its fate
+abbrev pub arrived_line : Fate → List ℕ → Text
+arrived_line fate frame = digits_arrived (fate_word fate) (encode_lower frame)
 
 -- the level of the interrupt line, if it is printed
 abbrev pub line_told : Option Bool → Text
@@ -111,5 +116,6 @@ refusal_line refusals.Count = codes "ERR count\n"
 refusal_line refusals.Value = codes "ERR value\n"
 refusal_line refusals.Size = codes "ERR size\n"
 refusal_line refusals.Address = codes "ERR address\n"
+refusal_line refusals.Saved = codes "ERR saved\n"
 refusal_line refusals.Text = codes "ERR text\n"
 refusal_line refusals.Long = codes "ERR long\n"

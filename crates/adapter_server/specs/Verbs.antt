@@ -7,7 +7,7 @@ use Rattle.adapter_server.specs.Texts.{Text}
 use Rattle.adapter_server.specs.declared.request.Width.TheVariants as width
 use Rattle.adapter_server.specs.declared.verb.Verb.{Verb}
 use Rattle.adapter_server.specs.declared.verb.Verb.TheVariants.{ReadNumber, WriteNumber, Read, Write, Memset, Endianness, Step, Arrive}
-use Rattle.adapter_server.specs.declared.verb.Verb.TheVariants.{Settle, Line, Interleave, Log, Wire}
+use Rattle.adapter_server.specs.declared.verb.Verb.TheVariants.{Settle, Line, Interleave, Log, Wire, Offer, Save, Restore}
 
 -- the first words of requests, and what these ask for
 abbrev pub verbs : List (Text × Verb)
@@ -31,6 +31,9 @@ verbs =
     ∷ (codes "interleave", Interleave)
     ∷ (codes "log", Log)
     ∷ (codes "wire", Wire)
+    ∷ (codes "offer", Offer)
+    ∷ (codes "save", Save)
+    ∷ (codes "restore", Restore)
     ∷ []
 
 -- what a line with this first word asks for
@@ -52,6 +55,9 @@ word_count Line = 1
 word_count Interleave = 2
 word_count Log = 2
 word_count Wire = 2
+word_count Offer = 2
+word_count Save = 1
+word_count Restore = 1
 
 -- the names of the kinds of steps
 abbrev pub step_kinds : List (Text × StepKind)

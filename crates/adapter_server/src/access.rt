@@ -1,13 +1,12 @@
 // Reads and writes, and the steps before each.
 
-ghost use Rattle.std.specs.Prelude.{◌≡◌, ◌≤◌, IfOk, OnErr, OnOk, length};
+ghost use Rattle.std.specs.Prelude.{◌≡◌, ◌≤◌, IfOk, length};
 ghost use Rattle.std.specs.Int.{from_le_bytes, w32};
-ghost use Rattle.std.specs.Io.KnownBytes.{Appends};
-ghost use Rattle.adapter_server.specs.Order.{WritesPart};
+ghost use Rattle.adapter_server.specs.Order.{Says};
 ghost use Rattle.adapter_server.specs.Widths.{answer_line, bytes_of, bytes_spelling, number_spelled, size_of};
 
 use crate::answer_error::AnswerError;
-use crate::output::{say, say_bytes, say_number};
+use crate::output::{refuse, say, say_bytes, say_number};
 use crate::refusal::Refusal;
 use crate::request::{Wanted, Width};
 use crate::session::{Place, Session};
@@ -77,8 +76,7 @@ impl Wanted {
     /// Writes the line of the answer with these bytes.
     fn say<W: Write>(self, alloc: Global, out: &mut W, bytes: &[u8]) -> Result<(), AnswerError>
         requires { length bytes.now ≡ size_of self }
-        ensures ok { OnOk result (Appends (W.contents out.old) (W.contents out.new) (answer_line self bytes.now)) }
-        ensures err { OnErr result (WritesPart (W.contents out.old) (W.contents out.new) (answer_line self bytes.now)) }
+        ensures { Says result (W.contents out.old) (W.contents out.new) (answer_line self bytes.now) }
     {
         match self {
             Wanted::Number(_) => say_number(alloc, out, number_of(bytes)),
@@ -88,8 +86,7 @@ impl Wanted {
 }
 
 impl Session {
-    ghost use Rattle.adapter_server.specs.Answers.{Reaches, ReadsAt, WritesAt};
-    ghost use Rattle.adapter_server.specs.Order.{Tells, TellsPart};
+    ghost use Rattle.adapter_server.specs.Answers.{ReadsAt, TellsAnswer, WritesAt};
     ghost use Rattle.adapter_server.specs.Sessions.{place_in};
 
     /// `readb`, `readw`, `readl`, `readq`, `read`. Four bytes at a register are one access of it.
@@ -101,28 +98,25 @@ impl Session {
         wanted: Wanted,
         address: u64,
     ) -> Result<(), AnswerError>
-        ensures ok { OnOk result (Tells (W.contents out.old) (W.contents out.new)
-            (ReadsAt (place_in self.old address (size_of wanted)) wanted address said.now self.old self.new)) }
-        ensures err { OnErr result (TellsPart (W.contents out.old) (W.contents out.new)
-            (Reaches (ReadsAt (place_in self.old address (size_of wanted)) wanted address said.now self.old)
-            self.old)) }
+        ensures { TellsAnswer result (W.contents out.old) (W.contents out.new) self.old.device
+            (ReadsAt (place_in self.old address (size_of wanted)) wanted address said.now self.old) self.new }
     {
         let size = wanted.size();
         match self.place_of(address, size) {
             Some(Place::Register(offset)) => {
                 self.interleave(alloc, out)?;
                 let value = self.device.machine.read(offset);
-                self.device.tell(alloc, out, &[said], None)?;
+                self.device.tell(alloc, out, &[said], &[])?;
                 wanted.say(alloc, out, &value.to_le_bytes())
             }
             Some(Place::Memory) => {
                 let mut bytes = vec![in alloc; 0; size as usize]?;
                 self.interleave(alloc, out)?;
                 self.device.machine.load(address, bytes.as_mut_slice());
-                self.device.tell(alloc, out, &[said], None)?;
+                self.device.tell(alloc, out, &[said], &[])?;
                 wanted.say(alloc, out, bytes.as_slice())
             }
-            None => self.refuse(out, Refusal::Address),
+            None => refuse(out, Refusal::Address),
         }
     }
 
@@ -135,21 +129,18 @@ impl Session {
         address: u64,
         bytes: &[u8],
     ) -> Result<(), AnswerError>
-        ensures ok { OnOk result (Tells (W.contents out.old) (W.contents out.new)
-            (WritesAt (place_in self.old address (length bytes.now)) address bytes.now said.now self.old self.new)) }
-        ensures err { OnErr result (TellsPart (W.contents out.old) (W.contents out.new)
-            (Reaches (WritesAt (place_in self.old address (length bytes.now)) address bytes.now said.now self.old)
-            self.old)) }
+        ensures { TellsAnswer result (W.contents out.old) (W.contents out.new) self.old.device
+            (WritesAt (place_in self.old address (length bytes.now)) address bytes.now said.now self.old) self.new }
     {
         let Some(place) = self.place_of(address, bytes.len() as u64) else {
-            return self.refuse(out, Refusal::Address);
+            return refuse(out, Refusal::Address);
         };
         self.interleave(alloc, out)?;
         match place {
             Place::Register(offset) => self.device.machine.write(offset, register_value(bytes)),
             Place::Memory => self.device.machine.store(address, bytes),
         }
-        self.device.tell(alloc, out, &[said], None)?;
+        self.device.tell(alloc, out, &[said], &[])?;
         say(out, b"OK\n")
     }
 }

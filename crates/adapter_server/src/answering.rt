@@ -1,51 +1,30 @@
 // Answers to requests.
 
-ghost use Rattle.std.specs.Prelude.{OnErr, OnOk};
-ghost use Rattle.adapter_server.specs.declared.request.Request.TheVariants as requests;
-
 use crate::answer_error::AnswerError;
 use crate::line_reader::NextLine;
-use crate::output::{say, say_number, say_word};
+use crate::output::{refuse, say, say_number, say_word};
 use crate::reading::read_line;
 use crate::refusal::{Refusal, Stop};
 use crate::request::Request;
 use crate::session::Session;
+use crate::snapshot::Server;
 use crate::text::{fate_word, outcome_word};
 use adapter::StepKind;
 use std::alloc::Global;
 use std::io::Write;
 
 impl Session {
-    ghost use Rattle.adapter_server.specs.Order.{Tells, TellsPart};
-    ghost use Rattle.adapter_server.specs.Answers.{AnswersLine, Does, Reaches, Refuses};
-    ghost use Rattle.adapter_server.specs.Serving.{AnswersNext};
-
-    /// Writes a refusal, and changes nothing.
-    pub(crate) fn refuse<W: Write>(
-        &mut self,
-        out: &mut W,
-        refusal: Refusal,
-    ) -> Result<(), AnswerError>
-        ensures ok { OnOk result
-            (Tells (W.contents out.old) (W.contents out.new) (Refuses refusal self.old self.new)) }
-        ensures err { OnErr result
-            (TellsPart (W.contents out.old) (W.contents out.new) (Reaches (Refuses refusal self.old) self.old)) }
-    {
-        say(out, refusal.text())
-    }
+    ghost use Rattle.adapter_server.specs.Answers.{AnswersArrival, AnswersSettle, AnswersStep, TellsAnswer};
 
     /// `step`.
     fn take_step<W: Write>(
         &mut self,
         alloc: Global,
         out: &mut W,
-        said: &[u8],
         kind: StepKind,
     ) -> Result<(), AnswerError>
-        ensures ok { OnOk result (Tells (W.contents out.old) (W.contents out.new)
-            (Does (requests.Step kind) said.now self.old self.new)) }
-        ensures err { OnErr result (TellsPart (W.contents out.old) (W.contents out.new)
-            (Reaches (Does (requests.Step kind) said.now self.old) self.old)) }
+        ensures { TellsAnswer result (W.contents out.old) (W.contents out.new) self.old.device
+            (AnswersStep kind self.old) self.new }
     {
         let outcome = self.device.step(alloc, out, kind)?;
         say_word(alloc, out, outcome_word(outcome))
@@ -59,31 +38,28 @@ impl Session {
         said: &[u8],
         frame: &[u8],
     ) -> Result<(), AnswerError>
-        ensures ok { OnOk result (Tells (W.contents out.old) (W.contents out.new)
-            (Does (requests.Arrive frame.now) said.now self.old self.new)) }
-        ensures err { OnErr result (TellsPart (W.contents out.old) (W.contents out.new)
-            (Reaches (Does (requests.Arrive frame.now) said.now self.old) self.old)) }
+        ensures { TellsAnswer result (W.contents out.old) (W.contents out.new) self.old.device
+            (AnswersArrival frame.now said.now self.old) self.new }
     {
         let fate = self.device.machine.arrive(frame);
-        self.device.tell(alloc, out, &[said], None)?;
+        self.device.tell(alloc, out, &[said], &[])?;
         say_word(alloc, out, fate_word(fate))
     }
 
     /// `settle`.
-    fn settle<W: Write>(
-        &mut self,
-        alloc: Global,
-        out: &mut W,
-        said: &[u8],
-    ) -> Result<(), AnswerError>
-        ensures ok { OnOk result (Tells (W.contents out.old) (W.contents out.new)
-            (Does requests.Settle said.now self.old self.new)) }
-        ensures err { OnErr result (TellsPart (W.contents out.old) (W.contents out.new)
-            (Reaches (Does requests.Settle said.now self.old) self.old)) }
+    fn settle<W: Write>(&mut self, alloc: Global, out: &mut W) -> Result<(), AnswerError>
+        ensures { TellsAnswer result (W.contents out.old) (W.contents out.new) self.old.device
+            (AnswersSettle self.old) self.new }
     {
+        self.deliver_all(alloc, out)?;
         let moved = self.device.settle(alloc, out)?;
         say_number(alloc, out, moved)
     }
+}
+
+impl Server {
+    ghost use Rattle.adapter_server.specs.Answers.{AnswersLine, Does, TellsAnswer};
+    ghost use Rattle.adapter_server.specs.Serving.{AnswersNext};
 
     /// Answers a request.
     fn answer<W: Write>(
@@ -93,51 +69,58 @@ impl Session {
         said: &[u8],
         request: &Request,
     ) -> Result<(), AnswerError>
-        ensures ok { OnOk result (Tells (W.contents out.old) (W.contents out.new)
-            (Does request.now said.now self.old self.new)) }
-        ensures err { OnErr result (TellsPart (W.contents out.old) (W.contents out.new)
-            (Reaches (Does request.now said.now self.old) self.old)) }
+        ensures { TellsAnswer result (W.contents out.old) (W.contents out.new) self.old.session.device
+            (Does request.now said.now self.old) self.new }
     {
         match request {
-            Request::Read(wanted, address) => self.read(alloc, out, said, *wanted, *address),
+            Request::Read(wanted, address) => {
+                self.session.read(alloc, out, said, *wanted, *address)
+            }
             Request::Write(address, payload) => {
-                self.write(alloc, out, said, *address, payload.as_slice())
+                self.session
+                    .write(alloc, out, said, *address, payload.as_slice())
             }
             Request::Endianness => say_word(alloc, out, b"little"),
-            Request::Step(kind) => self.take_step(alloc, out, said, *kind),
-            Request::Arrive(payload) => self.deliver(alloc, out, said, payload.as_slice()),
-            Request::Settle => self.settle(alloc, out, said),
-            Request::Line => say_number(alloc, out, u64::from(self.device.machine.line())),
+            Request::Step(kind) => self.session.take_step(alloc, out, *kind),
+            Request::Arrive(frame) => self.session.deliver(alloc, out, said, frame.as_slice()),
+            Request::Settle => self.session.settle(alloc, out),
+            Request::Line => {
+                say_number(alloc, out, u64::from(self.session.device.machine.line()))
+            }
             Request::Interleave(count) => {
-                self.most_steps = *count;
+                self.session.most_steps = *count;
                 say(out, b"OK\n")
             }
             Request::Log(on) => {
-                self.device.log = *on;
+                self.session.device.log = *on;
                 say(out, b"OK\n")
             }
             Request::Wire(free) => {
-                self.device.wire_free = *free;
+                self.session.device.wire_free = *free;
                 say(out, b"OK\n")
             }
+            Request::Offer(frame) => {
+                self.session.offered.push(alloc, frame.as_slice())?;
+                say(out, b"OK\n")
+            }
+            Request::Save => self.save(out),
+            Request::Restore => self.restore(out),
         }
     }
 
     /// Answers a line, which isn't too long.
-    pub(crate) fn answer_line<W: Write>(
+    fn answer_line<W: Write>(
         &mut self,
         alloc: Global,
         out: &mut W,
         line: &[u8],
     ) -> Result<(), AnswerError>
-        ensures ok { OnOk result
-            (Tells (W.contents out.old) (W.contents out.new) (AnswersLine line.now self.old self.new)) }
-        ensures err { OnErr result
-            (TellsPart (W.contents out.old) (W.contents out.new) (Reaches (AnswersLine line.now self.old) self.old)) }
+        ensures { TellsAnswer result (W.contents out.old) (W.contents out.new) self.old.session.device
+            (AnswersLine line.now self.old) self.new }
     {
         match read_line(alloc, line) {
             Ok(request) => self.answer(alloc, out, line, &request),
-            Err(Stop::Refused(refusal)) => self.refuse(out, refusal),
+            Err(Stop::Refused(refusal)) => refuse(out, refusal),
             Err(Stop::Memory) => Err(AnswerError::Memory),
         }
     }
@@ -150,15 +133,13 @@ impl Session {
         next: NextLine,
         line: &[u8],
     ) -> Result<(), AnswerError>
-        ensures ok { OnOk result
-            (Tells (W.contents out.old) (W.contents out.new) (AnswersNext next line.now self.old self.new)) }
-        ensures err { OnErr result (TellsPart (W.contents out.old) (W.contents out.new)
-            (Reaches (AnswersNext next line.now self.old) self.old)) }
+        ensures { TellsAnswer result (W.contents out.old) (W.contents out.new) self.old.session.device
+            (AnswersNext next line.now self.old) self.new }
     {
         match next {
             NextLine::End => Ok(()),
             NextLine::Whole => self.answer_line(alloc, out, line),
-            NextLine::Long => self.refuse(out, Refusal::Long),
+            NextLine::Long => refuse(out, Refusal::Long),
         }
     }
 }

@@ -1,12 +1,11 @@
 // The served adapter, and the lines that it prints.
 
-ghost use Rattle.std.specs.Prelude.{◌≡◌, ◌++◌, ◌≤◌, IfOk, OnErr, OnOk, flat_map};
-ghost use Rattle.std.specs.Io.KnownBytes.{Appends};
+ghost use Rattle.std.specs.Prelude.{◌≡◌, ◌++◌, ◌≤◌, IfOk, flat_map};
 ghost use Rattle.adapter_server.specs.Outcomes.{moved_by};
 
 use crate::answer_error::AnswerError;
 use crate::output::say;
-use crate::text::{kind_word, line_text, outcome_word, push_frame, push_said};
+use crate::text::{arrived_line, event_text, fate_word, frame_line, kind_word, outcome_word};
 use adapter::{Outcome, StepKind};
 use bus::Machine;
 use std::alloc::{AllocError, Global};
@@ -47,48 +46,59 @@ fn moved_by(outcome: Outcome<()>) -> u64
     }
 }
 
-impl Device {
-    ghost use Rattle.adapter_server.specs.Devices.{Happened, Round, Settles, Steps, to_put, told};
-    ghost use Rattle.adapter_server.specs.Order.{Tells, TellsPart, WritesPart};
-    ghost use Rattle.bus.specs.Machines.{is_asserted};
-    ghost use Rattle.adapter_server.specs.Texts.{digits_told, frame_line, joined, line_moved, said_log};
+impl Clone for Device {
+    ghost is_clone = { λ device copy. copy ≡ device };
 
-    /// Prints an event that happened: what the log says of it, the digits of the frame that was put onto the wire, and
-    /// a change of the interrupt line.
+    /// The same adapter and memory. Fails only if memory was refused.
+    fn clone(&self) -> Result<Device, AllocError> {
+        Ok(Device {
+            machine: self.machine.clone()?,
+            log: self.log,
+            wire_free: self.wire_free,
+        })
+    }
+}
+
+impl Device {
+    ghost use Rattle.adapter_server.specs.Devices.{Prints, Round, Settles, Steps, TellsEvents, to_put, told};
+    ghost use Rattle.adapter_server.specs.Order.{Says};
+    ghost use Rattle.rx_engine.specs.declared.arrival.Fate.{Fate};
+    ghost use Rattle.adapter_server.specs.Happenings.{Arrived};
+    ghost use Rattle.bus.specs.Machines.{is_asserted};
+    ghost use Rattle.adapter_server.specs.Texts.{frame_line, joined, line_moved, said_log};
+
+    /// Prints an event that happened: what the log says of it, what is always printed of it, and a change of the
+    /// interrupt line.
     pub(crate) fn tell<W: Write>(
         &mut self,
         alloc: Global,
         out: &mut W,
         said: &[&[u8]],
-        put: Option<String>,
+        shown: &[u8],
     ) -> Result<(), AnswerError>
-        ensures state { OnOk result (self.new ≡ told self.old) }
-        ensures text { OnOk result (Appends (W.contents out.old) (W.contents out.new)
-            (said_log self.old.log (joined said.now)
-            ++ (digits_told put ++ line_moved self.old.machine.reported self.new.machine.reported))) }
-        ensures err { OnErr result (WritesPart (W.contents out.old) (W.contents out.new)
-            (said_log self.old.log (joined said.now) ++ (digits_told put
-            ++ line_moved self.old.machine.reported (is_asserted self.old.machine.world.adapter)))) }
+        ensures state { self.new ≡ told self.old }
+        ensures text { Says result (W.contents out.old) (W.contents out.new)
+            (said_log self.old.log (joined said.now) ++ (shown.now
+            ++ line_moved self.old.machine.reported (is_asserted self.old.machine.world.adapter))) }
     {
-        let mut text = Vec::new(alloc);
-        push_said(&mut text, self.log, said)?;
-        push_frame(&mut text, put)?;
-        text.extend_from_slice(line_text(self.machine.report_line()))?;
+        let level = self.machine.report_line();
+        let text = event_text(alloc, self.log, said, shown, level)?;
         say(out, text.as_slice())
     }
 
-    /// The digits of the frame that a step of this kind puts onto the wire, if it puts one.
-    fn digits_to_put(&self, alloc: Global, kind: StepKind) -> Result<Option<String>, AllocError>
-        ensures { IfOk result (λ put. digits_told put
+    /// The line of the frame that a step of this kind puts onto the wire, or no text if it puts none.
+    fn put_line(&self, alloc: Global, kind: StepKind) -> Result<Vec<u8>, AllocError>
+        ensures { IfOk result (λ line. line.items
             ≡ flat_map frame_line (to_put kind self.now.wire_free self.now.machine.world.adapter)) }
     {
         if kind != StepKind::TxPut || !self.wire_free {
-            return Ok(None);
+            return Ok(Vec::new(alloc));
         }
         let Some(frame) = self.machine.to_put() else {
-            return Ok(None);
+            return Ok(Vec::new(alloc));
         };
-        Ok(Some(hex::encode(alloc, frame)?))
+        let digits = hex::encode(alloc, frame)?;
+        frame_line(alloc, digits.as_bytes())
     }
 
     /// Makes the adapter take a step, and prints it.
@@ -98,23 +108,38 @@ impl Device {
         out: &mut W,
         kind: StepKind,
     ) -> Result<Outcome<()>, AnswerError>
-        ensures ok { IfOk result (λ outcome.
-            Tells (W.contents out.old) (W.contents out.new) (Steps kind outcome self.old self.new)) }
-        ensures err { OnErr result (TellsPart (W.contents out.old) (W.contents out.new) (Happened self.old)) }
+        ensures { TellsEvents result (W.contents out.old) (W.contents out.new) self.old
+            (λ outcome. Steps kind outcome self.old self.new) }
     {
-        let put = self.digits_to_put(alloc, kind)?;
+        let put = self.put_line(alloc, kind)?;
         let outcome = self.machine.step(kind, self.wire_free);
         let said: [&[u8]; 4] = [b"step ", kind_word(kind), b" -> ", outcome_word(outcome)];
-        self.tell(alloc, out, &said, put)?;
+        self.tell(alloc, out, &said, put.as_slice())?;
         Ok(outcome)
+    }
+
+    /// Delivers an offered frame to the adapter, and prints its arrival.
+    pub(crate) fn deliver<W: Write>(
+        &mut self,
+        alloc: Global,
+        out: &mut W,
+        frame: &[u8],
+    ) -> Result<(), AnswerError>
+        ensures { TellsEvents result (W.contents out.old) (W.contents out.new) self.old
+            (λ _ text. (fate : Fate) × Prints (Arrived frame.now fate) self.old self.new text) }
+    {
+        let text = hex::encode(alloc, frame)?;
+        let digits = text.as_bytes();
+        let fate = self.machine.arrive(frame);
+        let shown = arrived_line(alloc, fate_word(fate), digits)?;
+        self.tell(alloc, out, &[b"arrive ", digits], shown.as_slice())
     }
 
     /// Plays a round of steps, one of each kind. Returns the number of steps that did something.
     fn round<W: Write>(&mut self, alloc: Global, out: &mut W) -> Result<u64, AnswerError>
-        ensures ok { IfOk result
-            (λ moved. Tells (W.contents out.old) (W.contents out.new) (Round moved self.old self.new)) }
+        ensures plays { TellsEvents result (W.contents out.old) (W.contents out.new) self.old
+            (λ moved. Round moved self.old self.new) }
         ensures few { IfOk result (λ moved. moved ≤ 6) }
-        ensures err { OnErr result (TellsPart (W.contents out.old) (W.contents out.new) (Happened self.old)) }
     {
         let mut moved = 0;
         for kind in ROUND {
@@ -130,9 +155,8 @@ impl Device {
         alloc: Global,
         out: &mut W,
     ) -> Result<u64, AnswerError>
-        ensures ok { IfOk result
-            (λ moved. Tells (W.contents out.old) (W.contents out.new) (Settles moved self.old self.new)) }
-        ensures err { OnErr result (TellsPart (W.contents out.old) (W.contents out.new) (Happened self.old)) }
+        ensures { TellsEvents result (W.contents out.old) (W.contents out.new) self.old
+            (λ moved. Settles moved self.old self.new) }
     {
         let mut all = 0;
         for _round in 0..MOST_ROUNDS {

@@ -21,11 +21,13 @@ pub struct ServeOptions {
     pub receive_kilobytes: u8,
     /// The seed of interleaved steps.
     pub seed: u64,
+    /// MPC, the count of missed packets, at the start.
+    pub missed: u32,
 }
 
 impl ServeOptions {
     /// The defaults: 1 MiB of memory, registers from 0xFEB00000 on, an image of the address 02:00:00:00:00:01, a link
-    /// that is up after one tick of the PHY, 48 kilobytes, and seed 0.
+    /// that is up after one tick of the PHY, 48 kilobytes, seed 0, and no missed packet.
     pub fn new() -> ServeOptions
         ensures { result ≡ default_options }
     {
@@ -36,6 +38,7 @@ impl ServeOptions {
             link: Link::After(1),
             receive_kilobytes: 48,
             seed: 0,
+            missed: 0,
         }
     }
 }

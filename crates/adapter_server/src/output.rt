@@ -1,11 +1,12 @@
 // Writes text.
 
-ghost use Rattle.std.specs.Prelude.{◌≡◌, ◌≤◌, IfOk, OnErr, OnOk, length, take};
+ghost use Rattle.std.specs.Prelude.{◌≤◌, IfOk, OnErr, length, take};
 ghost use Rattle.std.specs.Io.KnownBytes.{Appends, Keeps};
-ghost use Rattle.adapter_server.specs.Order.{WritesPart};
+ghost use Rattle.adapter_server.specs.Order.{Says};
 ghost use Rattle.adapter_server.specs.Texts as texts;
 
 use crate::answer_error::AnswerError;
+use crate::refusal::Refusal;
 use crate::text::{bytes_line, word_line};
 use std::alloc::Global;
 use std::io::{ErrorKind, Write};
@@ -30,8 +31,7 @@ fn write_some<W: Write>(out: &mut W, text: &[u8]) -> Result<usize, AnswerError>
 
 /// Writes all of a text. If it fails, it has written a beginning of the text.
 pub(crate) fn say<W: Write>(out: &mut W, text: &[u8]) -> Result<(), AnswerError>
-    ensures ok { OnOk result (Appends (W.contents out.old) (W.contents out.new) text.now) }
-    ensures err { OnErr result (WritesPart (W.contents out.old) (W.contents out.new) text.now) }
+    ensures { Says result (W.contents out.old) (W.contents out.new) text.now }
 {
     let mut written = 0;
     for _turn in 0..u64::MAX {
@@ -43,14 +43,20 @@ pub(crate) fn say<W: Write>(out: &mut W, text: &[u8]) -> Result<(), AnswerError>
     Err(AnswerError::Write)
 }
 
+/// Writes the line of a refusal.
+pub(crate) fn refuse<W: Write>(out: &mut W, refusal: Refusal) -> Result<(), AnswerError>
+    ensures { Says result (W.contents out.old) (W.contents out.new) (texts.refusal_line refusal) }
+{
+    say(out, refusal.text())
+}
+
 /// Writes the line of an answer with bytes.
 pub(crate) fn say_bytes<W: Write>(
     alloc: Global,
     out: &mut W,
     bytes: &[u8],
 ) -> Result<(), AnswerError>
-    ensures ok { OnOk result (Appends (W.contents out.old) (W.contents out.new) (texts.bytes_line bytes.now)) }
-    ensures err { OnErr result (WritesPart (W.contents out.old) (W.contents out.new) (texts.bytes_line bytes.now)) }
+    ensures { Says result (W.contents out.old) (W.contents out.new) (texts.bytes_line bytes.now) }
 {
     let line = bytes_line(alloc, bytes)?;
     say(out, line.as_slice())
@@ -63,16 +69,14 @@ pub(crate) fn say_number<W: Write>(
     out: &mut W,
     number: u64,
 ) -> Result<(), AnswerError>
-    ensures ok { OnOk result (Appends (W.contents out.old) (W.contents out.new) (texts.number_line number)) }
-    ensures err { OnErr result (WritesPart (W.contents out.old) (W.contents out.new) (texts.number_line number)) }
+    ensures { Says result (W.contents out.old) (W.contents out.new) (texts.number_line number) }
 {
     say_bytes(alloc, out, &number.to_be_bytes())
 }
 
 /// Writes the line of an answer with a word.
 pub(crate) fn say_word<W: Write>(alloc: Global, out: &mut W, word: &[u8]) -> Result<(), AnswerError>
-    ensures ok { OnOk result (Appends (W.contents out.old) (W.contents out.new) (texts.word_line word.now)) }
-    ensures err { OnErr result (WritesPart (W.contents out.old) (W.contents out.new) (texts.word_line word.now)) }
+    ensures { Says result (W.contents out.old) (W.contents out.new) (texts.word_line word.now) }
 {
     let line = word_line(alloc, word)?;
     say(out, line.as_slice())

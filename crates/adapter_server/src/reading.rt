@@ -96,6 +96,14 @@ fn arrive_of(alloc: Global, word: &str) -> Result<Request, Stop>
     Ok(Request::Arrive(frame))
 }
 
+/// `offer HEX`.
+fn offer_of(alloc: Global, word: &str) -> Result<Request, Stop>
+    ensures { Gives result (reading.offer_in word.now) }
+{
+    let frame = bytes_at(alloc, word)?;
+    Ok(Request::Offer(frame))
+}
+
 /// `interleave COUNT`.
 fn interleave_of(word: &str) -> Result<Request, Stop>
     ensures { Gives result (reading.interleave_in word.now) }
@@ -162,6 +170,9 @@ fn request_with(alloc: Global, verb: Verb, words: &[&str]) -> Result<Request, St
         Verb::Interleave => interleave_of(word_at(words, 1)),
         Verb::Log => log_of(word_at(words, 1)),
         Verb::Wire => wire_of(word_at(words, 1)),
+        Verb::Offer => offer_of(alloc, word_at(words, 1)),
+        Verb::Save => Ok(Request::Save),
+        Verb::Restore => Ok(Request::Restore),
     }
 }
 

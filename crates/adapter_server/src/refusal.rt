@@ -19,6 +19,8 @@ pub enum Refusal {
     Size,
     /// `ERR address`: its bytes are neither in memory nor a register.
     Address,
+    /// `ERR saved`: it restores a state, and none was saved.
+    Saved,
     /// `ERR text`: it isn't UTF-8.
     Text,
     /// `ERR long`: it has more than 131,200 bytes.
@@ -61,6 +63,7 @@ impl Refusal {
             Refusal::Value => b"ERR value\n",
             Refusal::Size => b"ERR size\n",
             Refusal::Address => b"ERR address\n",
+            Refusal::Saved => b"ERR saved\n",
             Refusal::Text => b"ERR text\n",
             Refusal::Long => b"ERR long\n",
         }

@@ -3,6 +3,7 @@
 ghost use Rattle.std.specs.Prelude.{◌≡◌};
 
 use adapter::StepKind;
+use std::alloc::AllocError;
 use std::marker::Model;
 
 /// The width of a number in an access.
@@ -41,6 +42,17 @@ impl Model for Payload {
     ghost view = { λ payload. payload.bytes.items };
 }
 
+impl Clone for Payload {
+    ghost is_clone = { λ payload copy. copy ≡ payload };
+
+    /// The same bytes. Fails only if memory was refused.
+    fn clone(&self) -> Result<Payload, AllocError> {
+        Ok(Payload {
+            bytes: self.bytes.clone()?,
+        })
+    }
+}
+
 impl Payload {
     /// The bytes.
     pub(crate) fn as_slice(&self) -> &[u8]
@@ -63,7 +75,7 @@ pub enum Request {
     Step(StepKind),
     /// `arrive`: a frame is delivered to the adapter.
     Arrive(Payload),
-    /// `settle`: plays steps until none has anything to do.
+    /// `settle`: offered frames arrive, and steps are played until none has anything to do.
     Settle,
     /// `line`: whether the interrupt line is asserted.
     Line,
@@ -73,4 +85,10 @@ pub enum Request {
     Log(bool),
     /// `wire`: whether the wire has room for a frame from now on.
     Wire(bool),
+    /// `offer`: a frame waits for its arrival.
+    Offer(Payload),
+    /// `save`: the state is kept.
+    Save,
+    /// `restore`: the state that was kept last is the state again.
+    Restore,
 }

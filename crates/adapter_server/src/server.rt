@@ -1,8 +1,8 @@
 // The server.
 
 ghost use Rattle.std.specs.Prelude.{◌≡◌, IfErr, IfSome, OnErr, OnOk};
-ghost use Rattle.adapter_server.specs.Answers.{Reaches};
-ghost use Rattle.adapter_server.specs.Order.{Tells, TellsPart};
+ghost use Rattle.adapter_server.specs.Answers.{TellsAnswer};
+ghost use Rattle.adapter_server.specs.Order.{Tells};
 ghost use Rattle.adapter_server.specs.Serving.{AnswersNext, ServesAll, ServesBegun, ServesFront, ServesPart};
 ghost use Rattle.adapter_server.specs.Serving.{ServesSome, ServesWhole};
 ghost use Rattle.adapter_server.specs.declared.serve_error.ServeError.TheVariants as errors;
@@ -12,41 +12,39 @@ use crate::line_reader::{MOST_LINE_BYTES, NextLine, next_line};
 use crate::options::ServeOptions;
 use crate::output::send;
 use crate::serve_error::ServeError;
-use crate::session::Session;
+use crate::snapshot::Server;
 use std::alloc::Global;
 use std::io::{Read, Write};
 
 /// Answers a line, and flushes the answer.
 fn answer_and_send<W: Write>(
-    session: &mut Session,
+    server: &mut Server,
     alloc: Global,
     output: &mut W,
     next: NextLine,
     line: &[u8],
 ) -> Result<(), AnswerError>
-    ensures ok { OnOk result (Tells (W.contents output.old) (W.contents output.new)
-        (AnswersNext next line.now session.old session.new)) }
-    ensures err { OnErr result (TellsPart (W.contents output.old) (W.contents output.new)
-        (Reaches (AnswersNext next line.now session.old) session.old)) }
+    ensures { TellsAnswer result (W.contents output.old) (W.contents output.new) server.old.session.device
+        (AnswersNext next line.now server.old) server.new }
 {
-    session.answer_next(alloc, output, next, line)?;
+    server.answer_next(alloc, output, next, line)?;
     send(output)
 }
 
 /// Reads the input line by line, and answers each line before it reads the next.
 #[tactic(auto, using(crate::proofs::ServedLines::never_read))]
 fn serve_lines<R: Read, W: Write>(
-    session: &mut Session,
+    server: &mut Server,
     alloc: Global,
     input: &mut R,
     output: &mut W,
 ) -> Result<(), ServeError>
     ensures ok { OnOk result (IfSome (R.remaining input.old) (λ bytes.
-        Tells (W.contents output.old) (W.contents output.new) (ServesWhole bytes session.old))) }
+        Tells (W.contents output.old) (W.contents output.new) (ServesWhole bytes server.old))) }
     ensures read { IfErr result (λ error. error ≡ errors.Read → IfSome (R.remaining input.old) (λ bytes.
-        Tells (W.contents output.old) (W.contents output.new) (ServesFront bytes session.old))) }
+        Tells (W.contents output.old) (W.contents output.new) (ServesFront bytes server.old))) }
     ensures begun { OnErr result (IfSome (R.remaining input.old) (λ bytes.
-        Tells (W.contents output.old) (W.contents output.new) (ServesBegun bytes session.old))) }
+        Tells (W.contents output.old) (W.contents output.new) (ServesBegun bytes server.old))) }
 {
     let mut line = Vec::with_capacity(alloc, MOST_LINE_BYTES)?;
     for _count in 0..u64::MAX {
@@ -54,7 +52,7 @@ fn serve_lines<R: Read, W: Write>(
         if let NextLine::End = next {
             return Ok(());
         }
-        answer_and_send(session, alloc, output, next, line.as_slice())?;
+        answer_and_send(server, alloc, output, next, line.as_slice())?;
     }
     Err(ServeError::Read)
 }
@@ -66,9 +64,12 @@ fn serve_lines<R: Read, W: Write>(
 /// flushed as a whole.
 ///
 /// Each line is answered. A line that isn't a request is refused. So is a line of more than 131,200 bytes, which is
-/// skipped to its end. Memory use is bounded: the memory of the options, the adapter (its packet buffers, the same for
-/// all input), and 721,039 bytes. Of these a line takes 131,200; the answer to a `read` of 65,536 bytes takes the
-/// others, for the bytes, their digits and its text.
+/// skipped to its end.
+///
+/// While no frame is offered and nothing is saved, memory use is bounded: the memory of the options, the adapter (its
+/// packet buffers, the same for all input), and 721,039 bytes. Of these a line takes 131,200; the answer to a `read` of
+/// 65,536 bytes takes the others, for the bytes, their digits and its text. A saved state takes as much as the state,
+/// and while `save` or `restore` is answered, there is one copy more. Only memory limits the number of offered frames.
 ///
 /// # Errors
 ///
@@ -90,6 +91,6 @@ pub fn serve<R: Read + Drop, W: Write>(
     ensures begun { OnErr result (IfSome (R.remaining input)
         (λ bytes. ServesPart options.now bytes (W.contents output.old) (W.contents output.new))) }
 {
-    let mut session = Session::new(alloc, options)?;
-    serve_lines(&mut session, alloc, &mut input, output)
+    let mut server = Server::new(alloc, options)?;
+    serve_lines(&mut server, alloc, &mut input, output)
 }

@@ -1,25 +1,19 @@
-// The state of a server, and the steps before an access.
+// The state of an adapter that is served.
 
-ghost use Rattle.std.specs.Prelude.{◌≡◌, ◌+◌, IfOk, OnErr, OnOk, nat_le};
-ghost use Rattle.adapter.specs.Registers.{after_write, new_adapter};
-ghost use Rattle.adapter_server.specs.Kinds.{kind_numbered};
-ghost use Rattle.adapter_server.specs.Sessions.{pba};
+ghost use Rattle.std.specs.Prelude.{◌≡◌, ◌+◌, IfOk, nat_le};
+ghost use Rattle.adapter_server.specs.Sessions.{first_adapter};
 
 use crate::answer_error::AnswerError;
 use crate::device::Device;
+use crate::offered::Offered;
 use crate::options::ServeOptions;
+use adapter::Adapter;
 use adapter::offsets::PBA;
-use adapter::{Adapter, StepKind};
 use bus::Machine;
 use dma_memory::HostMemory;
 use rand_core::SeedableRng;
-use rand_core::utils::NextWord;
 use rand_pcg::Lcg64Xsh32;
 use std::alloc::{AllocError, Global};
-use std::io::Write;
-
-/// The number of kinds of steps.
-const KINDS: u32 = 6;
 
 /// The number of bytes of registers (13.4 "Main Register Descriptions").
 const REGISTER_BYTES: u64 = 0x2_0000;
@@ -27,7 +21,7 @@ const REGISTER_BYTES: u64 = 0x2_0000;
 /// The number of bytes of a register.
 const WORD_BYTES: u64 = 4;
 
-/// The state of a server between two requests.
+/// An adapter that is served, between two requests.
 #[derive(Drop)]
 pub struct Session {
     /// The adapter and its memory.
@@ -38,6 +32,8 @@ pub struct Session {
     pub generator: Lcg64Xsh32,
     /// The maximum number of steps played before an access.
     pub most_steps: u16,
+    /// The frames that wait for their arrival.
+    pub offered: Offered,
 }
 
 /// The target of an access.
@@ -49,20 +45,6 @@ pub enum Place {
     Memory,
 }
 
-/// The kind of steps with this number, below 6.
-fn kind_numbered(number: u32) -> StepKind
-    ensures { result ≡ kind_numbered number }
-{
-    match number {
-        0 => StepKind::TxTake,
-        1 => StepKind::TxPut,
-        2 => StepKind::RxData,
-        3 => StepKind::RxDone,
-        4 => StepKind::EepromTick,
-        _ => StepKind::PhyTick,
-    }
-}
-
 /// Whether `count` bytes from an address on are in a memory of this size.
 fn is_within(size: u64, address: u64, count: u64) -> bool
     ensures { result ≡ nat_le (address + count) size }
@@ -70,23 +52,36 @@ fn is_within(size: u64, address: u64, count: u64) -> bool
     count <= size && address <= size - count
 }
 
-/// A new adapter, whose PBA is written once.
+/// A new adapter, whose PBA is written once and whose MPC is set.
 fn adapter_of(alloc: Global, options: &ServeOptions) -> Result<Adapter, AllocError>
-    ensures { IfOk result (λ adapter. adapter ≡ after_write pba options.now.receive_kilobytes
-        (new_adapter options.now.image options.now.link)) }
+    ensures { IfOk result (λ adapter. adapter ≡ first_adapter options.now) }
 {
     let mut adapter = Adapter::new(alloc, &options.image, options.link)?;
     adapter.write(PBA, u32::from(options.receive_kilobytes));
+    adapter.set_missed(options.missed);
     Ok(adapter)
 }
 
-impl Session {
-    ghost use Rattle.adapter_server.specs.Devices.{Happened};
-    ghost use Rattle.adapter_server.specs.Order.{Tells, TellsPart};
-    ghost use Rattle.adapter_server.specs.Sessions.{Interleaves, drawn_count, drawn_kind, is_memory};
-    ghost use Rattle.adapter_server.specs.Sessions.{new_session, place_in};
+impl Clone for Session {
+    ghost is_clone = { λ session copy. copy ≡ session };
 
-    /// A server before the first request: a new adapter, whose PBA is written once, and memory of zeros.
+    /// The same state, with memory of its own. Fails only if memory was refused.
+    fn clone(&self) -> Result<Session, AllocError> {
+        Ok(Session {
+            device: self.device.clone()?,
+            registers: self.registers,
+            generator: self.generator.clone()?,
+            most_steps: self.most_steps,
+            offered: self.offered.clone()?,
+        })
+    }
+}
+
+impl Session {
+    ghost use Rattle.adapter_server.specs.Sessions.{is_memory, new_session, place_in};
+
+    /// The state before the first request: a new adapter, whose PBA is written once and whose MPC is set, and memory of
+    /// zeros.
     #[tactic(auto, unfolding(crate::specs::Sessions::new_session))]
     pub(crate) fn new(alloc: Global, options: &ServeOptions) -> Result<Session, AnswerError>
         ensures { IfOk result (λ session. session ≡ new_session options.now) }
@@ -102,6 +97,7 @@ impl Session {
             registers: options.registers,
             generator: Lcg64Xsh32::seed_from_u64(options.seed),
             most_steps: 0,
+            offered: Offered::new(alloc),
         })
     }
 
@@ -127,44 +123,5 @@ impl Session {
         ensures { result ≡ is_memory self.now address count }
     {
         is_within(self.device.machine.size(), address, count)
-    }
-
-    /// The kind of steps that the next word of the generator chooses.
-    fn draw_kind(&mut self) -> StepKind
-        ensures kind { result ≡ (drawn_kind self.old.generator).0 }
-        ensures state { self.new ≡ record self.old { generator = (drawn_kind self.old.generator).1 } }
-    {
-        let word: u32 = self.generator.next_word();
-        kind_numbered(word % KINDS)
-    }
-
-    /// The number of steps that the next word of the generator chooses. Takes no word if the maximum is 0.
-    fn draw_count(&mut self) -> u64
-        ensures count { result ≡ (drawn_count self.old.most_steps self.old.generator).0 }
-        ensures state { self.new ≡
-            record self.old { generator = (drawn_count self.old.most_steps self.old.generator).1 } }
-    {
-        if self.most_steps == 0 {
-            return 0;
-        }
-        let word: u32 = self.generator.next_word();
-        u64::from(word) % (u64::from(self.most_steps) + 1)
-    }
-
-    /// Plays the steps before an access, which the generator chooses.
-    pub(crate) fn interleave<W: Write>(
-        &mut self,
-        alloc: Global,
-        out: &mut W,
-    ) -> Result<(), AnswerError>
-        ensures ok { OnOk result (Tells (W.contents out.old) (W.contents out.new) (Interleaves self.old self.new)) }
-        ensures err { OnErr result (TellsPart (W.contents out.old) (W.contents out.new) (Happened self.old.device)) }
-    {
-        let count = self.draw_count();
-        for _step in 0..count {
-            let kind = self.draw_kind();
-            self.device.step(alloc, out, kind)?;
-        }
-        Ok(())
     }
 }

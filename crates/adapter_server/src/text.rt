@@ -61,8 +61,17 @@ fn push_parts(text: &mut Vec<u8>, parts: &[&[u8]]) -> Result<(), AllocError>
     Ok(())
 }
 
+/// Parts of a text, joined.
+fn joined(alloc: Global, parts: &[&[u8]]) -> Result<Vec<u8>, AllocError>
+    ensures { IfOk result (λ text. text.items ≡ texts.joined parts.now) }
+{
+    let mut text = Vec::new(alloc);
+    push_parts(&mut text, parts)?;
+    Ok(text)
+}
+
 /// Appends what the log says, in parts, if the log is on.
-pub(crate) fn push_said(text: &mut Vec<u8>, log: bool, said: &[&[u8]]) -> Result<(), AllocError>
+fn push_said(text: &mut Vec<u8>, log: bool, said: &[&[u8]]) -> Result<(), AllocError>
     ensures { OnOk result (text.new.items ≡ text.old.items ++ texts.said_log log (texts.joined said.now)) }
 {
     if !log {
@@ -73,18 +82,8 @@ pub(crate) fn push_said(text: &mut Vec<u8>, log: bool, said: &[&[u8]]) -> Result
     text.extend_from_slice(b"\n")
 }
 
-/// Appends the line of a frame that was put onto the wire, from its digits.
-pub(crate) fn push_frame(text: &mut Vec<u8>, put: Option<String>) -> Result<(), AllocError>
-    ensures { OnOk result (text.new.items ≡ text.old.items ++ texts.digits_told put) }
-{
-    match put {
-        Some(digits) => push_parts(text, &[b"frame ", digits.as_bytes(), b"\n"]),
-        None => Ok(()),
-    }
-}
-
 /// The line of the level of the interrupt line, if there is one to print.
-pub(crate) fn line_text(level: Option<bool>) -> &'static [u8]
+fn line_text(level: Option<bool>) -> &'static [u8]
     ensures { result.now ≡ texts.line_told level }
 {
     match level {
@@ -94,15 +93,62 @@ pub(crate) fn line_text(level: Option<bool>) -> &'static [u8]
     }
 }
 
+/// What is printed of an event: what the log says of it, if the log is on; what is always printed of it; and the level
+/// of the interrupt line, if there is one to print.
+pub(crate) fn event_text(
+    alloc: Global,
+    log: bool,
+    said: &[&[u8]],
+    shown: &[u8],
+    level: Option<bool>,
+) -> Result<Vec<u8>, AllocError>
+    ensures { IfOk result (λ text. text.items
+        ≡ texts.said_log log (texts.joined said.now) ++ (shown.now ++ texts.line_told level)) }
+{
+    let mut text = Vec::new(alloc);
+    push_said(&mut text, log, said)?;
+    text.extend_from_slice(shown)?;
+    text.extend_from_slice(line_text(level))?;
+    Ok(text)
+}
+
+/// The line of a frame that was put onto the wire, from its digits.
+pub(crate) fn frame_line(alloc: Global, digits: &[u8]) -> Result<Vec<u8>, AllocError>
+    ensures { IfOk result (λ text. text.items ≡ texts.digits_line digits.now) }
+{
+    joined(alloc, &[b"frame ", digits, b"\n"])
+}
+
+/// The line of an offered frame that arrived, from the word of its fate and its digits.
+#[tactic(auto, unfolding(crate::specs::Texts::digits_arrived))]
+pub(crate) fn arrived_line<'a>(
+    alloc: Global,
+    fate: &'a [u8],
+    digits: &'a [u8],
+) -> Result<Vec<u8>, AllocError>
+    ensures { IfOk result (λ text. text.items ≡ texts.digits_arrived fate.now digits.now) }
+{
+    joined(alloc, &[b"arrived ", fate, b" ", digits, b"\n"])
+}
+
+/// What `restore` prints: a change of the interrupt line, and `OK`.
+pub(crate) fn restored_text(was: bool, is: bool) -> &'static [u8]
+    ensures { result.now ≡ texts.line_moved was is ++ texts.ok_line }
+{
+    match (was, is) {
+        (false, true) => b"IRQ raise 0\nOK\n",
+        (true, false) => b"IRQ lower 0\nOK\n",
+        _ => b"OK\n",
+    }
+}
+
 /// The line of an answer with bytes.
 #[tactic(auto, unfolding(crate::specs::Texts::bytes_line))]
 pub(crate) fn bytes_line(alloc: Global, bytes: &[u8]) -> Result<Vec<u8>, AllocError>
     ensures { IfOk result (λ text. text.items ≡ texts.bytes_line bytes.now) }
 {
     let digits = hex::encode(alloc, bytes)?;
-    let mut text = Vec::new(alloc);
-    push_parts(&mut text, &[b"OK 0x", digits.as_bytes(), b"\n"])?;
-    Ok(text)
+    joined(alloc, &[b"OK 0x", digits.as_bytes(), b"\n"])
 }
 
 /// The line of an answer with a word.
@@ -110,7 +156,5 @@ pub(crate) fn bytes_line(alloc: Global, bytes: &[u8]) -> Result<Vec<u8>, AllocEr
 pub(crate) fn word_line(alloc: Global, word: &[u8]) -> Result<Vec<u8>, AllocError>
     ensures { IfOk result (λ text. text.items ≡ texts.word_line word.now) }
 {
-    let mut text = Vec::new(alloc);
-    push_parts(&mut text, &[b"OK ", word, b"\n"])?;
-    Ok(text)
+    joined(alloc, &[b"OK ", word, b"\n"])
 }

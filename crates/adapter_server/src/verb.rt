@@ -36,6 +36,12 @@ pub(crate) enum Verb {
     Log,
     /// `wire`.
     Wire,
+    /// `offer`.
+    Offer,
+    /// `save`.
+    Save,
+    /// `restore`.
+    Restore,
 }
 
 impl Verb {
@@ -44,9 +50,9 @@ impl Verb {
         ensures { result ≡ word_count self }
     {
         match self {
-            Verb::Endianness | Verb::Settle | Verb::Line => 1,
+            Verb::Endianness | Verb::Settle | Verb::Line | Verb::Save | Verb::Restore => 1,
             Verb::ReadNumber(_) | Verb::Step | Verb::Arrive | Verb::Interleave => 2,
-            Verb::Log | Verb::Wire => 2,
+            Verb::Log | Verb::Wire | Verb::Offer => 2,
             Verb::WriteNumber(_) | Verb::Read => 3,
             Verb::Write | Verb::Memset => 4,
         }
@@ -54,7 +60,7 @@ impl Verb {
 }
 
 /// The first words of requests, and what these ask for.
-const VERBS: [(&str, Verb); 19] = [
+const VERBS: [(&str, Verb); 22] = [
     ("readb", Verb::ReadNumber(Width::Byte)),
     ("readw", Verb::ReadNumber(Width::Word)),
     ("readl", Verb::ReadNumber(Width::Long)),
@@ -74,6 +80,9 @@ const VERBS: [(&str, Verb); 19] = [
     ("interleave", Verb::Interleave),
     ("log", Verb::Log),
     ("wire", Verb::Wire),
+    ("offer", Verb::Offer),
+    ("save", Verb::Save),
+    ("restore", Verb::Restore),
 ];
 
 /// What a line with this first word asks for.

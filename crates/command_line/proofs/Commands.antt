@@ -1,4 +1,4 @@
--- What holds of the program's command line where clap takes the words: the subcommand is one of its four, and has its files.
+-- What holds of the program's command line where clap takes the words: the subcommand is one of its five, and has its files.
 use Rattle.std.specs.List.{find, list_all, slice_index_or}
 use Rattle.std.specs.Option.{option_map, option_map_or}
 use Rattle.std.specs.Prelude.{Result, Ok, Err, IfErr, IsErrAnd, codes, is_some}
@@ -25,20 +25,20 @@ use Rattle.clap.specs.declared.parser.matches.ArgMatches.{ArgMatches}
 use Rattle.clap.specs.declared.parser.matches.ArgMatches.TheViews.{out-ArgMatches, out-SubCommand}
 use Rattle.std.specs.Borrow.{Bor}
 use Rattle.std.specs.Box.{box_value}
-use Rattle.command_line.specs.Jobs.{HasFiles, HasScenario, HasTrace, IsSubcommand}
-use Rattle.command_line.specs.Shape.{found_in, pass_app, program_app, refusals, run_app, serve_app, show_app}
+use Rattle.command_line.specs.Jobs.{HasFiles, HasScenario, HasTrace, HasTraces, IsSubcommand}
+use Rattle.command_line.specs.Shape.{drive_app, found_in, pass_app, program_app, refusals, run_app, serve_app, show_app}
 use Rattle.command_line.proofs.Uses.{EachHasValue, gives, given_has_first, nothing_missing}
 use Rattle.command_line.proofs.Walks.{StopsAtOther, level_below, level_checks, level_rows, level_walk}
 
 pub simple : is_simple program_app ≡ true
-unfolding clap_on_literals program_app pass_app run_app show_app serve_app
+unfolding clap_on_literals program_app pass_app run_app show_app serve_app drive_app
 simple = refl
 
 pub simple_and_free : is_simple_and_free program_app ≡ true
-unfolding clap_on_literals program_app pass_app run_app show_app serve_app
+unfolding clap_on_literals program_app pass_app run_app show_app serve_app drive_app
 simple_and_free = refl
 
--- ---- the program as clap builds it, with its subcommands `pass`, `run`, `show`, `serve` and `help`
+-- ---- the program as clap builds it, with its subcommands `pass`, `run`, `show`, `serve`, `drive` and `help`
 
 unfoldable built_pass : Shape
 built_pass = slice_index_or (built program_app).subs 0 (new_shape [])
@@ -52,68 +52,86 @@ built_show = slice_index_or (built program_app).subs 2 (new_shape [])
 unfoldable built_serve : Shape
 built_serve = slice_index_or (built program_app).subs 3 (new_shape [])
 
+unfoldable built_drive : Shape
+built_drive = slice_index_or (built program_app).subs 4 (new_shape [])
+
 unfoldable built_help : Shape
-built_help = slice_index_or (built program_app).subs 4 (new_shape [])
+built_help = slice_index_or (built program_app).subs 5 (new_shape [])
 
 top_gives : list_all gives (built program_app).top.rules ≡ true
-unfolding clap_on_literals program_app pass_app run_app show_app serve_app
+unfolding clap_on_literals program_app pass_app run_app show_app serve_app drive_app
 top_gives = refl
 
 pass_gives : list_all gives built_pass.rules ≡ true
-unfolding clap_on_literals program_app pass_app run_app show_app serve_app built_pass
+unfolding clap_on_literals program_app pass_app run_app show_app serve_app drive_app built_pass
 pass_gives = refl
 
 run_gives : list_all gives built_run.rules ≡ true
-unfolding clap_on_literals program_app pass_app run_app show_app serve_app built_run
+unfolding clap_on_literals program_app pass_app run_app show_app serve_app drive_app built_run
 run_gives = refl
 
 show_gives : list_all gives built_show.rules ≡ true
-unfolding clap_on_literals program_app pass_app run_app show_app serve_app built_show
+unfolding clap_on_literals program_app pass_app run_app show_app serve_app drive_app built_show
 show_gives = refl
 
+drive_gives : list_all gives built_drive.rules ≡ true
+unfolding clap_on_literals program_app pass_app run_app show_app serve_app drive_app built_drive
+drive_gives = refl
+
 has_help : (built program_app).top.disable_help_subcommand ≡ false
-unfolding clap_on_literals program_app pass_app run_app show_app serve_app
+unfolding clap_on_literals program_app pass_app run_app show_app serve_app drive_app
 has_help = refl
 
-five_subcommands : (built program_app).subs ≡ built_pass ∷ built_run ∷ built_show ∷ built_serve ∷ built_help ∷ []
-unfolding clap_on_literals program_app pass_app run_app show_app serve_app built_pass built_run built_show built_serve built_help
-five_subcommands = refl
+six_subcommands : (built program_app).subs ≡ built_pass ∷ built_run ∷ built_show ∷ built_serve ∷ built_drive ∷ built_help ∷ []
+unfolding clap_on_literals program_app pass_app run_app show_app serve_app drive_app
+    built_pass built_run built_show built_serve built_drive built_help
+six_subcommands = refl
 
 help_answers : (word : Text) → answers_to word (label_of built_help) ≡ (bytes_eq (codes "help") word || false)
-unfolding clap_on_literals program_app pass_app run_app show_app serve_app built_help
+unfolding clap_on_literals program_app pass_app run_app show_app serve_app drive_app built_help
 help_answers word = refl
 
 pass_is_named : built_pass.name ≡ codes "pass"
-unfolding clap_on_literals program_app pass_app run_app show_app serve_app built_pass
+unfolding clap_on_literals program_app pass_app run_app show_app serve_app drive_app built_pass
 pass_is_named = refl
 
 run_is_named : built_run.name ≡ codes "run"
-unfolding clap_on_literals program_app pass_app run_app show_app serve_app built_run
+unfolding clap_on_literals program_app pass_app run_app show_app serve_app drive_app built_run
 run_is_named = refl
 
 show_is_named : built_show.name ≡ codes "show"
-unfolding clap_on_literals program_app pass_app run_app show_app serve_app built_show
+unfolding clap_on_literals program_app pass_app run_app show_app serve_app drive_app built_show
 show_is_named = refl
 
 serve_is_named : built_serve.name ≡ codes "serve"
-unfolding clap_on_literals program_app pass_app run_app show_app serve_app built_serve
+unfolding clap_on_literals program_app pass_app run_app show_app serve_app drive_app built_serve
 serve_is_named = refl
+
+drive_is_named : built_drive.name ≡ codes "drive"
+unfolding clap_on_literals program_app pass_app run_app show_app serve_app drive_app built_drive
+drive_is_named = refl
 
 pass_wants : (rows : List Row)
     → check_fault built_pass rows false
     ≡ check_kinds false false (not (is_given (codes "IN") rows) || (not (is_given (codes "OUT") rows) || false))
-unfolding clap_on_literals program_app pass_app run_app show_app serve_app built_pass
+unfolding clap_on_literals program_app pass_app run_app show_app serve_app drive_app built_pass
 pass_wants rows = refl
 
 run_wants : (rows : List Row)
     → check_fault built_run rows false
     ≡ check_kinds false false (not (is_given (codes "SCENARIO") rows) || (not (is_given (codes "OUTDIR") rows) || false))
-unfolding clap_on_literals program_app pass_app run_app show_app serve_app built_run
+unfolding clap_on_literals program_app pass_app run_app show_app serve_app drive_app built_run
 run_wants rows = refl
 
 show_wants : (rows : List Row) → check_fault built_show rows false ≡ check_kinds false false (not (is_given (codes "TRACE") rows) || false)
-unfolding clap_on_literals program_app pass_app run_app show_app serve_app built_show
+unfolding clap_on_literals program_app pass_app run_app show_app serve_app drive_app built_show
 show_wants rows = refl
+
+drive_wants : (rows : List Row)
+    → check_fault built_drive rows false
+    ≡ check_kinds false false (not (is_given (codes "send") rows) || (not (is_given (codes "receive") rows) || false))
+unfolding clap_on_literals program_app pass_app run_app show_app serve_app drive_app built_drive
+drive_wants rows = refl
 
 -- ---- the subcommand that was met
 
@@ -142,52 +160,55 @@ entered_is s words name rows f found =
       rows_are = ap (λ (p : Text × List Row). p.1) same;
     }
 
--- one of the program's four subcommands was entered
-abbrev IsEnteredAmong : (first second third fourth : Shape) (words : List Text) (name : Text) (rows : List Row) → Type 0
-IsEnteredAmong first second third fourth words name rows =
-    IsEntered first words name rows
-    ⊎ (IsEntered second words name rows ⊎ (IsEntered third words name rows ⊎ IsEntered fourth words name rows))
+-- one of the program's five subcommands was entered
+abbrev IsEnteredAmong : (first second third fourth fifth : Shape) (words : List Text) (name : Text) (rows : List Row) → Type 0
+IsEnteredAmong first second third fourth fifth words name rows =
+    IsEntered first words name rows ⊎ (IsEntered second words name rows
+    ⊎ (IsEntered third words name rows ⊎ (IsEntered fourth words name rows ⊎ IsEntered fifth words name rows)))
 
--- the first of five subcommands that answers
-abbrev first_that : (is_first is_second is_third is_fourth is_fifth : Bool) (first second third fourth fifth : Shape) → Option Shape
-first_that is_first is_second is_third is_fourth is_fifth first second third fourth fifth =
+-- the first of six subcommands that answers
+abbrev first_that : (is_first is_second is_third is_fourth is_fifth is_sixth : Bool)
+    → (first second third fourth fifth sixth : Shape) → Option Shape
+first_that is_first is_second is_third is_fourth is_fifth is_sixth first second third fourth fifth sixth =
     cond is_first (Some first) (cond is_second (Some second) (cond is_third (Some third)
-    (cond is_fourth (Some fourth) (cond is_fifth (Some fifth) None))))
+    (cond is_fourth (Some fourth) (cond is_fifth (Some fifth) (cond is_sixth (Some sixth) None)))))
 
-first_of_five : (first second third fourth fifth : Shape) (is_first is_second is_third is_fourth is_fifth : Bool)
+first_of_six : (first second third fourth fifth sixth : Shape) (is_first is_second is_third is_fourth is_fifth is_sixth : Bool)
     (words : List Text) (name : Text) (rows : List Row)
-    → is_fifth ≡ false
+    → is_sixth ≡ false
     → option_map_or (λ s. level_fault s [] nothing_held words false [])
-    (first_that is_first is_second is_third is_fourth is_fifth first second third fourth fifth) [] ≡ []
-    → option_map (λ s. rows_at s words) (first_that is_first is_second is_third is_fourth is_fifth first second third fourth fifth)
-    ≡ Some (name, rows)
-    → IsEnteredAmong first second third fourth words name rows
-first_of_five first second third fourth fifth true is_second is_third is_fourth is_fifth words name rows e f found =
+    (first_that is_first is_second is_third is_fourth is_fifth is_sixth first second third fourth fifth sixth) [] ≡ []
+    → option_map (λ s. rows_at s words)
+    (first_that is_first is_second is_third is_fourth is_fifth is_sixth first second third fourth fifth sixth) ≡ Some (name, rows)
+    → IsEnteredAmong first second third fourth fifth words name rows
+first_of_six first second third fourth fifth sixth true is_second is_third is_fourth is_fifth is_sixth words name rows e f found =
     inl (entered_is first words name rows f found)
-first_of_five first second third fourth fifth false true is_third is_fourth is_fifth words name rows e f found =
+first_of_six first second third fourth fifth sixth false true is_third is_fourth is_fifth is_sixth words name rows e f found =
     inr (inl (entered_is second words name rows f found))
-first_of_five first second third fourth fifth false false true is_fourth is_fifth words name rows e f found =
+first_of_six first second third fourth fifth sixth false false true is_fourth is_fifth is_sixth words name rows e f found =
     inr (inr (inl (entered_is third words name rows f found)))
-first_of_five first second third fourth fifth false false false true is_fifth words name rows e f found =
-    inr (inr (inr (entered_is fourth words name rows f found)))
-first_of_five first second third fourth fifth false false false false true words name rows e f found = absurd (true≢false e)
-first_of_five first second third fourth fifth false false false false false words name rows e f found = absurd (cc)
+first_of_six first second third fourth fifth sixth false false false true is_fifth is_sixth words name rows e f found =
+    inr (inr (inr (inl (entered_is fourth words name rows f found))))
+first_of_six first second third fourth fifth sixth false false false false true is_sixth words name rows e f found =
+    inr (inr (inr (inr (entered_is fifth words name rows f found))))
+first_of_six first second third fourth fifth sixth false false false false false true words name rows e f found = absurd (true≢false e)
+first_of_six first second third fourth fifth sixth false false false false false false words name rows e f found = absurd (cc)
 
 entered_other : (a : App) (disabled : Bool) (stop : Option (Text × List Text)) (name : Text) (rows : List Row)
-    → a.subs ≡ built_pass ∷ built_run ∷ built_show ∷ built_serve ∷ built_help ∷ []
+    → a.subs ≡ built_pass ∷ built_run ∷ built_show ∷ built_serve ∷ built_drive ∷ built_help ∷ []
     → disabled ≡ false → StopsAtOther disabled stop → entered_fault a stop ≡ [] → entered a stop ≡ Some (name, rows)
-    → (words : List Text) × IsEnteredAmong built_pass built_run built_show built_serve words name rows
+    → (words : List Text) × IsEnteredAmong built_pass built_run built_show built_serve built_drive words name rows
 entered_other a disabled None name rows subs enabled other f found = absurd (cc)
 entered_other a disabled (Some p) name rows subs enabled other f found =
     let answers : Shape → Bool = λ s. answers_to p.0 (label_of s) in
     let fault = subst (λ (l : List Shape). option_map_or (λ s. level_fault s [] nothing_held p.1 false []) (find answers l) []
     ≡ []) subs f in
     let met = subst (λ (l : List Shape). option_map (λ s. rows_at s p.1) (find answers l) ≡ Some (name, rows)) subs found in
-    let is_fifth : answers built_help ≡ false = help_answers p.0 ∙ not_second (codes "help") p.0 (other enabled) in (
+    let is_sixth : answers built_help ≡ false = help_answers p.0 ∙ not_second (codes "help") p.0 (other enabled) in (
       p.1,
-      first_of_five built_pass built_run built_show built_serve built_help
-          (answers built_pass) (answers built_run) (answers built_show) (answers built_serve) (answers built_help) p.1 name rows
-          is_fifth fault met,
+      first_of_six built_pass built_run built_show built_serve built_drive built_help
+          (answers built_pass) (answers built_run) (answers built_show) (answers built_serve) (answers built_drive)
+          (answers built_help) p.1 name rows is_sixth fault met,
     )
 
 both_given : (input output : Bool) → (not input || (not output || false)) ≡ false → (input ≡ true) × (output ≡ true)
@@ -215,6 +236,12 @@ trace_there : (rows : List Row) → EachHasValue rows → check_fault built_show
 trace_there rows has f = given_has_first (codes "TRACE") rows has
     (one_given (is_given (codes "TRACE") rows) (nothing_missing false false _ (sym (show_wants rows) ∙ f)))
 
+traces_there : (rows : List Row) → EachHasValue rows → check_fault built_drive rows false ≡ [] → HasTraces rows
+traces_there rows has f =
+    let given = both_given (is_given (codes "send") rows) (is_given (codes "receive") rows)
+    (nothing_missing false false _ (sym (drive_wants rows) ∙ f)) in
+    (given_has_first (codes "send") rows has given.0, given_has_first (codes "receive") rows has given.1)
+
 pass_taken : (words : List Text) (name : Text) (rows : List Row) → IsEntered built_pass words name rows → IsSubcommand name rows
 pass_taken words name rows it =
     let each = level_rows built_pass pass_gives [] words false [] it.faultless in
@@ -237,7 +264,14 @@ show_taken words name rows it =
     inr (inr (inl (it.named ∙ show_is_named, subst HasTrace (sym it.rows_are) trace)))
 
 serve_taken : (words : List Text) (name : Text) (rows : List Row) → IsEntered built_serve words name rows → IsSubcommand name rows
-serve_taken words name rows it = inr (inr (inr (it.named ∙ serve_is_named)))
+serve_taken words name rows it = inr (inr (inr (inl (it.named ∙ serve_is_named))))
+
+drive_taken : (words : List Text) (name : Text) (rows : List Row) → IsEntered built_drive words name rows → IsSubcommand name rows
+drive_taken words name rows it =
+    let each = level_rows built_drive drive_gives [] words false [] it.faultless in
+    let traces = traces_there (rows_after built_drive.rules [] words) each
+    (level_checks built_drive drive_gives [] words false [] it.faultless) in
+    inr (inr (inr (inr (it.named ∙ drive_is_named, subst HasTraces (sym it.rows_are) traces))))
 
 -- where clap takes the words, the subcommand is one of the program's, with its files
 pub taken : (words : List Text) (name : Text) (rows : List Row) → refusals words ≡ [] → found_in words ≡ Some (name, rows)
@@ -249,12 +283,15 @@ taken words name rows f found =
     let stop = (walk a.top.rules (names_of a) nothing_held rest).stopped in
     let below = level_below a.top top_gives (names_of a) rest (is_some (entered a stop)) (entered_fault a stop) f in
     let good = level_walk a.top top_gives (names_of a) rest (is_some (entered a stop)) (entered_fault a stop) f in
-    let it = entered_other a a.top.disable_help_subcommand stop name rows five_subcommands has_help good.1 below found in
+    let it = entered_other a a.top.disable_help_subcommand stop name rows six_subcommands has_help good.1 below found in
     elim it.1 [
       | inl pass ↦ pass_taken it.0 name rows pass
       | inr other ↦ elim other [
         | inl run ↦ run_taken it.0 name rows run
-        | inr last ↦ elim last [ inl show ↦ show_taken it.0 name rows show | inr serve ↦ serve_taken it.0 name rows serve ]
+        | inr later ↦ elim later [
+          | inl show ↦ show_taken it.0 name rows show
+          | inr last ↦ elim last [ inl serve ↦ serve_taken it.0 name rows serve | inr drive ↦ drive_taken it.0 name rows drive ]
+        ]
       ]
     ]
 

@@ -3,11 +3,12 @@ use Rattle.std.specs.Prelude.{◌≡◌, ◌≤◌, ◌⊎◌, ◌↔◌, IfSome
 use Rattle.std.specs.Prelude.{⊤, IsNone, IsSome, codes}
 use Rattle.clap.specs.Words.{Row, Text, first_of}
 use Rattle.command_line.specs.Shape.{found_in, refusals}
-use Rattle.command_line.specs.Spelling.{IsGroup, IsKilobytes, IsLink, SpellsAddress, SpellsDecimal, SpellsGroup, SpellsKilobytes}
-use Rattle.command_line.specs.Spelling.{SpellsLink, SpellsVlan, SpellsWord}
+use Rattle.command_line.specs.Spelling.{IsGroup, IsKilobytes, IsLink, SpellsAddress, SpellsCount, SpellsDecimal, SpellsGroup}
+use Rattle.command_line.specs.Spelling.{SpellsKilobytes, SpellsLink, SpellsVlan, SpellsWord}
 use Rattle.command_line.specs.declared.error.InvalidValue.{InvalidValue}
+use Rattle.command_line.specs.declared.job.DriveJob.{DriveJob}
 use Rattle.command_line.specs.declared.job.Job.{Job}
-use Rattle.command_line.specs.declared.job.Job.TheVariants.{Pass, Run, Show, Serve}
+use Rattle.command_line.specs.declared.job.Job.TheVariants.{Drive, Pass, Run, Show, Serve}
 use Rattle.command_line.specs.declared.job.PassFilter.{PassFilter}
 use Rattle.command_line.specs.declared.job.PassJob.{PassJob}
 use Rattle.command_line.specs.declared.job.RunJob.{RunJob}
@@ -69,6 +70,16 @@ pub record IsServeJobOf (rows : List Row) (job : ServeJob) : Type 0 where
   pub link : IsValueOr SpellsLink (links.After 1) (first_of (codes "link") rows) job.link
   pub kilobytes : IsValueOr SpellsKilobytes 48 (first_of (codes "rxa") rows) job.receive_kilobytes
   pub seed : IsValueOr SpellsDecimal 0 (first_of (codes "seed") rows) job.seed
+  pub missed : IsValueOr SpellsCount 0 (first_of (codes "missed") rows) job.missed
+
+-- each option of a `drive` has the value of its text, or its default, and both traces are there
+pub record IsDriveJobOf (rows : List Row) (job : DriveJob) : Type 0 where
+  pub registers : IsValueOr SpellsWord 0xFEB00000 (first_of (codes "registers") rows) job.registers
+  pub memory : IsValueOr SpellsWord 0x100000 (first_of (codes "memory") rows) job.memory
+  pub expect : IsValueOf SpellsDecimal (first_of (codes "expect") rows) job.expect
+  pub idle : IsValueOf SpellsDecimal (first_of (codes "idle") rows) job.idle
+  pub send : first_of (codes "send") rows ≡ Some job.send.now
+  pub receive : first_of (codes "receive") rows ≡ Some job.receive.now
 
 -- the job is that of the subcommand with these matches
 abbrev pub IsJobOf : Text × List Row → Job → Type 0
@@ -76,6 +87,7 @@ IsJobOf found (Pass job) = (found.0 ≡ codes "pass") × IsPassJobOf found.1 job
 IsJobOf found (Run job) = (found.0 ≡ codes "run") × IsRunJobOf found.1 job
 IsJobOf found (Show job) = (found.0 ≡ codes "show") × IsShowJobOf found.1 job
 IsJobOf found (Serve job) = (found.0 ≡ codes "serve") × IsServeJobOf found.1 job
+IsJobOf found (Drive job) = (found.0 ≡ codes "drive") × IsDriveJobOf found.1 job
 
 -- what a caller may count on without the words: a group has its group bit, and a VLAN identifier 12 bits
 abbrev pub IsWithinBounds : PassFilter → Type 0
@@ -90,6 +102,7 @@ HasBounds (Pass job) = IsWithinBounds job.filter
 HasBounds (Run job) = ⊤
 HasBounds (Show job) = ⊤
 HasBounds (Serve job) = IsServable job
+HasBounds (Drive job) = ⊤
 
 -- both files of a `pass` are there
 abbrev pub HasFiles : List Row → Type 0
@@ -103,11 +116,15 @@ HasScenario rows = IsSome (first_of (codes "SCENARIO") rows) × IsSome (first_of
 abbrev pub HasTrace : List Row → Type 0
 HasTrace rows = IsSome (first_of (codes "TRACE") rows)
 
+-- both traces of a `drive` are there
+abbrev pub HasTraces : List Row → Type 0
+HasTraces rows = IsSome (first_of (codes "send") rows) × IsSome (first_of (codes "receive") rows)
+
 -- the subcommand is one of the program's, with its files and its folder
 abbrev pub IsSubcommand : Text → List Row → Type 0
 IsSubcommand name rows =
     ((name ≡ codes "pass") × HasFiles rows) ⊎ (((name ≡ codes "run") × HasScenario rows)
-    ⊎ (((name ≡ codes "show") × HasTrace rows) ⊎ (name ≡ codes "serve")))
+    ⊎ (((name ≡ codes "show") × HasTrace rows) ⊎ ((name ≡ codes "serve") ⊎ ((name ≡ codes "drive") × HasTraces rows))))
 
 abbrev pub name_of : ValueOption → Text
 name_of options.Address = codes "address"
@@ -119,6 +136,9 @@ name_of options.Image = codes "image"
 name_of options.Link = codes "link"
 name_of options.Rxa = codes "rxa"
 name_of options.Seed = codes "seed"
+name_of options.Missed = codes "missed"
+name_of options.Expect = codes "expect"
+name_of options.Idle = codes "idle"
 
 -- the text is of the option's form; that of `--image` is any, where there is no `--address`
 abbrev pub IsSpelled : List Row → ValueOption → Text → Type 0
@@ -131,6 +151,9 @@ IsSpelled rows options.Image text = IsNone (first_of (codes "address") rows)
 IsSpelled rows options.Link text = (link : ServeLink) × SpellsLink text link
 IsSpelled rows options.Rxa text = (n : ℕ) × SpellsKilobytes text n
 IsSpelled rows options.Seed text = (n : ℕ) × SpellsDecimal text n
+IsSpelled rows options.Missed text = (n : ℕ) × SpellsCount text n
+IsSpelled rows options.Expect text = (n : ℕ) × SpellsDecimal text n
+IsSpelled rows options.Idle text = (n : ℕ) × SpellsDecimal text n
 
 -- the matches have this text for the option, and it isn't of the option's form, or stands beside another option
 pub record IsInvalidIn (rows : List Row) (value : InvalidValue) : Type 0 where

@@ -13,6 +13,10 @@ option_rule name = record (new_rule name) { long = Some name; action = Some acti
 abbrev pub flag_rule : Text → Rule
 flag_rule name = record (new_rule name) { long = Some name; action = Some action.SetTrue }
 
+-- an option with one value, which must stand once
+abbrev pub required_rule : Text → Rule
+required_rule name = record (option_rule name) { required = true }
+
 -- a file, which must be there
 abbrev pub file_rule : Text → Rule
 file_rule name = record (new_rule name) { required = true; action = Some action.Set }
@@ -34,21 +38,29 @@ run_app =
 unfoldable pub show_app : App
 show_app = with_rule (new_app (codes "show")) (file_rule (codes "TRACE"))
 
--- `serve [--memory BYTES] [--registers ADDRESS] [--address A] [--image FILE] [--link N|never] [--rxa N] [--seed N]`
+-- `serve [--memory BYTES] [--registers ADDRESS] [--address A] [--image FILE] [--link N|never] [--rxa N] [--seed N] [--missed N]`
 unfoldable pub serve_app : App
 serve_app =
-    with_rule (with_rule (with_rule (with_rule (with_rule (with_rule (with_rule (new_app (codes "serve"))
+    with_rule (with_rule (with_rule (with_rule (with_rule (with_rule (with_rule (with_rule (new_app (codes "serve"))
     (option_rule (codes "memory"))) (option_rule (codes "registers"))) (option_rule (codes "address")))
-    (option_rule (codes "image"))) (option_rule (codes "link"))) (option_rule (codes "rxa"))) (option_rule (codes "seed"))
+    (option_rule (codes "image"))) (option_rule (codes "link"))) (option_rule (codes "rxa"))) (option_rule (codes "seed")))
+    (option_rule (codes "missed"))
+
+-- `drive [--registers ADDRESS] [--memory BYTES] [--expect N] [--idle N] --send IN --receive OUT`
+unfoldable pub drive_app : App
+drive_app =
+    with_rule (with_rule (with_rule (with_rule (with_rule (with_rule (new_app (codes "drive"))
+    (option_rule (codes "registers"))) (option_rule (codes "memory"))) (option_rule (codes "expect")))
+    (option_rule (codes "idle"))) (required_rule (codes "send"))) (required_rule (codes "receive"))
 
 -- the program, which has a version and a subcommand, and shows its help if there are no words
 unfoldable pub program_app : App
-unfolding pass_app run_app show_app serve_app
+unfolding pass_app run_app show_app serve_app drive_app
 program_app =
-    with_subcommand (with_subcommand (with_subcommand (with_subcommand
+    with_subcommand (with_subcommand (with_subcommand (with_subcommand (with_subcommand
     (on_top (λ s. record s { has_version = true; subcommand_required = true; arg_required_else_help = true })
     (new_app (codes "nicbench")))
-    pass_app.top) run_app.top) show_app.top) serve_app.top
+    pass_app.top) run_app.top) show_app.top) serve_app.top) drive_app.top
 
 -- the kinds of error that clap answers the words with, none where it takes them
 unfoldable pub refusals : List Text → Kinds

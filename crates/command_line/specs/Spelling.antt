@@ -57,6 +57,10 @@ SpellsHexadecimal text n = IsNumeral 16 text × (n ≡ digits_value 16 text) × 
 abbrev pub SpellsWord : List ℕ → ℕ → Type 0
 SpellsWord text n = SpellsDecimal text n ⊎ ((digits : List ℕ) × (text ≡ codes "0x" ++ digits) × SpellsHexadecimal digits n)
 
+-- a count of 32 bits
+abbrev pub SpellsCount : List ℕ → ℕ → Type 0
+SpellsCount text n = SpellsNumber text n × (n < 2 ^ 32)
+
 -- the kilobytes that the receive part of a packet buffer can have (manual 13.4.18 "Packet Buffer Allocation", RXA)
 abbrev pub IsKilobytes : ℕ → Type 0
 IsKilobytes n = (2 ≤ n) × (n ≤ 48) × (n % 2 ≡ 0)

@@ -3,12 +3,13 @@ ghost use Rattle.std.specs.Prelude.{◌≡◌, IfOk, IsOkAnd, false, map};
 ghost use Rattle.clap.specs.Words.{app_of, rule_of, with_subcommand};
 ghost use Rattle.clap.specs.declared.builder.command.Command.TheViews.{out-Command as fields_of};
 ghost use Rattle.command_line.specs.Arguments.{rule_for, with_rules};
-ghost use Rattle.command_line.specs.Shape.{file_rule, flag_rule, option_rule, pass_app, program_app, run_app};
-ghost use Rattle.command_line.specs.Shape.{serve_app, show_app};
+ghost use Rattle.command_line.specs.Shape.{drive_app, file_rule, flag_rule, option_rule, pass_app, program_app};
+ghost use Rattle.command_line.specs.Shape.{required_rule, run_app, serve_app, show_app};
 
 use crate::help::{
-    ADDRESS_HELP, EEPROM_ADDRESS_HELP, GROUP_HELP, IMAGE_HELP, LINK_HELP, MEMORY_HELP, PASS_ABOUT,
-    PASS_NOTE, PROGRAM_NOTE, REGISTERS_HELP, RUN_ABOUT, RUN_NOTE, RXA_HELP, SEED_HELP, SERVE_ABOUT,
+    ADDRESS_HELP, DRIVE_ABOUT, DRIVE_MEMORY_HELP, DRIVE_NOTE, EEPROM_ADDRESS_HELP, EXPECT_HELP,
+    GROUP_HELP, IDLE_HELP, IMAGE_HELP, LINK_HELP, MEMORY_HELP, MISSED_HELP, PASS_ABOUT, PASS_NOTE,
+    PROGRAM_NOTE, REGISTERS_HELP, RUN_ABOUT, RUN_NOTE, RXA_HELP, SEED_HELP, SERVE_ABOUT,
     SERVE_NOTE, SHOW_ABOUT, SHOW_NOTE, VERSION, VLAN_HELP, WIRES_HELP,
 };
 use clap::{Arg, ArgAction, Command};
@@ -21,6 +22,8 @@ enum Argument<'a> {
     Value(&'a str, &'a str, &'a str),
     /// An option `--NAME` without a value, which may be used once: its name and its help.
     Flag(&'a str, &'a str),
+    /// An option `--NAME VALUE`, which must be used once: its name, the name of its value in help, and its help.
+    Required(&'a str, &'a str, &'a str),
     /// A file, which is required: its name and its help.
     File(&'a str, &'a str),
 }
@@ -48,6 +51,14 @@ fn flag<'a>(alloc: Global, name: &'a str, help: &'a str) -> Arg<'a>
         .action(ArgAction::SetTrue)
 }
 
+/// An option `--NAME VALUE`, which must be used once.
+fn required_option<'a>(alloc: Global, name: &'a str, value: &'a str, help: &'a str) -> Arg<'a>
+    ensures rule { rule_of result ≡ required_rule name.entry.now }
+    ensures local { result.global ≡ false }
+{
+    value_option(alloc, name, value, help).required(true)
+}
+
 /// A file, which is required.
 fn file<'a>(alloc: Global, name: &'a str, help: &'a str) -> Arg<'a>
     ensures rule { rule_of result ≡ file_rule name.entry.now }
@@ -67,6 +78,7 @@ fn clap_argument<'a>(alloc: Global, argument: &Argument<'a>) -> Arg<'a>
     match *argument {
         Argument::Value(name, value, help) => value_option(alloc, name, value, help),
         Argument::Flag(name, help) => flag(alloc, name, help),
+        Argument::Required(name, value, help) => required_option(alloc, name, value, help),
         Argument::File(name, help) => file(alloc, name, help),
     }
 }
@@ -149,7 +161,7 @@ fn show_command<'a>(alloc: Global) -> Result<Command<'a>, AllocError>
     with_arguments(alloc, show, &SHOW_ARGUMENTS)
 }
 
-const SERVE_ARGUMENTS: [Argument<'static>; 7] = [
+const SERVE_ARGUMENTS: [Argument<'static>; 8] = [
     Argument::Value("memory", "BYTES", MEMORY_HELP),
     Argument::Value("registers", "ADDRESS", REGISTERS_HELP),
     Argument::Value("address", "A", EEPROM_ADDRESS_HELP),
@@ -157,15 +169,39 @@ const SERVE_ARGUMENTS: [Argument<'static>; 7] = [
     Argument::Value("link", "N|never", LINK_HELP),
     Argument::Value("rxa", "N", RXA_HELP),
     Argument::Value("seed", "N", SEED_HELP),
+    Argument::Value("missed", "N", MISSED_HELP),
 ];
 
-/// `serve [--memory BYTES] [--registers ADDRESS] [--address A | --image FILE] [--link N|never] [--rxa N] [--seed N]`.
+/// `serve [--memory BYTES] [--registers ADDRESS] [--address A | --image FILE] [--link N|never] [--rxa N] [--seed N]
+/// [--missed N]`.
 fn serve_command<'a>(alloc: Global) -> Result<Command<'a>, AllocError>
     ensures app { IfOk result (λ command. app_of command ≡ serve_app) }
     ensures local { IfOk result (λ command. (fields_of command).has_globals ≡ false) }
 {
     let serve = described(Command::new(alloc, "serve"), SERVE_ABOUT, SERVE_NOTE);
     with_arguments(alloc, serve, &SERVE_ARGUMENTS)
+}
+
+const DRIVE_ARGUMENTS: [Argument<'static>; 6] = [
+    Argument::Value("registers", "ADDRESS", REGISTERS_HELP),
+    Argument::Value("memory", "BYTES", DRIVE_MEMORY_HELP),
+    Argument::Value("expect", "N", EXPECT_HELP),
+    Argument::Value("idle", "N", IDLE_HELP),
+    Argument::Required("send", "IN", "The trace whose frames are sent, a pcap file"),
+    Argument::Required(
+        "receive",
+        "OUT",
+        "The trace to write received frames into, a pcap file",
+    ),
+];
+
+/// `drive [--registers ADDRESS] [--memory BYTES] [--expect N] [--idle N] --send IN --receive OUT`.
+fn drive_command<'a>(alloc: Global) -> Result<Command<'a>, AllocError>
+    ensures app { IfOk result (λ command. app_of command ≡ drive_app) }
+    ensures local { IfOk result (λ command. (fields_of command).has_globals ≡ false) }
+{
+    let drive = described(Command::new(alloc, "drive"), DRIVE_ABOUT, DRIVE_NOTE);
+    with_arguments(alloc, drive, &DRIVE_ARGUMENTS)
 }
 
 /// The program with one more command, if there was memory for both.
@@ -195,5 +231,6 @@ pub(crate) fn program<'a>(alloc: Global) -> Result<Command<'a>, AllocError>
     let with_pass = with_command(Ok(bare), pass_command(alloc));
     let with_run = with_command(with_pass, run_command(alloc));
     let with_show = with_command(with_run, show_command(alloc));
-    with_command(with_show, serve_command(alloc))
+    let with_serve = with_command(with_show, serve_command(alloc));
+    with_command(with_serve, drive_command(alloc))
 }

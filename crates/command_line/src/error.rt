@@ -109,6 +109,9 @@ fn shown(option: ValueOption) -> (&'static str, &'static str) {
         ValueOption::Link => ("--link <N|never>", LINK_FORM),
         ValueOption::Rxa => ("--rxa <N>", RXA_FORM),
         ValueOption::Seed => ("--seed <N>", SEED_FORM),
+        ValueOption::Missed => ("--missed <N>", MISSED_FORM),
+        ValueOption::Expect => ("--expect <N>", EXPECT_FORM),
+        ValueOption::Idle => ("--idle <N>", IDLE_FORM),
     }
 }
 
@@ -123,12 +126,18 @@ const MEMORY_FORM: &str =
     "bytes are a decimal number below 2^64, or a hexadecimal one after 0x, such as 0x100000";
 
 const REGISTERS_FORM: &str =
-    "a place is a decimal number below 2^64, or a hexadecimal one behind 0x, as 0xFEB00000";
+    "an address is a decimal number below 2^64, or a hexadecimal one after 0x, such as 0xFEB00000";
 
 const IMAGE_FORM: &str = "the file contains the address, so --address can't be used with it";
 
-const LINK_FORM: &str = "ticks are a decimal number from 1 to 65535, as 1, or 'never'";
+const LINK_FORM: &str = "ticks are a decimal number from 1 to 65535, such as 1, or 'never'";
 
-const RXA_FORM: &str = "kilobytes are an even decimal number from 2 to 48, as 48";
+const RXA_FORM: &str = "kilobytes are an even decimal number from 2 to 48, such as 48";
 
-const SEED_FORM: &str = "a seed is a decimal number below 2^64, as 7";
+const SEED_FORM: &str = "a seed is a decimal number below 2^64, such as 7";
+
+const MISSED_FORM: &str = "a count is a decimal number below 2^32, such as 4294967294";
+
+const EXPECT_FORM: &str = "frames are a decimal number below 2^64, such as 100";
+
+const IDLE_FORM: &str = "calls are a decimal number below 2^64, such as 1000";

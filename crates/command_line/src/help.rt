@@ -172,6 +172,9 @@ pub(crate) const RXA_HELP: &str =
 
 pub(crate) const SEED_HELP: &str = "Seed of the random steps of interleave [0]";
 
+pub(crate) const MISSED_HELP: &str =
+    "The count of missed frames (MPC) at the start, such as 4294967294 [0]";
+
 pub(crate) const SERVE_NOTE: &str =
     "An Intel 82540EM and the memory of its host: a driver in any language reads and writes registers and
 memory through a pipe. A request is a line on standard input. Its answer is a line on standard output,
@@ -195,20 +198,23 @@ The requests. QEMU's qtest protocol has the first six lines of this list, too:
   endianness              little
   step KIND               a step of the adapter: txtake, txput, rxdata, rxdone, eeprom or phy
   arrive HEX              a frame arrives from the wire
-  settle                  steps in rounds, until a round does nothing
+  settle                  all offered frames arrive; then steps in rounds, until a round does nothing
   line                    1 if the interrupt line is asserted, else 0
   interleave COUNT        from now on, plays up to COUNT random steps before each access; COUNT is at
                           most 65535, and 0 turns this off
   wire full, wire free    wire full makes the wire full: the step txput puts no frame, and its outcome is
                           wirefull; wire free makes room again, as there is at the start
   log on, log off         log on prints each step, access and arrival from now on; log off stops this
+  offer HEX               a frame waits: it arrives at the next settle, or before that as a random step
+  save, restore           save keeps a copy of the state of the adapter, of memory and of these settings;
+                          restore brings the last copy back
 
 Numbers are decimal, or hexadecimal after 0x. A register is read and written as four bytes, by readl,
 writel, read, write or memset. The adapter takes no step by itself: each step is a request, or random,
 and the same seed gives the same steps. Lines between a request and its answer say what happened: 'IRQ
-raise 0', 'IRQ lower 0', 'frame HEX' for a frame put on the wire, and '# ...' while the log is on. If the
-answer isn't OK, the request changed nothing. Such an answer is 'FAIL unknown', or 'ERR' and one reason:
-count, value, size, address, text or long.
+raise 0', 'IRQ lower 0', 'frame HEX' for a frame put on the wire, 'arrived FATE HEX' for an offered frame,
+and '# ...' while the log is on. If the answer isn't OK, the request changed nothing. Such an answer is
+'FAIL unknown', or 'ERR' and one reason: count, value, size, address, text, long or saved.
 
 At the end of its input the server ends with exit status 0. If it fails, it prints 'nicbench: CODE NAME' on
 standard error:
@@ -219,6 +225,24 @@ standard error:
   E67 Write     Standard output could not be written, or nobody reads it any more, status 3. Free space
                 there, or read all answers
   E68 Open      The file of --image couldn't be opened or is a device, status 3. Check its path";
+
+pub(crate) const DRIVE_ABOUT: &str = "Run the driver on an adapter that another program models";
+
+pub(crate) const DRIVE_MEMORY_HELP: &str =
+    "Bytes of memory that the driver may use, from address 0, such as 0x100000 [1048576]";
+
+pub(crate) const EXPECT_HELP: &str = "Stop after N frames were received; status 1 if fewer were";
+
+pub(crate) const IDLE_HELP: &str =
+    "Stop after N calls of the handler in a row that received no frame";
+
+pub(crate) const DRIVE_NOTE: &str =
+    "The driver initializes the adapter, sends the frames of IN and receives frames. It writes a request for
+each access to standard output, and reads the answer from standard input, in QEMU's qtest protocol: the
+adapter may be that of nicbench serve, QEMU's e1000, or your own. OUT gets the received frames.
+
+If drive fails, it prints 'nicbench: CODE NAME' on standard error. What each code means, and what to do:
+nicbench --help";
 
 /// An example; what each exit status and each code on standard error means, and what a user can do.
 pub(crate) const PROGRAM_NOTE: &str =

@@ -11,6 +11,8 @@ pub enum Job<'a> {
     Show(ShowJob<'a>),
     /// `serve`: an adapter answers requests.
     Serve(ServeJob<'a>),
+    /// `drive`: the driver runs on an adapter that another program models.
+    Drive(DriveJob<'a>),
 }
 
 /// The job of `pass [--address A] [--group G] [--vlan N] IN OUT`.
@@ -54,7 +56,7 @@ pub struct PassFilter {
 }
 
 /// The job of `serve [--memory BYTES] [--registers ADDRESS] [--address A | --image FILE] [--link N|never] [--rxa N]
-/// [--seed N]`. Each option that isn't given has its default here.
+/// [--seed N] [--missed N]`. Each option that isn't given has its default here.
 #[derive(Clone, Copy, Debug, PartialEq, Eq)]
 pub struct ServeJob<'a> {
     /// How many bytes of memory there are, from address 0 on (`--memory`, 1 MiB).
@@ -69,6 +71,26 @@ pub struct ServeJob<'a> {
     pub receive_kilobytes: u8,
     /// What interleaved steps are drawn from (`--seed`, 0).
     pub seed: u64,
+    /// The count of missed frames (MPC) that the adapter begins with (`--missed`, 0).
+    pub missed: u32,
+}
+
+/// The job of `drive [--registers ADDRESS] [--memory BYTES] [--expect N] [--idle N] --send IN --receive OUT`. Addresses
+/// and sizes that aren't given have their defaults here.
+#[derive(Clone, Copy, Debug, PartialEq, Eq)]
+pub struct DriveJob<'a> {
+    /// The address of the first byte of registers (`--registers`, 0xFEB00000).
+    pub registers: u64,
+    /// How many bytes of memory the driver may use, from address 0 on (`--memory`, 1 MiB).
+    pub memory: u64,
+    /// The path of the trace whose frames are sent, IN (`--send`).
+    pub send: &'a str,
+    /// The path of the trace that received frames are written into, OUT (`--receive`).
+    pub receive: &'a str,
+    /// How many received frames end the run (`--expect`).
+    pub expect: Option<u64>,
+    /// How many calls of the handler in a row that received nothing end the run (`--idle`).
+    pub idle: Option<u64>,
 }
 
 /// The contents of the EEPROM of an adapter that is served.
@@ -98,9 +120,9 @@ pub enum ValueOption {
     Group,
     /// `--vlan`, of `pass`.
     Vlan,
-    /// `--memory`, of `serve`.
+    /// `--memory`, of `serve` and of `drive`.
     Memory,
-    /// `--registers`, of `serve`.
+    /// `--registers`, of `serve` and of `drive`.
     Registers,
     /// `--image`, of `serve`.
     Image,
@@ -110,4 +132,10 @@ pub enum ValueOption {
     Rxa,
     /// `--seed`, of `serve`.
     Seed,
+    /// `--missed`, of `serve`.
+    Missed,
+    /// `--expect`, of `drive`.
+    Expect,
+    /// `--idle`, of `drive`.
+    Idle,
 }

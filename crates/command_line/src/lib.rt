@@ -5,6 +5,8 @@
 #![tactic(auto)]
 
 mod command;
+mod common;
+mod drive;
 mod error;
 mod help;
 mod job;
@@ -17,6 +19,7 @@ pub mod spelling;
 
 pub use error::{InvalidValue, LineError};
 pub use job::{
-    Job, PassFilter, PassJob, RunJob, ServeImage, ServeJob, ServeLink, ShowJob, ValueOption,
+    DriveJob, Job, PassFilter, PassJob, RunJob, ServeImage, ServeJob, ServeLink, ShowJob,
+    ValueOption,
 };
 pub use reader::line;

@@ -8,6 +8,7 @@ ghost use Rattle.command_line.specs.Shape.{found_in, refusals};
 ghost use Rattle.command_line.specs.declared.error.LineError.TheVariants.{NotUnicode};
 
 use crate::command::program;
+use crate::drive::drive_job;
 use crate::pass::pass_job;
 use crate::run::run_job;
 use crate::serve::serve_job;
@@ -29,6 +30,7 @@ fn job_of<'a>(name: &str, matches: &ArgMatches<'a>) -> Result<Job<'a>, InvalidVa
         "run" => Ok(Job::Run(run_job(matches))),
         "show" => Ok(Job::Show(show_job(matches))),
         "serve" => Ok(Job::Serve(serve_job(matches)?)),
+        "drive" => Ok(Job::Drive(drive_job(matches)?)),
         _ => unreachable!(),
     }
 }

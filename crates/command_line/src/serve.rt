@@ -3,16 +3,14 @@ ghost use Rattle.std.specs.Prelude.{◌∷◌, IfErr, IfOk, [], codes};
 ghost use Rattle.clap.specs.Words.{first_of, found_of, rows_of};
 ghost use Rattle.command_line.specs.Jobs.{IsImageOf, IsInvalidIn, IsServeJobOf, IsServable};
 ghost use Rattle.command_line.specs.Jobs.{IsValueOr};
-ghost use Rattle.command_line.specs.Spelling.{SpellsAddress, SpellsDecimal, SpellsKilobytes, SpellsLink, SpellsWord};
+ghost use Rattle.command_line.specs.Spelling.{SpellsAddress, SpellsCount, SpellsDecimal, SpellsKilobytes};
+ghost use Rattle.command_line.specs.Spelling.{SpellsLink};
 ghost use Rattle.command_line.specs.declared.job.ServeLink.TheVariants.{After};
 
-use crate::spelling::{address_of, decimal_of, kilobytes_of, link_of, word_of};
+use crate::common::{memory, registers};
+use crate::spelling::{address_of, count_of, decimal_of, kilobytes_of, link_of};
 use crate::{InvalidValue, ServeImage, ServeJob, ServeLink, ValueOption};
 use clap::ArgMatches;
-
-const DEFAULT_MEMORY: u64 = 1 << 20;
-
-const DEFAULT_REGISTERS: u64 = 0xFEB0_0000;
 
 const DEFAULT_ADDRESS: [u8; 6] = [0x02, 0, 0, 0, 0, 0x01];
 
@@ -22,39 +20,7 @@ const DEFAULT_KILOBYTES: u8 = 48;
 
 const DEFAULT_SEED: u64 = 0;
 
-fn memory<'a>(matches: &ArgMatches<'a>) -> Result<u64, InvalidValue<'a>>
-    ensures value { IfOk result (IsValueOr SpellsWord 0x100000
-        (first_of (codes "memory") (rows_of (found_of matches.now)))) }
-    ensures refused { IfErr result (IsInvalidIn (rows_of (found_of matches.now))) }
-{
-    match matches.get_str("memory") {
-        Some(text) => match word_of(text) {
-            Some(memory) => Ok(memory),
-            None => Err(InvalidValue {
-                option: ValueOption::Memory,
-                text,
-            }),
-        },
-        None => Ok(DEFAULT_MEMORY),
-    }
-}
-
-fn registers<'a>(matches: &ArgMatches<'a>) -> Result<u64, InvalidValue<'a>>
-    ensures value { IfOk result (IsValueOr SpellsWord 0xFEB00000
-        (first_of (codes "registers") (rows_of (found_of matches.now)))) }
-    ensures refused { IfErr result (IsInvalidIn (rows_of (found_of matches.now))) }
-{
-    match matches.get_str("registers") {
-        Some(text) => match word_of(text) {
-            Some(registers) => Ok(registers),
-            None => Err(InvalidValue {
-                option: ValueOption::Registers,
-                text,
-            }),
-        },
-        None => Ok(DEFAULT_REGISTERS),
-    }
-}
+const DEFAULT_MISSED: u32 = 0;
 
 fn address<'a>(matches: &ArgMatches<'a>) -> Result<[u8; 6], InvalidValue<'a>>
     ensures value { IfOk result (IsValueOr SpellsAddress (2 ∷ 0 ∷ 0 ∷ 0 ∷ 0 ∷ 1 ∷ [])
@@ -140,6 +106,23 @@ fn seed<'a>(matches: &ArgMatches<'a>) -> Result<u64, InvalidValue<'a>>
     }
 }
 
+fn missed<'a>(matches: &ArgMatches<'a>) -> Result<u32, InvalidValue<'a>>
+    ensures value { IfOk result (IsValueOr SpellsCount 0
+        (first_of (codes "missed") (rows_of (found_of matches.now)))) }
+    ensures refused { IfErr result (IsInvalidIn (rows_of (found_of matches.now))) }
+{
+    match matches.get_str("missed") {
+        Some(text) => match count_of(text) {
+            Some(missed) => Ok(missed),
+            None => Err(InvalidValue {
+                option: ValueOption::Missed,
+                text,
+            }),
+        },
+        None => Ok(DEFAULT_MISSED),
+    }
+}
+
 /// The job of a `serve` with these matches.
 pub(crate) fn serve_job<'a>(matches: &ArgMatches<'a>) -> Result<ServeJob<'a>, InvalidValue<'a>>
     ensures bounds { IfOk result IsServable }
@@ -152,6 +135,7 @@ pub(crate) fn serve_job<'a>(matches: &ArgMatches<'a>) -> Result<ServeJob<'a>, In
     let link = link(matches)?;
     let receive_kilobytes = kilobytes(matches)?;
     let seed = seed(matches)?;
+    let missed = missed(matches)?;
     Ok(ServeJob {
         memory,
         registers,
@@ -159,5 +143,6 @@ pub(crate) fn serve_job<'a>(matches: &ArgMatches<'a>) -> Result<ServeJob<'a>, In
         link,
         receive_kilobytes,
         seed,
+        missed,
     })
 }

@@ -1,7 +1,7 @@
 //! The texts of addresses, groups, VLANs, numbers and links, as options write them.
 ghost use Rattle.std.specs.Prelude.{ℕ, List, IfSome, IfNone};
 ghost use Rattle.std.specs.Option.{SomeIff};
-ghost use Rattle.command_line.specs.Spelling.{IsHexadecimalDigit, SpellsAddress, SpellsByte};
+ghost use Rattle.command_line.specs.Spelling.{IsHexadecimalDigit, SpellsAddress, SpellsByte, SpellsCount};
 ghost use Rattle.command_line.specs.Spelling.{SpellsDecimal, SpellsGroup, SpellsHexadecimal, SpellsKilobytes};
 ghost use Rattle.command_line.specs.Spelling.{SpellsLink, SpellsVlan, SpellsWord, hexadecimal_value};
 ghost use Rattle.command_line.specs.declared.job.ServeLink.{ServeLink};
@@ -125,6 +125,14 @@ pub fn word_of(text: &str) -> Option<u64>
         Some(digits) => hexadecimal_of(digits),
         None => decimal_of(text),
     }
+}
+
+/// The count that a text spells in decimal digits alone, below 2^32. `None` for any other text.
+pub fn count_of(text: &str) -> Option<u32>
+    ensures spelled { IfSome result (SpellsCount text.now) }
+    ensures refused { IfNone result ((n : ℕ) → ¬ SpellsCount text.now n) }
+{
+    u32::try_from(decimal_of(text)?).ok()
 }
 
 /// The kilobytes of a receive packet buffer that a text spells: an even number from 2 to 48, in decimal digits alone.

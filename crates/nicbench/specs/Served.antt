@@ -27,4 +27,5 @@ options_of job image = record {
   link = link_of job.link;
   receive_kilobytes = job.receive_kilobytes;
   seed = job.seed;
+  missed = job.missed;
 }

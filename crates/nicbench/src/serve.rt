@@ -62,6 +62,7 @@ fn options_of(job: &ServeJob<'_>, image: Image) -> ServeOptions
         link: link_of(job.link),
         receive_kilobytes: job.receive_kilobytes,
         seed: job.seed,
+        missed: job.missed,
     }
 }
 

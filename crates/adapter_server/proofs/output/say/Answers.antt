@@ -1,13 +1,13 @@
-use Rattle.std.proofs.Common.{arith, drop, length, take, ◌∙◌, ◌≡◌, ◌-◌, List, ℕ}
+use Rattle.std.proofs.Common.{arith, drop, length, ◌-◌}
 use Rattle.std.proofs.lemmas.List.{length-drop, take_all}
-use Rattle.adapter_server.proofs.PartsWritten.{all_said, keeps_same, said_more, said_none, said_part, whatever_err}
+use Rattle.adapter_server.proofs.PartsWritten.{all_said, keeps_same, said_more, said_none, said_part, says_stop}
 use Rattle.adapter_server.proofs.output.say.Goals as goal
 
 pub loop-turn-init : goal.loop-turn-init
 loop-turn-init g c = record { said = said_none c.args.text.now (g.W.Write.contents c.args.out.now); few = omega arith }
 
-pub returns-then-written-text-clause-ok : goal.returns-then-written-text-clause-ok
-returns-then-written-text-clause-ok g c =
+pub returns-then-written-text : goal.returns-then-written-text
+returns-then-written-text g c =
     all_said c.args.text.now c.loop-turn.written (g.W.Write.contents c.args.out.now) (g.W.Write.contents c.loop-turn.out) (omega arith)
     c.loop-turn.invariant.said
 
@@ -23,15 +23,16 @@ loop-turn-preserved g c =
       few = omega (arith, c.in_ok-written.ensures.few, length-drop c.loop-turn.written text);
     }
 
-pub returns-in_err-written-clause-err : goal.returns-in_err-written-clause-err
-returns-in_err-written-clause-err g c =
-    whatever_err c.from_residual.result _
+pub returns-in_err-written : goal.returns-in_err-written
+returns-in_err-written g c =
+    says_stop c.from_residual.result c.args.text.now (g.W.Write.contents c.args.out.now) (g.W.Write.contents c.write_some.new.out)
+    c.from_residual.ensures.0
     (said_part c.args.text.now (drop c.loop-turn.written c.args.text.now) (g.W.Write.contents c.args.out.now)
     (g.W.Write.contents c.loop-turn.out) (g.W.Write.contents c.write_some.new.out) c.loop-turn.invariant.said
     c.in_err-written.ensures.err)
 
-pub returns-clause-err : goal.returns-clause-err
-returns-clause-err g c =
+pub returns : goal.returns
+returns g c =
     said_part c.args.text.now (drop c.loop-turn.written c.args.text.now) (g.W.Write.contents c.args.out.now)
     (g.W.Write.contents c.loop-turn.out) (g.W.Write.contents c.loop-turn.out) c.loop-turn.invariant.said
     (keeps_same (g.W.Write.contents c.loop-turn.out))

@@ -1,6 +1,7 @@
-use Rattle.adapter_server.proofs.PartsWritten.{nothing_said, whatever_err}
+use Rattle.adapter_server.proofs.PartsWritten.{nothing_said, says_stop}
 use Rattle.adapter_server.proofs.output.say_bytes.Goals as goal
 
-pub returns-in_err-line-clause-err : goal.returns-in_err-line-clause-err
-returns-in_err-line-clause-err g c =
-    whatever_err c.from_residual.result _ (nothing_said _ (g.W.Write.contents c.args.out.now))
+pub returns-in_err-line : goal.returns-in_err-line
+returns-in_err-line g c =
+    let contents = g.W.Write.contents c.args.out.now in
+    says_stop c.from_residual.result _ contents contents c.from_residual.ensures.0 (nothing_said _ contents)

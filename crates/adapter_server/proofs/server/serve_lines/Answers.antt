@@ -10,7 +10,7 @@ use Rattle.adapter_server.proofs.server.serve_lines.Goals as goal
 pub loop-count-init : goal.loop-count-init
 loop-count-init g c = record {
   room = omega (arith, c.in_ok-line.ensures.capacity);
-  so_far = serves_none (g.R.Read.remaining c.args.input.now) c.args.session.now (g.W.Write.contents c.args.output.now);
+  so_far = serves_none (g.R.Read.remaining c.args.input.now) c.args.server.now (g.W.Write.contents c.args.output.now);
 }
 
 pub loop-count-preserved : goal.loop-count-preserved
@@ -20,31 +20,31 @@ loop-count-preserved g c =
     record {
       room = c.in_ok-next.ensures.room;
       so_far = serves_next c.in_ok-next.next (left c.args.input.now) (left c.loop-count.input) (left c.next_line.new.reader)
-          c.args.session.now c.loop-count.session c.answer_and_send.new.session c.next_line.new.line.items (contents c.args.output.now)
+          c.args.server.now c.loop-count.server c.answer_and_send.new.server c.next_line.new.line.items (contents c.args.output.now)
           (contents c.loop-count.output) (contents c.answer_and_send.new.output) c.loop-count.invariant.so_far
-          c.in_ok-next.ensures.next (rw c.as_slice.ensures.value at c.in_ok-answer_and_send.ensures.ok);
+          c.in_ok-next.ensures.next (rw c.as_slice.ensures.value at c.in_ok-answer_and_send.ensures);
     }
 
 pub returns-in-End-clause-ok : goal.returns-in-End-clause-ok
 returns-in-End-clause-ok g c =
     let left = g.R.Read.remaining in
     let contents = g.W.Write.contents in
-    serves_lines (left c.args.input.now) (left c.loop-count.input) (left c.next_line.new.reader) c.args.session.now
-    c.loop-count.session (contents c.args.output.now) (contents c.loop-count.output) c.loop-count.invariant.so_far
+    serves_lines (left c.args.input.now) (left c.loop-count.input) (left c.next_line.new.reader) c.args.server.now
+    c.loop-count.server (contents c.args.output.now) (contents c.loop-count.output) c.loop-count.invariant.so_far
     (subst (λ (next : NextLine). IsNextLine next c.next_line.new.line.items (left c.loop-count.input) (left c.next_line.new.reader))
     c.in-End.is c.in_ok-next.ensures.next)
 
 pub returns-in_err-next-clause-read : goal.returns-in_err-next-clause-read
 returns-in_err-next-clause-read g c =
     whatever_error c.from_residual-in_err-next.result (λ error. error ≡ errors.Read) _
-    (serves_front (g.R.Read.remaining c.args.input.now) (g.R.Read.remaining c.loop-count.input) c.args.session.now
-    c.loop-count.session (g.W.Write.contents c.args.output.now) (g.W.Write.contents c.loop-count.output)
+    (serves_front (g.R.Read.remaining c.args.input.now) (g.R.Read.remaining c.loop-count.input) c.args.server.now
+    c.loop-count.server (g.W.Write.contents c.args.output.now) (g.W.Write.contents c.loop-count.output)
     c.loop-count.invariant.so_far)
 
 pub returns-clause-read : goal.returns-clause-read
 returns-clause-read g c = λ same.
-    serves_front (g.R.Read.remaining c.args.input.now) (g.R.Read.remaining c.loop-count.input) c.args.session.now
-    c.loop-count.session (g.W.Write.contents c.args.output.now) (g.W.Write.contents c.loop-count.output)
+    serves_front (g.R.Read.remaining c.args.input.now) (g.R.Read.remaining c.loop-count.input) c.args.server.now
+    c.loop-count.server (g.W.Write.contents c.args.output.now) (g.W.Write.contents c.loop-count.output)
     c.loop-count.invariant.so_far
 
 pub returns-in_err-line-clause-begun : goal.returns-in_err-line-clause-begun
@@ -52,19 +52,19 @@ returns-in_err-line-clause-begun g c =
     let left = g.R.Read.remaining c.args.input.now in
     let written = g.W.Write.contents c.args.output.now in
     whatever_err c.from_residual.result _
-    (serves_stopped left left c.args.session.now c.args.session.now written written (serves_none left c.args.session.now written))
+    (serves_stopped left left c.args.server.now c.args.server.now written written (serves_none left c.args.server.now written))
 
 pub returns-in_err-next-clause-begun : goal.returns-in_err-next-clause-begun
 returns-in_err-next-clause-begun g c =
     whatever_err c.from_residual-in_err-next.result _
-    (serves_stopped (g.R.Read.remaining c.args.input.now) (g.R.Read.remaining c.loop-count.input) c.args.session.now
-    c.loop-count.session (g.W.Write.contents c.args.output.now) (g.W.Write.contents c.loop-count.output)
+    (serves_stopped (g.R.Read.remaining c.args.input.now) (g.R.Read.remaining c.loop-count.input) c.args.server.now
+    c.loop-count.server (g.W.Write.contents c.args.output.now) (g.W.Write.contents c.loop-count.output)
     c.loop-count.invariant.so_far)
 
 pub returns-clause-begun : goal.returns-clause-begun
 returns-clause-begun g c =
-    serves_stopped (g.R.Read.remaining c.args.input.now) (g.R.Read.remaining c.loop-count.input) c.args.session.now
-    c.loop-count.session (g.W.Write.contents c.args.output.now) (g.W.Write.contents c.loop-count.output)
+    serves_stopped (g.R.Read.remaining c.args.input.now) (g.R.Read.remaining c.loop-count.input) c.args.server.now
+    c.loop-count.server (g.W.Write.contents c.args.output.now) (g.W.Write.contents c.loop-count.output)
     c.loop-count.invariant.so_far
 
 pub returns-in_err-answer_and_send : goal.returns-in_err-answer_and_send
@@ -78,7 +78,7 @@ returns-in_err-answer_and_send g c =
       read = stopped.1;
       begun = whatever_err result _
           (serves_part c.in_ok-next.next (left c.args.input.now) (left c.loop-count.input) (left c.next_line.new.reader)
-          c.args.session.now c.loop-count.session c.next_line.new.line.items (contents c.args.output.now) (contents c.loop-count.output)
+          c.args.server.now c.loop-count.server c.next_line.new.line.items (contents c.args.output.now) (contents c.loop-count.output)
           (contents c.answer_and_send.new.output) c.loop-count.invariant.so_far c.in_ok-next.ensures.next c.in_default.not-End
-          (rw c.as_slice.ensures.value at c.in_err-answer_and_send.ensures.err));
+          (rw c.as_slice.ensures.value at c.in_err-answer_and_send.ensures));
     }

@@ -3,7 +3,7 @@ use Rattle.std.proofs.Common.{◌≡◌, ◌∙◌, ap, ap₂, codes, true}
 use Rattle.clap.specs.Simple.{Shape, app_of_fields, on_top}
 use Rattle.clap.specs.Words.{App, app_of, new_app, with_subcommand}
 use Rattle.clap.specs.declared.builder.command.Command.{Command}
-use Rattle.command_line.specs.Shape.{pass_app, program_app, run_app, serve_app, show_app}
+use Rattle.command_line.specs.Shape.{drive_app, pass_app, program_app, run_app, serve_app, show_app}
 use Rattle.command_line.proofs.command.program.Goals as goal
 
 -- where both commands are known, the one with both is
@@ -44,6 +44,9 @@ returns-clause-app c =
     let show = c.with_command-with_show in
     let with_pass = more_is pass.result (Ok bare) c.pass_command.result _ pass_app pass.ensures.app bare_is c.pass_command.ensures.app in
     let with_run = more_is run.result pass.result c.run_command.result _ run_app run.ensures.app with_pass c.run_command.ensures.app in
+    let serve = c.with_command-with_serve in
     let with_show = more_is show.result run.result c.show_command.result _ show_app show.ensures.app with_run c.show_command.ensures.app in
-    more_is c.with_command.result show.result c.serve_command.result _ serve_app c.with_command.ensures.app with_show
-    c.serve_command.ensures.app
+    let with_serve = more_is serve.result show.result c.serve_command.result _ serve_app serve.ensures.app with_show
+    c.serve_command.ensures.app in
+    more_is c.with_command.result serve.result c.drive_command.result _ drive_app c.with_command.ensures.app with_serve
+    c.drive_command.ensures.app

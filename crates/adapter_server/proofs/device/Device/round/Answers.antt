@@ -4,9 +4,8 @@ use Rattle.adapter.specs.declared.step.StepKind.{StepKind}
 use Rattle.adapter.specs.declared.step.StepKind.TheVariants.{TxTake}
 use Rattle.adapter_server.specs.Devices.{Plays, Steps, round}
 use Rattle.adapter_server.specs.Order.{InOrder, Tells}
-use Rattle.adapter_server.proofs.PartsWritten.{whatever_err}
 use Rattle.adapter_server.proofs.Rounds.{moved_little}
-use Rattle.adapter_server.proofs.Stopping.{events_of_plays, stopped_after}
+use Rattle.adapter_server.proofs.Stopping.{events_of_plays, events_stop, stopped_after}
 use Rattle.adapter_server.proofs.Writing.{tells_more, tells_none, tells_so}
 use Rattle.adapter_server.proofs.device.Device.round.Goals as goal
 
@@ -23,7 +22,7 @@ loop-kind-preserved g c =
     let plays = tells_so (Steps kind outcome c.loop-kind.self c.step.new.self)
     (Plays kind (c.loop-kind.self, c.loop-kind.moved) (c.step.new.self, more)) (contents c.loop-kind.out) (contents c.step.new.out)
     (λ text steps. record { outcome = outcome; steps = steps; count = ap (◌+◌ c.loop-kind.moved) c.moved_by-moved.ensures })
-    c.in_ok-outcome.ensures.ok in
+    c.in_ok-outcome.ensures in
     let kinds : take i round ++ kind ∷ [] ≡ take (i + 1) round = sym (take_more round i TxTake (omega arith)) in
     record {
       plays = subst
@@ -34,13 +33,13 @@ loop-kind-preserved g c =
       few = omega (arith, c.moved_by-moved.ensures, moved_little outcome);
     }
 
-pub returns-in_err-outcome-clause-err : goal.returns-in_err-outcome-clause-err
-returns-in_err-outcome-clause-err g c =
+pub returns-in_err-outcome-clause-plays : goal.returns-in_err-outcome-clause-plays
+returns-in_err-outcome-clause-plays g c =
     let contents = g.W.Write.contents in
     let kinds = take c.loop-kind.kind-index round in
     let a = c.args.self.now in
     let b = c.loop-kind.self in
-    whatever_err c.from_residual.result _
+    events_stop c.from_residual.result a _ (contents c.args.out.now) (contents c.step.new.out) c.from_residual.ensures.0
     (stopped_after (InOrder Plays kinds (a, 0) (b, c.loop-kind.moved)) a b (contents c.args.out.now) (contents c.loop-kind.out)
     (contents c.step.new.out) (events_of_plays kinds (a, 0) (b, c.loop-kind.moved)) c.loop-kind.invariant.plays
-    c.in_err-outcome.ensures.err)
+    c.in_err-outcome.ensures)

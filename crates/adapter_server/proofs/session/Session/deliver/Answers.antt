@@ -1,41 +1,39 @@
-use Rattle.std.proofs.Common.{refl}
 use Rattle.bus.specs.declared.event.Event.TheVariants.{Arrives}
+use Rattle.std.proofs.lemmas.List.{append-nil}
 use Rattle.adapter_server.specs.Devices.{Prints}
+use Rattle.adapter_server.specs.Happenings.{Happening, Logged}
+use Rattle.adapter_server.specs.Sessions.{OnDevice}
 use Rattle.adapter_server.specs.Texts.{fate_word, word_line}
-use Rattle.adapter_server.proofs.PartsWritten.{whatever_err}
-use Rattle.adapter_server.proofs.Printing.{answered, answered_part, printed, printed_part}
-use Rattle.adapter_server.proofs.Stopping.{stopped_answer}
+use Rattle.adapter_server.specs.declared.session.Session.{Session}
+use Rattle.adapter_server.proofs.Printing.{answered, on_device, prints, text_of}
+use Rattle.adapter_server.proofs.Stopping.{answer_stops, stopped_in}
 use Rattle.adapter_server.proofs.session.Session.deliver.Goals as goal
 
-pub returns-clause-ok : goal.returns-clause-ok
-returns-clause-ok g c =
-    let frame = c.args.frame.now in
-    let said = c.args.said.now in
-    let event = Arrives frame c.arrive-fate.result in
-    answered c.say_word.result (λ fate. Prints (Arrives frame fate) said) (λ fate. word_line (fate_word fate))
-    c.arrive-fate.result c.args.self.now c.tell.new.self _ _ _
-    (printed event said c.args.self.now.device c.tell.new.self c.arrive-fate.new.self (g.W.Write.contents c.args.out.now)
-    (g.W.Write.contents c.tell.new.out) refl c.arrive-fate.ensures.occurs c.arrive-fate.ensures.state c.in_ok-tell.ensures.state
-    c.in_ok-tell.ensures.text) (rw c.fate_word.ensures at c.say_word.ensures.ok)
-
-pub returns-in_err-tell-clause-err : goal.returns-in_err-tell-clause-err
-returns-in_err-tell-clause-err g c =
+pub returns-in_err-tell : goal.returns-in_err-tell
+returns-in_err-tell g c =
     let a = c.args.self.now in
-    let event = Arrives c.args.frame.now c.arrive-fate.result in
+    let one : Happening = Logged (Arrives c.args.frame.now c.arrive-fate.result) c.args.said.now in
     let before = g.W.Write.contents c.args.out.now in
     let after = g.W.Write.contents c.tell.new.out in
-    whatever_err c.from_residual.result _
-    (stopped_answer _ a before after
-    (printed_part event c.args.said.now a.device c.arrive-fate.new.self before after refl c.arrive-fate.ensures.occurs
-    c.arrive-fate.ensures.state c.in_err-tell.ensures.err))
+    answer_stops c.from_residual.result a.device _ _ before after c.from_residual.ensures.0
+    (stopped_in one a.device c.tell.new.self (text_of one a.device c.arrive-fate.new.self) before after
+    (prints one a.device c.tell.new.self c.arrive-fate.new.self c.arrive-fate.ensures.occurs c.arrive-fate.ensures.state
+    c.in_err-tell.ensures.state) (rw (append-nil c.args.said.now) at c.in_err-tell.ensures.text))
 
-pub returns-clause-err : goal.returns-clause-err
-returns-clause-err g c =
+pub returns : goal.returns
+returns g c =
+    let a = c.args.self.now in
     let frame = c.args.frame.now in
     let said = c.args.said.now in
-    let event = Arrives frame c.arrive-fate.result in
-    answered_part c.say_word.result (λ fate. Prints (Arrives frame fate) said) (λ fate. word_line (fate_word fate))
-    c.arrive-fate.result c.args.self.now c.tell.new.self _ _ _
-    (printed event said c.args.self.now.device c.tell.new.self c.arrive-fate.new.self (g.W.Write.contents c.args.out.now)
-    (g.W.Write.contents c.tell.new.out) refl c.arrive-fate.ensures.occurs c.arrive-fate.ensures.state c.in_ok-tell.ensures.state
-    c.in_ok-tell.ensures.text) (rw c.fate_word.ensures at c.say_word.ensures.err)
+    let one : Happening = Logged (Arrives frame c.arrive-fate.result) said in
+    let b : Session = record a { device = c.tell.new.self } in
+    let before = g.W.Write.contents c.args.out.now in
+    let now = g.W.Write.contents c.tell.new.out in
+    answered c.say_word.result a.device (λ fate b. OnDevice (Prints (Logged (Arrives frame fate) said)) a b)
+    (λ fate. word_line (fate_word fate)) c.arrive-fate.result b before now _
+    (on_device (Prints one) a c.tell.new.self before now (record {
+      text = text_of one a.device c.arrive-fate.new.self;
+      holds = prints one a.device c.tell.new.self c.arrive-fate.new.self c.arrive-fate.ensures.occurs c.arrive-fate.ensures.state
+          c.in_ok-tell.ensures.state;
+      written = rw (append-nil said) at c.in_ok-tell.ensures.text;
+    })) (rw c.fate_word.ensures at c.say_word.ensures)

@@ -1,7 +1,7 @@
 use Rattle.adapter_server.specs.Order.{Tells, Times}
-use Rattle.adapter_server.specs.Sessions.{DrawsStep}
+use Rattle.adapter_server.specs.Sessions.{Draws}
 use Rattle.adapter_server.proofs.session.Session.interleave.Given as goal
 
 abbrev pub invariant-loop-step : goal.invariant-loop-step
 invariant-loop-step g l =
-    Tells (g.W.Write.contents l.initial.out) (g.W.Write.contents l.out) (Times DrawsStep l._step l.initial.self l.self)
+    Tells (g.W.Write.contents l.initial.out) (g.W.Write.contents l.out) (Times Draws l._step l.initial.self l.self)

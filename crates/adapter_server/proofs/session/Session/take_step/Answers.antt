@@ -1,24 +1,20 @@
 use Rattle.adapter_server.specs.Devices.{Steps}
+use Rattle.adapter_server.specs.Sessions.{OnDevice}
 use Rattle.adapter_server.specs.Texts.{outcome_word, word_line}
-use Rattle.adapter_server.proofs.PartsWritten.{whatever_err}
-use Rattle.adapter_server.proofs.Printing.{answered, answered_part}
-use Rattle.adapter_server.proofs.Stopping.{stopped_answer}
+use Rattle.adapter_server.specs.declared.session.Session.{Session}
+use Rattle.adapter_server.proofs.Printing.{answered, on_device}
+use Rattle.adapter_server.proofs.Stopping.{answer_stops}
 use Rattle.adapter_server.proofs.session.Session.take_step.Goals as goal
 
-pub returns-clause-ok : goal.returns-clause-ok
-returns-clause-ok g c =
-    answered c.say_word.result (λ outcome. Steps c.args.kind outcome) (λ outcome. word_line (outcome_word outcome))
-    c.in_ok-outcome.outcome c.args.self.now c.step.new.self _ _ _ c.in_ok-outcome.ensures.ok
-    (rw c.outcome_word.ensures at c.say_word.ensures.ok)
+pub returns-in_err-outcome : goal.returns-in_err-outcome
+returns-in_err-outcome g c =
+    answer_stops c.from_residual.result c.args.self.now.device _ _ _ _ c.from_residual.ensures.0 c.in_err-outcome.ensures
 
-pub returns-in_err-outcome-clause-err : goal.returns-in_err-outcome-clause-err
-returns-in_err-outcome-clause-err g c =
-    whatever_err c.from_residual.result _
-    (stopped_answer _ c.args.self.now (g.W.Write.contents c.args.out.now) (g.W.Write.contents c.step.new.out)
-    c.in_err-outcome.ensures.err)
-
-pub returns-clause-err : goal.returns-clause-err
-returns-clause-err g c =
-    answered_part c.say_word.result (λ outcome. Steps c.args.kind outcome) (λ outcome. word_line (outcome_word outcome))
-    c.in_ok-outcome.outcome c.args.self.now c.step.new.self _ _ _ c.in_ok-outcome.ensures.ok
-    (rw c.outcome_word.ensures at c.say_word.ensures.err)
+pub returns : goal.returns
+returns g c =
+    let a = c.args.self.now in
+    let b : Session = record a { device = c.step.new.self } in
+    answered c.say_word.result a.device (λ outcome b. OnDevice (Steps c.args.kind outcome) a b)
+    (λ outcome. word_line (outcome_word outcome)) c.in_ok-outcome.outcome b _ _ _
+    (on_device (Steps c.args.kind c.in_ok-outcome.outcome) a c.step.new.self _ _ c.in_ok-outcome.ensures)
+    (rw c.outcome_word.ensures at c.say_word.ensures)

@@ -1,0 +1,19 @@
+use Rattle.std.proofs.Common.{◌∙◌, List, [], ap, sym, ℕ}
+use Rattle.adapter_server.proofs.Stopping.{arrived, none_arrives}
+use Rattle.adapter_server.proofs.Writing.{appends_none}
+use Rattle.adapter_server.proofs.session.Session.deliver_next.Goals as goal
+
+pub returns-in_default : goal.returns-in_default
+returns-in_default g c =
+    let a = c.args.self.now in
+    record {
+      text = [];
+      holds = none_arrives a (record a { offered = c.pop.new.self }) c.in_default.ensures.none.0
+          (ap (λ (offered : List (List ℕ)). record a { offered = offered }) (c.in_default.ensures.none.1 ∙ sym c.in_default.ensures.none.0));
+      written = appends_none (g.W.Write.contents c.args.out.now);
+    }
+
+pub returns : goal.returns
+returns g c =
+    arrived c.deliver.result c.in-Some.frame c.args.self.now c.deliver.new.self c.pop.new.self _ _ c.in-Some.ensures.some
+    (rw c.as_slice.ensures at c.deliver.ensures)

@@ -1,0 +1,23 @@
+use Rattle.std.proofs.Common.{◌≡◌, Some, rules, subst}
+use Rattle.adapter_server.specs.Answers.{Replies, TellsAnswer}
+use Rattle.adapter_server.specs.Texts.{ok_line}
+use Rattle.adapter_server.specs.declared.session.Session.{Session}
+use Rattle.adapter_server.proofs.Printing.{replied}
+use Rattle.adapter_server.proofs.Stopping.{answer_stops, stopped_before}
+use Rattle.adapter_server.proofs.snapshot.Server.save.Goals as goal
+
+pub returns-in_err-clone : goal.returns-in_err-clone
+returns-in_err-clone g c =
+    let device = c.args.self.now.session.device in
+    let contents = g.W.Write.contents c.args.out.now in
+    answer_stops c.from_residual.result device _ _ contents contents c.from_residual.ensures.0 (stopped_before device contents)
+
+pub returns : goal.returns
+returns g c =
+    let a = c.args.self.now in
+    let copy = c.in_ok-clone.field-0 in
+    let same : copy ≡ a.session = search rules in
+    subst
+    (λ (saved : Session). TellsAnswer c.say.result (g.W.Write.contents c.args.out.now) (g.W.Write.contents c.say.new.out)
+    a.session.device (Replies ok_line (record a { saved = Some saved })) (record a { saved = Some copy })) same
+    (replied c.say.result a.session.device ok_line (record a { saved = Some copy }) _ _ c.say.ensures)

@@ -1,0 +1,141 @@
+// What happens between two requests' accesses: steps, and arrivals of offered frames.
+
+ghost use Rattle.std.specs.Prelude.{◌≡◌};
+ghost use Rattle.adapter_server.specs.Choices.{choice_numbered};
+
+use crate::answer_error::AnswerError;
+use crate::session::Session;
+use adapter::StepKind;
+use rand_core::utils::NextWord;
+use std::alloc::Global;
+use std::io::Write;
+
+/// The number of kinds of steps.
+const KINDS: u32 = 6;
+
+/// What a word of the generator chooses.
+#[derive(Clone, Copy)]
+pub enum Choice {
+    /// A step of this kind.
+    Step(StepKind),
+    /// The arrival of the oldest offered frame.
+    Arrival,
+}
+
+/// The choice with this number, below 7.
+fn choice_numbered(number: u32) -> Choice
+    ensures { result ≡ choice_numbered number }
+{
+    match number {
+        0 => Choice::Step(StepKind::TxTake),
+        1 => Choice::Step(StepKind::TxPut),
+        2 => Choice::Step(StepKind::RxData),
+        3 => Choice::Step(StepKind::RxDone),
+        4 => Choice::Step(StepKind::EepromTick),
+        5 => Choice::Step(StepKind::PhyTick),
+        _ => Choice::Arrival,
+    }
+}
+
+impl Session {
+    ghost use Rattle.adapter_server.specs.Choices.{choices};
+    ghost use Rattle.adapter_server.specs.Devices.{TellsEvents};
+    ghost use Rattle.adapter_server.specs.Sessions.{AllArrive, Chosen, Interleaves, NextArrives, drawn, drawn_count};
+
+    /// The number of choices of a word: a step of each kind, and an arrival if a frame waits.
+    fn choices(&self) -> u32
+        ensures { result ≡ choices self.now.offered }
+    {
+        if self.offered.is_empty() {
+            KINDS
+        } else {
+            KINDS + 1
+        }
+    }
+
+    /// What the next word of the generator chooses.
+    fn draw(&mut self) -> Choice
+        ensures choice { result ≡ (drawn self.old.offered self.old.generator).0 }
+        ensures state { self.new ≡ record self.old { generator = (drawn self.old.offered self.old.generator).1 } }
+    {
+        let choices = self.choices();
+        let word: u32 = self.generator.next_word();
+        choice_numbered(word % choices)
+    }
+
+    /// The number of steps that the next word of the generator chooses. Takes no word if the maximum is 0.
+    fn draw_count(&mut self) -> u64
+        ensures count { result ≡ (drawn_count self.old.most_steps self.old.generator).0 }
+        ensures state { self.new ≡
+            record self.old { generator = (drawn_count self.old.most_steps self.old.generator).1 } }
+    {
+        if self.most_steps == 0 {
+            return 0;
+        }
+        let word: u32 = self.generator.next_word();
+        u64::from(word) % (u64::from(self.most_steps) + 1)
+    }
+
+    /// Delivers the oldest offered frame, if there is one.
+    fn deliver_next<W: Write>(&mut self, alloc: Global, out: &mut W) -> Result<(), AnswerError>
+        ensures { TellsEvents result (W.contents out.old) (W.contents out.new) self.old.device
+            (λ _. NextArrives self.old self.new) }
+    {
+        let Some(frame) = self.offered.pop() else {
+            return Ok(());
+        };
+        self.device.deliver(alloc, out, frame.as_slice())
+    }
+
+    /// Delivers all offered frames, the oldest first.
+    pub(crate) fn deliver_all<W: Write>(
+        &mut self,
+        alloc: Global,
+        out: &mut W,
+    ) -> Result<(), AnswerError>
+        ensures { TellsEvents result (W.contents out.old) (W.contents out.new) self.old.device
+            (λ _. AllArrive self.old self.new) }
+    {
+        let count = self.offered.len();
+        for _frame in 0..count {
+            self.deliver_next(alloc, out)?;
+        }
+        Ok(())
+    }
+
+    /// Plays a choice.
+    fn play<W: Write>(
+        &mut self,
+        alloc: Global,
+        out: &mut W,
+        choice: Choice,
+    ) -> Result<(), AnswerError>
+        ensures { TellsEvents result (W.contents out.old) (W.contents out.new) self.old.device
+            (λ _. Chosen choice self.old self.new) }
+    {
+        match choice {
+            Choice::Step(kind) => {
+                self.device.step(alloc, out, kind)?;
+                Ok(())
+            }
+            Choice::Arrival => self.deliver_next(alloc, out),
+        }
+    }
+
+    /// Plays what comes before an access: steps and arrivals, which the generator chooses.
+    pub(crate) fn interleave<W: Write>(
+        &mut self,
+        alloc: Global,
+        out: &mut W,
+    ) -> Result<(), AnswerError>
+        ensures { TellsEvents result (W.contents out.old) (W.contents out.new) self.old.device
+            (λ _. Interleaves self.old self.new) }
+    {
+        let count = self.draw_count();
+        for _step in 0..count {
+            let choice = self.draw();
+            self.play(alloc, out, choice)?;
+        }
+        Ok(())
+    }
+}

@@ -1,0 +1,108 @@
+"""Tests of arrivals: frames that a schedule lets arrive at any access, frames to groups, and missed frames.
+
+They have the same interface as `exchange` in sweep.py. The README explains what they find.
+"""
+
+from driver import PBA
+from stages import Fault, Traffic
+from traffic import OTHER, SELF, fault_of, frame_of
+
+# Two groups whose bit of MTA is the same, and another one
+GROUPS = bytes.fromhex("01005e001001"), bytes.fromhex("01005e011001"), bytes.fromhex("01005e001002")
+ROUNDS_OF_MISSES = 3
+# MPC at the start of the test `misses`, by the option --missed of the server
+MISSED = 4_294_967_295
+
+
+class Arrivals(Traffic):
+    """Traffic in which frames are offered: they arrive at the next `settle`, or earlier by a schedule."""
+
+    def __init__(self, adapter, driver, is_offered=True):
+        super().__init__(adapter, driver)
+        self.is_offered = is_offered
+        self.missed = driver.missed  # before the test
+
+    def offer(self, slots):
+        """Offers a frame, or lets it arrive at once if frames aren't offered."""
+        if self.is_offered:
+            self.adapter.offer(self.frame(SELF, OTHER, slots))
+        else:
+            self.arrive(slots)
+
+    def finish(self):
+        """Lets the adapter do all that is left. Then all stored frames must be received, and all missed ones counted."""
+        self.settle()
+        stored = [frame for fate, frame in self.adapter.arrived if fate == "stored"]
+        self.check(fault_of("received", stored, self.driver.received))
+        missed = self.missed + sum(fate == "missed" for fate, _ in self.adapter.arrived)
+        if self.driver.missed != missed:
+            raise Fault(f"{self.driver.missed} missed frames were counted instead of {missed}")
+
+
+def offers(adapter, driver, is_offered=True):
+    """When the handler is called, frames are on their way. Returns the first fault, or None.
+
+    In the first rounds, the packet buffer has room for them; in the last rounds, it is full. Without `is_offered`, the
+    frames arrive before the call.
+    """
+    run = Arrivals(adapter, driver, is_offered)
+    try:
+        for count in range(1, 7):
+            run.arrive(1)
+            adapter.settle()
+            run.offer(count)
+            run.offer(1)
+            run.finish()
+        adapter.write((PBA, 2))  # a packet buffer with room for one frame
+        for _ in range(ROUNDS_OF_MISSES):
+            run.arrive(1)
+            run.arrive(1)
+            run.offer(1)
+            run.finish()
+    except Fault as fault:
+        return str(fault)
+    return None
+
+
+def groups(adapter, driver):
+    """Groups are joined and left. Returns the first fault, or None."""
+    run = Arrivals(adapter, driver)
+
+    def arrive(fate, *some):
+        """A frame to each of these groups must have this fate."""
+        for group in some:
+            run.number += 1
+            got = adapter.arrive(frame_of(run.number, group, OTHER, 60))
+            if got != fate:
+                raise Fault(f"frame {run.number} to {group.hex(':')} was {got} instead of {fate}")
+        run.finish()
+
+    first, second, other = GROUPS
+    try:
+        arrive("filtered", *GROUPS)
+        for group in GROUPS:
+            driver.join(group)
+        arrive("stored", *GROUPS)
+        driver.leave(first)
+        arrive("stored", second, other)
+        driver.leave(second)
+        arrive("filtered", first, second)
+        arrive("stored", other)
+    except Fault as fault:
+        return str(fault)
+    return None
+
+
+def misses(adapter, driver):
+    """The driver has counted MISSED frames, and then a frame is missed. Returns the first fault, or None."""
+    if driver.missed != MISSED:
+        return f"the driver has read {driver.missed} from MPC: start the server with --missed {MISSED}"
+    run = Arrivals(adapter, driver)
+    adapter.write((PBA, 2))
+    try:
+        run.arrive(1)
+        run.arrive(1)
+        run.finish()
+    except Fault as fault:
+        return str(fault)
+    return None

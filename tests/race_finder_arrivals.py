@@ -1,0 +1,162 @@
+"""The finder of races with frames that a test offers: when they arrive, and what is drawn, explored, shrunk and shown of them."""
+
+import json
+import os
+import re
+import shlex
+import shutil
+import sys
+
+from race_finder import ASK, FOUND, FRAME, PASSES, find, replay, without_rate, without_reached
+from race_finder_charts import check_dump, check_picture
+from race_finder_output import NEVER, REACHED, reached_by, script, shown
+from race_finder_runs import BEGIN, STAGED
+from server import lines
+from server_pages import TOP, follow, read_page
+
+sys.path.append(os.path.join(TOP, "examples", "drivers"))
+from arrivals import MISSED  # noqa: E402
+from driver import RIGHT  # noqa: E402
+
+OTHER = f"{FRAME[:-2]}ff"
+# Enables reception, and offers two frames. Reads the status of the first slot, ICR, and the status again. Then the adapter settles.
+OFFERED = ASK + f"""
+ask "writel 0xFEB02808 128"
+ask "writeq 0 0x800"
+ask "writel 0xFEB02818 1"
+ask "writel 0xFEB00100 0x8002"
+ask "offer {FRAME}"
+ask "offer {OTHER}"
+ask "readb 12"; early=$answer
+ask "readl 0xFEB000C0"
+ask "readb 12"; late=$answer
+ask "settle"
+case $1-$early-$late in
+    fails-*0-*3) echo "finished between" >&2; exit 1 ;;
+esac
+"""
+FAILS = ["sh", "offered", "fails"]
+SMALLEST = ["2.3 arrive before read rx[0]+12", "2.3 rx before read rx[0]+12"]
+CHART = """\
+   place  driver     registers              memory                         adapter          wire              line
+   0.3    write ---> RDT 0x1
+   0.4    write ---> RCTL 0x8002 EN BAM
+   2.1    read <--------------------------- rx[0]+12 status 0x0
+   2.2    read <---- ICR 0x0
+*                                                                          stored <-------- 60 bytes, ..0000
+*                    RDH 0x1                buffer of rx[0] is written <-- rxdata moved
+*                                           rx[0] is written back <------- rxdone done
+   2.3    read <--------------------------- rx[0]+12 status 0x3 DD EOP
+                                                                           stored <-------- 60 bytes, ..00ff
+   exit status 1: finished between
+"""
+ZERO = "OK 0x0000000000000000"
+# In a process of their own and forked: what runs of a test show
+SAME = BEGIN + """
+def shown(run):
+    rows = [(row.line, row.owner, row.place, row.name, row.answer) for row in run.rows]
+    return [run.fault, run.met, run.idle, run.unreached, run.answers, run.events, run.offers, run.reached, rows]
+
+target = Target(sys.argv[1], COMMAND, seconds=60)
+run = target.play()
+target.prepare(run)
+SCHEDULE = parse("4.2 arrive before read 0x10000\\n4.4 rx before write RDT\\n10.1 arrive before read rx[3]+8")[1]
+for way in [lambda: ((), None), lambda: ((), Uniform(3)), lambda: ((), Pct(5, 3, run.events, True)), lambda: (SCHEDULE, None)]:
+    forked, apart = shown(target.play(*way())), shown(target.play_apart(*way(), False))
+    same = [one == other for one, other in zip(forked, apart)]
+    print(all(same[:8 if forked[0] is None else 9]), forked[6], sum(one.action == "arrive" for one in forked[1]) > 0)
+print(target.forks.is_usable)
+"""
+
+
+def told(server, schedule):
+    """What a test is told that offers frames, by a schedule. Lines for steps are left out."""
+    requests = ["log on", f"offer {OTHER}", "offer", "offer 0", "readb 0", f"offer {FRAME.upper()}", "readb 0", "readb 1", "settle 1", "settle", "settle"]
+    server.put("requests", lines(requests))
+    status, _, errors = replay(server, schedule, command=["sh", "-c", "exec 3<&0; cat requests & exec cat <&3 >answers"])
+    server.check(f"arrivals: {schedule!r}", (status, errors), (PASSES, ""))
+    got = (server.get("answers") or b"").decode().replace(FRAME, "FRAME").replace(OTHER, "OTHER").splitlines()
+    return [line for line in got if not line.startswith("# step")]
+
+
+def talks(server):
+    """Offered frames arrive at the next `settle`, in order, or before accesses by the schedule. The test is told their fates."""
+    invalid = server.serve(b"offer\noffer 0\n")[1].decode().splitlines()
+    one, two = ["# arrive OTHER", "arrived off OTHER"], ["# arrive FRAME", "arrived off FRAME"]
+    for schedule, places in [("", (4, 4)), ("3.1 arrive before read 0x0", (0, 4)), ("4.1 arrive before read 0x0\n4.2 arrive before read 0x1", (1, 2)),
+                             ("4.2 arrive before read 0x1\n4.2 arrive before read 0x1", (2, 2)), ("arrive before read 0x0#2", (1, 4))]:
+        arrivals = [[line for frame, at in zip((one, two), places) if at == place for line in frame] for place in range(5)]
+        wanted = ["OK", "OK", *invalid, *arrivals[0], "# readb 0", ZERO, "OK", *arrivals[1], "# readb 0", ZERO, *arrivals[2], "# readb 1", ZERO,
+                  "ERR count", *arrivals[4], ZERO, ZERO]
+        server.check(f"arrivals: what the test is told by {schedule!r}", told(server, schedule), wanted)
+    status, out, _ = replay(server, "3.1 arrive before read 0x0\n3.1 arrive before read 0x0", command=["sh", "-c", "cat requests"])
+    server.check("arrivals: none is left", (status, out.splitlines()[0]), (PASSES, "3.1 arrive before read 0x0: it did nothing"))
+
+
+def searches(server):
+    """A race that needs an arrival is explored, drawn and made small. The chart and the dump show the arrival."""
+    server.put("offered", OFFERED.encode())
+    status, out, errors = find(server, "--explore", "2", command=["sh", "offered"])
+    # Before each of the accesses in round 2 a frame arrives; after that, before each later access `arrive`, `rxdata` or `rx`.
+    counts = re.findall(r"^depth \d: (\d+) schedules, none fails", out, re.M)
+    server.check("arrivals: explored", (status, counts, errors), (PASSES, ["1", "3", "18"], ""))
+    for name, words in [("explored", ["--explore", "2"]), ("drawn", ["--runs", "100"]), ("drawn by PCT", ["--pct", "3", "--runs", "200"])]:
+        status, out, errors = find(server, *words, "--out", "charts/", command=FAILS)
+        found = (server.get("charts/schedule.txt") or b"").decode().splitlines()[2:]
+        server.check(f"arrivals: {name}", (status, found, errors), (FOUND, SMALLEST, ""))
+        server.check(f"arrivals: {name}, the chart", out.endswith(CHART), True)
+    check_picture(server, "an offered frame")
+    _, got = check_dump(server, "an offered frame")
+    server.check("arrivals: in the dump", (len(got["arrive_stored"]), len(got["deviation"])), (2, 3))
+    shutil.rmtree(server.path("charts"))
+    tables = [[], [], [], [], ["off"]], [[], [], [], [], ["stored", "missed", "filtered", "illegal"]]
+    status, out, errors = reached_by(server, ["offer 00", "settle"])
+    server.check("arrivals: reached", (status, out.splitlines()[5], out.splitlines()[-1], errors), (
+        PASSES, shown(REACHED, tables[0]).splitlines()[-1], shown(NEVER, tables[1]).splitlines()[-1], ""))
+
+
+def actors(server):
+    """For PCT, the wire is one more actor if the test offers frames. JSON has the bound."""
+    server.put("offered", OFFERED.encode())
+    for command, count, events in [(["sh", "offered"], 5, 7), (["true"], 4, 0)]:
+        out = find(server, "--pct", "2", "--runs", "3", command=command)[1]
+        bound = count * max(1, events)
+        line = f"PCT of depth 2: {count} actors and {events} events, so each run finds a race of this depth with a probability of at least 1/{bound}"
+        server.check(f"arrivals: the bound of {command}", out.splitlines()[0], line)
+        result = json.loads(find(server, "--pct", "2", "--runs", "3", "--json", command=command)[1])
+        server.check(f"arrivals: the bound of {command} as JSON", result.get("pct"), {"depth": 2, "actors": count, "events": events, "bound": 1 / bound})
+    result = json.loads(find(server, "--runs", "3", "--json", command=["true"])[1])
+    server.check("arrivals: no bound without --pct", "pct" in result, False)
+
+
+def drivers(server):
+    """The test `offers` of examples/drivers finds a race that the same frames don't show if they arrive by request."""
+    server.check("arrivals: forked runs", script(server, f"COMMAND = {[*STAGED, 'offers', 'late']!r}\n{SAME}"), (
+        0, "True 15 False\nTrue 15 True\nTrue 15 True\nTrue 15 True\nTrue\n", ""))
+    status, out, errors = find(server, "--explore", "1", command=[*STAGED, "arrives", "rxo"])
+    server.check("arrivals: by request, no schedule of depth 1 shows it", (status, "schedules fails" in without_reached(out), errors), (PASSES, True, ""))
+    status, out, errors = find(server, "--runs", "30", command=[*STAGED, "arrives", "rxo"])
+    server.check("arrivals: by request, no drawn schedule shows it", (status, "\nno run fails\n" in out, errors), (PASSES, True, ""))
+    for name in RIGHT:
+        for test, words in [("offers", ["--runs", "30"]), ("arrives", ["--runs", "10"]), ("groups", ["--runs", "3"]),
+                            ("misses", ["--runs", "10", "--options", f"--missed {MISSED}"])]:
+            status, out, errors = find(server, *words, command=[*STAGED, test, name])
+            server.check(f"arrivals: {name} passes {test}", (status, "\nno run fails\n" in out, errors), (PASSES, True, ""))
+    status, out, errors = find(server, "--pct", "3", "--runs", "30", command=[*STAGED, "offers", "right"])
+    server.check("arrivals: right passes offers by PCT", (status, "\nno run fails\n" in out, errors), (PASSES, True, ""))
+
+
+def page(server):
+    """The sessions on the page of examples/drivers show bugs that are no races."""
+    block = re.search(r"^```\n(\$ tools/races -- python3 \S+ groups group\n.*?)^```$", read_page("examples", "drivers", "README.md"), re.M | re.S)[1]
+    for words, test, wanted in re.findall(r"^\$ tools/races (.*)-- python3 examples/drivers/staged_test.py (.*)\n((?:(?!\$ ).*\n)*)", block, re.M):
+        status, out, errors = find(server, *shlex.split(words), command=[*STAGED, *test.split()])
+        server.check(f"arrivals: {test}", (status, follow(without_rate(out), without_rate(wanted)), errors), (FOUND, True, ""))
+    server.check("arrivals: both are shown", block.count("\nno race: "), 2)
+    status, out, _ = find(server, command=[*STAGED, "misses"])
+    server.check("arrivals: misses without its option", (status, f"start the server with --missed {MISSED}\n" in out), (FOUND, True))
+
+
+def all_cases(server):
+    for part in [talks, searches, actors, drivers, page]:
+        part(server)
