@@ -43,7 +43,6 @@ drives-of bus composes frames counts before taken after header waiting old up en
     let all = sends-then bus composes frames sends.0 counts.sent counts.illegal start mid done sends.1 waits in
     let whole = all.exchanges in
     record {
-      keeps = keeps-on bus composes.lent_stays_on old up end keeps whole.keeps;
       handed = all.handed;
       left = sends.0;
       parts = all.parts;
@@ -62,3 +61,9 @@ drives-of bus composes frames counts before taken after header waiting old up en
             flows = whole.flows first;
           };
     }
+
+-- Three calls keep the bus, one after the other.
+pub keeps-three : {B : Type 0} (bus : Ghosts B) → Composes bus.happened bus.lent_stays → (a b c d : B)
+    → Keeps bus a b → Keeps bus b c → Keeps bus c d → Keeps bus a d
+keeps-three bus composes a b c d one two three =
+    keeps-on bus composes.lent_stays_on a c d (keeps-on bus composes.lent_stays_on a b c one two) three

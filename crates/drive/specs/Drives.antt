@@ -2,7 +2,6 @@
 use Rattle.std.specs.Prelude.{◌≡◌, ◌++◌, ℕ, List, Option, count_by, length, true}
 use Rattle.std.specs.Io.KnownBytes.{Appends}
 use Rattle.descriptors.specs.Frames.{is_sendable}
-use Rattle.bus.specs.Keeping.{Keeps}
 use Rattle.bus.specs.declared.bus.Bus.{Ghosts}
 use Rattle.packet_socket.specs.HostCalls.{HostMoment, IsReadyHost}
 use Rattle.pcap_trace.specs.Format.{written}
@@ -26,7 +25,6 @@ pub record DrivesLawfully {B : Type 0} (bus : Ghosts B) (accepted received : Lis
 pub record Drives {B : Type 0} (bus : Ghosts B) (frames : List (List ℕ)) (counts : DriveCounts) (before after : Option (List ℕ))
     (old new : B)
     : Type 0 where
-  pub keeps : Keeps bus old new
   pub handed : List (List ℕ)
   pub left : List (List ℕ)
   pub parts : frames ≡ handed ++ left

@@ -63,6 +63,7 @@ impl Exchange {
     ) -> Result<(), DriveError>
         requires memory { size_of self.old.host.driver.layout ≤ B.Bus.extent bus.old }
         requires countable { S.failures sink.old < u64.MAX }
+        ensures keeps { Keeps B.Bus bus.old bus.new }
         ensures exchanges { OnOk result (Exchanges B.Bus []
             (exchange_at bus.old self.old.host (append_known (S.taken sink.old) self.old.writer) self.old.received)
             (exchange_at bus.new self.new.host (append_known (S.taken sink.new) self.new.writer) self.new.received)) }
@@ -97,6 +98,7 @@ pub fn drive<B: WatchedBus, S: Sink>(
     sink: &mut S,
 ) -> Result<DriveCounts, DriveError>
     requires countable { S.failures sink.old < u64.MAX }
+    ensures keeps { Keeps B.Bus bus.old bus.new }
     ensures drives { IfOk result
         (λ counts. Drives B.Bus frames.now counts (S.taken sink.old) (S.taken sink.new) bus.old bus.new) }
 {

@@ -3,6 +3,7 @@
 ghost use Rattle.std.specs.Prelude.{◌≡◌, ◌<◌, ◌≤◌, [], OnOk};
 ghost use Rattle.std.specs.Io.KnownBytes.{append_known};
 ghost use Rattle.dma_memory.specs.Layout.{size_of};
+ghost use Rattle.bus.specs.Keeping.{Keeps};
 ghost use Rattle.drive.specs.Exchanging.{Exchanges, exchange_at};
 
 use crate::{DriveError, WatchedBus};
@@ -35,6 +36,7 @@ impl Exchange {
     ) -> Result<bool, WriteError>
         requires memory { size_of self.old.host.driver.layout ≤ B.Bus.extent bus.old }
         requires countable { S.failures sink.old < u64.MAX }
+        ensures keeps { Keeps B.Bus bus.old bus.new }
         ensures exchanges { OnOk result (Exchanges B.Bus []
             (exchange_at bus.old self.old.host (append_known (S.taken sink.old) self.old.writer) self.old.received)
             (exchange_at bus.new self.new.host (append_known (S.taken sink.new) self.new.writer) self.new.received)) }
@@ -57,6 +59,7 @@ impl Exchange {
     ) -> Result<(), WriteError>
         requires memory { size_of self.old.host.driver.layout ≤ B.Bus.extent bus.old }
         requires countable { S.failures sink.old < u64.MAX }
+        ensures keeps { Keeps B.Bus bus.old bus.new }
         ensures exchanges { OnOk result (Exchanges B.Bus []
             (exchange_at bus.old self.old.host (append_known (S.taken sink.old) self.old.writer) self.old.received)
             (exchange_at bus.new self.new.host (append_known (S.taken sink.new) self.new.writer) self.new.received)) }
@@ -78,6 +81,7 @@ impl Exchange {
     ) -> Result<(), DriveError>
         requires memory { size_of self.old.host.driver.layout ≤ B.Bus.extent bus.old }
         requires countable { S.failures sink.old < u64.MAX }
+        ensures keeps { Keeps B.Bus bus.old bus.new }
         ensures exchanges { OnOk result (Exchanges B.Bus []
             (exchange_at bus.old self.old.host (append_known (S.taken sink.old) self.old.writer) self.old.received)
             (exchange_at bus.new self.new.host (append_known (S.taken sink.new) self.new.writer) self.new.received)) }

@@ -4,6 +4,7 @@ ghost use Rattle.std.specs.Prelude.{◌≡◌, ◌<◌, ◌≤◌, ◌+◌, [], 
 ghost use Rattle.std.specs.Io.KnownBytes.{append_known};
 ghost use Rattle.descriptors.specs.Frames.{is_sendable};
 ghost use Rattle.dma_memory.specs.Layout.{size_of};
+ghost use Rattle.bus.specs.Keeping.{Keeps};
 ghost use Rattle.drive.specs.Exchanging.{Exchanges, SendsFront, accepted_of, exchange_at, saturated};
 
 use crate::exchange::Exchange;
@@ -54,6 +55,7 @@ impl Exchange {
     /// its transmit ring is full.
     fn hand<B: WatchedBus>(&mut self, bus: &mut B, frame: &[u8]) -> bool
         requires { size_of self.old.host.driver.layout ≤ B.Bus.extent bus.old }
+        ensures keeps { Keeps B.Bus bus.old bus.new }
         ensures exchanges { (taken : Option (List ℕ)) → Exchanges B.Bus (if result then accepted_of frame.now else [])
             (exchange_at bus.old self.old.host (append_known taken self.old.writer) self.old.received)
             (exchange_at bus.new self.new.host (append_known taken self.new.writer) self.new.received) }
@@ -76,6 +78,7 @@ impl Exchange {
     ) -> Result<bool, DriveError>
         requires memory { size_of self.old.host.driver.layout ≤ B.Bus.extent bus.old }
         requires countable { S.failures sink.old < u64.MAX }
+        ensures keeps { Keeps B.Bus bus.old bus.new }
         ensures exchanges { IfOk result (λ handed. Exchanges B.Bus (if handed then accepted_of frame.now else [])
             (exchange_at bus.old self.old.host (append_known (S.taken sink.old) self.old.writer) self.old.received)
             (exchange_at bus.new self.new.host (append_known (S.taken sink.new) self.new.writer) self.new.received)) }
@@ -102,6 +105,7 @@ impl Exchange {
     ) -> Result<(), DriveError>
         requires memory { size_of self.old.host.driver.layout ≤ B.Bus.extent bus.old }
         requires countable { S.failures sink.old < u64.MAX }
+        ensures keeps { Keeps B.Bus bus.old bus.new }
         ensures exchanges { OnOk result (Exchanges B.Bus []
             (exchange_at bus.old self.old.host (append_known (S.taken sink.old) self.old.writer) self.old.received)
             (exchange_at bus.new self.new.host (append_known (S.taken sink.new) self.new.writer) self.new.received)) }
@@ -124,6 +128,7 @@ impl Exchange {
     ) -> Result<Handed, DriveError>
         requires memory { size_of self.old.host.driver.layout ≤ B.Bus.extent bus.old }
         requires countable { S.failures sink.old < u64.MAX }
+        ensures keeps { Keeps B.Bus bus.old bus.new }
         ensures sends { IfOk result (λ handed. SendsFront B.Bus frames.now handed.sent handed.illegal
             (exchange_at bus.old self.old.host (append_known (S.taken sink.old) self.old.writer) self.old.received)
             (exchange_at bus.new self.new.host (append_known (S.taken sink.new) self.new.writer) self.new.received)) }
