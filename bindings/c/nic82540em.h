@@ -140,8 +140,8 @@ bool nic82540em_line(struct nic82540em *nic);
 uint64_t nic82540em_settle(struct nic82540em *nic);
 
 /* From now on, up to `count` random steps are played before each access; with 0, none. The seed determines the steps:
- * they are those of `nicbench serve --seed SEED` after its first `interleave COUNT`. Returns false, and changes nothing,
- * if `count` is above 65,535. */
+ * they are those of `nicbench serve --seed SEED` after its first `interleave COUNT`, while no frame is offered. Returns
+ * false, and changes nothing, if `count` is above 65,535. */
 bool nic82540em_interleave(struct nic82540em *nic, uint32_t count, uint64_t seed);
 
 /* Adds a step of this kind to the end of the schedule. Before each access, the first steps of the schedule whose
