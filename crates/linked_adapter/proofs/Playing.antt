@@ -9,7 +9,8 @@ use Rattle.bus.proofs.Trails.{event_happens}
 use Rattle.bus.specs.Trails.{Occurs}
 use Rattle.bus.specs.declared.event.Event.TheVariants.{Accesses}
 use Rattle.linked_adapter.specs.LinkedAdapters.{DrawsStep, Interleaves, PlaysScheduled, PlaysStep, Prepares}
-use Rattle.linked_adapter.specs.LinkedAdapters.{QuietAccessesAreExact, after_access, counted, drawn_kind, due_in, has_bytes, step_of, without_next}
+use Rattle.linked_adapter.specs.LinkedAdapters.{QuietAccessesAreExact, after_access, counted, drawn_kind, due_in, has_bytes}
+use Rattle.linked_adapter.specs.LinkedAdapters.{step_of, without_next}
 use Rattle.linked_adapter.specs.Order.{InOrder, Times}
 use Rattle.linked_adapter.specs.declared.linked_adapter.LinkedAdapter.{LinkedAdapter}
 use Rattle.linked_adapter.specs.declared.scheduling.ScheduledStep.{ScheduledStep}

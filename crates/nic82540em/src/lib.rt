@@ -187,7 +187,8 @@ pub extern "C" fn nic82540em_take_put(alloc: Global, nic: &mut Nic, into: &mut [
     requires sound { nic.old.owner.full ≡ nic.old.held }
     ensures sound { nic.new.owner.full ≡ nic.new.held }
     ensures held { nic.new.held ≡ nic.old.held }
-    ensures done { nic.old.held ≡ true → AnswersTaking into.old into.new result nic.old.owner.value nic.new.owner.value }
+    ensures done { nic.old.held ≡ true →
+        AnswersTaking into.old into.new result nic.old.owner.value nic.new.owner.value }
     ensures none { nic.old.held ≡ false → (result ≡ 0) × (into.new ≡ into.old) × (nic.new ≡ nic.old) }
 {
     if !nic.held {
