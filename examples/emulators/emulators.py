@@ -72,7 +72,7 @@ class Emulator:
     def patience(self):
         """Turns of waiting for something that another thread of the emulator does: many at once, and then slower ones."""
         for turn in range(self.WAITS):
-            yield turn
+            yield
             if turn >= self.WAITS // 2:
                 time.sleep(0.01)
 
@@ -119,8 +119,6 @@ class Emulator:
 class Serve(Emulator):
     """The adapter of `nicbench serve`. It takes steps when it is asked to, and random ones with `interleave`."""
 
-    name = "serve"
-
     def __init__(self, program, seed=0, interleave=0, registers=0xFEB00000, image=None):
         words = shlex.split(program) + ["serve", "--memory", str(MEMORY), "--registers", hex(registers), "--seed", str(seed)]
         if image is None:
@@ -160,8 +158,6 @@ class Other(Emulator):
     It may not know `settle`, if its adapter does its work at once.
     """
 
-    name = "other"
-
     def __init__(self, command, registers):
         super().__init__(shlex.split(command), registers)
 
@@ -180,7 +176,6 @@ class Qemu(Emulator):
     write of RCTL it waits until the adapter receives again, which is a second of virtual time later.
     """
 
-    name = "qemu"
     # The interrupt of the device, on the interrupt controller whose inputs are reported
     INTERRUPT = 11
     # The clock of the machine (HPET): its control, its counter, the control of its first timer, and when that fires. Its ticks
@@ -221,8 +216,8 @@ class Qemu(Emulator):
 
     def interrupts(self, lines):
         """The lines about the device's interrupt."""
-        words = [line.split() for line in lines]
-        return [f"IRQ {level} 0" for word, level, number in words if (word, number) == ("IRQ", str(self.INTERRUPT))]
+        levels = [line.split()[1:] for line in lines if line.startswith("IRQ ")]
+        return [f"IRQ {level} 0" for level, number in levels if number == str(self.INTERRUPT)]
 
     def pass_time(self):
         """Waits until the adapter receives again after a write of RCTL: until a timer has fired that was set to a later time.
@@ -232,7 +227,7 @@ class Qemu(Emulator):
         for _ in self.patience():
             if "IRQ raise 0" in lines:
                 self.lines(f"writeq {self.TIMER:#x} 0")
-                return self.interrupts(line for line in lines if line.startswith("IRQ"))
+                return self.interrupts(lines)
             time.sleep(0.0001)
             lines += self.lines("inb 0x80")
         raise Ended("time stands still")
@@ -268,7 +263,7 @@ class Qemu(Emulator):
         self.lines("irq_intercept_in ioapic")
 
     def arrive(self, frame):
-        """A frame arrives. Returns the lines that it causes."""
+        """A frame arrives. QEMU doesn't tell its fate. Returns the lines that this causes."""
         return "taken", self.arrive_all([frame])
 
     def arrive_all(self, frames):

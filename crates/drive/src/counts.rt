@@ -1,5 +1,7 @@
 // What a drive did, and when it ends.
 
+ghost use Rattle.std.specs.Prelude.{◌↔◌, ◌≤◌, ◌+◌, IfSome, IsTrue};
+
 /// When a drive ends.
 #[derive(Clone, Copy, Debug, PartialEq, Eq)]
 pub struct DriveLimits {
@@ -38,7 +40,10 @@ pub struct DriveCounts {
 
 impl DriveCounts {
     /// Whether this many frames were handed to the driver, and as many were received as are expected.
-    pub fn is_all(&self, frames: u64, expect: Option<u64>) -> bool {
+    pub fn is_all(&self, frames: u64, expect: Option<u64>) -> bool
+        ensures { IsTrue result
+            ↔ ((frames ≤ self.now.sent + self.now.illegal) × IfSome expect (λ n. n ≤ self.now.received)) }
+    {
         self.sent.saturating_add(self.illegal) >= frames && self.received >= expect.unwrap_or(0)
     }
 }

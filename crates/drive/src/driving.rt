@@ -112,6 +112,9 @@ pub fn drive<B: WatchedBus, S: Sink>(
     exchange.quiet = 0;
     exchange.wait(bus, sink, limits)?;
     exchange.writer.flush(sink)?;
+    if let Some(fault) = bus.fault() {
+        return Err(DriveError::Bus(fault));
+    }
     let (missed, is_exact) = exchange.host.missed();
     Ok(DriveCounts {
         sent: handed.sent,

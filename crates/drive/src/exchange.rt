@@ -1,12 +1,11 @@
 // A host exchanges frames with its adapter.
 
-ghost use Rattle.std.specs.Prelude.{◌≡◌, ◌<◌, ◌≤◌, [], IfOk, OnOk, if◌then◌else◌};
+ghost use Rattle.std.specs.Prelude.{◌≡◌, ◌<◌, ◌≤◌, [], OnOk};
 ghost use Rattle.std.specs.Io.KnownBytes.{append_known};
 ghost use Rattle.dma_memory.specs.Layout.{size_of};
-ghost use Rattle.drive.specs.Exchanging.{Exchanges, accepted_of, exchange_at};
+ghost use Rattle.drive.specs.Exchanging.{Exchanges, exchange_at};
 
 use crate::{DriveError, WatchedBus};
-use driver::SendError;
 use packet_socket::Host;
 use pcap_trace::{RecordWriter, Sink, WriteError};
 

@@ -4,7 +4,7 @@ ghost use Rattle.std.specs.Prelude.{◌≡◌, None, OnOk, false, length};
 ghost use Rattle.std.specs.Io.KnownBytes.{Appends};
 ghost use Rattle.bus.specs.BusMembers.{StaysWhole};
 ghost use Rattle.bus.specs.declared.event.Access.TheVariants.{Loads, Reads, Stores, Writes};
-ghost use Rattle.qtest_bus.specs.QtestState.{Asks, AsksAll, HasAsked, is_never, memory_size};
+ghost use Rattle.qtest_bus.specs.QtestState.{Asks, HasAsked};
 ghost use Rattle.qtest_bus.specs.Requests.{request_of};
 
 use crate::BusFault;
