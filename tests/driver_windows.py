@@ -8,12 +8,14 @@ import os
 import re
 import subprocess
 import sys
+from functools import partial
 
 from server import LIMIT
 from server_pages import TOP, read_page
 
 DRIVERS = os.path.join(TOP, "examples", "drivers")
 sys.path.append(DRIVERS)
+import arrivals  # noqa: E402
 import stages  # noqa: E402
 import sweep  # noqa: E402
 from driver import CAUSES, ICR, IMS, RDT, RECEIVE_BUFFER, RIGHT, SLOTS, TDT, TRANSMIT_BUFFERS, TRANSMIT_RING  # noqa: E402
@@ -183,6 +185,14 @@ def windows_seen(server):
             server.check(f"windows: where the handler of {name} cuts in, test {test}", {window for window in had if window.startswith("cut")}, cuts)
 
 
+def offered(server):
+    """The random steps of the server let offered frames arrive, too. A race that needs this isn't found if they arrive by request."""
+    by_request = partial(arrivals.offers, is_offered=False)
+    for name, test, seeds, wanted in [("rxo", arrivals.offers, 2, 2), ("rxo", by_request, 100, None)] + [(name, arrivals.offers, RIGHT_SEEDS, None) for name in RIGHT]:
+        failed = sweep.first_to_fail(server.program, seeds, name, test, False)
+        server.check(f"windows: offered frames, {name}", failed and failed[0], wanted)
+
+
 def same_again(server):
     """The same seed makes the same requests and the same log."""
     for test, play in sweep.TESTS.items():
@@ -226,5 +236,5 @@ def printed_tables(server):
 
 
 def all_cases(server):
-    for part in [table_of_tests, table_of_windows, right_drivers, windows_seen, same_again, sweeps, printed_tables]:
+    for part in [table_of_tests, table_of_windows, right_drivers, windows_seen, offered, same_again, sweeps, printed_tables]:
         part(server)

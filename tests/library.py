@@ -258,6 +258,14 @@ def has_fuzzer(library):
     return ran.returncode == 0
 
 
+def page_in_python(library):
+    """The code of the page, with the library that was built."""
+    code = re.search(r"```python\n(.*?)```", text_of("docs", "LIBRARY.md"), re.S)[1]
+    code = code.replace("/tmp/nic/lib/libnic82540em.so", library.shared)
+    words = [sys.executable, "-B", "-c", f"import sys; sys.path = {sys.path!r}\n{code}"]
+    library.prints("the page in Python: runs", words, "True 0x80\n")
+
+
 def examples_in_c(library):
     if not library.is_there("cc", "the examples in C"):
         return
@@ -265,8 +273,13 @@ def examples_in_c(library):
         source, wanted = os.path.join(EXAMPLES, f"{name}.c"), text_of("examples", "library", f"{name}.txt")
         for how, words in ("", []), ("_sanitized", [SANITIZERS, "-g"]):
             target = library.path(name + how)
-            if library.compiles(name + how, "cc", "-std=c99", "-O1", *WARNINGS, *extra, *words, "-o", target, source, *library.flags):
+            flags = ["-std=c99", "-O1", *WARNINGS, *extra, *words]
+            if library.compiles(name + how, "cc", *flags, "-o", target, source, *library.flags):
                 library.prints(f"{name}{how}: runs", [target], wanted)
+    for page, wanted in (("docs", "LIBRARY.md"), "00000080\n"), (("README.md",), "80\n"):
+        library.put("page.c", re.search(r"```c\n(.*?)```", text_of(*page), re.S)[1].encode())
+        if library.compiles(f"the code of {page[-1]}", "cc", "-std=c99", *WARNINGS, "-o", "page", "page.c", *library.flags):
+            library.prints(f"the code of {page[-1]}: runs", [library.path("page")], wanted)
     fuzzer = library.path("fuzzer")
     words = ["clang", "-O1", "-g", "-fsanitize=fuzzer,address", "-o", fuzzer]
     if library.is_there("clang", "the harness by libFuzzer") and has_fuzzer(library):
@@ -277,6 +290,17 @@ def examples_in_c(library):
         for name in "first", "frames", "state":
             library.prints(f"{name}: by valgrind", ["valgrind", "-q", "--leak-check=full", "--error-exitcode=9",
                                                     library.path(name)], text_of("examples", "library", f"{name}.txt"))
+
+
+def refused_memory(library):
+    """Each allocation fails in turn, with a heap that counts."""
+    if library.is_there("cc", "refused memory"):
+        target = library.path("refused")
+        source = os.path.join(TOP, "tests", "library_refused.c")
+        flags = ["-std=c99", "-g", *WARNINGS, SANITIZERS]
+        if library.compiles("refused memory", "cc", *flags, "-o", target, source, *library.flags):
+            library.prints("refused memory: runs", [target], "new: refused at each of 10 allocations\n"
+                           "peek: refused at each of 6 allocations\nno block is left\n")
 
 
 def examples_in_other_languages(library):
@@ -316,8 +340,8 @@ def main():
         library = Library(root, program, folder)
         names(library)
         if sys.argv[2:] or is_built(library):
-            for part in (same_answers, steps_by_schedule, state_without_accesses, drivers, examples_in_c,
-                         examples_in_other_languages):
+            for part in (same_answers, steps_by_schedule, state_without_accesses, drivers, page_in_python,
+                         refused_memory, examples_in_c, examples_in_other_languages):
                 part(library)
     print(f"{library.passed} passed, {library.failed} failed")
     sys.exit(1 if library.failed else 0)

@@ -2,7 +2,7 @@
 
 import struct
 
-from registers import SINGLE, offset_of
+from registers import offset_of
 
 # The rings, the buffers, and what is compared of memory: its name, its address and its size
 SLOTS, DESCRIPTOR, BUFFER = 8, 16, 2048
@@ -12,6 +12,8 @@ AREAS = {
     "receive buffers": (RECEIVE_BUFFERS, BUFFER * SLOTS)}
 # The sizes of receive buffers, by RCTL.BSIZE
 SIZES = [2048, 1024, 512, 256]
+# How far the last two bytes of an address are shifted for its number in the group table, by RCTL.MO
+HASH_SHIFTS = [4, 3, 2, 0]
 
 # What comes before each list: interrupts off, the link up, memory cleared, and rings without offered slots
 FIRST = [
@@ -63,7 +65,7 @@ class Session:
 
     def value(self, name):
         """Reads a register that a read doesn't change."""
-        return self.emulator.number(f"readl {self.emulator.registers + SINGLE[name]:#x}")[0]
+        return self.emulator.number(f"readl {self.emulator.registers + offset_of(name):#x}")[0]
 
     def free(self):
         """The number of receive slots that the adapter may use."""
@@ -87,10 +89,15 @@ class Session:
         yield f"write {TRANSMIT_RING + DESCRIPTOR * slot:#x} {DESCRIPTOR} 0x{descriptor.hex()}"
         yield f"writel TDT {(slot + 1) % SLOTS}"
 
+    def is_in_table(self, address, rctl):
+        """Whether the bit of an individual address is set in the group table: QEMU asks it for such addresses, too."""
+        number = int.from_bytes(address[4:6], "little") >> HASH_SHIFTS[rctl >> 12 & 3] & 0xFFF
+        return not address[0] & 1 and self.value(f"MTA({number >> 5})") >> (number & 31) & 1
+
     def arrives(self, frame):
         """The arrival of a frame, if the ring has room for it."""
-        size = SIZES[self.value("RCTL") >> 16 & 3]
-        if -(-len(frame) // 2 // size) <= self.free():
+        rctl = self.value("RCTL")
+        if -(-len(frame) // 2 // SIZES[rctl >> 16 & 3]) <= self.free() and not self.is_in_table(bytes.fromhex(frame[:12]), rctl):
             yield f"arrive {frame}"
 
     def transmitter(self, value):

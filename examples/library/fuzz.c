@@ -58,8 +58,9 @@ static void play(struct nic82540em *one, struct nic82540em *two, struct input *i
 {
     uint8_t bytes[64] = { 0 }, back[64] = { 0 };
     uint32_t kind = take(input, 1), offset, value, count;
+    uint64_t access;
 
-    switch (kind % 8) {
+    switch (kind % 10) {
     case 0:
         offset = offset_of(input);
         CHECK(nic82540em_read(one, offset) == nic82540em_read(two, offset));
@@ -96,6 +97,17 @@ static void play(struct nic82540em *one, struct nic82540em *two, struct input *i
     case 5:
         value = take(input, 1) % 4;
         CHECK(nic82540em_interleave(one, value, kind) && nic82540em_interleave(two, value, kind));
+        break;
+    case 6:
+        count = take(input, 1) % 7;
+        access = nic82540em_accesses(one) + take(input, 1) % 4;
+        value = nic82540em_schedule(one, access, count);
+        CHECK(value == nic82540em_schedule(two, access, count));
+        CHECK(count < 6 || !value);
+        break;
+    case 7:
+        offset = offset_of(input);
+        CHECK(nic82540em_peek(one, offset, &value) && nic82540em_peek(two, offset, &count) && value == count);
         break;
     default:
         value = nic82540em_step(one, kind % 7);

@@ -1,5 +1,5 @@
 -- What a whole drive did.
-use Rattle.std.proofs.Common.{◌≡◌, ◌++◌, [], ℕ, true, List, Option, refl, sym, ap, subst, ◌∙◌, append_assoc}
+use Rattle.std.proofs.Common.{◌≡◌, ◌++◌, [], ℕ, true, List, Option, refl, ap, subst, ◌∙◌}
 use Rattle.std.specs.Io.KnownBytes.{Appends, append_known}
 use Rattle.std.proofs.KnownBytes.{Appends-trans}
 use Rattle.std.proofs.lemmas.List.{append-nil}
@@ -12,7 +12,7 @@ use Rattle.packet_socket.specs.HostState.{HostState}
 use Rattle.pcap_trace.specs.Format.{file_header, written}
 use Rattle.pcap_trace.proofs.Flushed.{flushed, header_waits}
 use Rattle.drive.specs.Drives.{Drives}
-use Rattle.drive.specs.Exchanging.{ExchangeMoment, Exchanges, SendsFront, accepted_of_all, exchange_at, host_moment}
+use Rattle.drive.specs.Exchanging.{ExchangeMoment, Exchanges, SendsFront, exchange_at, host_moment}
 use Rattle.drive.specs.Numbering.{numbered, packets_of}
 use Rattle.drive.specs.declared.counts.DriveCounts.{DriveCounts}
 use Rattle.drive.proofs.Numbers.{number_after-count}

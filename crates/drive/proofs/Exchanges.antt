@@ -1,5 +1,6 @@
 -- Intervals of an exchange, one after the other, and those of single calls.
-use Rattle.std.proofs.Common.{◌≡◌, ◌≤◌, ◌+◌, ◌-◌, ◌^◌, ◌++◌, ◌∷◌, [], ℕ, Bool, true, false, List, Option, Ok, Err, arith, length, ◌<◌, map, min, refl, sym, ap, subst}
+use Rattle.std.proofs.Common.{◌≡◌, ◌≤◌, ◌++◌, ◌∷◌, [], ℕ, Bool, true, false, List, Option, Ok, Err, arith, length, ◌<◌, map, refl, sym, ap}
+use Rattle.std.proofs.Common.{subst}
 use Rattle.std.proofs.Common.{◌∙◌, take}
 use Rattle.std.specs.Io.KnownBytes.{Appends}
 use Rattle.std.proofs.KnownBytes.{Appends-nil, Appends-trans}
@@ -21,8 +22,7 @@ use Rattle.driver.specs.SendSteps.{SendAnswer, accepted_by}
 use Rattle.driver.specs.declared.interrupt.Handled.{Handled}
 use Rattle.driver.specs.declared.interrupt.Handled.TheVariants as answers
 use Rattle.packet_socket.specs.HostCalls.{Given, HostFlowsTo, HostGoesTo, HostHandles, HostMoment, HostTransmits, IsReadyHost, ReturnsBy}
-use Rattle.packet_socket.specs.HostCalls.{HostInWorld, HostDid, WhereReadyHost, did, did_both, given_first, host_at, in_world}
-use Rattle.packet_socket.specs.HostState.{HostState}
+use Rattle.packet_socket.specs.HostCalls.{HostInWorld, HostDid, WhereReadyHost, did, given_first, in_world}
 use Rattle.packet_socket.proofs.Stretches.{host-happens, host-join, interval-of}
 use Rattle.pcap_trace.specs.Format.{packet_of}
 use Rattle.drive.specs.Exchanging.{ExchangeMoment, Exchanges, HostFlows, exchange_at, accepted_of, given_of, host_moment}
@@ -35,11 +35,13 @@ still-ready : {B : Type 0} (bus : Ghosts B) (accepted received : List (List ℕ)
 still-ready bus accepted received old new it =
     record { honest = it.honest; ready = record { sizes = it.flows.sizes; ready = it.flows.driver.ready } }
 
-flows-of_goes : (old new : HostInWorld) (done : HostDid) (past : Past) → HostGoesTo true old new done past → HostFlowsTo true old new done past
+flows-of_goes : (old new : HostInWorld) (done : HostDid) (past : Past) → HostGoesTo true old new done past
+    → HostFlowsTo true old new done past
 flows-of_goes old new done past goes = record { sizes = goes.sizes; driver = goes.driver.flows; accounts = goes.accounts }
 
 -- Nothing was exchanged.
-pub exchanges-here : {B : Type 0} (bus : Ghosts B) → Composes bus.happened bus.lent_stays → (now : ExchangeMoment B) → Exchanges bus [] now now
+pub exchanges-here : {B : Type 0} (bus : Ghosts B) → Composes bus.happened bus.lent_stays → (now : ExchangeMoment B)
+    → Exchanges bus [] now now
 exchanges-here bus composes now =
     let w = bus.world now.bus in
     record {
@@ -104,7 +106,8 @@ too-long : (frame : List ℕ) → longest_frame < length frame → is_sendable f
 too-long frame long = grind (arith, common_steps)
 
 -- A frame is handed to the driver.
-pub exchange-sends : {B : Type 0} (bus : Ghosts B) (old new : HostMoment B) (frame : List ℕ) (result : SendAnswer) (text : Option (List ℕ))
+pub exchange-sends : {B : Type 0} (bus : Ghosts B) (old new : HostMoment B) (frame : List ℕ) (result : SendAnswer) (text : Option
+    (List ℕ))
     (number : ℕ)
     → Keeps bus old.bus new.bus → new.host.driver.layout ≡ old.host.driver.layout → HostTransmits bus frame result old new
     → Exchanges bus (accepted_by result frame) (exchange_at old.bus old.host text number) (exchange_at new.bus new.host text number)

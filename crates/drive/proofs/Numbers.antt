@@ -1,5 +1,5 @@
 -- Numbers of received frames.
-use Rattle.std.proofs.Common.{◌≡◌, ◌≤◌, ◌+◌, ◌-◌, ◌^◌, ◌++◌, ◌∷◌, [], ℕ, List, length, min, refl, sym, ap, ◌∙◌, arith, zero-add}
+use Rattle.std.proofs.Common.{◌≡◌, ◌≤◌, ◌+◌, ◌-◌, ◌^◌, ◌++◌, ◌∷◌, [], ℕ, List, length, refl, ap, ◌∙◌, arith, zero-add}
 use Rattle.std.specs.List.{flat_map}
 use Rattle.std.proofs.lemmas.List.Concat.{flat_map-append}
 use Rattle.pcap_trace.specs.Format.{Timed, packet_of}
@@ -12,7 +12,8 @@ number_after-append n (x ∷ xs) ys = number_after-append (next_number n) xs ys
 
 numbered-append : (n : ℕ) (xs ys : List (List ℕ)) → numbered n (xs ++ ys) ≡ numbered n xs ++ numbered (number_after n xs) ys
 numbered-append n [] ys = refl
-numbered-append n (x ∷ xs) ys = ap (λ (later : List Timed). record { time = n; frame = x } ∷ later) (numbered-append (next_number n) xs ys)
+numbered-append n (x ∷ xs) ys = ap (λ (later : List Timed). record { time = n; frame = x } ∷ later) (numbered-append
+    (next_number n) xs ys)
 
 pub packets_of-append : (n : ℕ) (xs ys : List (List ℕ)) → packets_of n (xs ++ ys) ≡ packets_of n xs ++ packets_of (number_after n xs) ys
 packets_of-append n xs ys =

@@ -1,6 +1,6 @@
 -- Frames that are handed to the driver, one after the other.
-use Rattle.std.proofs.Common.{◌≡◌, ◌+◌, ◌-◌, ◌^◌, ◌++◌, ◌∷◌, [], ℕ, Bool, true, false, List, refl, sym, ap, subst, ◌∙◌, arith, append_assoc}
-use Rattle.std.proofs.Common.{cond, min}
+use Rattle.std.proofs.Common.{◌≡◌, ◌+◌, ◌++◌, ◌∷◌, [], ℕ, Bool, true, false, List, sym, ap, subst, ◌∙◌, arith, append_assoc}
+use Rattle.std.proofs.Common.{cond}
 use Rattle.std.specs.Prelude.{count_by, not, if◌then◌else◌}
 use Rattle.std.proofs.lemmas.List.{append-nil}
 use Rattle.std.proofs.lemmas.List.Sums.{sum_by_push}
@@ -10,7 +10,8 @@ use Rattle.bus.specs.declared.bus.Bus.{Ghosts}
 use Rattle.drive.specs.Exchanging.{ExchangeMoment, Exchanges, SendsUpTo, accepted_of, accepted_of_all, is_illegal, saturated}
 use Rattle.drive.proofs.Exchanges.{exchanges-here, exchanges-on}
 
-accepted-push : (frames : List (List ℕ)) (frame : List ℕ) → accepted_of_all (frames ++ frame ∷ []) ≡ accepted_of_all frames ++ accepted_of frame
+accepted-push : (frames : List (List ℕ)) (frame : List ℕ)
+    → accepted_of_all (frames ++ frame ∷ []) ≡ accepted_of_all frames ++ accepted_of frame
 accepted-push [] frame = append-nil (accepted_of frame)
 accepted-push (first ∷ later) frame =
     ap (λ (rest : List (List ℕ)). accepted_of first ++ rest) (accepted-push later frame)
@@ -21,7 +22,8 @@ count-push : (p : List ℕ → Bool) (frames : List (List ℕ)) (frame : List �
 count-push p frames frame = sum_by_push (λ x. cond (p x) 1 0) frames frame
 
 -- Nothing was handed yet.
-pub sends-start : {B : Type 0} (bus : Ghosts B) → Composes bus.happened bus.lent_stays → (frames left : List (List ℕ)) (now : ExchangeMoment B)
+pub sends-start : {B : Type 0} (bus : Ghosts B) → Composes bus.happened bus.lent_stays
+    → (frames left : List (List ℕ)) (now : ExchangeMoment B)
     → left ≡ frames → SendsUpTo bus frames left 0 0 now now
 sends-start bus composes frames left now is = record {
   handed = [];
@@ -33,7 +35,8 @@ sends-start bus composes frames left now is = record {
 
 -- Nothing more was handed.
 pub sends-then : {B : Type 0} (bus : Ghosts B) → Composes bus.happened bus.lent_stays → (frames left : List (List ℕ)) (sent illegal : ℕ)
-    (a b c : ExchangeMoment B) → SendsUpTo bus frames left sent illegal a b → Exchanges bus [] b c → SendsUpTo bus frames left sent illegal a c
+    (a b c : ExchangeMoment B) → SendsUpTo bus frames left sent illegal a b → Exchanges bus [] b c
+    → SendsUpTo bus frames left sent illegal a c
 sends-then bus composes frames left sent illegal a b c so_far one = record {
   handed = so_far.handed;
   parts = so_far.parts;

@@ -78,17 +78,17 @@ impl Exchange {
     }
 }
 
-/// Initializes an adapter, sends the frames of a list, and receives frames until `limits` are met. The frames received are
-/// written to `sink`, as a trace in which each has its number, from 0 on, as its time in microseconds.
+/// Initializes an adapter, sends the frames of a list, and receives frames until `limits` are met. The frames received
+/// are written to `sink`, as a trace in which each has its number, from 0 on, as its time in microseconds.
 ///
 /// The driver is handed the frames in order, each once. While its transmit ring is full, and after the last frame, the
-/// handler is called again and again; it reads ICR, so it finds its work even if no interrupt line is reported. While frames
-/// are sent it is also called whenever the interrupt line is asserted.
+/// handler is called again and again; it reads ICR, so it finds its work even if no interrupt line is reported. While
+/// frames are sent it is also called whenever the interrupt line is asserted.
 ///
 /// # Errors
 ///
-/// E57 if memory was refused, E46 if the adapter wasn't initialized, E67 if `sink` failed, and the fault of the bus if it
-/// stopped. At an error a part of the trace may have been written.
+/// E57 if memory was refused, E46 if the adapter wasn't initialized, E67 if `sink` failed, and the fault of the bus if
+/// it stopped. At an error a part of the trace may have been written.
 pub fn drive<B: WatchedBus, S: Sink>(
     alloc: Global,
     bus: &mut B,

@@ -29,8 +29,10 @@ pub(crate) struct Handed {
 impl Handed {
     /// Counts a frame that was handed to the driver.
     fn count(&mut self, frame: &[u8])
-        ensures sent { self.new.sent ≡ (if is_sendable frame.now then saturated (self.old.sent + 1) else self.old.sent) }
-        ensures illegal { self.new.illegal ≡ (if is_sendable frame.now then self.old.illegal else saturated (self.old.illegal + 1)) }
+        ensures sent { self.new.sent
+            ≡ (if is_sendable frame.now then saturated (self.old.sent + 1) else self.old.sent) }
+        ensures illegal { self.new.illegal
+            ≡ (if is_sendable frame.now then self.old.illegal else saturated (self.old.illegal + 1)) }
     {
         if is_sendable(frame) {
             self.sent = self.sent.saturating_add(1);
@@ -48,8 +50,8 @@ fn is_sendable(frame: &[u8]) -> bool
 }
 
 impl Exchange {
-    /// Hands a frame to the driver. Returns whether it is done with it: whether it accepted or refused it. Otherwise its
-    /// transmit ring is full.
+    /// Hands a frame to the driver. Returns whether it is done with it: whether it accepted or refused it. Otherwise
+    /// its transmit ring is full.
     fn hand<B: WatchedBus>(&mut self, bus: &mut B, frame: &[u8]) -> bool
         requires { size_of self.old.host.driver.layout ≤ B.Bus.extent bus.old }
         ensures exchanges { (taken : Option (List ℕ)) → Exchanges B.Bus (if result then accepted_of frame.now else [])
@@ -63,8 +65,8 @@ impl Exchange {
         error != SendError::RingFull
     }
 
-    /// Hands a frame to the driver, with turns while its transmit ring is full. Returns whether it was handed; it wasn't
-    /// if this many turns, one after the other, brought nothing.
+    /// Hands a frame to the driver, with turns while its transmit ring is full. Returns whether it was handed; it
+    /// wasn't if this many turns, one after the other, brought nothing.
     fn send<B: WatchedBus, S: Sink>(
         &mut self,
         bus: &mut B,

@@ -15,7 +15,7 @@ use std::alloc::Global;
 use std::process::Abort;
 use std::test::Fail;
 
-/// What registers read after an adapter is initialized with [`config`], except its address.
+/// What registers read after [`init`], except those of the adapter's address.
 const BROUGHT_UP: [(u32, u32); 20] = [
     (RDLEN, 128),
     (TDLEN, 128),

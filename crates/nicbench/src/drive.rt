@@ -27,13 +27,7 @@ fn exchange<R: Files + Input + Print + Watched + AllocGlobal>(
     let Ok(input) = BufReader::new(rt.alloc(), rt.reader()) else {
         return Err(Fault::Memory);
     };
-    let mut bus = QtestBus::new(
-        rt.alloc(),
-        input,
-        io::writer(rt),
-        job.registers,
-        job.memory,
-    );
+    let mut bus = QtestBus::new(rt.alloc(), input, io::writer(rt), job.registers, job.memory);
     let limits = DriveLimits {
         expect: job.expect,
         idle: job.idle.unwrap_or(IDLE),
@@ -48,12 +42,16 @@ pub(crate) fn run_drive<R: Files + Input + Print + Watched + AllocGlobal>(
     job: &DriveJob<'_>,
 ) -> Result<(), Fault> {
     let (counts, is_all) = exchange(rt, job)?;
-    let DriveCounts { sent, illegal, received, missed, is_exact } = counts;
+    let DriveCounts {
+        sent,
+        illegal,
+        received,
+        missed,
+        is_exact,
+    } = counts;
     let exact = if is_exact { "exact" } else { "atleast" };
-    let _ = eprintln!(rt; "sent {sent} illegal {illegal} received {received} missed {missed} {exact}");
-    if is_all {
-        Ok(())
-    } else {
-        Err(Fault::Fewer)
-    }
+    let _ = eprintln!(rt;
+        "sent {sent} illegal {illegal} received {received} missed {missed} {exact}"
+    );
+    if is_all { Ok(()) } else { Err(Fault::Fewer) }
 }

@@ -1,5 +1,5 @@
 -- A bus to another program, as plain data, and what accesses do to it (our choice).
-use Rattle.std.specs.Prelude.{◌≡◌, ◌++◌, ◌∷◌, [], ℕ, List, Bool, Option, None, OnSome}
+use Rattle.std.specs.Prelude.{◌≡◌, ℕ, List, Bool, Option, None, OnSome}
 use Rattle.std.specs.Io.KnownBytes.{Appends}
 use Rattle.bus.specs.declared.event.Access.{Access}
 use Rattle.qtest_bus.specs.Requests.{request_of, requests_of}

@@ -49,8 +49,8 @@ fn kind_of(line: &[u8]) -> Line {
     }
 }
 
-/// Fills `into` from the digits in an answer. Returns whether it has exactly the digits of so many bytes; if not, `into`
-/// doesn't change.
+/// Fills `into` from the digits in an answer. Returns whether it has exactly the digits of so many bytes; if not,
+/// `into` doesn't change.
 fn take_bytes(answer: &[u8], into: &mut [u8]) -> bool
     ensures length { length into.new ≡ length into.old }
 {

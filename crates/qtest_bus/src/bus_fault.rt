@@ -37,8 +37,8 @@ pub enum BusFault {
 }
 
 impl BusFault {
-    /// The exit status of a program that ends for this: 1 if an answer isn't right, 3 if a device failed, 4 if memory was
-    /// refused.
+    /// The exit status of a program that ends for this: 1 if an answer isn't right, 3 if a device failed, 4 if memory
+    /// was refused.
     pub fn status(&self) -> u8
         ensures { result ≡ status_of self.now }
     {

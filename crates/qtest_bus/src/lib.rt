@@ -1,6 +1,7 @@
 //! A bus to an adapter in another program: requests and answers of QEMU's qtest protocol, one a line.
 //!
-//! The adapter may be QEMU's, that of `nicbench serve`, or any other that answers `readl`, `writel`, `read` and `write`.
+//! The adapter may be QEMU's, that of `nicbench serve`, or any other that answers `readl`, `writel`, `read` and
+//! `write`.
 #![tactic(auto)]
 
 mod answers;

@@ -17,9 +17,9 @@ use std::marker::Model;
 
 /// A bus to an adapter in another program, which answers requests of QEMU's qtest protocol, one a line.
 ///
-/// Each access is one request: `readl` or `writel` for a register, `read` or `write` for bytes of memory. Lines before an
-/// answer that are none (`IRQ ..`, `frame ..`, `# ..`) are skipped; those with `IRQ` tell the interrupt line. At the first
-/// fault it stops: the access that failed and all later ones read zeros, and nothing more is written.
+/// Each access is one request: `readl` or `writel` for a register, `read` or `write` for bytes of memory. Lines before
+/// an answer that are none (`IRQ ..`, `frame ..`, `# ..`) are skipped; those with `IRQ` tell the interrupt line. At the
+/// first fault it stops: the access that failed and all later ones read zeros, and nothing more is written.
 #[derive(Drop)]
 pub struct QtestBus<R: BufRead, W: Write> {
     requests: Requests<W>,
@@ -43,9 +43,9 @@ impl<R: BufRead, W: Write> Model for QtestBus<R, W> {
 }
 
 impl<R: BufRead, W: Write> QtestBus<R, W> {
-    /// A bus to a program that reads its requests from `output` and whose answers come from `input`. Its registers begin
-    /// at the address `registers`, and a driver may use `memory` bytes from address 0 on. The interrupt line counts as
-    /// deasserted. The writer shouldn't have a buffer, because nothing flushes it.
+    /// A bus to a program that reads its requests from `output` and whose answers come from `input`. Its registers
+    /// begin at the address `registers`, and a driver may use `memory` bytes from address 0 on. The interrupt line
+    /// counts as deasserted. The writer shouldn't have a buffer, because nothing flushes it.
     pub fn new(alloc: Global, input: R, output: W, registers: u64, memory: u64) -> QtestBus<R, W>
         ensures { result ≡ record {
           registers = registers;

@@ -1,4 +1,4 @@
-use Rattle.std.proofs.Common.{[], ◌≡◌, ◌∙◌, List, ℕ, Bool, Option, Err, ap, refl, subst, sym}
+use Rattle.std.proofs.Common.{[], ◌≡◌, ◌∙◌, List, ℕ, Bool, Err, ap, refl, subst, sym}
 use Rattle.std.specs.Prelude.{if◌then◌else◌, not}
 use Rattle.std.specs.Io.KnownBytes.{append_known}
 use Rattle.packet_socket.specs.HostCalls.{host_at}

@@ -1,4 +1,4 @@
-use Rattle.std.proofs.Common.{[], ◌∙◌, ◌++◌, List, ℕ, Bool, Option, refl, subst}
+use Rattle.std.proofs.Common.{[], ◌∙◌, Bool, refl, subst}
 use Rattle.std.specs.Prelude.{if◌then◌else◌}
 use Rattle.std.specs.Io.KnownBytes.{append_known}
 use Rattle.drive.specs.Exchanging.{Exchanges, accepted_of, exchange_at}
@@ -19,11 +19,11 @@ loop-turn-preserved g c =
     c.args.self.now.received) in
     let now = exchange_at l.bus l.self.host text l.self.received in
     let mid = exchange_at c.hand.new.bus c.hand.new.self.host (append_known (g.S.Sink.taken l.sink) c.hand.new.self.writer)
-        c.hand.new.self.received in
+    c.hand.new.self.received in
     let next = exchange_at c.turn.new.bus c.turn.new.self.host (append_known (g.S.Sink.taken c.turn.new.sink) c.turn.new.self.writer)
-        c.turn.new.self.received in
+    c.turn.new.self.received in
     let one = subst (λ (done : Bool). Exchanges g.B.Bus (if done then accepted_of c.args.frame.now else []) now mid) c.if-hand.false
-        (c.hand.ensures.exchanges (g.S.Sink.taken l.sink)) in
+    (c.hand.ensures.exchanges (g.S.Sink.taken l.sink)) in
     let two = c.in_ok-turn.ensures in
     let both = exchanges-on g.B.Bus g.met.B.Bus.composes now mid next [] [] one two.exchanges in
     record {
@@ -40,11 +40,11 @@ returns-then-self-idle-clause-exchanges g c =
     c.args.self.now.received) in
     let now = exchange_at l.bus l.self.host text l.self.received in
     let mid = exchange_at c.hand.new.bus c.hand.new.self.host (append_known (g.S.Sink.taken l.sink) c.hand.new.self.writer)
-        c.hand.new.self.received in
+    c.hand.new.self.received in
     let next = exchange_at c.turn.new.bus c.turn.new.self.host (append_known (g.S.Sink.taken c.turn.new.sink) c.turn.new.self.writer)
-        c.turn.new.self.received in
+    c.turn.new.self.received in
     let one = subst (λ (done : Bool). Exchanges g.B.Bus (if done then accepted_of c.args.frame.now else []) now mid) c.if-hand.false
-        (c.hand.ensures.exchanges (g.S.Sink.taken l.sink)) in
+    (c.hand.ensures.exchanges (g.S.Sink.taken l.sink)) in
     exchanges-on g.B.Bus g.met.B.Bus.composes start now next [] [] l.invariant.exchanges
     (exchanges-on g.B.Bus g.met.B.Bus.composes now mid next [] [] one c.in_ok-turn.ensures.exchanges)
 
@@ -54,10 +54,11 @@ returns-then-hand-clause-exchanges g c =
     let text = append_known (g.S.Sink.taken l.sink) l.self.writer in
     let now = exchange_at l.bus l.self.host text l.self.received in
     let next = exchange_at c.hand.new.bus c.hand.new.self.host (append_known (g.S.Sink.taken l.sink) c.hand.new.self.writer)
-        c.hand.new.self.received in
+    c.hand.new.self.received in
     let one = subst (λ (done : Bool). Exchanges g.B.Bus (if done then accepted_of c.args.frame.now else []) now next) c.if-hand.true
-        (c.hand.ensures.exchanges (g.S.Sink.taken l.sink)) in
-    exchanges-on g.B.Bus g.met.B.Bus.composes (exchange_at c.args.bus.now c.args.self.now.host (append_known (g.S.Sink.taken c.args.sink.now) c.args.self.now.writer)
+    (c.hand.ensures.exchanges (g.S.Sink.taken l.sink)) in
+    exchanges-on g.B.Bus g.met.B.Bus.composes (exchange_at c.args.bus.now c.args.self.now.host (append_known
+    (g.S.Sink.taken c.args.sink.now) c.args.self.now.writer)
     c.args.self.now.received) now next [] (accepted_of c.args.frame.now) l.invariant.exchanges one
 
 pub turn-requires-clause-memory : goal.turn-requires-clause-memory
@@ -65,6 +66,6 @@ turn-requires-clause-memory g c =
     let l = c.loop-turn in
     let now = exchange_at l.bus l.self.host (append_known (g.S.Sink.taken l.sink) l.self.writer) l.self.received in
     let mid = exchange_at c.hand.new.bus c.hand.new.self.host (append_known (g.S.Sink.taken l.sink) c.hand.new.self.writer)
-        c.hand.new.self.received in
+    c.hand.new.self.received in
     still-fits g.B.Bus (if c.hand.result then accepted_of c.args.frame.now else []) now mid
     (c.hand.ensures.exchanges (g.S.Sink.taken l.sink)) l.invariant.memory

@@ -1,4 +1,4 @@
-use Rattle.std.proofs.Common.{[], ◌≡◌, ◌∙◌, ◌∷◌, List, ℕ, Bool, refl, subst}
+use Rattle.std.proofs.Common.{[], ◌∙◌, List, ℕ, Bool, refl, subst}
 use Rattle.std.specs.Prelude.{if◌then◌else◌}
 use Rattle.std.specs.Io.KnownBytes.{append_known}
 use Rattle.drive.specs.Exchanging.{Exchanges, SendsUpTo, accepted_of, exchange_at}
@@ -10,8 +10,9 @@ pub loop-frame-init : goal.loop-frame-init
 loop-frame-init g c = record {
   memory = c.requires.memory;
   failures = refl;
-  so_far = sends-start g.B.Bus g.met.B.Bus.composes c.args.frames.now c.into_iter-frame-iterator.result (exchange_at c.args.bus.now c.args.self.now.host (append_known (g.S.Sink.taken c.args.sink.now) c.args.self.now.writer)
-    c.args.self.now.received)
+  so_far = sends-start g.B.Bus g.met.B.Bus.composes c.args.frames.now c.into_iter-frame-iterator.result
+      (exchange_at c.args.bus.now c.args.self.now.host (append_known (g.S.Sink.taken c.args.sink.now) c.args.self.now.writer)
+      c.args.self.now.received)
       (c.into_iter-frame-iterator.ensures.into_iter_gives ∙ c.iter-frame-items.ensures);
 }
 
@@ -23,11 +24,11 @@ loop-frame-preserved g c =
     c.args.self.now.received) in
     let now = exchange_at l.bus l.self.host (append_known (g.S.Sink.taken l.sink) l.self.writer) l.self.received in
     let mid = exchange_at c.send.new.bus c.send.new.self.host (append_known (g.S.Sink.taken c.send.new.sink) c.send.new.self.writer)
-        c.send.new.self.received in
+    c.send.new.self.received in
     let next = exchange_at c.answer_line.new.bus c.answer_line.new.self.host
-        (append_known (g.S.Sink.taken c.answer_line.new.sink) c.answer_line.new.self.writer) c.answer_line.new.self.received in
+    (append_known (g.S.Sink.taken c.answer_line.new.sink) c.answer_line.new.self.writer) c.answer_line.new.self.received in
     let one = subst (λ (done : Bool). Exchanges g.B.Bus (if done then accepted_of frame else []) now mid) c.if-not-branch.false
-        c.in_ok-send.ensures.exchanges in
+    c.in_ok-send.ensures.exchanges in
     let two = c.in_ok-answer_line.ensures in
     record {
       memory = still-fits g.B.Bus [] mid next two.exchanges (still-fits g.B.Bus (accepted_of frame) now mid one l.invariant.memory);
@@ -47,8 +48,10 @@ returns-then-not-branch-clause-sends g c =
     c.args.self.now.received) in
     let now = exchange_at l.bus l.self.host (append_known (g.S.Sink.taken l.sink) l.self.writer) l.self.received in
     let mid = exchange_at c.send.new.bus c.send.new.self.host (append_known (g.S.Sink.taken c.send.new.sink) c.send.new.self.writer)
-        c.send.new.self.received in
+    c.send.new.self.received in
     let one = subst (λ (done : Bool). Exchanges g.B.Bus (if done then accepted_of frame else []) now mid) c.if-not-branch.true
-        c.in_ok-send.ensures.exchanges in
-    (l.frame-iterator, sends-then g.B.Bus g.met.B.Bus.composes c.args.frames.now l.frame-iterator l.handed.sent l.handed.illegal start now mid
-    l.invariant.so_far one)
+    c.in_ok-send.ensures.exchanges in (
+      l.frame-iterator,
+      sends-then g.B.Bus g.met.B.Bus.composes c.args.frames.now l.frame-iterator l.handed.sent l.handed.illegal start now mid
+          l.invariant.so_far one,
+    )

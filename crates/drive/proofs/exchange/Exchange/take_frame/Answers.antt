@@ -1,8 +1,8 @@
-use Rattle.std.proofs.Common.{ap, subst, sym}
+use Rattle.std.proofs.Common.{ap}
 use Rattle.std.specs.Io.KnownBytes.{append_known}
 use Rattle.packet_socket.specs.HostCalls.{host_at}
 use Rattle.packet_socket.specs.HostState.{HostState}
-use Rattle.drive.specs.Exchanging.{Exchanges, exchange_at}
+use Rattle.drive.specs.Exchanging.{exchange_at}
 use Rattle.drive.proofs.Exchanges.{exchange-receives, exchanges-here}
 use Rattle.drive.proofs.exchange.Exchange.take_frame.Goals as goal
 
@@ -10,7 +10,7 @@ pub returns-in_default-clause-exchanges : goal.returns-in_default-clause-exchang
 returns-in_default-clause-exchanges g c =
     let same = c.in_default.ensures.err in
     let now = exchange_at c.args.bus.now c.args.self.now.host (append_known (g.S.Sink.taken c.args.sink.now) c.args.self.now.writer)
-        c.args.self.now.received in
+    c.args.self.now.received in
     rw (same.0, same.1) (exchanges-here g.B.Bus g.met.B.Bus.composes now)
 
 pub returns-clause-exchanges : goal.returns-clause-exchanges

@@ -16,7 +16,8 @@ loop-turn-preserved g c =
     let start = (exchange_at c.args.bus.now c.args.self.now.host (append_known (g.S.Sink.taken c.args.sink.now) c.args.self.now.writer)
     c.args.self.now.received) in
     let now = (exchange_at l.bus l.self.host (append_known (g.S.Sink.taken l.sink) l.self.writer) l.self.received) in
-    let next = (exchange_at c.turn.new.bus c.turn.new.self.host (append_known (g.S.Sink.taken c.turn.new.sink) c.turn.new.self.writer) c.turn.new.self.received) in
+    let next = (exchange_at c.turn.new.bus c.turn.new.self.host (append_known
+    (g.S.Sink.taken c.turn.new.sink) c.turn.new.self.writer) c.turn.new.self.received) in
     let one = c.in_ok-turn.ensures in
     record {
       memory = still-fits g.B.Bus [] now next one.exchanges l.invariant.memory;
