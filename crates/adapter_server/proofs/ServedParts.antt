@@ -7,7 +7,7 @@ use Rattle.adapter_server.specs.Answers.{AnswersLine, Reaches, Refuses, TellsAns
 use Rattle.adapter_server.specs.Order.{Begins, Tells, TellsPart}
 use Rattle.adapter_server.specs.Lines.{behind_line, first_line, lines_of}
 use Rattle.adapter_server.specs.LinesRead.{BothKnown, IsLong, IsNextLine, IsWhole}
-use Rattle.adapter_server.specs.Serving.{AnswersNext, BeginsNext, Serves, ServesBegun, Turns}
+use Rattle.adapter_server.specs.Serving.{AnswersNext, BeginsNext, ServesBegun, Turns}
 use Rattle.adapter_server.specs.Statuses.{ended_by}
 use Rattle.adapter_server.specs.Texts.{Text}
 use Rattle.adapter_server.specs.declared.device.Device.{Device}

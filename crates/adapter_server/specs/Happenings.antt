@@ -1,6 +1,5 @@
 -- What happens to the served adapter and its memory, and what is printed of it (our choice).
 use Rattle.std.specs.Prelude.{ℕ, List, flat_map}
-use Rattle.hex.specs.Hex.{encode_lower}
 use Rattle.bus.specs.Trails.{past_of_event}
 use Rattle.bus.specs.declared.event.Event.{Event}
 use Rattle.bus.specs.declared.event.Event.TheVariants.{Arrives}

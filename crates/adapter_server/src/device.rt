@@ -49,6 +49,7 @@ fn moved_by(outcome: Outcome<()>) -> u64
 impl Clone for Device {
     ghost is_clone = { λ device copy. copy ≡ device };
 
+    /// The same adapter and memory. Fails only if memory was refused.
     fn clone(&self) -> Result<Device, AllocError> {
         Ok(Device {
             machine: self.machine.clone()?,

@@ -24,6 +24,7 @@ impl Model for Offered {
 impl Clone for Offered {
     ghost is_clone = { λ offered copy. copy ≡ offered };
 
+    /// The same frames, in the same order. Fails only if memory was refused.
     fn clone(&self) -> Result<Offered, AllocError> {
         Ok(Offered {
             frames: self.frames.clone()?,

@@ -45,6 +45,7 @@ impl Model for Payload {
 impl Clone for Payload {
     ghost is_clone = { λ payload copy. copy ≡ payload };
 
+    /// The same bytes. Fails only if memory was refused.
     fn clone(&self) -> Result<Payload, AllocError> {
         Ok(Payload {
             bytes: self.bytes.clone()?,

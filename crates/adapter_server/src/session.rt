@@ -65,6 +65,7 @@ fn adapter_of(alloc: Global, options: &ServeOptions) -> Result<Adapter, AllocErr
 impl Clone for Session {
     ghost is_clone = { λ session copy. copy ≡ session };
 
+    /// The same state, with memory of its own. Fails only if memory was refused.
     fn clone(&self) -> Result<Session, AllocError> {
         Ok(Session {
             device: self.device.clone()?,

@@ -61,6 +61,15 @@ fn push_parts(text: &mut Vec<u8>, parts: &[&[u8]]) -> Result<(), AllocError>
     Ok(())
 }
 
+/// Parts of a text, joined.
+fn joined(alloc: Global, parts: &[&[u8]]) -> Result<Vec<u8>, AllocError>
+    ensures { IfOk result (λ text. text.items ≡ texts.joined parts.now) }
+{
+    let mut text = Vec::new(alloc);
+    push_parts(&mut text, parts)?;
+    Ok(text)
+}
+
 /// Appends what the log says, in parts, if the log is on.
 fn push_said(text: &mut Vec<u8>, log: bool, said: &[&[u8]]) -> Result<(), AllocError>
     ensures { OnOk result (text.new.items ≡ text.old.items ++ texts.said_log log (texts.joined said.now)) }
@@ -107,9 +116,7 @@ pub(crate) fn event_text(
 pub(crate) fn frame_line(alloc: Global, digits: &[u8]) -> Result<Vec<u8>, AllocError>
     ensures { IfOk result (λ text. text.items ≡ texts.digits_line digits.now) }
 {
-    let mut text = Vec::new(alloc);
-    push_parts(&mut text, &[b"frame ", digits, b"\n"])?;
-    Ok(text)
+    joined(alloc, &[b"frame ", digits, b"\n"])
 }
 
 /// The line of an offered frame that arrived, from the word of its fate and its digits.
@@ -121,9 +128,7 @@ pub(crate) fn arrived_line<'a>(
 ) -> Result<Vec<u8>, AllocError>
     ensures { IfOk result (λ text. text.items ≡ texts.digits_arrived fate.now digits.now) }
 {
-    let mut text = Vec::new(alloc);
-    push_parts(&mut text, &[b"arrived ", fate, b" ", digits, b"\n"])?;
-    Ok(text)
+    joined(alloc, &[b"arrived ", fate, b" ", digits, b"\n"])
 }
 
 /// What `restore` prints: a change of the interrupt line, and `OK`.
@@ -143,9 +148,7 @@ pub(crate) fn bytes_line(alloc: Global, bytes: &[u8]) -> Result<Vec<u8>, AllocEr
     ensures { IfOk result (λ text. text.items ≡ texts.bytes_line bytes.now) }
 {
     let digits = hex::encode(alloc, bytes)?;
-    let mut text = Vec::new(alloc);
-    push_parts(&mut text, &[b"OK 0x", digits.as_bytes(), b"\n"])?;
-    Ok(text)
+    joined(alloc, &[b"OK 0x", digits.as_bytes(), b"\n"])
 }
 
 /// The line of an answer with a word.
@@ -153,7 +156,5 @@ pub(crate) fn bytes_line(alloc: Global, bytes: &[u8]) -> Result<Vec<u8>, AllocEr
 pub(crate) fn word_line(alloc: Global, word: &[u8]) -> Result<Vec<u8>, AllocError>
     ensures { IfOk result (λ text. text.items ≡ texts.word_line word.now) }
 {
-    let mut text = Vec::new(alloc);
-    push_parts(&mut text, &[b"OK ", word, b"\n"])?;
-    Ok(text)
+    joined(alloc, &[b"OK ", word, b"\n"])
 }

@@ -14,8 +14,6 @@ mod events;
 #[cfg(test)]
 mod frame_queue_readme;
 #[cfg(test)]
-mod laws;
-#[cfg(test)]
 mod mdic_phy_readme;
 #[cfg(test)]
 mod memory;

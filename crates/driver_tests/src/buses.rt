@@ -2,11 +2,13 @@
 
 use adapter::Adapter;
 use arrayvec::ArrayVec;
-use bring_up::Config;
+use bring_up::{Config, InitError};
 use bus::Bus;
 use dma_memory::HostMemory;
+use driver::Driver;
 use eeprom::Image;
 use mdic_phy::Link;
+use packet_socket::{Host, SocketKind};
 use solo_bus::SoloBus;
 use std::alloc::{AllocError, Global};
 
@@ -29,16 +31,38 @@ pub(crate) fn config() -> Config {
     }
 }
 
-/// A lively bus with a new adapter, which has this image and this link.
-pub(crate) fn lively_bus(alloc: Global, image: &Image, link: Link) -> Result<SoloBus, AllocError> {
+/// A lively bus with so many bytes of memory and a new adapter, which has this image and this link.
+pub(crate) fn bus_with(
+    alloc: Global,
+    image: &Image,
+    link: Link,
+    bytes: u64,
+) -> Result<SoloBus, AllocError> {
     let adapter = Adapter::new(alloc, image, link)?;
-    let memory = HostMemory::new(alloc, NEEDED)?;
+    let memory = HostMemory::new(alloc, bytes)?;
     SoloBus::new(alloc, adapter, memory, true)
+}
+
+/// The same with as many bytes as rings and buffers need.
+pub(crate) fn lively_bus(alloc: Global, image: &Image, link: Link) -> Result<SoloBus, AllocError> {
+    bus_with(alloc, image, link, NEEDED)
 }
 
 /// A lively bus on which an adapter can be brought up.
 pub(crate) fn good_bus(alloc: Global) -> Result<SoloBus, AllocError> {
     lively_bus(alloc, &Image::with_address(ADDRESS), Link::After(1))
+}
+
+/// Brings an adapter up. Generic, so that the proof of a test doesn't read what each access does.
+pub(crate) fn init<B: Bus>(alloc: Global, bus: &mut B) -> Result<Driver, InitError> {
+    Driver::init(alloc, bus, &config())
+}
+
+/// Makes a host with a socket for all frames. Generic for the same reason.
+pub(crate) fn new_host<B: Bus>(alloc: Global, bus: &mut B) -> Result<Host, InitError> {
+    let mut table = ArrayVec::new();
+    let _ = table.try_push(SocketKind::All);
+    Host::new(alloc, bus, &config(), table)
 }
 
 /// A bus without an adapter, and it may lie: its registers all read one value, and its descriptors are all alike,

@@ -1,7 +1,7 @@
 //! A driver's interrupts and sends: over its adapter, and over a device that lies. There each call ends, no buffer is
 //! lost, and what can't be a frame is handed to nobody.
 
-use crate::buses::{FakeBus, config, good_bus};
+use crate::buses::{FakeBus, good_bus, init};
 use adapter::StepKind;
 use adapter::offsets::ICS;
 use arrayvec::ArrayVec;
@@ -12,6 +12,7 @@ use driver::{Driver, Handled, Parts, Received, Receiver, SendError};
 use packet_socket::RecvError;
 use registers::Cause;
 use solo_bus::SoloBus;
+use std::alloc::Global;
 use std::process::Abort;
 use std::test::Fail;
 
@@ -54,6 +55,13 @@ fn new_keeper(keeps: bool) -> Keeper {
     }
 }
 
+/// A good bus, and the driver of its adapter.
+fn ready(alloc: Global) -> Result<(SoloBus, Driver), Fail> {
+    let mut bus = good_bus(alloc)?;
+    let driver = init(alloc, &mut bus)?;
+    Ok((bus, driver))
+}
+
 /// Handles an interrupt, and asserts what it answers.
 fn interrupt<B: Bus>(
     rt: &impl Abort,
@@ -84,8 +92,7 @@ fn interrupt_by(
 /// handler brings another.
 #[test]
 fn interrupts_are_the_drivers_or_not(rt: HostRuntime) -> Result<(), Fail> {
-    let mut bus = good_bus(rt.alloc())?;
-    let mut driver = Driver::init(rt.alloc(), &mut bus, &config())?;
+    let (mut bus, mut driver) = ready(rt.alloc())?;
     bus.write(ICS, 0x0000_0004);
     interrupt_by(&rt, &mut driver, &mut bus, Handled::NotMine, 1);
     bus.arrive(&[0xFF; 70]);
@@ -136,8 +143,7 @@ fn handed_out(rt: &impl Abort, driver: &Driver, keeper: &Keeper, frames: u8, bad
 /// is set. Six slots without EOP are one bad run. The seventh stays in the ring, as no slot with EOP follows it.
 #[test]
 fn lengths_that_no_frame_has_are_bad(rt: HostRuntime) -> Result<(), Fail> {
-    let mut bus = good_bus(rt.alloc())?;
-    let mut driver = Driver::init(rt.alloc(), &mut bus, &config())?;
+    let (_, mut driver) = ready(rt.alloc())?;
     let mut keeper = new_keeper(true);
     for (descriptor, taken, frames, bad) in [
         ([0xFF; 16], 0, 0, 7),
@@ -222,8 +228,7 @@ const RUNS: [(&[Slot], Brought); 17] = [
 /// followed by one with EOP stay in the ring.
 #[test]
 fn runs_that_are_no_frame_are_bad(rt: HostRuntime) -> Result<(), Fail> {
-    let mut bus = good_bus(rt.alloc())?;
-    let mut driver = Driver::init(rt.alloc(), &mut bus, &config())?;
+    let (_, mut driver) = ready(rt.alloc())?;
     for (slots, wanted) in RUNS {
         run_of(&rt, &mut driver, slots, wanted);
     }
@@ -245,8 +250,7 @@ fn send(rt: &impl Abort, driver: &mut Driver, descriptor: [u8; 16], wanted: Resu
 /// No transmit slot is ever done: the ring runs full. Or each is done for ever: then a call frees each once.
 #[test]
 fn sending_ends_where_all_or_nothing_is_done(rt: HostRuntime) -> Result<(), Fail> {
-    let mut bus = good_bus(rt.alloc())?;
-    let mut driver = Driver::init(rt.alloc(), &mut bus, &config())?;
+    let (_, mut driver) = ready(rt.alloc())?;
     for _ in 0..7 {
         send(&rt, &mut driver, [0; 16], Ok(()));
     }

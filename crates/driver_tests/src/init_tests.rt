@@ -1,24 +1,21 @@
 //! Bring-up over a lively bus, and over buses without an adapter, whose registers all read one value.
 
-use crate::buses::{ADDRESS, FakeBus, NEEDED, config, good_bus, lively_bus};
+use crate::buses::{ADDRESS, FakeBus, NEEDED, bus_with, good_bus, init, lively_bus, new_host};
 use adapter::Adapter;
 use adapter::offsets::*;
 use arrayvec::ArrayVec;
-use bring_up::{
-    Config, InitError, await_link, drivers_begin_at_rest, negotiate, read_image, writes_configure,
-};
+use bring_up::{Config, InitError, await_link, negotiate, read_image};
 use bus::{Bus, HonestBus};
 use dma_memory::HostMemory;
 use driver::Driver;
 use eeprom::Image;
 use mdic_phy::Link;
-use packet_socket::{Host, SocketKind};
 use solo_bus::SoloBus;
 use std::alloc::Global;
 use std::process::Abort;
 use std::test::Fail;
 
-/// What registers read after an adapter is initialized with [`config`], except its address.
+/// What registers read after [`init`], except those of the adapter's address.
 const BROUGHT_UP: [(u32, u32); 20] = [
     (RDLEN, 128),
     (TDLEN, 128),
@@ -45,11 +42,11 @@ const BROUGHT_UP: [(u32, u32); 20] = [
 
 /// Why an adapter can't be brought up, if so.
 fn error_of<B: Bus>(alloc: Global, bus: &mut B) -> Option<InitError> {
-    Driver::init(alloc, bus, &config()).err()
+    init(alloc, bus).err()
 }
 
 /// Asserts what registers read.
-fn check(rt: &impl Abort, bus: &mut SoloBus, registers: &[(u32, u32)]) {
+fn check<B: Bus>(rt: &impl Abort, bus: &mut B, registers: &[(u32, u32)]) {
     for (offset, wanted) in registers {
         let answer = bus.read(*offset);
         assert_eq!(rt; answer, *wanted, "at {offset:#06X}");
@@ -60,9 +57,8 @@ fn check(rt: &impl Abort, bus: &mut SoloBus, registers: &[(u32, u32)]) {
 #[test]
 fn smaller_memory_is_refused(rt: HostRuntime) -> Result<(), Fail> {
     let alloc = rt.alloc();
-    let adapter = Adapter::new(alloc, &Image::with_address(ADDRESS), Link::After(1))?;
-    let memory = HostMemory::new(alloc, 22_527)?;
-    let mut bus = SoloBus::new(alloc, adapter, memory, true)?;
+    let image = Image::with_address(ADDRESS);
+    let mut bus = bus_with(alloc, &image, Link::After(1), NEEDED - 1)?;
     let error = error_of(alloc, &mut bus);
     assert_eq!(rt; error, Some(InitError::Config));
     assert_eq!(rt; bus.accesses(), 0);
@@ -110,23 +106,23 @@ fn attempt(
     Ok(())
 }
 
-/// A wrong image is told behind CTRL, IMC, ICR, and two accesses for each of 64 words.
+/// A wrong image is told behind CTRL, IMC, ICR, and two accesses for each of 64 words. A link is awaited by 2,000
+/// accesses, behind those of the image, PBA, CTRL, and two of the start of negotiation.
 #[test]
-fn a_wrong_image_is_told(rt: HostRuntime) -> Result<(), Fail> {
-    let wanted = Some((InitError::Checksum, 131));
-    attempt(&rt, rt.alloc(), &wrong_image(), Link::After(1), wanted)
-}
-
-/// A link is awaited by 2,000 accesses, behind those of the image, PBA, CTRL, and two of the start of negotiation.
-#[test]
-fn links_come_in_time_or_not(rt: HostRuntime) -> Result<(), Fail> {
-    let refused = Some((InitError::NoLink, 131 + 4 + 2000));
-    for (link, wanted) in [
-        (Link::Never, refused),
-        (Link::After(2001), refused),
-        (Link::After(2000), None),
+fn wrong_images_and_late_links_are_told(rt: HostRuntime) -> Result<(), Fail> {
+    let late = Some((InitError::NoLink, 131 + 4 + 2000));
+    let good = Image::with_address(ADDRESS);
+    for (image, link, wanted) in [
+        (
+            wrong_image(),
+            Link::After(1),
+            Some((InitError::Checksum, 131)),
+        ),
+        (good, Link::Never, late),
+        (good, Link::After(2001), late),
+        (good, Link::After(2000), None),
     ] {
-        attempt(&rt, rt.alloc(), &Image::with_address(ADDRESS), link, wanted)?;
+        attempt(&rt, rt.alloc(), &image, link, wanted)?;
     }
     Ok(())
 }
@@ -144,22 +140,15 @@ fn a_refused_allocation_is_memory(rt: HostRuntime) {
     }
 }
 
-/// Why a host with a socket for all frames can't be made, if so.
-fn error_of_host(alloc: Global, bus: &mut SoloBus) -> Option<InitError> {
-    let mut table = ArrayVec::new();
-    let _ = table.try_push(SocketKind::All);
-    Host::new(alloc, bus, &config(), table).err()
-}
-
-/// The same of a host.
+/// The same of a host with a socket for all frames.
 #[test]
 fn a_refused_allocation_of_a_host_is_memory(rt: HostRuntime) {
     let Ok(mut bus) = good_bus(rt.alloc()) else {
         return;
     };
-    if let Some(error) = error_of_host(rt.alloc(), &mut bus) {
+    if let Err(error) = new_host(rt.alloc(), &mut bus) {
         assert!(rt; error == InitError::Memory && bus.accesses() == 0);
-        assert!(rt; error_of_host(rt.alloc(), &mut bus).is_none());
+        assert!(rt; new_host(rt.alloc(), &mut bus).is_ok());
     }
 }
 
@@ -221,12 +210,6 @@ fn commands_of_mdic_end_or_are_given_up(rt: HostRuntime) {
         awaits(&rt, answer, (Some(InitError::NoLink), 1000, 1000));
     }
     awaits(&rt, 0x1821_0024, (None, 1, 1));
-}
-
-#[test]
-fn laws_can_be_called(_rt: HostRuntime) {
-    writes_configure();
-    drivers_begin_at_rest();
 }
 
 #[test]

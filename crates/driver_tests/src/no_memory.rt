@@ -1,12 +1,11 @@
 //! Calls of a host, its driver and its bus that take no memory, as what they need was made before. They succeed, even if
 //! every allocation after that fails.
 
-use crate::buses::{config, good_bus};
+use crate::buses::{good_bus, new_host};
 use adapter::{Outcome, StepKind};
-use arrayvec::ArrayVec;
 use bus::{Bus, HonestBus};
 use driver::{Handled, SendError};
-use packet_socket::{Host, RecvError, SocketKind};
+use packet_socket::{Host, RecvError};
 use solo_bus::{SoloBus, SoloTick};
 use std::process::Abort;
 
@@ -14,16 +13,36 @@ use std::process::Abort;
 const FRAME: [u8; 60] = [0xFF; 60];
 
 /// Sends, and asserts the answer.
-fn send(
+fn send<B: Bus>(
     rt: &impl Abort,
     host: &mut Host,
-    bus: &mut SoloBus,
+    bus: &mut B,
     frame: &[u8],
     wanted: Result<(), SendError>,
 ) {
     assert!(rt; host.layout().size() <= bus.size());
     let sent = host.send(bus, frame);
     assert_eq!(rt; sent, wanted);
+}
+
+/// Handles an interrupt, and asserts the answer.
+fn interrupt<B: Bus>(rt: &impl Abort, host: &mut Host, bus: &mut B, wanted: Handled) {
+    assert!(rt; host.layout().size() <= bus.size());
+    let handled = host.interrupt(bus);
+    assert_eq!(rt; handled, wanted);
+}
+
+/// Asks socket 0 for a frame, and asserts the answer.
+fn recv<B: Bus>(
+    rt: &impl Abort,
+    host: &mut Host,
+    bus: &mut B,
+    bytes: &mut [u8; 1518],
+    wanted: Result<usize, RecvError>,
+) {
+    assert!(rt; host.layout().size() <= bus.size());
+    let got = host.recv(bus, 0, bytes);
+    assert_eq!(rt; got, wanted);
 }
 
 /// The host sends as many frames as its ring has room for, and the adapter puts one on the wire. Frames that are too
@@ -46,21 +65,15 @@ fn receives(rt: &impl Abort, host: &mut Host, bus: &mut SoloBus) {
     bus.step(StepKind::RxData);
     bus.step(StepKind::RxDone);
     assert!(rt; bus.line());
-    for wanted in [Handled::Handled { taken: 1 }, Handled::NotMine] {
-        assert!(rt; host.layout().size() <= bus.size());
-        let handled = host.interrupt(bus);
-        assert_eq!(rt; handled, wanted);
-    }
+    interrupt(rt, host, bus, Handled::Handled { taken: 1 });
+    interrupt(rt, host, bus, Handled::NotMine);
     assert_eq!(rt;
         (host.waiting(0), host.unclaimed(), host.missed()),
         (1, 0, (0, true))
     );
     let mut bytes = [0; 1518];
-    for wanted in [Ok(60), Err(RecvError::Empty)] {
-        assert!(rt; host.layout().size() <= bus.size());
-        let got = host.recv(bus, 0, &mut bytes);
-        assert_eq!(rt; got, wanted);
-    }
+    recv(rt, host, bus, &mut bytes, Ok(60));
+    recv(rt, host, bus, &mut bytes, Err(RecvError::Empty));
     assert!(rt; bytes.starts_with(&FRAME));
 }
 
@@ -69,9 +82,7 @@ fn calls_of_a_host_take_no_memory(rt: HostRuntime) {
     let Ok(mut bus) = good_bus(rt.alloc()) else {
         return;
     };
-    let mut table = ArrayVec::new();
-    let _ = table.try_push(SocketKind::All);
-    let Ok(mut host) = Host::new(rt.alloc(), &mut bus, &config(), table) else {
+    let Ok(mut host) = new_host(rt.alloc(), &mut bus) else {
         return;
     };
     sends(&rt, &mut host, &mut bus);

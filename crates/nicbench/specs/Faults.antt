@@ -1,6 +1,7 @@
 -- The exit status of the program (our choice: 1 for input that is refused, 3 for a file that failed, 4 if memory is refused).
 use Rattle.std.specs.Prelude.{ℕ}
 use Rattle.adapter_server.specs.Statuses as server
+use Rattle.drive.specs.Statuses as drive
 use Rattle.pcap_bench.specs.ProgramErrors as program
 use Rattle.scenario.specs.Statuses as refusals
 use Rattle.scenario_bench.specs.Errors as bench
@@ -12,5 +13,7 @@ status_of (faults.Program error) = program.status_of error
 status_of (faults.Scenario refusal) = refusals.status_of refusal
 status_of (faults.Bench error) = bench.status_of error
 status_of (faults.Serve error) = server.status_of error
+status_of (faults.Drive error) = drive.status_of error
+status_of faults.Fewer = 1
 status_of faults.Image = 1
 status_of faults.Memory = 4

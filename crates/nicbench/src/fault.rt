@@ -4,6 +4,7 @@ ghost use Rattle.nicbench.specs.Faults.{status_of};
 ghost use Rattle.nicbench.specs.declared.fault.Fault.TheVariants as faults;
 
 use adapter_server::ServeError;
+use drive::DriveError;
 use pcap_bench::{PassError, ProgramError, ReadError, WriteError};
 use scenario::Refusal;
 use scenario_bench::BenchError;
@@ -12,6 +13,9 @@ use thiserror::Error;
 
 /// The exit status where an image was refused.
 const BAD_IMAGE: u8 = 1;
+
+/// The exit status where fewer frames came than were expected.
+const FEWER_FRAMES: u8 = 1;
 
 /// The exit status where memory was refused.
 const NO_MEMORY: u8 = 4;
@@ -31,6 +35,12 @@ pub(crate) enum Fault {
     /// A server ended before its input did.
     #[error("{0}")]
     Serve(ServeError),
+    /// A drive ended before it was done.
+    #[error("{0}")]
+    Drive(DriveError),
+    /// A drive became idle before all frames were sent and received.
+    #[error("E69 Fewer")]
+    Fewer,
     /// The image of an EEPROM hasn't 128 bytes.
     #[error("E58 Image")]
     Image,
@@ -49,6 +59,8 @@ impl Fault {
             Fault::Scenario(refusal) => refusal.status(),
             Fault::Bench(error) => error.status(),
             Fault::Serve(error) => error.status(),
+            Fault::Drive(error) => error.status(),
+            Fault::Fewer => FEWER_FRAMES,
             Fault::Image => BAD_IMAGE,
             Fault::Memory => NO_MEMORY,
         }
@@ -111,6 +123,14 @@ impl From<ServeError> for Fault {
 
     fn from(error: ServeError) -> Fault {
         Fault::Serve(error)
+    }
+}
+
+impl From<DriveError> for Fault {
+    ghost from_gives = { λ e f. f ≡ faults.Drive e };
+
+    fn from(error: DriveError) -> Fault {
+        Fault::Drive(error)
     }
 }
 

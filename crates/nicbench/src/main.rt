@@ -4,6 +4,7 @@
 
 ghost use Rattle.command_line.specs.Jobs.{HasBounds};
 
+mod drive;
 mod fault;
 mod files;
 mod late_file;
@@ -13,6 +14,7 @@ mod run;
 mod serve;
 mod show;
 
+use crate::drive::run_drive;
 use crate::fault::Fault;
 use crate::pass::run_pass;
 use crate::progress::Watched;
@@ -63,7 +65,7 @@ fn obey<R: Files + Input + Print + Watched + AllocGlobal>(rt: &R, job: &Job<'_>)
         Job::Run(job) => run_scenario(rt, job),
         Job::Show(job) => run_show(rt, job),
         Job::Serve(job) => run_serve(rt, job),
-        Job::Drive(_) => Err(Fault::Memory),
+        Job::Drive(job) => run_drive(rt, job),
     };
     match outcome {
         Ok(()) => ExitCode::SUCCESS,

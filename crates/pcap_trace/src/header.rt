@@ -1,6 +1,6 @@
 //! The file header of a trace, as it is read (libpcap, "pcap-savefile", File Header).
 ghost use Rattle.std.specs.Prelude.{◌≡◌, IfOk, IfErr, MatchResult, Some, None};
-ghost use Rattle.pcap_trace.specs.Format.{number_in};
+ghost use Rattle.pcap_trace.specs.Format.{is_magic, number_in};
 ghost use Rattle.pcap_trace.specs.Reading.{header_fault, IsHeaderFault};
 
 use crate::fault::ReadError;
@@ -16,6 +16,13 @@ pub enum Endianness {
     Little,
 }
 
+/// Whether a word is one of the two magic numbers.
+fn is_magic(word: u32) -> bool
+    ensures { result ≡ is_magic word }
+{
+    word == MICROSECONDS_MAGIC || word == NANOSECONDS_MAGIC
+}
+
 /// Tests the file header at the front, whose numbers are in this byte order.
 fn check_header<T: ByteOrder>(bytes: &[u8]) -> Result<(), ReadError>
     ensures { MatchResult result (λ _. header_fault T.number_of bytes.now ≡ None)
@@ -24,8 +31,7 @@ fn check_header<T: ByteOrder>(bytes: &[u8]) -> Result<(), ReadError>
     if bytes.len() < FILE_HEADER {
         return Err(ReadError::Header);
     }
-    let magic = T::read_u32(bytes);
-    if magic != MICROSECONDS_MAGIC && magic != NANOSECONDS_MAGIC {
+    if !is_magic(T::read_u32(bytes)) {
         return Err(ReadError::Magic);
     }
     if T::read_u16(&bytes[4..]) != MAJOR || T::read_u16(&bytes[6..]) != MINOR {

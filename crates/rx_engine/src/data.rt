@@ -1,6 +1,6 @@
 // The data step: a piece of a frame goes into a host's memory.
 
-ghost use Rattle.std.specs.Prelude.{◌≡◌, ◌≤◌, ◌*◌, ◌↔◌, length, true, false, IsTrue, IsSome, IfSome};
+ghost use Rattle.std.specs.Prelude.{◌≡◌, ◌≤◌, ◌*◌, ◌↔◌, length, nat_le, true, false, IsTrue, IsSome, IfSome};
 ghost use Rattle.registers.specs.Bits.{HasBit, field};
 ghost use Rattle.registers.specs.ReceiveControl.{buffer_size_of};
 ghost use Rattle.descriptors.specs.Ring.{HasValidIndices, address_of, count_of, distance_of};
@@ -89,7 +89,7 @@ pub fn rx_data(
         return Data::Nothing;
     }
     let size = usize::from(control.buffer_size());
-    let ends = left.len() <= size;
+    let ends = is_last_piece(left.len(), size);
     let piece = &left[..left.len().min(size)];
     let length = piece.len() as u16;
     let Some(target) = target_of(ring, control, memory, length) else {
@@ -109,6 +109,13 @@ pub fn rx_data(
     } else {
         Data::Part { low }
     }
+}
+
+/// Whether the next piece is a frame's last: so many bytes of the frame are left, and a buffer has this size.
+fn is_last_piece(left: usize, size: usize) -> bool
+    ensures { result ≡ nat_le left size }
+{
+    left <= size
 }
 
 /// Where a piece of this length goes, or `None` exactly if the step is a fault.

@@ -128,12 +128,12 @@ impl Stations {
             (watched self.new observer.new) }
     {
         let mut rest = ticks;
-        while let Some((tick, more)) = rest.split_first() {
+        while let Some((one, more)) = rest.split_first() {
             rest = more;
-            if let Tick::Go = tick {
+            if let Tick::Go = one {
                 continue;
             }
-            self.play(*tick, accesses, observer);
+            self.play(*one, accesses, observer);
         }
     }
 }

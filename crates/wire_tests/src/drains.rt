@@ -2,9 +2,6 @@
 
 use crate::outlet::Taken;
 use crate::texts::{HOSTS, events_of};
-use bring_up::InitError;
-use eeprom::Image;
-use network_plan::PlanError;
 use scenario::Scenario;
 use std::alloc::{AllocError, Global};
 use std::process::Abort;
@@ -65,6 +62,15 @@ fn played(alloc: Global, text: &str) -> Result<Lan, Fail> {
     Ok(lan)
 }
 
+/// A broadcast of 1,518 bytes of a comes to b's packet buffer.
+fn push_long_frame(text: &mut String) -> Result<(), AllocError> {
+    text.push_str("send a ")?;
+    for _ in 0..1518 {
+        text.push_str("ff")?;
+    }
+    text.push_str("\ntick txtake:a\ntick txput:a\ntick deliver:b\n")
+}
+
 /// Drains a host, and asserts how many steps that takes.
 fn drains(
     rt: &impl Abort,
@@ -75,6 +81,15 @@ fn drains(
 ) -> Result<(), Fail> {
     let mut taken = Taken::with_room(alloc, lan.drain_room(host))?;
     assert_eq!(rt; lan.drain(host, &mut taken), steps);
+    Ok(())
+}
+
+/// Plays a text, and drains b, then b again, then a host that isn't there: only the first drain takes steps.
+fn drains_b(rt: &impl Abort, alloc: Global, text: &str, steps: u64) -> Result<(), Fail> {
+    let mut lan = played(alloc, text)?;
+    for (host, steps) in [(1, steps), (1, 0), (9, 0)] {
+        drains(rt, alloc, &mut lan, host, steps)?;
+    }
     Ok(())
 }
 
@@ -115,35 +130,10 @@ fn steps_of_drains_are_counted(rt: HostRuntime) -> Result<(), Fail> {
     ];
     for (sockets, finished, brought, rest, steps) in rows {
         let text = text_of(alloc, sockets, finished, brought, rest)?;
-        let mut lan = played(alloc, text.as_str())?;
-        drains(&rt, alloc, &mut lan, 1, steps)?;
-        drains(&rt, alloc, &mut lan, 1, 0)?;
+        drains_b(&rt, alloc, text.as_str(), steps)?;
     }
-    Ok(())
-}
-
-/// The one host has nothing to do but that it sent; another isn't there.
-#[test]
-fn hosts_that_hold_nothing_are_drained(rt: HostRuntime) -> Result<(), Fail> {
-    let text = text_of(rt.alloc(), ALL, 0, 1, &[])?;
-    let mut lan = played(rt.alloc(), text.as_str())?;
-    drains(&rt, rt.alloc(), &mut lan, 0, 1)?;
-    drains(&rt, rt.alloc(), &mut lan, 0, 0)?;
-    drains(&rt, rt.alloc(), &mut lan, 9, 0)
-}
-
-/// An EEPROM whose words add up to one more than they are to.
-#[test]
-fn an_adapter_that_is_not_brought_up_has_its_number(rt: HostRuntime) -> Result<(), Fail> {
-    let mut words = [0; 64];
-    words[0] = 0x0002;
-    words[2] = 0x0200;
-    words[63] = 0xB8B9;
-    let mut plan = crate::texts::two_hosts(rt.alloc())?;
-    if let Some(host) = plan.hosts.last_mut() {
-        host.image = Image::from_words(words);
-    }
-    let wanted = Some(PlanError::Init(1, InitError::Checksum));
-    assert_eq!(rt; Lan::new(rt.alloc(), &plan).err(), wanted);
-    Ok(())
+    // Six pieces, each moved and finished, with an interrupt after RXDMT0 and one after RXT0, and a recv.
+    let mut text = text_of(alloc, ALL, 0, 0, &[])?;
+    push_long_frame(&mut text)?;
+    drains_b(&rt, alloc, text.as_str(), 15)
 }

@@ -6,8 +6,6 @@ mod drains;
 #[cfg(test)]
 mod logs;
 #[cfg(test)]
-mod long_frames;
-#[cfg(test)]
 mod memory_tests;
 #[cfg(test)]
 mod no_memory;

@@ -66,15 +66,3 @@ fn a_full_log_keeps_what_waits(rt: HostRuntime) -> Result<(), Fail> {
     );
     Ok(())
 }
-
-/// A host that isn't there has no wire.
-#[test]
-fn an_absent_host_has_an_empty_log(rt: HostRuntime) -> Result<(), Fail> {
-    let alloc = rt.alloc();
-    let mut lan = Lan::new(alloc, &two_hosts(alloc)?)?;
-    let mut replies = Vec::new(alloc);
-    lan.run(alloc, &put(alloc, 0, 0)?, &mut replies)?;
-    assert_eq!(rt; lan.log(0).len(), 1);
-    assert_eq!(rt; lan.log(2).len(), 0);
-    Ok(())
-}

@@ -1,10 +1,9 @@
 //! Memory is refused, one allocation in each run of this test.
 
 use crate::outlet::{Taken, TakenFrame};
-use crate::texts::events_of;
+use crate::texts::prepared;
 use adapter::StepKind;
 use network_plan::{Plan, PlanError};
-use scenario::Scenario;
 use stations::Tick;
 use std::alloc::{AllocError, Global};
 use std::process::Abort;
@@ -41,12 +40,11 @@ const BORDERS: [(u64, usize, u32, u32); 10] = [
 ];
 
 /// The plan and the events of the text, and a call of a host that isn't there, with a tick inside.
-fn prepared(alloc: Global) -> Result<(Plan, Vec<Event>), AllocError> {
-    let scenario = Scenario::read(alloc, TEXT.as_bytes()).map_err(|_| AllocError)?;
-    let mut events = events_of(alloc, scenario.commands)?;
+fn all_prepared(alloc: Global) -> Result<(Plan, Vec<Event>), AllocError> {
+    let (plan, mut events) = prepared(alloc, TEXT)?;
     let ticks = [Tick::Go, Tick::Step(1, StepKind::RxData)].to_vec(alloc)?;
     events.push(Event::Interrupt { host: 9, ticks })?;
-    Ok((scenario.plan, events))
+    Ok((plan, events))
 }
 
 /// A network, made by the second call if memory is refused in the first.
@@ -148,7 +146,7 @@ fn check_logs(rt: &impl Abort, lan: &Lan, other: &Lan) {
 #[test]
 fn a_refused_allocation_is_memory(rt: HostRuntime) {
     let alloc = rt.alloc();
-    let Ok((plan, events)) = prepared(alloc) else {
+    let Ok((plan, events)) = all_prepared(alloc) else {
         return;
     };
     let mut lan = new_lan(&rt, alloc, &plan);

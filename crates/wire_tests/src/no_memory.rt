@@ -2,11 +2,9 @@
 //! after that fails.
 
 use crate::outlet::Taken;
-use crate::texts::events_of;
-use network_plan::Plan;
-use scenario::Scenario;
-use std::alloc::{AllocError, Global};
-use wire::{Event, Lan};
+use crate::texts::prepared;
+use std::alloc::Global;
+use wire::Lan;
 
 /// Two frames of a come to b's packet buffer. b has a socket for all frames.
 const TEXT: &str = "host a 02:00:00:00:00:01 w
@@ -22,16 +20,9 @@ tick deliver:b
 tick deliver:b
 ";
 
-/// The plan and the events of the text.
-fn prepared(alloc: Global) -> Result<(Plan, Vec<Event>), AllocError> {
-    let scenario = Scenario::read(alloc, TEXT.as_bytes()).map_err(|_| AllocError)?;
-    let events = events_of(alloc, scenario.commands)?;
-    Ok((scenario.plan, events))
-}
-
 /// The network after these events, or `None` if memory is refused.
 fn played(alloc: Global) -> Option<Lan> {
-    let (plan, events) = prepared(alloc).ok()?;
+    let (plan, events) = prepared(alloc, TEXT).ok()?;
     let mut lan = Lan::new(alloc, &plan).ok()?;
     let mut replies = Vec::new(alloc);
     lan.run(alloc, &events, &mut replies).ok()?;

@@ -24,3 +24,12 @@ pub(crate) fn events_of(alloc: Global, commands: Vec<Command>) -> Result<Vec<Eve
     }
     Ok(events)
 }
+
+/// The plan and the events of a text. Its lines are right, so it is refused only if memory is.
+pub(crate) fn prepared(alloc: Global, text: &str) -> Result<(Plan, Vec<Event>), AllocError> {
+    let Ok(scenario) = Scenario::read(alloc, text.as_bytes()) else {
+        return Err(AllocError);
+    };
+    let events = events_of(alloc, scenario.commands)?;
+    Ok((scenario.plan, events))
+}

@@ -1,4 +1,4 @@
-use Rattle.std.proofs.Common.{arith, drop, length, take, ◌∙◌, ◌≡◌, ◌-◌, List, ℕ}
+use Rattle.std.proofs.Common.{arith, drop, length, ◌-◌}
 use Rattle.std.proofs.lemmas.List.{length-drop, take_all}
 use Rattle.adapter_server.proofs.PartsWritten.{all_said, keeps_same, said_more, said_none, said_part, says_stop}
 use Rattle.adapter_server.proofs.output.say.Goals as goal

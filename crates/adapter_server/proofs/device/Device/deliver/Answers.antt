@@ -1,4 +1,4 @@
-use Rattle.std.proofs.Common.{◌≡◌, ◌∙◌, ◌++◌, ◌∷◌, [], ap, codes, refl, subst}
+use Rattle.std.proofs.Common.{◌≡◌, ◌∙◌, ◌++◌, ◌∷◌, [], codes, refl, subst}
 use Rattle.std.specs.List.{concat}
 use Rattle.hex.specs.Hex.{encode_lower}
 use Rattle.adapter_server.specs.Devices.{Prints}
@@ -7,7 +7,7 @@ use Rattle.adapter_server.specs.Order.{Says}
 use Rattle.adapter_server.specs.Texts.{Text, digits_arrived, fate_word, said_log}
 use Rattle.adapter_server.specs.declared.device.Device.{Device}
 use Rattle.rx_engine.specs.declared.arrival.Fate.{Fate}
-use Rattle.adapter_server.proofs.Printing.{printed, text_of}
+use Rattle.adapter_server.proofs.Printing.{printed}
 use Rattle.adapter_server.proofs.Stopping.{events_so, events_stop, stopped_before}
 use Rattle.adapter_server.proofs.device.Device.deliver.Goals as goal
 

@@ -1,4 +1,3 @@
-use Rattle.std.proofs.Common.{[], ◌++◌, subst, sym}
 use Rattle.bus.specs.declared.event.Event.TheVariants.{Arrives}
 use Rattle.std.proofs.lemmas.List.{append-nil}
 use Rattle.adapter_server.specs.Devices.{Prints}

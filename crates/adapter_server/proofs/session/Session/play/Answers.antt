@@ -1,6 +1,4 @@
-use Rattle.adapter.specs.declared.outcome.Outcome.{Outcome}
 use Rattle.adapter_server.specs.Devices.{Steps}
-use Rattle.adapter_server.specs.declared.session.Session.{Session}
 use Rattle.adapter_server.proofs.Printing.{on_device}
 use Rattle.adapter_server.proofs.Stopping.{events_stop}
 use Rattle.adapter_server.proofs.Writing.{tells_so}

@@ -1,0 +1,297 @@
+/* An Intel 82540EM and its host's memory in the process of a driver.
+ *
+ * The adapter never acts by itself. The program requests each step (nic82540em_step, nic82540em_settle), or lets random
+ * steps be played before accesses (nic82540em_interleave), as `nicbench serve` plays them. docs/LIBRARY.md describes the
+ * calls, and docs/ADAPTER.md the registers and the steps.
+ *
+ * Rules for all calls:
+ *   - Begin with a `struct nic82540em` of zeros, such as NIC82540EM_NONE. Don't read, change or copy its members.
+ *   - Don't pass a null pointer, also not for 0 bytes.
+ *   - The areas that two pointers of one call point to must not overlap.
+ *   - Make all calls for one adapter in one thread.
+ *
+ * If the handle has no adapter (before nic82540em_new, and after nic82540em_free), each call but nic82540em_new returns
+ * 0, false or NIC_REFUSED, and changes nothing.
+ *
+ * The code of these calls is proved. This header, heap.c and your program are trusted.
+ */
+#ifndef NIC82540EM_H
+#define NIC82540EM_H
+
+#include <stdbool.h>
+#include <stddef.h>
+#include <stdint.h>
+#include <stdio.h>
+
+#ifdef __cplusplus
+extern "C" {
+#endif
+
+/* A handle of an adapter. */
+struct nic82540em {
+    bool held;
+    void *state;
+};
+
+/* A handle without an adapter. */
+#define NIC82540EM_NONE { false, NULL }
+
+/* What a new adapter is made of. */
+struct nic82540em_options {
+    uint64_t memory;    /* the size of the host's memory in bytes; memory begins at address 0 */
+    uint32_t link;      /* the number of NIC_PHY steps from the start of negotiation until the link is up, at most
+                         * 65,535; 0: the link is never up */
+    uint32_t rxa;       /* PBA.RXA, the size of the receive packet buffer in kilobytes: an even number from 2 to 48 */
+    uint8_t address[6]; /* the Ethernet address in the EEPROM */
+};
+
+/* The options that `nicbench serve` has by default. */
+#define NIC82540EM_DEFAULTS { 1 << 20, 1, 48, { 0x02, 0, 0, 0, 0, 0x01 } }
+
+/* The result of a call that refuses a number, or finds no adapter. */
+#define NIC_REFUSED 0xFFFFFFFFu
+
+/* The kinds of steps (docs/ADAPTER.md, "Steps"). */
+enum {
+    NIC_TXTAKE, /* take a frame from the transmit ring */
+    NIC_TXPUT,  /* put a frame on the wire */
+    NIC_RXDATA, /* write a piece of a received frame to memory */
+    NIC_RXDONE, /* write back the descriptor of the piece */
+    NIC_EEPROM, /* complete a read of the EEPROM */
+    NIC_PHY     /* advance negotiation, and complete an MDIC command */
+};
+
+/* The outcomes of steps. */
+enum {
+    NIC_NOTHING,  /* there was nothing to do */
+    NIC_TOOK,     /* a frame was taken from the transmit ring */
+    NIC_PUT,      /* a frame was put on the wire */
+    NIC_WIREFULL, /* 64 frames wait on the wire, so nothing changed */
+    NIC_PART,     /* a piece of a received frame was written, and more of the frame is left */
+    NIC_MOVED,    /* the last piece, or the whole frame, was written */
+    NIC_DONE,     /* a receive descriptor was written back */
+    NIC_TICKED,   /* the EEPROM or the PHY did something */
+    NIC_FAULT     /* a ring or a descriptor can't be used; the step's engine is stopped until a reset */
+};
+
+/* The fates of frames that arrive. */
+enum {
+    NIC_OFF,      /* the receiver is off */
+    NIC_ILLEGAL,  /* the frame's length isn't legal */
+    NIC_FILTERED, /* the receive filter rejects the frame */
+    NIC_MISSED,   /* the receive packet buffer is full */
+    NIC_STORED    /* the frame is in the receive packet buffer */
+};
+
+/* Makes an adapter, with memory of zeros and an empty wire. Returns false, and changes nothing, if the handle has an
+ * adapter already, if a number of the options is out of range, or if memory is refused. */
+bool nic82540em_new(struct nic82540em *nic, const struct nic82540em_options *options);
+
+/* Frees the adapter. Its handle may be used for nic82540em_new again. */
+void nic82540em_free(struct nic82540em *nic);
+
+/* Accesses of a driver: nic82540em_read, _write, _load and _store. Each is counted, and steps may be played before it
+ * (nic82540em_schedule, nic82540em_interleave). */
+
+/* Reads the register at an offset in bytes. Returns 0 at an offset without a register. */
+uint32_t nic82540em_read(struct nic82540em *nic, uint32_t offset);
+
+/* Writes the register at an offset in bytes. Does nothing at an offset without a register. */
+void nic82540em_write(struct nic82540em *nic, uint32_t offset, uint32_t value);
+
+/* Loads `count` bytes of the host's memory from an address on. Returns false if some of them are outside memory; then
+ * nothing changed, and no access is counted. */
+bool nic82540em_load(struct nic82540em *nic, uint64_t address, void *into, size_t count);
+
+/* Stores `count` bytes in the host's memory from an address on. Returns false if some of them are outside memory; then
+ * nothing changed, and no access is counted. */
+bool nic82540em_store(struct nic82540em *nic, uint64_t address, const void *bytes, size_t count);
+
+/* The number of accesses so far. So it is the number of the next access; the first has number 0. */
+uint64_t nic82540em_accesses(struct nic82540em *nic);
+
+/* Stores the address of the first byte of the host's memory in `into`, if memory has a byte, and returns its size in
+ * bytes. Use it for rings and buffers that your driver accesses by pointers. The address stays the same until
+ * nic82540em_free. Such an access is none of the accesses above: it isn't counted, and no step is played before it. */
+uint64_t nic82540em_memory(struct nic82540em *nic, void **into);
+
+/* Stores the value that a read of the register at an offset would return now in `into`. Nothing else changes: it is no
+ * access, and clears no register. It copies the host's memory meanwhile; returns false if the copy is refused. */
+bool nic82540em_peek(struct nic82540em *nic, uint32_t offset, uint32_t *into);
+
+/* What the adapter and the wire do. */
+
+/* Makes the adapter take a step of this kind. Returns the outcome, or NIC_REFUSED if there is no such kind. */
+uint32_t nic82540em_step(struct nic82540em *nic, uint32_t kind);
+
+/* Delivers a frame of `count` bytes to the adapter, without its checksum. Returns the frame's fate. */
+uint32_t nic82540em_arrive(struct nic82540em *nic, const void *frame, size_t count);
+
+/* Takes the oldest frame off the wire, if it has at most `room` bytes. Returns the frame's length in bytes, or 0 if no
+ * frame waits. If the result is greater than `room`, the frame is still on the wire. A frame has at most 1,518 bytes. */
+size_t nic82540em_take_put(struct nic82540em *nic, void *into, size_t room);
+
+/* Whether the interrupt line is asserted. */
+bool nic82540em_line(struct nic82540em *nic);
+
+/* Plays rounds, each with one step of each kind. Stops after a round in which no step did anything, or after 131,072
+ * rounds. Returns the number of steps that did something: all but those with the outcome NIC_NOTHING or
+ * NIC_WIREFULL. */
+uint64_t nic82540em_settle(struct nic82540em *nic);
+
+/* From now on, up to `count` random steps are played before each access; with 0, none. The seed determines the steps:
+ * they are those of `nicbench serve --seed SEED` after its first `interleave COUNT`. Returns false, and changes nothing,
+ * if `count` is above 65,535. */
+bool nic82540em_interleave(struct nic82540em *nic, uint32_t count, uint64_t seed);
+
+/* Adds a step of this kind to the end of the schedule. Before each access, the first steps of the schedule whose
+ * `access` is at most the number of the access are played, before random steps. So add steps in the order of their
+ * accesses. Returns false, and changes nothing, if there is no such kind, or 4,096 steps wait. */
+bool nic82540em_schedule(struct nic82540em *nic, uint64_t access, uint32_t kind);
+
+#ifdef __cplusplus
+}
+#endif
+
+/* Registers: their offsets in bytes ("Register Descriptions", chapter 13 of Intel's Software Developer's Manual). */
+enum {
+    NIC_CTRL = 0x0000,
+    NIC_STATUS = 0x0008,
+    NIC_EERD = 0x0014,
+    NIC_MDIC = 0x0020,
+    NIC_VET = 0x0038,
+    NIC_ICR = 0x00C0,
+    NIC_ICS = 0x00C8,
+    NIC_IMS = 0x00D0,
+    NIC_IMC = 0x00D8,
+    NIC_RCTL = 0x0100,
+    NIC_TCTL = 0x0400,
+    NIC_PBA = 0x1000,
+    NIC_RDBAL = 0x2800,
+    NIC_RDBAH = 0x2804,
+    NIC_RDLEN = 0x2808,
+    NIC_RDH = 0x2810,
+    NIC_RDT = 0x2818,
+    NIC_TDBAL = 0x3800,
+    NIC_TDBAH = 0x3804,
+    NIC_TDLEN = 0x3808,
+    NIC_TDH = 0x3810,
+    NIC_TDT = 0x3818,
+    NIC_MPC = 0x4010,
+    NIC_GPRC = 0x4074,
+    NIC_GPTC = 0x4080,
+    NIC_RNBC = 0x40A0,
+    NIC_MTA = 0x5200,  /* 128 words, 4 bytes apart */
+    NIC_RAL = 0x5400,  /* 16 entries, 8 bytes apart */
+    NIC_RAH = 0x5404,  /* 16 entries, 8 bytes apart */
+    NIC_VFTA = 0x5600  /* 128 words, 4 bytes apart */
+};
+
+/* CTRL (13.4.1) */
+#define NIC_CTRL_FD (1u << 0)
+#define NIC_CTRL_ASDE (1u << 5)
+#define NIC_CTRL_SLU (1u << 6)
+#define NIC_CTRL_RST (1u << 26)
+#define NIC_CTRL_VME (1u << 30)
+
+/* STATUS (13.4.2) */
+#define NIC_STATUS_FD (1u << 0)
+#define NIC_STATUS_LU (1u << 1)
+
+/* EERD (13.4.4) */
+#define NIC_EERD_START (1u << 0)
+#define NIC_EERD_DONE (1u << 4)
+#define NIC_EERD_ADDR(word) ((uint32_t)(word) << 8)
+#define NIC_EERD_DATA(value) ((uint32_t)(value) >> 16)
+
+/* MDIC (13.4.7) */
+#define NIC_MDIC_DATA(value) ((uint32_t)(value) & 0xFFFFu)
+#define NIC_MDIC_REGADD(place) ((uint32_t)(place) << 16)
+#define NIC_MDIC_PHYADD(phy) ((uint32_t)(phy) << 21)
+#define NIC_MDIC_OP_WRITE (1u << 26)
+#define NIC_MDIC_OP_READ (2u << 26)
+#define NIC_MDIC_R (1u << 28)
+#define NIC_MDIC_I (1u << 29)
+#define NIC_MDIC_E (1u << 30)
+
+/* Interrupt causes: ICR, ICS, IMS, IMC (13.4.17) */
+#define NIC_TXDW (1u << 0)
+#define NIC_TXQE (1u << 1)
+#define NIC_LSC (1u << 2)
+#define NIC_RXDMT0 (1u << 4)
+#define NIC_RXO (1u << 6)
+#define NIC_RXT0 (1u << 7)
+#define NIC_MDAC (1u << 9)
+
+/* RCTL (13.4.22) */
+#define NIC_RCTL_EN (1u << 1)
+#define NIC_RCTL_UPE (1u << 3)
+#define NIC_RCTL_MPE (1u << 4)
+#define NIC_RCTL_LPE (1u << 5)
+#define NIC_RCTL_RDMTS(value) ((uint32_t)(value) << 8)
+#define NIC_RCTL_MO(value) ((uint32_t)(value) << 12)
+#define NIC_RCTL_BAM (1u << 15)
+#define NIC_RCTL_BSIZE(value) ((uint32_t)(value) << 16)
+#define NIC_RCTL_VFE (1u << 18)
+#define NIC_RCTL_BSEX (1u << 25)
+#define NIC_RCTL_SECRC (1u << 26)
+
+/* TCTL (13.4.33) */
+#define NIC_TCTL_EN (1u << 1)
+#define NIC_TCTL_PSP (1u << 3)
+#define NIC_TCTL_CT(value) ((uint32_t)(value) << 4)
+#define NIC_TCTL_COLD(value) ((uint32_t)(value) << 12)
+
+/* RAH */
+#define NIC_RAH_AV (1u << 31)
+
+/* Receive descriptors (3.2.3): the address in bytes 0 to 7, the length in 8 and 9, the status in 12. */
+#define NIC_RXD_DD (1u << 0)
+#define NIC_RXD_EOP (1u << 1)
+
+/* Transmit descriptors (3.3.3): the address in bytes 0 to 7, the length in 8 and 9, the command in 11, the status in
+ * 12. */
+#define NIC_TXD_EOP (1u << 0)
+#define NIC_TXD_IFCS (1u << 1)
+#define NIC_TXD_RS (1u << 3)
+#define NIC_TXD_DD (1u << 0)
+
+/* The state of an adapter as text. */
+
+/* A register and its name. */
+struct nic82540em_register {
+    const char *name;
+    uint32_t offset;
+};
+
+/* Prints the registers by name, heads and tails among them, and the interrupt line into `into`, as snprintf does: at
+ * most `room` bytes with a null byte at the end. Returns the number of bytes that the whole text has. It clears no
+ * register. */
+static inline size_t nic82540em_print(struct nic82540em *nic, char *into, size_t room)
+{
+    static const struct nic82540em_register table[] = {
+        { "CTRL", NIC_CTRL },   { "STATUS", NIC_STATUS }, { "EERD", NIC_EERD },   { "MDIC", NIC_MDIC },
+        { "VET", NIC_VET },     { "ICR", NIC_ICR },       { "IMS", NIC_IMS },     { "RCTL", NIC_RCTL },
+        { "TCTL", NIC_TCTL },   { "PBA", NIC_PBA },       { "RDBAL", NIC_RDBAL }, { "RDBAH", NIC_RDBAH },
+        { "RDLEN", NIC_RDLEN }, { "RDH", NIC_RDH },       { "RDT", NIC_RDT },     { "TDBAL", NIC_TDBAL },
+        { "TDBAH", NIC_TDBAH }, { "TDLEN", NIC_TDLEN },   { "TDH", NIC_TDH },     { "TDT", NIC_TDT },
+        { "MPC", NIC_MPC },     { "GPRC", NIC_GPRC },     { "GPTC", NIC_GPTC },   { "RNBC", NIC_RNBC },
+        { "RAL0", NIC_RAL },    { "RAH0", NIC_RAH },
+    };
+    size_t size = 0, place;
+    uint32_t value;
+    int count;
+
+    for (place = 0; place < sizeof table / sizeof *table; place++) {
+        value = 0;
+        nic82540em_peek(nic, table[place].offset, &value);
+        count = snprintf(size < room ? into + size : NULL, size < room ? room - size : 0, "%-6s %08lx\n",
+                         table[place].name, (unsigned long)value);
+        size += count > 0 ? (size_t)count : 0;
+    }
+    count = snprintf(size < room ? into + size : NULL, size < room ? room - size : 0, "line   %d\n",
+                     (int)nic82540em_line(nic));
+    return size + (count > 0 ? (size_t)count : 0);
+}
+
+#endif

@@ -1,0 +1,64 @@
+-- What a whole drive did.
+use Rattle.std.proofs.Common.{◌≡◌, ◌++◌, [], ℕ, true, List, Option, refl, ap, subst, ◌∙◌}
+use Rattle.std.specs.Io.KnownBytes.{Appends, append_known}
+use Rattle.std.proofs.KnownBytes.{Appends-trans}
+use Rattle.std.proofs.lemmas.List.{append-nil}
+use Rattle.bus.specs.BusMembers.{Composes}
+use Rattle.bus.specs.Keeping.{Keeps}
+use Rattle.bus.specs.declared.bus.Bus.{Ghosts}
+use Rattle.bus.proofs.Keeping.{keeps-on}
+use Rattle.packet_socket.specs.HostCalls.{HostReady, IsReadyHost, host_at}
+use Rattle.packet_socket.specs.HostState.{HostState}
+use Rattle.pcap_trace.specs.Format.{file_header, written}
+use Rattle.pcap_trace.proofs.Flushed.{flushed, header_waits}
+use Rattle.drive.specs.Drives.{Drives}
+use Rattle.drive.specs.Exchanging.{ExchangeMoment, Exchanges, SendsFront, exchange_at, host_moment}
+use Rattle.drive.specs.Numbering.{numbered, packets_of}
+use Rattle.drive.specs.declared.counts.DriveCounts.{DriveCounts}
+use Rattle.drive.proofs.Numbers.{number_after-count}
+use Rattle.drive.proofs.SentFrames.{sends-then}
+
+-- The header waits first, then the packets are written, and then what waits goes out.
+trace-of : (before mid after : Option (List ℕ)) (header waiting : List ℕ) (received : List (List ℕ)) → header ≡ file_header
+    → Appends (append_known before header) (append_known mid waiting) (packets_of 0 received) → Appends mid after waiting
+    → Appends before after (written (numbered 0 received))
+trace-of before mid after header waiting received is packets flush =
+    flushed before mid after waiting (written (numbered 0 received))
+    (subst (λ (all : List ℕ). Appends before (append_known mid waiting) all)
+    (ap (λ (front : List ℕ). front ++ packets_of 0 received) (append-nil file_header))
+    (Appends-trans before (append_known before header) (append_known mid waiting) (written []) (packets_of 0 received)
+    (header_waits before header is) packets))
+    flush
+
+pub drives-of : {B : Type 0} (bus : Ghosts B) → Composes bus.happened bus.lent_stays → (frames : List (List ℕ)) (counts : DriveCounts)
+    (before taken after : Option (List ℕ)) (header waiting : List ℕ) (old up end : B) (host last : HostState) (mid : ExchangeMoment B)
+    → Keeps bus old up → (bus.honest old → HostReady host (bus.world up)) → header ≡ file_header
+    → SendsFront bus frames counts.sent counts.illegal (exchange_at up host (append_known before header) 0) mid
+    → Exchanges bus [] mid (exchange_at end last (append_known taken waiting) counts.received)
+    → Appends taken after waiting
+    → Drives bus frames counts before after old end
+drives-of bus composes frames counts before taken after header waiting old up end host last mid keeps ready is sends waits flush =
+    let start = exchange_at up host (append_known before header) 0 in
+    let done = exchange_at end last (append_known taken waiting) counts.received in
+    let all = sends-then bus composes frames sends.0 counts.sent counts.illegal start mid done sends.1 waits in
+    let whole = all.exchanges in
+    record {
+      keeps = keeps-on bus composes.lent_stays_on old up end keeps whole.keeps;
+      handed = all.handed;
+      left = sends.0;
+      parts = all.parts;
+      sent_is = all.sent_is;
+      illegal_is = all.illegal_is;
+      received = whole.received;
+      received_is = whole.count ∙ number_after-count whole.received;
+      trace = trace-of before taken after header waiting whole.received is whole.written flush;
+      lawfully = λ honest.
+          let first : IsReadyHost bus true (host_at up host) = record { honest = keeps.honest honest; ready = ready honest } in
+          record {
+            up = host_at up host;
+            ready = first;
+            end = host_moment done;
+            end_is = refl;
+            flows = whole.flows first;
+          };
+    }

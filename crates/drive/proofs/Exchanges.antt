@@ -1,0 +1,221 @@
+-- Intervals of an exchange, one after the other, and those of single calls.
+use Rattle.std.proofs.Common.{◌≡◌, ◌≤◌, ◌++◌, ◌∷◌, [], ℕ, Bool, true, false, List, Option, Ok, Err, arith, length, ◌<◌, map, refl, sym, ap}
+use Rattle.std.proofs.Common.{subst}
+use Rattle.std.proofs.Common.{◌∙◌, take}
+use Rattle.std.specs.Io.KnownBytes.{Appends}
+use Rattle.std.proofs.KnownBytes.{Appends-nil, Appends-trans}
+use Rattle.std.proofs.lemmas.Grind.{common_steps}
+use Rattle.std.proofs.lemmas.List.{append-nil, map-append}
+use Rattle.std.specs.Prelude.{◌↔◌, if◌then◌else◌}
+use Rattle.descriptors.specs.Frames.{is_sendable, longest_frame, shortest_sent}
+use Rattle.driver.specs.declared.transmit.SendError.TheVariants.{RingFull, TooLong, TooShort}
+use Rattle.dma_memory.specs.Layout.{size_of}
+use Rattle.bus.specs.BusMembers.{Composes}
+use Rattle.bus.specs.Keeping.{Keeps}
+use Rattle.bus.specs.PastOfStretch.{Past, joined, nothing}
+use Rattle.bus.specs.declared.bus.Bus.{Ghosts}
+use Rattle.bus.proofs.Composition.{happens_none}
+use Rattle.bus.proofs.Keeping.{keeps-here, keeps-on}
+use Rattle.driver_law.specs.Calls.{FlowsTo}
+use Rattle.driver_law.proofs.Stretches.{flows_join}
+use Rattle.driver.specs.SendSteps.{SendAnswer, accepted_by}
+use Rattle.driver.specs.declared.interrupt.Handled.{Handled}
+use Rattle.driver.specs.declared.interrupt.Handled.TheVariants as answers
+use Rattle.packet_socket.specs.HostCalls.{Given, HostFlowsTo, HostGoesTo, HostHandles, HostMoment, HostTransmits, IsReadyHost, ReturnsBy}
+use Rattle.packet_socket.specs.HostCalls.{HostInWorld, HostDid, WhereReadyHost, did, given_first, in_world}
+use Rattle.packet_socket.proofs.Stretches.{host-happens, host-join, interval-of}
+use Rattle.pcap_trace.specs.Format.{packet_of}
+use Rattle.drive.specs.Exchanging.{ExchangeMoment, Exchanges, HostFlows, exchange_at, accepted_of, given_of, host_moment}
+use Rattle.drive.specs.Numbering.{next_number, packets_of}
+use Rattle.drive.proofs.Numbers.{number_after-append, packets_of-append}
+
+-- A host is ready after an interval.
+still-ready : {B : Type 0} (bus : Ghosts B) (accepted received : List (List ℕ)) (old new : HostMoment B)
+    → HostFlows bus accepted received old new → IsReadyHost bus true new
+still-ready bus accepted received old new it =
+    record { honest = it.honest; ready = record { sizes = it.flows.sizes; ready = it.flows.driver.ready } }
+
+flows-of_goes : (old new : HostInWorld) (done : HostDid) (past : Past) → HostGoesTo true old new done past
+    → HostFlowsTo true old new done past
+flows-of_goes old new done past goes = record { sizes = goes.sizes; driver = goes.driver.flows; accounts = goes.accounts }
+
+-- Nothing was exchanged.
+pub exchanges-here : {B : Type 0} (bus : Ghosts B) → Composes bus.happened bus.lent_stays → (now : ExchangeMoment B)
+    → Exchanges bus [] now now
+exchanges-here bus composes now =
+    let w = bus.world now.bus in
+    record {
+      keeps = keeps-here bus composes.lent_stays_here now.bus;
+      layout = refl;
+      received = [];
+      written = Appends-nil now.text;
+      count = refl;
+      flows = λ is. record {
+        honest = is.honest;
+        taken = [];
+        past = nothing;
+        reports = composes.stays now.bus;
+        flows = flows-of_goes (in_world now.host w) (in_world now.host w) (did [] [] []) nothing
+            (host-happens now.host w w nothing is.ready (happens_none w));
+      };
+    }
+
+flows-on : {B : Type 0} (bus : Ghosts B) → Composes bus.happened bus.lent_stays → (a b c : HostMoment B)
+    (accepted more received later : List (List ℕ)) → HostFlows bus accepted received a b → HostFlows bus more later b c
+    → HostFlows bus (accepted ++ more) (received ++ later) a c
+flows-on bus composes a b c accepted more received later one two = record {
+  honest = two.honest;
+  taken = one.taken ++ two.taken;
+  past = joined one.past two.past;
+  reports = composes.joins a.bus b.bus c.bus one.past two.past one.reports two.reports;
+  flows = subst
+      (λ (given : List Given). HostFlowsTo true (in_world a.host (bus.world a.bus)) (in_world c.host (bus.world c.bus))
+      (did (one.taken ++ two.taken) given (accepted ++ more)) (joined one.past two.past))
+      (sym (map-append given_of received later))
+      (host-join (FlowsTo true) (FlowsTo true) (flows_join {first_up = true} {up = true}) (in_world a.host (bus.world a.bus))
+      (in_world b.host (bus.world b.bus)) (in_world c.host (bus.world c.bus)) (did one.taken (map given_of received) accepted)
+      (did two.taken (map given_of later) more) one.past two.past one.flows two.flows);
+}
+
+-- One interval after the other.
+pub exchanges-on : {B : Type 0} (bus : Ghosts B) → Composes bus.happened bus.lent_stays → (a b c : ExchangeMoment B)
+    (accepted more : List (List ℕ)) → Exchanges bus accepted a b → Exchanges bus more b c → Exchanges bus (accepted ++ more) a c
+exchanges-on bus composes a b c accepted more one two = record {
+  keeps = keeps-on bus composes.lent_stays_on a.bus b.bus c.bus one.keeps two.keeps;
+  layout = two.layout ∙ one.layout;
+  received = one.received ++ two.received;
+  written = subst (Appends a.text c.text) (sym (packets_of-append a.number one.received two.received))
+      (Appends-trans a.text b.text c.text _ _ one.written
+      (subst (λ (n : ℕ). Appends b.text c.text (packets_of n two.received)) one.count two.written));
+  count = two.count
+      ∙ ap (λ (n : ℕ). Rattle.drive.specs.Numbering.number_after n two.received) one.count
+      ∙ sym (number_after-append a.number one.received two.received);
+  flows = λ is.
+      let first = one.flows is in
+      flows-on bus composes (host_moment a) (host_moment b) (host_moment c) accepted more one.received two.received first
+      (two.flows (still-ready bus accepted one.received (host_moment a) (host_moment b) first));
+}
+
+sendable : (frame : List ℕ) → shortest_sent ≤ length frame → length frame ≤ longest_frame → is_sendable frame ≡ true
+sendable frame least most = grind (arith, common_steps)
+
+too-short : (frame : List ℕ) → length frame < shortest_sent → is_sendable frame ≡ false
+too-short frame short = grind (arith, common_steps)
+
+too-long : (frame : List ℕ) → longest_frame < length frame → is_sendable frame ≡ false
+too-long frame long = grind (arith, common_steps)
+
+-- A frame is handed to the driver.
+pub exchange-sends : {B : Type 0} (bus : Ghosts B) (old new : HostMoment B) (frame : List ℕ) (result : SendAnswer) (text : Option
+    (List ℕ))
+    (number : ℕ)
+    → Keeps bus old.bus new.bus → new.host.driver.layout ≡ old.host.driver.layout → HostTransmits bus frame result old new
+    → Exchanges bus (accepted_by result frame) (exchange_at old.bus old.host text number) (exchange_at new.bus new.host text number)
+exchange-sends bus old new frame result text number keeps layout transmits = record {
+  keeps = keeps;
+  layout = layout;
+  received = [];
+  written = Appends-nil text;
+  count = refl;
+  flows = λ is.
+      let it = transmits is in
+      record {
+        honest = keeps.honest is.honest;
+        taken = [];
+        past = it.sends.ran.past;
+        reports = it.sends.ran.reports;
+        flows = interval-of bus (FlowsTo true) old new (did [] [] (accepted_by result frame)) it.sends.ran.past it.sends.ran.goes.flows
+            it.sockets;
+      };
+}
+
+handles-flows : {B : Type 0} (bus : Ghosts B) → Composes bus.happened bus.lent_stays → (old new : HostMoment B) (result : Handled)
+    → bus.honest new.bus → HostHandles bus result true old new → HostFlows bus [] [] old new
+handles-flows bus composes old new answers.NotMine honest it =
+    let asked = it.asked in
+    record {
+      honest = honest;
+      taken = [];
+      past = asked.reads.past;
+      reports = subst (λ b. bus.happened old.bus b asked.reads.past) (sym it.then_does.driver.still) asked.reads.reports;
+      flows = interval-of bus (FlowsTo true) old new (did [] [] []) asked.reads.past it.then_does.driver.flows it.then_does.sockets;
+    }
+handles-flows bus composes old new (answers.Handled n) honest it =
+    let asked = it.asked in
+    let does = it.then_does in
+    let past = joined asked.reads.past does.driver.works.ran.past in
+    record {
+      honest = honest;
+      taken = Rattle.driver.specs.Parts.joined_frames does.taken;
+      past = past;
+      reports = composes.joins old.bus asked.after_read new.bus asked.reads.past does.driver.works.ran.past asked.reads.reports
+          does.driver.works.ran.reports;
+      flows = interval-of bus (FlowsTo true) old new (did (Rattle.driver.specs.Parts.joined_frames does.taken) [] []) past
+          does.driver.flows does.sockets;
+    }
+
+-- An interrupt is handled.
+pub exchange-handles : {B : Type 0} (bus : Ghosts B) → Composes bus.happened bus.lent_stays → (old new : HostMoment B) (result : Handled)
+    (text : Option (List ℕ)) (number : ℕ)
+    → Keeps bus old.bus new.bus → new.host.driver.layout ≡ old.host.driver.layout
+    → WhereReadyHost bus old new (HostHandles bus result)
+    → Exchanges bus [] (exchange_at old.bus old.host text number) (exchange_at new.bus new.host text number)
+exchange-handles bus composes old new result text number keeps layout handles = record {
+  keeps = keeps;
+  layout = layout;
+  received = [];
+  written = Appends-nil text;
+  count = refl;
+  flows = λ is. handles-flows bus composes old new result (keeps.honest is.honest) (handles true is);
+}
+
+-- A frame is returned by the socket, and written.
+pub exchange-receives : {B : Type 0} (bus : Ghosts B) (old new : HostMoment B) (size : ℕ) (into : List ℕ) (text text' : Option (List ℕ))
+    (number : ℕ)
+    → Keeps bus old.bus new.bus → new.host.driver.layout ≡ old.host.driver.layout
+    → WhereReadyHost bus old new (ReturnsBy bus (given_first 0 into) (Ok size))
+    → Appends text text' (packet_of (record { time = number; frame = take size into }))
+    → Exchanges bus [] (exchange_at old.bus old.host text number) (exchange_at new.bus new.host text' (next_number number))
+exchange-receives bus old new size into text text' number keeps layout receives written = record {
+  keeps = keeps;
+  layout = layout;
+  received = take size into ∷ [];
+  written = subst (Appends text text') (sym (append-nil (packet_of (record { time = number; frame = take size into })))) written;
+  count = refl;
+  flows = λ is.
+      let it = (receives true is).ran in
+      record {
+        honest = keeps.honest is.honest;
+        taken = [];
+        past = it.ran.past;
+        reports = it.ran.reports;
+        flows = interval-of bus (FlowsTo true) old new (did [] (given_of (take size into) ∷ []) []) it.ran.past it.ran.goes.flows
+            it.sockets;
+      };
+}
+
+-- The rings and buffers still lie in memory.
+pub still-fits : {B : Type 0} (bus : Ghosts B) (accepted : List (List ℕ)) (a b : ExchangeMoment B) → Exchanges bus accepted a b
+    → size_of a.host.driver.layout ≤ bus.extent a.bus → size_of b.host.driver.layout ≤ bus.extent b.bus
+still-fits bus accepted a b one fits = rw (one.layout, one.keeps.extent) fits
+
+-- whether a driver is done with a frame that it was handed
+abbrev pub is_done : SendAnswer → Bool
+is_done (Ok u) = true
+is_done (Err TooShort) = true
+is_done (Err TooLong) = true
+is_done (Err RingFull) = false
+
+-- By the answer, a frame is accepted exactly if it can be sent.
+pub accepted-is : (result : SendAnswer) (frame : List ℕ) → (result ≡ Err TooShort ↔ (length frame < shortest_sent))
+    → (result ≡ Err TooLong ↔ (longest_frame < length frame))
+    → accepted_by result frame ≡ (if is_done result then accepted_of frame else [])
+accepted-is (Ok u) frame short long =
+    let not_short : length frame < shortest_sent → ⊥ = λ low. let e : Ok u ≡ Err TooShort = short.1 low in cc in
+    let not_long : longest_frame < length frame → ⊥ = λ high. let e : Ok u ≡ Err TooLong = long.1 high in cc in
+    let least : shortest_sent ≤ length frame = omega (arith, not_short) in
+    let most : length frame ≤ longest_frame = omega (arith, not_long) in
+    rw (sendable frame least most) refl
+accepted-is (Err TooShort) frame short long = rw (too-short frame (short.0 refl)) refl
+accepted-is (Err TooLong) frame short long = rw (too-long frame (long.0 refl)) refl
+accepted-is (Err RingFull) frame short long = refl

@@ -1,0 +1,4 @@
+pub mod Driven
+pub mod Exchanges
+pub mod Numbers
+pub mod SentFrames

@@ -1,0 +1,38 @@
+-- What a program does that drives an adapter (our choice).
+use Rattle.std.specs.Prelude.{◌≡◌, ◌++◌, ℕ, List, Option, count_by, length, true}
+use Rattle.std.specs.Io.KnownBytes.{Appends}
+use Rattle.descriptors.specs.Frames.{is_sendable}
+use Rattle.bus.specs.Keeping.{Keeps}
+use Rattle.bus.specs.declared.bus.Bus.{Ghosts}
+use Rattle.packet_socket.specs.HostCalls.{HostMoment, IsReadyHost}
+use Rattle.pcap_trace.specs.Format.{written}
+use Rattle.drive.specs.Exchanging.{HostFlows, accepted_of_all, is_illegal, saturated}
+use Rattle.drive.specs.Numbering.{numbered}
+use Rattle.drive.specs.declared.counts.DriveCounts.{DriveCounts}
+
+-- Over a bus that obeys the law: an adapter was initialized, and then these frames were exchanged.
+pub record DrivesLawfully {B : Type 0} (bus : Ghosts B) (accepted received : List (List ℕ)) (new : B) : Type 0 where
+  -- the moment after the initialization
+  pub up : HostMoment B
+  pub ready : IsReadyHost bus true up
+  -- the moment at the end
+  pub end : HostMoment B
+  pub end_is : end.bus ≡ new
+  pub flows : HostFlows bus accepted received up end
+
+-- The first frames of the list, `handed`, were handed to the driver, each once and in order. Some frames were received, and the trace of
+-- exactly these, in order, was written. The counts are right. Over a bus that obeys the law the driver accepted those of the frames handed
+-- that have 14 to 1,518 bytes, padded, and the socket returned the frames received.
+pub record Drives {B : Type 0} (bus : Ghosts B) (frames : List (List ℕ)) (counts : DriveCounts) (before after : Option (List ℕ))
+    (old new : B)
+    : Type 0 where
+  pub keeps : Keeps bus old new
+  pub handed : List (List ℕ)
+  pub left : List (List ℕ)
+  pub parts : frames ≡ handed ++ left
+  pub sent_is : counts.sent ≡ saturated (count_by is_sendable handed)
+  pub illegal_is : counts.illegal ≡ saturated (count_by is_illegal handed)
+  pub received : List (List ℕ)
+  pub received_is : counts.received ≡ saturated (length received)
+  pub trace : Appends before after (written (numbered 0 received))
+  pub lawfully : bus.honest old → DrivesLawfully bus (accepted_of_all handed) received new

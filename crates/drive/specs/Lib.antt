@@ -1,0 +1,4 @@
+pub mod Drives
+pub mod Exchanging
+pub mod Numbering
+pub mod Statuses

@@ -1,0 +1,22 @@
+-- Received frames as the packets of a trace (our choice).
+use Rattle.std.specs.Prelude.{◌+◌, ◌-◌, ◌^◌, ◌∷◌, [], ℕ, List, min}
+use Rattle.std.specs.List.{flat_map}
+use Rattle.pcap_trace.specs.Format.{Timed, packet_of}
+
+-- Numbers of frames have 64 bits, and the greatest is kept.
+abbrev pub next_number : ℕ → ℕ
+next_number n = min (n + 1) (2 ^ 64 - 1)
+
+-- the number after those of these frames, from n on
+abbrev pub number_after : (n : ℕ) → (frames : List (List ℕ)) → ℕ
+number_after n [] = n
+number_after n (frame ∷ later) = number_after (next_number n) later
+
+-- frames with their numbers as times in microseconds, from n on
+abbrev pub numbered : (n : ℕ) → (frames : List (List ℕ)) → List Timed
+numbered n [] = []
+numbered n (frame ∷ later) = record { time = n; frame = frame } ∷ numbered (next_number n) later
+
+-- their packets, one after the other
+abbrev pub packets_of : (n : ℕ) → (frames : List (List ℕ)) → List ℕ
+packets_of n frames = flat_map packet_of (numbered n frames)

@@ -1,0 +1,44 @@
+// What a drive did, and when it ends.
+
+/// When a drive ends.
+#[derive(Clone, Copy, Debug, PartialEq, Eq)]
+pub struct DriveLimits {
+    /// It ends when all frames are sent and at least this many were received; `None`: however many are received, it
+    /// goes on until it is idle.
+    pub expect: Option<u64>,
+    /// It ends after this many turns, one after the other, in which no frame was received and none was accepted for
+    /// sending. A turn is a call of the interrupt handler.
+    pub idle: u64,
+}
+
+impl DriveLimits {
+    /// Whether as many frames were received as are expected.
+    pub(crate) fn are_met(&self, received: u64) -> bool {
+        match self.expect {
+            Some(expected) => received >= expected,
+            None => false,
+        }
+    }
+}
+
+/// How many frames were sent and received. Each count stays at the greatest `u64`.
+#[derive(Clone, Copy, Debug, PartialEq, Eq)]
+pub struct DriveCounts {
+    /// The frames that the driver accepted for sending.
+    pub sent: u64,
+    /// The frames before the last one accepted that have fewer than 14 or more than 1,518 bytes. They aren't sent.
+    pub illegal: u64,
+    /// The frames that were received.
+    pub received: u64,
+    /// The frames that the adapter missed, as the driver read it from MPC.
+    pub missed: u64,
+    /// Whether the number of missed frames is exact. If it isn't, there may have been more.
+    pub is_exact: bool,
+}
+
+impl DriveCounts {
+    /// Whether this many frames were handed to the driver, and as many were received as are expected.
+    pub fn is_all(&self, frames: u64, expect: Option<u64>) -> bool {
+        self.sent.saturating_add(self.illegal) >= frames && self.received >= expect.unwrap_or(0)
+    }
+}

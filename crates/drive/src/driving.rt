@@ -1,0 +1,123 @@
+// The frames of a list are sent, and frames are received.
+
+ghost use Rattle.std.specs.Prelude.{◌≡◌, ◌<◌, ◌≤◌, [], IfOk, OnOk};
+ghost use Rattle.std.specs.Io.KnownBytes.{append_known};
+ghost use Rattle.dma_memory.specs.Layout.{size_of};
+ghost use Rattle.bus.specs.Keeping.{Keeps};
+ghost use Rattle.drive.specs.Drives.{Drives};
+ghost use Rattle.drive.specs.Exchanging.{Exchanges, exchange_at};
+ghost use Rattle.packet_socket.specs.HostCalls.{HostReady};
+
+use crate::exchange::Exchange;
+use crate::{DriveCounts, DriveError, DriveLimits, WatchedBus};
+use arrayvec::ArrayVec;
+use bring_up::{Config, InitError};
+use packet_socket::{Host, SocketKind};
+use pcap_trace::{Frames, RecordWriter, Sink};
+use qtest_bus::BusFault;
+use std::alloc::Global;
+
+/// Rings of 64 slots and 512 receive buffers, and each frame passes the filter. They take 264,192 bytes.
+fn config() -> Config {
+    Config {
+        rx: 64,
+        tx: 64,
+        buffers: 512,
+        rxa: 48,
+        promiscuous: true,
+        groups: ArrayVec::new(),
+        vlans: None,
+    }
+}
+
+/// Initializes the adapter, and makes a host whose only socket takes all frames.
+fn bring_up<B: WatchedBus>(alloc: Global, bus: &mut B) -> Result<Host, DriveError>
+    ensures keeps { Keeps B.Bus bus.old bus.new }
+    ensures memory { IfOk result (λ host. size_of host.driver.layout ≤ B.Bus.extent bus.new) }
+    ensures ready { B.Bus.honest bus.old → IfOk result (λ host. HostReady host (B.Bus.world bus.new)) }
+{
+    let mut kinds = ArrayVec::new();
+    kinds.push(SocketKind::All);
+    match Host::new(alloc, bus, &config(), kinds) {
+        Ok(host) => Ok(host),
+        Err(error) => Err(reason(bus.fault(), error)),
+    }
+}
+
+/// Why an initialization failed: a bus that stopped answers zeros, so its fault comes first.
+fn reason(fault: Option<BusFault>, error: InitError) -> DriveError {
+    match (fault, error) {
+        (Some(fault), _) => DriveError::Bus(fault),
+        (None, InitError::Memory) => DriveError::Memory,
+        (None, error) => DriveError::Init(error),
+    }
+}
+
+impl Exchange {
+    /// Has turns until enough frames were received, or until this many turns, one after the other, brought nothing.
+    fn wait<B: WatchedBus, S: Sink>(
+        &mut self,
+        bus: &mut B,
+        sink: &mut S,
+        limits: &DriveLimits,
+    ) -> Result<(), DriveError>
+        requires memory { size_of self.old.host.driver.layout ≤ B.Bus.extent bus.old }
+        requires countable { S.failures sink.old < u64.MAX }
+        ensures exchanges { OnOk result (Exchanges B.Bus []
+            (exchange_at bus.old self.old.host (append_known (S.taken sink.old) self.old.writer) self.old.received)
+            (exchange_at bus.new self.new.host (append_known (S.taken sink.new) self.new.writer) self.new.received)) }
+        ensures failures { OnOk result (S.failures sink.new ≡ S.failures sink.old) }
+    {
+        for _turn in 0..u64::MAX {
+            if limits.are_met(self.received) || self.quiet >= limits.idle {
+                break;
+            }
+            self.turn(bus, sink)?;
+        }
+        Ok(())
+    }
+}
+
+/// Initializes an adapter, sends the frames of a list, and receives frames until `limits` are met. The frames received
+/// are written to `sink`, as a trace in which each has its number, from 0 on, as its time in microseconds.
+///
+/// The driver is handed the frames in order, each once. While its transmit ring is full, and after the last frame, the
+/// handler is called again and again; it reads ICR, so it finds its work even if no interrupt line is reported. While
+/// frames are sent it is also called whenever the interrupt line is asserted.
+///
+/// # Errors
+///
+/// E57 if memory was refused, E46 if the adapter wasn't initialized, E67 if `sink` failed, and the fault of the bus if
+/// it stopped. At an error a part of the trace may have been written.
+pub fn drive<B: WatchedBus, S: Sink>(
+    alloc: Global,
+    bus: &mut B,
+    frames: &Frames,
+    limits: &DriveLimits,
+    sink: &mut S,
+) -> Result<DriveCounts, DriveError>
+    requires countable { S.failures sink.old < u64.MAX }
+    ensures drives { IfOk result
+        (λ counts. Drives B.Bus frames.now counts (S.taken sink.old) (S.taken sink.new) bus.old bus.new) }
+{
+    let writer = RecordWriter::new(alloc)?;
+    let host = bring_up(alloc, bus)?;
+    let mut exchange = Exchange {
+        host,
+        writer,
+        received: 0,
+        quiet: 0,
+    };
+    let handed = exchange.send_all(bus, sink, frames, limits.idle)?;
+    exchange.quiet = 0;
+    exchange.wait(bus, sink, limits)?;
+    exchange.writer.flush(sink)?;
+    let (missed, is_exact) = exchange.host.missed();
+    Ok(DriveCounts {
+        sent: handed.sent,
+        illegal: handed.illegal,
+        received: exchange.received,
+        missed,
+        is_exact,
+    })
+}

@@ -1,0 +1,24 @@
+// A bus whose interrupt line can be asked for.
+
+use bus::Bus;
+use qtest_bus::{BusFault, QtestBus};
+use std::io::{BufRead, Write};
+
+/// A bus that reports the adapter's interrupt line, and that may stop. Nothing is known of its answers.
+pub trait WatchedBus: Bus {
+    /// Whether the interrupt line is asserted, as far as the bus knows.
+    fn is_asserted(&self) -> bool;
+
+    /// Why the bus stopped, if it did.
+    fn fault(&self) -> Option<BusFault>;
+}
+
+impl<R: BufRead, W: Write> WatchedBus for QtestBus<R, W> {
+    fn is_asserted(&self) -> bool {
+        QtestBus::is_asserted(self)
+    }
+
+    fn fault(&self) -> Option<BusFault> {
+        QtestBus::fault(self)
+    }
+}

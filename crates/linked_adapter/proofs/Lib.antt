@@ -1,0 +1,3 @@
+pub mod Playing
+pub mod Rounds
+pub mod Schedules

@@ -1,0 +1,34 @@
+-- What C keeps of an adapter: a box, or nothing (our choice).
+use mathlib.Core.Bool.{Bool, true, false}
+use base.Fml.{Fml, feq}
+use base.Stored.{Coded}
+use denote.RawPtr.{Ptr, null_ptr, ptr_val}
+use mir.Val.{Val}
+use Rattle.std.specs.Box.Ownership.{box_owns}
+use Rattle.std.specs.Global.{Global}
+use Rattle.std.specs.Prelude.{[], ◌∷◌, List, None}
+use Rattle.std_heap.specs.contracts.GlobalAllocator.TheImpl.{ghosts}
+use Rattle.adapter.specs.Registers.{new_adapter}
+use Rattle.linked_adapter.specs.contracts.linked_adapter.LinkedAdapter.{the_row}
+use Rattle.linked_adapter.specs.declared.linked_adapter.LinkedAdapter.{LinkedAdapter}
+use Rattle.mdic_phy.specs.declared.phy.Link.TheVariants.{Never}
+
+-- a full owner owns a box, and an empty one has the null pointer
+abbrev pub held_owns : Bool → Global → Ptr → the_row.Denot → Fml
+held_owns true alloc = box_owns (ghosts.dealloc_token alloc) the_row
+held_owns false alloc = λ p x. feq (List Val) (ptr_val p ∷ []) (ptr_val null_ptr ∷ [])
+
+abbrev pub value_coded : Coded the_row.Denot
+value_coded = the_row.coded
+
+-- what an empty owner has for its value
+abbrev pub no_adapter : LinkedAdapter
+no_adapter = record {
+  machine = record { world = record { memory = []; adapter = new_adapter [] Never }; reported = false };
+  address = None;
+  wire = record { capacity = 0; frames = [] };
+  generator = record { state = 0; increment = 0 };
+  most_steps = 0;
+  scheduled = record { items = []; capacity = 0 };
+  accesses = 0;
+}

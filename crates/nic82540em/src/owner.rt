@@ -1,0 +1,105 @@
+// A box whose owner is C.
+
+ghost use Rattle.std.specs.Prelude.{◌≡◌, Bool, true, false};
+ghost use Rattle.linked_adapter.specs.declared.linked_adapter.LinkedAdapter.{LinkedAdapter};
+ghost use Rattle.nic82540em.specs.Owners.{held_owns, value_coded};
+
+use boxed_parts::Parts;
+use linked_adapter::LinkedAdapter;
+use std::alloc::Global;
+use std::marker::Model;
+use std::mem::replace;
+
+/// A boxed adapter, or none. C keeps it in a place of its own, and neither reads nor writes it.
+///
+/// It isn't `Drop`, so that no code here can forget an adapter: a full owner ends as a box, and an empty one as its
+/// allocator.
+#[repr(C)]
+pub struct Owner {
+    at: *mut u8,
+    alloc: Global,
+    pub ghost full: { Bool },
+    pub ghost value: { LinkedAdapter } by { value_coded },
+}
+
+impl Model for Owner {
+    ghost also_owns = { λ o. held_owns o.full o.alloc o.at o.value };
+}
+
+impl Owner {
+    /// Takes the adapter out. The owner is empty then.
+    pub(crate) fn take(&mut self, alloc: Global) -> Box<LinkedAdapter>
+        requires { self.old.full ≡ true }
+        ensures value { result.value ≡ self.old.value }
+        ensures empty { self.new.full ≡ false }
+    {
+        replace(self, Owner::empty(alloc)).into_box()
+    }
+
+    /// Puts an adapter into an empty owner.
+    pub(crate) fn put(&mut self, adapter: Box<LinkedAdapter>)
+        requires { self.old.full ≡ false }
+        ensures full { self.new.full ≡ true }
+        ensures value { self.new.value ≡ adapter.value }
+    {
+        let _alloc = replace(self, Owner::holding(adapter)).into_alloc();
+    }
+
+    /// No adapter.
+    fn empty(alloc: Global) -> Owner
+        ensures { result.full ≡ false }
+    {
+        Owner {
+            at: std::ptr::null_mut(),
+            alloc,
+        }
+    }
+
+    /// This adapter.
+    fn holding(adapter: Box<LinkedAdapter>) -> Owner
+        ensures full { result.full ≡ true }
+        ensures value { result.value ≡ adapter.value }
+    {
+        Owner::of_parts(Parts::of(adapter))
+    }
+
+    /// The adapter that is owned.
+    fn into_box(self) -> Box<LinkedAdapter>
+        requires { self.full ≡ true }
+        ensures { result.value ≡ self.value }
+    {
+        self.into_parts().into_box()
+    }
+
+    /// The allocator of an empty owner.
+    fn into_alloc(self) -> Global
+        requires { self.full ≡ false }
+        ensures { result ≡ self.alloc }
+    {
+        let Owner { at: _at, alloc } = self;
+        alloc
+    }
+
+    /// The owner of a box's parts.
+    fn of_parts(parts: Parts<LinkedAdapter, Global>) -> Owner
+        ensures { (result.full ≡ true) × (result.value ≡ parts.value) }
+    {
+        let Parts { ptr, alloc } = parts;
+        Owner {
+            at: ptr as *mut u8,
+            alloc,
+        }
+    }
+
+    /// The parts of the box that is owned.
+    fn into_parts(self) -> Parts<LinkedAdapter, Global>
+        requires { self.full ≡ true }
+        ensures { result.value ≡ self.value }
+    {
+        let Owner { at, alloc } = self;
+        Parts {
+            ptr: at as *mut LinkedAdapter,
+            alloc,
+        }
+    }
+}

@@ -1,0 +1,4 @@
+pub mod QtestLaws
+pub mod QtestState
+pub mod Requests
+pub mod Statuses

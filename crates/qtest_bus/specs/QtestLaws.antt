@@ -1,0 +1,45 @@
+-- Accesses of two consecutive intervals are accesses of both together.
+use Rattle.std.proofs.Common.{◌++◌, ◌∷◌, [], ℕ, refl, sym, subst, ◌∙◌}
+use Rattle.std.specs.Io.KnownBytes.{Appends}
+use Rattle.std.proofs.KnownBytes.{Appends-nil, Appends-trans}
+use Rattle.std.proofs.lemmas.List.{append-nil}
+use Rattle.std.proofs.lemmas.List.Concat.{flat_map-append}
+use Rattle.bus.specs.declared.event.Access.{Access}
+use Rattle.bus.specs.BusMembers.{StaysWhole}
+use Rattle.qtest_bus.specs.QtestState.{Asks, AsksAll, IsSameBus, QtestState, is_never, memory_size}
+use Rattle.qtest_bus.specs.Requests.{request_of, requests_of}
+
+pub same_bus_here : (a : QtestState) → IsSameBus a a
+same_bus_here a = record { registers = refl; memory = refl; fault_stays = λ none. none }
+
+pub same_bus_on : (a b c : QtestState) → IsSameBus a b → IsSameBus b c → IsSameBus a c
+same_bus_on a b c one two = record {
+  registers = two.registers ∙ one.registers;
+  memory = two.memory ∙ one.memory;
+  fault_stays = λ none. one.fault_stays (two.fault_stays none);
+}
+
+pub asks_here : (a : QtestState) → AsksAll a a
+asks_here a = record { same = same_bus_here a; accesses = []; asked = λ none. Appends-nil a.written }
+
+pub asks_on : (a b c : QtestState) → AsksAll a b → AsksAll b c → AsksAll a c
+asks_on a b c one two = record {
+  same = same_bus_on a b c one.same two.same;
+  accesses = one.accesses ++ two.accesses;
+  asked = λ none. subst (Appends a.written c.written) (sym (flat_map-append (request_of a.registers) one.accesses two.accesses))
+      (Appends-trans a.written b.written c.written (requests_of a.registers one.accesses) (requests_of a.registers two.accesses)
+      (one.asked (two.same.fault_stays none))
+      (subst (λ (r : ℕ). Appends b.written c.written (requests_of r two.accesses)) one.same.registers (two.asked none)));
+}
+
+-- One access is some accesses.
+pub asks_one : (access : Access) (a b : QtestState) → Asks access a b → AsksAll a b
+asks_one access a b one = record {
+  same = one.same;
+  accesses = access ∷ [];
+  asked = λ none. subst (Appends a.written b.written) (sym (append-nil (request_of a.registers access))) (one.asked none);
+}
+
+-- One access keeps the bus.
+pub keeps_one : (access : Access) (a b : QtestState) → Asks access a b → StaysWhole memory_size AsksAll is_never is_never a b
+keeps_one access a b one = record { extent = one.same.memory; lent_stays = asks_one access a b one; honest = λ is. is; lively = λ is. is }

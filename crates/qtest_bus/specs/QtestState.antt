@@ -1,0 +1,48 @@
+-- A bus to another program, as plain data, and what accesses do to it (our choice).
+use Rattle.std.specs.Prelude.{◌≡◌, ℕ, List, Bool, Option, None, OnSome}
+use Rattle.std.specs.Io.KnownBytes.{Appends}
+use Rattle.bus.specs.declared.event.Access.{Access}
+use Rattle.qtest_bus.specs.Requests.{request_of, requests_of}
+use Rattle.qtest_bus.specs.declared.bus_fault.BusFault.{BusFault}
+
+pub record QtestState : Type 0 where
+  -- the address of the first register
+  pub registers : ℕ
+  -- the number of bytes of memory, which begins at address 0
+  pub memory : ℕ
+  -- the interrupt line, as the last line about it reported it
+  pub asserted : Bool
+  -- why it stopped, if it did
+  pub fault : Option BusFault
+  -- the bytes that were written to the program, where the writer tells them
+  pub written : Option (List ℕ)
+
+abbrev pub memory_size : QtestState → ℕ
+memory_size bus = bus.memory
+
+-- Nothing is known of the other program, so it never counts as one that obeys the law of a bus, or that does anything by itself.
+abbrev pub is_never : QtestState → Type 0
+is_never bus = ⊥
+
+-- It is the same bus, and a fault stays.
+pub record IsSameBus (old new : QtestState) : Type 0 where
+  pub registers : new.registers ≡ old.registers
+  pub memory : new.memory ≡ old.memory
+  pub fault_stays : new.fault ≡ None → old.fault ≡ None
+
+-- A request was written, or a part of one, and lines were read.
+abbrev pub HasAsked : (old new : QtestState) → Type 0
+HasAsked old new = new ≡ record old { asserted = new.asserted; written = new.written }
+
+-- One access. If no fault is known after it, exactly its request was written.
+pub record Asks (access : Access) (old new : QtestState) : Type 0 where
+  pub same : IsSameBus old new
+  pub asked : new.fault ≡ None → Appends old.written new.written (request_of old.registers access)
+  -- After a fault nothing is written, and nothing is read.
+  pub stopped : OnSome old.fault (new ≡ old)
+
+-- Some accesses. If no fault is known after them, exactly their requests were written, in order.
+pub record AsksAll (old new : QtestState) : Type 0 where
+  pub same : IsSameBus old new
+  pub accesses : List Access
+  pub asked : new.fault ≡ None → Appends old.written new.written (requests_of old.registers accesses)

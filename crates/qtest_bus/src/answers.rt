@@ -1,0 +1,119 @@
+// The answers to requests.
+
+ghost use Rattle.std.specs.Prelude.{◌≡◌, length};
+
+use crate::BusFault;
+use std::io::BufRead;
+
+/// The byte that ends a line.
+const LINE_FEED: u8 = 0x0A;
+
+/// The answer to a write.
+const DONE: &[u8] = b"OK";
+
+/// What an answer with a number or with bytes begins with.
+const BYTES: &[u8] = b"OK 0x";
+
+/// The number of hexadecimal digits of a register's value in an answer: those of a number of 64 bits.
+const VALUE_BYTES: usize = 8;
+
+/// The answers, and the interrupt line as the lines before them report it.
+#[derive(Drop)]
+pub(crate) struct Answers<R> {
+    pub(crate) input: R,
+    /// The line that was read last, without its end.
+    pub(crate) line: Vec<u8>,
+    pub(crate) asserted: bool,
+}
+
+/// What a line is.
+enum Line {
+    /// The interrupt line was asserted, or deasserted.
+    Interrupt(bool),
+    /// A frame that was put on the wire or arrived, or a line of a log.
+    Report,
+    /// An answer.
+    Answer,
+}
+
+/// What a line is.
+fn kind_of(line: &[u8]) -> Line {
+    if line.starts_with(b"IRQ raise ") {
+        Line::Interrupt(true)
+    } else if line.starts_with(b"IRQ lower ") {
+        Line::Interrupt(false)
+    } else if line.starts_with(b"frame ") || line.starts_with(b"arrived ") || line.starts_with(b"#") {
+        Line::Report
+    } else {
+        Line::Answer
+    }
+}
+
+/// Fills `into` from the digits in an answer. Returns whether it has exactly the digits of so many bytes; if not,
+/// `into` doesn't change.
+fn take_bytes(answer: &[u8], into: &mut [u8]) -> bool
+    ensures length { length into.new ≡ length into.old }
+{
+    match answer.strip_prefix(BYTES) {
+        Some(digits) => hex::decode_to_slice(digits, into).is_ok(),
+        None => false,
+    }
+}
+
+impl<R: BufRead> Answers<R> {
+    /// Reads the next line, which a line feed must end.
+    fn read_line(&mut self) -> Result<(), BusFault> {
+        self.line.clear();
+        match self.input.read_until(LINE_FEED, &mut self.line) {
+            Ok(_) => {}
+            Err(error) => return Err(BusFault::of_reading(error)),
+        }
+        if self.line.pop() == Some(LINE_FEED) {
+            Ok(())
+        } else {
+            Err(BusFault::Read)
+        }
+    }
+
+    /// Reads lines up to an answer, and notes the interrupt line.
+    fn next(&mut self) -> Result<(), BusFault> {
+        for _count in 0..u64::MAX {
+            self.read_line()?;
+            match kind_of(self.line.as_slice()) {
+                Line::Interrupt(asserted) => self.asserted = asserted,
+                Line::Report => {}
+                Line::Answer => return Ok(()),
+            }
+        }
+        Err(BusFault::Read)
+    }
+
+    /// The answer to a write.
+    pub(crate) fn done(&mut self) -> Result<(), BusFault> {
+        self.next()?;
+        if self.line.as_slice() == DONE {
+            Ok(())
+        } else {
+            Err(BusFault::Answer)
+        }
+    }
+
+    /// The answer to a read of bytes, as many as `into` has.
+    pub(crate) fn bytes(&mut self, into: &mut [u8]) -> Result<(), BusFault>
+        ensures length { length into.new ≡ length into.old }
+    {
+        self.next()?;
+        if take_bytes(self.line.as_slice(), into) {
+            Ok(())
+        } else {
+            Err(BusFault::Answer)
+        }
+    }
+
+    /// The answer to a read of a register: 16 digits, of which the first eight are 0.
+    pub(crate) fn value(&mut self) -> Result<u32, BusFault> {
+        let mut bytes = [0; VALUE_BYTES];
+        self.bytes(&mut bytes)?;
+        u32::try_from(u64::from_be_bytes(bytes)).map_err(|_| BusFault::Answer)
+    }
+}

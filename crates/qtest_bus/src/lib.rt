@@ -1,0 +1,13 @@
+//! A bus to an adapter in another program: requests and answers of QEMU's qtest protocol, one a line.
+//!
+//! The adapter may be QEMU's, that of `nicbench serve`, or any other that answers `readl`, `writel`, `read` and
+//! `write`.
+#![tactic(auto)]
+
+mod answers;
+mod bus_fault;
+mod qtest_bus;
+mod requests;
+
+pub use bus_fault::BusFault;
+pub use qtest_bus::QtestBus;

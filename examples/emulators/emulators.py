@@ -1,0 +1,296 @@
+"""Programs with an adapter that answer requests, one a line: QEMU with its e1000, and `nicbench serve`.
+
+Every emulator here has a memory that begins at address 0, and the adapter's registers at `registers`. A request is a line
+such as `readl 0xFEB00008`; docs/SERVE.md lists the requests and the answers.
+"""
+
+import fcntl
+import os
+import shlex
+import socket
+import struct
+import subprocess
+import tempfile
+import termios
+import time
+
+# Bytes of memory that a driver may use from address 0 on. On QEMU's machine the memory of the screen begins there.
+MEMORY = 0xA0000
+# The Ethernet address of each adapter
+ADDRESS = "02:00:00:00:00:01"
+
+# Offsets of registers
+STATUS, EERD, ICR, RCTL, RDLEN, RDH, RDT = 0x0008, 0x0014, 0x00C0, 0x0100, 0x2808, 0x2810, 0x2818
+
+
+class Ended(Exception):
+    """The emulator ended, or its answer isn't one."""
+
+
+class Emulator:
+    """A program that answers requests.
+
+    `ask` returns the answer to a request and the lines that came before it: `IRQ raise 0`, `IRQ lower 0` and
+    `frame HEX`, in order.
+    """
+
+    # The most times that something is waited for, and the most frames that arrive at once
+    WAITS, MOST = 1000, 10
+
+    def __init__(self, words, registers, **options):
+        self.registers = registers
+        self.process = subprocess.Popen(words, stdin=subprocess.PIPE, stdout=subprocess.PIPE, bufsize=0, **options)
+        self.answers = os.fdopen(os.dup(self.process.stdout.fileno()), "r", encoding="ascii")
+
+    def lines(self, request):
+        """Sends a request, and returns the lines up to its answer."""
+        lines = []
+        try:
+            self.process.stdin.write(f"{request}\n".encode())
+        except BrokenPipeError:
+            raise Ended(f"the emulator ended before it answered {request!r:.80}") from None
+        while True:
+            line = self.answers.readline()
+            if not line.endswith("\n"):
+                raise Ended(f"the emulator ended before it answered {request!r:.80}")
+            lines.append(line.rstrip("\n"))
+            if line.startswith(("OK", "ERR", "FAIL")):
+                return lines
+
+    def ask(self, request):
+        """Returns the answer, and the lines before it."""
+        *told, answer = self.lines(request)
+        return answer, told
+
+    def number(self, request):
+        """Returns the number in the answer, and the lines before it."""
+        answer, told = self.ask(request)
+        if not answer.startswith("OK 0x"):
+            raise Ended(f"{request!r:.80} was answered by {answer!r:.80}")
+        return int(answer[3:], 16), told
+
+    def patience(self):
+        """Turns of waiting for something that another thread of the emulator does: many at once, and then slower ones."""
+        for turn in range(self.WAITS):
+            yield turn
+            if turn >= self.WAITS // 2:
+                time.sleep(0.01)
+
+    def await_link(self):
+        """Waits until the link is up."""
+        for _ in self.patience():
+            if self.number(f"readl {self.registers + STATUS:#x}")[0] & 2:
+                return
+            self.work()
+        raise Ended("the link never comes up")
+
+    def image(self):
+        """Reads the 64 words of the EEPROM."""
+        return [self.word_of(number) for number in range(64)]
+
+    def word_of(self, number):
+        self.ask(f"writel {self.registers + EERD:#x} {number << 8 | 1:#x}")
+        for _ in self.patience():
+            self.work()
+            value = self.number(f"readl {self.registers + EERD:#x}")[0]
+            if value & 0x10:
+                return value >> 16
+        raise Ended("the EEPROM doesn't answer")
+
+    def deliver(self, frames):
+        """Lets the first of these frames arrive, as many as fit into the free slots of the ring, and removes them. A slot has
+        256 bytes. Returns the lines that this causes."""
+        (length, told), (head, more), (tail, last) = (self.number(f"readl {self.registers + offset:#x}") for offset in (RDLEN, RDH, RDT))
+        slots = length // 16
+        free, some = (tail - head) % slots if slots else 0, []
+        while frames and len(some) < self.MOST and -(-len(frames[0]) // 256) <= free:
+            free -= -(-len(frames[0]) // 256)
+            some.append(frames.popleft())
+        return told + more + last + (self.arrive_all(some) if some else [])
+
+    def close(self):
+        self.process.kill()
+        self.process.wait()
+        self.process.stdin.close()
+        self.process.stdout.close()
+        self.answers.close()
+
+
+class Serve(Emulator):
+    """The adapter of `nicbench serve`. It takes steps when it is asked to, and random ones with `interleave`."""
+
+    name = "serve"
+
+    def __init__(self, program, seed=0, interleave=0, registers=0xFEB00000, image=None):
+        words = shlex.split(program) + ["serve", "--memory", str(MEMORY), "--registers", hex(registers), "--seed", str(seed)]
+        if image is None:
+            super().__init__(words + ["--address", ADDRESS], registers)
+        else:
+            with tempfile.NamedTemporaryFile() as file:
+                file.write(struct.pack("<64H", *image))
+                file.flush()
+                super().__init__(words + ["--image", file.name], registers)
+                self.ask("endianness")  # it has read the image when it answers
+        if interleave:
+            self.ask(f"interleave {interleave}")
+
+    def arrive(self, frame):
+        """A frame arrives. Returns its fate, and the lines that it causes."""
+        answer, told = self.ask(f"arrive {frame.hex()}")
+        return answer.removeprefix("OK "), told
+
+    def work(self):
+        """Lets the adapter do all that it can do. Returns the lines that this causes."""
+        return self.ask("settle")[1]
+
+    def arrive_all(self, frames):
+        """Some frames arrive, and are moved to memory. Returns the lines that this causes."""
+        told = []
+        for frame in frames:
+            fate, more = self.arrive(frame)
+            told += more
+            if fate != "stored":
+                raise Ended(f"a frame was {fate}")
+        return told + self.work()
+
+
+class Other(Emulator):
+    """A program that answers the requests of `nicbench serve`: `readl`, `writel`, `read`, `write`, `memset` and `arrive`.
+
+    It may not know `settle`, if its adapter does its work at once.
+    """
+
+    name = "other"
+
+    def __init__(self, command, registers):
+        super().__init__(shlex.split(command), registers)
+
+    def arrive(self, frame):
+        answer, told = self.ask(f"arrive {frame.hex()}")
+        return answer.removeprefix("OK "), told
+
+    def work(self):
+        return self.ask("settle")[1]
+
+
+class Qemu(Emulator):
+    """QEMU's e1000. There is no guest: the processor halts, and virtual time jumps from one timer to the next.
+
+    Frames go over a pair of sockets, one a datagram. The script sets up the PCI device, and routes its interrupt. After a
+    write of RCTL it waits until the adapter receives again, which is a second of virtual time later.
+    """
+
+    name = "qemu"
+    # The interrupt of the device, on the interrupt controller whose inputs are reported
+    INTERRUPT = 11
+    # The clock of the machine (HPET): its control, its counter, the control of its first timer, and when that fires. Its ticks
+    # have 10 ns. `HELD` is a little more than the time for which reception is held back.
+    CLOCK, COUNTER, TIMER, ALARM, HELD = 0xFED00010, 0xFED000F0, 0xFED00100, 0xFED00108, 100_200_000
+    # The control of the clock: it runs, and its first timer is interrupt 0. The control of a timer: it interrupts once.
+    RUNS, INTERRUPTS = 3, 4
+
+    def __init__(self, program="qemu-system-x86_64", registers=0xE0000000):
+        self.folder = tempfile.TemporaryDirectory()
+        rom = os.path.join(self.folder.name, "rom")
+        with open(rom, "wb") as file:
+            # The processor begins 16 bytes before the end of the ROM: cli; hlt
+            file.write(b"\xf4" * (0x20000 - 16) + b"\xfa\xf4\xeb\xfd" + b"\xf4" * 12)
+        self.wire, theirs = socket.socketpair(socket.AF_UNIX, socket.SOCK_DGRAM)
+        self.wire.setblocking(False)
+        words = shlex.split(program) + [
+            "-nodefaults", "-machine", "pc", "-accel", "tcg", "-icount", "shift=0,sleep=off", "-m", "64M",
+            "-bios", rom, "-display", "none", "-qtest", "stdio", "-qtest-log", "/dev/null",
+            "-netdev", f"dgram,id=net,local.type=fd,local.str={theirs.fileno()}",
+            "-device", f"e1000,mac={ADDRESS},mitigation=off,netdev=net"]
+        # It warns that no timer runs, which is so.
+        with open(os.path.join(self.folder.name, "errors"), "wb") as errors:
+            super().__init__(words, registers, pass_fds=[theirs.fileno()], stderr=errors)
+        theirs.close()
+        self.set_up()
+
+    def ask(self, request):
+        """The lines of other interrupts are left out, and frames that the adapter sent are added."""
+        word, *rest = request.split()
+        *lines, answer = self.lines(request)
+        told = self.interrupts(lines)
+        if word.startswith("write"):
+            told = self.sent() + told
+            if int(rest[0], 0) == self.registers + RCTL:
+                told += self.pass_time()
+        return answer, told
+
+    def interrupts(self, lines):
+        """The lines about the device's interrupt."""
+        words = [line.split() for line in lines]
+        return [f"IRQ {level} 0" for word, level, number in words if (word, number) == ("IRQ", str(self.INTERRUPT))]
+
+    def pass_time(self):
+        """Waits until the adapter receives again after a write of RCTL: until a timer has fired that was set to a later time.
+        The processor's thread runs the timers, and must get the time to do it. Returns the lines about the interrupt."""
+        now = int(self.lines(f"readq {self.COUNTER:#x}")[-1][3:], 16)
+        lines = self.lines(f"writeq {self.ALARM:#x} {now + self.HELD}") + self.lines(f"writeq {self.TIMER:#x} {self.INTERRUPTS}")
+        for _ in self.patience():
+            if "IRQ raise 0" in lines:
+                self.lines(f"writeq {self.TIMER:#x} 0")
+                return self.interrupts(line for line in lines if line.startswith("IRQ"))
+            time.sleep(0.0001)
+            lines += self.lines("inb 0x80")
+        raise Ended("time stands still")
+
+    def turns(self):
+        """Requests that do nothing, so that QEMU's main loop does what it has to do. Returns the lines about the interrupt."""
+        return [line for _ in range(2) for line in self.ask("inb 0x80")[1]]
+
+    def sent(self):
+        """The lines of the frames that the adapter has sent since the last call."""
+        lines = []
+        while True:
+            try:
+                lines.append(f"frame {self.wire.recv(0x10000).hex()}")
+            except BlockingIOError:
+                return lines
+
+    def configuration(self, device, offset):
+        self.lines(f"outl 0xcf8 {0x80000000 | device << 11 | offset:#x}")
+        return self.number("inl 0xcfc")[0]
+
+    def configure(self, device, offset, value):
+        self.lines(f"outl 0xcf8 {0x80000000 | device << 11 | offset:#x}")
+        self.lines(f"outl 0xcfc {value:#x}")
+
+    def set_up(self):
+        """Finds the device on the bus, gives it an address and the bus, and has its interrupt reported."""
+        device = next(number for number in range(32) if self.configuration(number, 0) == 0x100E8086)
+        self.configure(1, 0x60, self.INTERRUPT * 0x01010101)  # the four interrupts of the bus
+        self.configure(device, 0x10, self.registers)
+        self.configure(device, 4, 6)  # memory, bus master
+        self.lines(f"writeq {self.CLOCK:#x} {self.RUNS}")
+        self.lines("irq_intercept_in ioapic")
+
+    def arrive(self, frame):
+        """A frame arrives. Returns the lines that it causes."""
+        return "taken", self.arrive_all([frame])
+
+    def arrive_all(self, frames):
+        """Some frames arrive, at most ten. Returns the lines that this causes."""
+        told = []
+        for frame in frames:
+            self.wire.send(frame)
+        for _ in self.patience():
+            told += self.turns()
+            if not self.waits():
+                return told + self.turns()
+        raise Ended("QEMU leaves a frame in the socket")
+
+    def waits(self):
+        """Whether QEMU has left a frame in the socket."""
+        return struct.unpack("i", fcntl.ioctl(self.wire, termios.TIOCOUTQ, bytes(4)))[0] > 0
+
+    def work(self):
+        """Its adapter has no work left after an answer."""
+        return []
+
+    def close(self):
+        super().close()
+        self.wire.close()
+        self.folder.cleanup()

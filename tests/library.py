@@ -1,0 +1,350 @@
+#!/usr/bin/env python3
+"""Checks the C library: its header and bindings, the examples, and that it answers as `nicbench serve` does.
+
+usage: tests/library.py PROGRAM [FOLDER]
+
+PROGRAM is `nicbench`, and FOLDER is what `tools/library FOLDER` wrote. Without FOLDER, the script lets `tools/library`
+write .build/library. Examples in C, C++ and Rust are compiled and run if there is a compiler, also with AddressSanitizer
+and valgrind. For a compiler or tool that isn't there, the script prints a line. The last line is 'N passed, M failed',
+and the exit status is 1 if anything failed.
+"""
+
+import os
+import re
+import shutil
+import subprocess
+import sys
+import tempfile
+
+TOP = os.path.dirname(os.path.dirname(os.path.abspath(__file__)))
+DRIVERS = os.path.join(TOP, "examples", "drivers")
+EXAMPLES = os.path.join(TOP, "examples", "library")
+sys.dont_write_bytecode = True
+sys.path += [DRIVERS, os.path.join(TOP, "bindings", "python")]
+import adapter  # noqa: E402
+import nic82540em  # noqa: E402
+import sweep  # noqa: E402
+from bench import Bench  # noqa: E402
+from random_requests import RandomRequests, Words  # noqa: E402
+
+MEMORY = 8192
+SEEDS, REQUESTS = 10, 1000
+# The steps before an access, of every other seed
+STEPS = 3
+# The size of the area of all registers in bytes, and the bytes of a register
+AREA, REGISTER_BYTES = 0x20000, 4
+WARNINGS = ["-Wall", "-Wextra", "-Werror"]
+SANITIZERS = "-fsanitize=address,undefined"
+REFUSED_MEMORY = "WARNING: AddressSanitizer failed to allocate"
+SEEDS_OF_SWEEP = 25
+
+
+def text_of(*path):
+    with open(os.path.join(TOP, *path)) as file:
+        return file.read()
+
+
+class Library(Bench):
+    """A built library, and a program that serves the same adapter."""
+
+    def __init__(self, library, program, folder):
+        super().__init__(program, folder)
+        self.root = library
+        self.shared = os.path.join(library, "lib", "libnic82540em.so")
+        self.flags = ["-I", os.path.join(library, "include"), os.path.join(library, "lib", "libnic82540em.a")]
+
+    def is_there(self, tool, what):
+        """Whether there is such a tool. Prints a line if there is none."""
+        if shutil.which(tool):
+            return True
+        print(f"not played, because there is no {tool}: {what}")
+        return False
+
+    def compiles(self, name, *words, env=None):
+        """Compiles something, and returns whether it did. There are no warnings."""
+        ran = subprocess.run(words, cwd=self.folder, capture_output=True, text=True, env=env and {**os.environ, **env})
+        self.check(f"{name}: compiles", (ran.returncode, ran.stderr[-2000:]), (0, ""))
+        return ran.returncode == 0
+
+    def prints(self, name, words, wanted):
+        """Checks that a command succeeds, prints this to its output, and prints no error.
+
+        AddressSanitizer may warn that it refuses memory, as the command expects.
+        """
+        env = {**os.environ, "ASAN_OPTIONS": "allocator_may_return_null=1"}
+        ran = subprocess.run(words, cwd=self.folder, capture_output=True, text=True, timeout=600, env=env)
+        errors = [line for line in ran.stderr.splitlines() if REFUSED_MEMORY not in line]
+        self.check(name, (ran.returncode, ran.stdout, errors), (0, wanted, []))
+
+
+# The header and the bindings have the names and numbers of the crates.
+
+def names(library):
+    offsets = text_of("crates", "adapter", "src", "offsets.rt")
+    known = {name: int(value, 16) for name, value in re.findall(r"^pub const (\w+): u32 = (0x[0-9A-F]{4});$", offsets, re.M)}
+    known["RAH"] = known["RAL"] + REGISTER_BYTES
+    header, rust = text_of("bindings", "c", "nic82540em.h"), text_of("bindings", "rust", "src", "lib.rs")
+    table = header[header.index("/* Registers: "):]
+    found = {name: int(value, 16) for name, value in re.findall(r"^    NIC_(\w+) = (0x[0-9A-F]{4}),?", table, re.M)}
+    library.check("the header's registers", found, {name: known.get(name) for name in found})
+    library.check("the number of the header's registers", len(found), 30)
+    constants = {name: int(value, 16) for name, value in re.findall(r"^    pub const (\w+): u32 = (0x[0-9A-F]{4});$", rust, re.M)}
+    library.check("the registers of the crate in Rust", constants, found)
+    exported = set(re.findall(r'extern "C" fn (nic82540em_\w+)', text_of("crates", "nic82540em", "src", "lib.rt")))
+    library.check("the header's calls", set(re.findall(r"^(?!static).*?(nic82540em_\w+)\(struct", header, re.M)), exported)
+    library.check("the calls of the crate in Rust", set(re.findall(r"fn (nic82540em_\w+)\(", rust)), exported)
+    library.check("the calls in Python", {f"nic82540em_{name}" for name in nic82540em.CALLS}, exported)
+    outcomes = re.findall(r"^    NIC_(\w+),?", header[header.index("NIC_NOTHING"):header.index("/* The fates")], re.M)
+    library.check("the outcomes in Python", [name.upper() for name in nic82540em.OUTCOMES], ["NOTHING", *outcomes])
+
+
+# One list of requests in process and by `serve`.
+
+class InProcess:
+    """Answers requests of `serve` by the library."""
+
+    def __init__(self, library, memory):
+        self.nic = nic82540em.Nic(library, memory=memory)
+
+    def register(self, address, size):
+        """The offset of the register that an access goes to, or None."""
+        offset = address - adapter.REGISTERS
+        return offset if size == REGISTER_BYTES and 0 <= offset < AREA and offset % REGISTER_BYTES == 0 else None
+
+    def load(self, address, size):
+        offset = self.register(address, size)
+        return self.nic.load(address, size) if offset is None else self.nic.read(offset).to_bytes(REGISTER_BYTES, "little")
+
+    def store(self, address, data):
+        offset = self.register(address, len(data))
+        if offset is None:
+            self.nic.store(address, data)
+        else:
+            self.nic.write(offset, int.from_bytes(data, "little"))
+        return ""
+
+    def answer(self, request, seed):
+        """The answer to a request, without OK."""
+        verb, *words = request.split()
+        if verb == "readl":
+            return f"0x{int.from_bytes(self.load(int(words[0], 0), REGISTER_BYTES), 'little'):016x}"
+        if verb == "writel":
+            return self.store(int(words[0], 0), int(words[1], 0).to_bytes(REGISTER_BYTES, "little"))
+        if verb == "read":
+            return "0x" + self.load(int(words[0], 0), int(words[1], 0)).hex()
+        if verb == "write":
+            return self.store(int(words[0], 0), bytes.fromhex(words[2][2:]))
+        if verb == "memset":
+            return self.store(int(words[0], 0), bytes([int(words[2], 0)]) * int(words[1], 0))
+        if verb in ("settle", "line"):
+            return f"0x{int(getattr(self.nic, verb)()):016x}"
+        if verb == "interleave":
+            self.nic.interleave(int(words[0]), seed)
+            return ""
+        return {"step": lambda: self.nic.step(words[0]), "arrive": lambda: self.nic.arrive(bytes.fromhex("".join(words))),
+                "log": lambda: ""}[verb]()
+
+    def reply(self, request, seed):
+        """What a request does: the answer, the frames that were put on the wire, and the interrupt line."""
+        try:
+            answer = self.answer(request, seed)
+        except nic82540em.Refused:
+            answer = "refused"
+        frames = []
+        while (frame := self.nic.take_put()) is not None:
+            frames.append(frame)
+        return answer, frames, self.nic.line()
+
+
+class Served(adapter.Adapter):
+    """The same by `serve`."""
+
+    def reply(self, request):
+        self.wire.clear()
+        try:
+            answer = self.ask(request)[0]
+        except adapter.Refused:
+            answer = "refused"
+        return answer, list(self.wire), self.line
+
+
+class Size:
+    """What the requests of a hostile driver have to know of memory."""
+
+    def __init__(self, size):
+        self.memory, self.registers = bytes(size), {}
+
+
+def requests_of(seed):
+    """Requests of a hostile driver, with some that are refused, and with steps before accesses for every other seed."""
+    drawn = RandomRequests(Words(seed), Size(MEMORY))
+    # The answers are compared with those of `serve`, so no registers have to be read before steps and arrivals.
+    drawn.before_steps, drawn.before_frames = [], []
+    asked = [f"interleave {STEPS}"] if seed % 2 else []
+    while len(asked) < REQUESTS:
+        drawn.phase(40)
+        asked += [request for request, _ in drawn.take() if not request.startswith("log")]
+        asked += ["line", "settle", f"read {MEMORY - 2:#x} 3", f"write {2**64 - 1:#x} 1 0x00", f"read {MEMORY:#x} 0"]
+    return asked[:REQUESTS]
+
+
+def same_answers(library):
+    for seed in range(1, SEEDS + 1):
+        inside = InProcess(library.shared, MEMORY)
+        with Served(library.program, "--memory", str(MEMORY), "--seed", str(seed)) as served:
+            differ = next(((request, got, wanted) for request in requests_of(seed)
+                           if (got := inside.reply(request, seed)) != (wanted := served.reply(request))), None)
+            library.check(f"{REQUESTS} requests of seed {seed}, in process and served", differ, None)
+
+
+# The calls that `serve` hasn't.
+
+def steps_by_schedule(library):
+    """A step before an access, requested of `serve` and scheduled in process, has the same effect."""
+    for seed in 2, 4:
+        inside, asked = InProcess(library.shared, MEMORY), requests_of(seed)
+        frames, answers, wanted, scheduled = [], [], [], 0
+        with Served(library.program, "--memory", str(MEMORY)) as served:
+            for request, later in zip(asked, [*asked[1:], ""]):
+                answer, put, _ = served.reply(request)
+                frames += put
+                if request.startswith("step") and later.startswith(("readl", "writel")):
+                    inside.nic.schedule(inside.nic.accesses(), request.split()[1])
+                    scheduled += 1
+                else:
+                    wanted.append((request, answer))
+                    answers.append((request, inside.reply(request, 0)))
+        library.check(f"steps of seed {seed} by schedule", [(request, got[0]) for request, got in answers], wanted)
+        library.check(f"frames of seed {seed} by schedule", [frame for _, got in answers for frame in got[1]], frames)
+        library.check(f"seed {seed} has steps that are scheduled", scheduled > 10, True)
+
+
+def state_without_accesses(library):
+    """A register without a read, and memory by its pointer, are what accesses return."""
+    inside = InProcess(library.shared, MEMORY)
+    for request in requests_of(6):
+        inside.reply(request, 0)
+    accesses, memory = inside.nic.accesses(), bytes(inside.nic.memory())
+    registers = {offset: inside.nic.peek(offset) for offset in (*range(0, 0x5810, 4), 0x1FFFC)}
+    library.check("peeks are no accesses", inside.nic.accesses(), accesses)
+    library.check("memory by its pointer", memory, inside.nic.load(0, MEMORY))
+    library.check("registers that were peeked", registers, {offset: inside.nic.read(offset) for offset in registers})
+    inside.nic.memory()[7] = 0x5A
+    library.check("a store by the pointer", inside.nic.load(7, 1), b"\x5a")
+
+
+# A driver in Python, over the pipe and in process.
+
+def drivers(library):
+    for name in ("right", "late", "head", "length", "part", "freed"):
+        found = {}
+        for place, made in (("served", adapter.Adapter), ("in process", nic82540em.Adapter)):
+            sweep.Adapter = made
+            program = library.program if place == "served" else library.shared
+            failed = sweep.first_to_fail(program, SEEDS_OF_SWEEP, name, sweep.exchange, False)
+            found[place] = failed and failed[:2]
+        library.check(f"the driver {name}, in process and served", found["in process"], found["served"])
+    sweep.Adapter = adapter.Adapter
+
+
+# Examples
+
+def has_fuzzer(library):
+    """Whether clang has libFuzzer. Prints a line if it hasn't."""
+    library.put("empty.c", b"int LLVMFuzzerTestOneInput(const char *data, long size) { return data && size < 0; }\n")
+    ran = subprocess.run(["clang", "-fsanitize=fuzzer", "-o", "empty", "empty.c"], cwd=library.folder, capture_output=True)
+    if ran.returncode != 0:
+        print("not played, because clang has no libFuzzer: the harness by libFuzzer")
+    return ran.returncode == 0
+
+
+def page_in_python(library):
+    """The code of the page, with the library that was built."""
+    code = re.search(r"```python\n(.*?)```", text_of("docs", "LIBRARY.md"), re.S)[1]
+    code = code.replace("/tmp/nic/lib/libnic82540em.so", library.shared)
+    words = [sys.executable, "-B", "-c", f"import sys; sys.path = {sys.path!r}\n{code}"]
+    library.prints("the page in Python: runs", words, "True 0x80\n")
+
+
+def examples_in_c(library):
+    if not library.is_there("cc", "the examples in C"):
+        return
+    for name, extra in ("first", []), ("frames", []), ("state", []), ("fuzz", ["-DALONE"]):
+        source, wanted = os.path.join(EXAMPLES, f"{name}.c"), text_of("examples", "library", f"{name}.txt")
+        for how, words in ("", []), ("_sanitized", [SANITIZERS, "-g"]):
+            target = library.path(name + how)
+            flags = ["-std=c99", "-O1", *WARNINGS, *extra, *words]
+            if library.compiles(name + how, "cc", *flags, "-o", target, source, *library.flags):
+                library.prints(f"{name}{how}: runs", [target], wanted)
+    for page, wanted in (("docs", "LIBRARY.md"), "00000080\n"), (("README.md",), "80\n"):
+        library.put("page.c", re.search(r"```c\n(.*?)```", text_of(*page), re.S)[1].encode())
+        if library.compiles(f"the code of {page[-1]}", "cc", "-std=c99", *WARNINGS, "-o", "page", "page.c", *library.flags):
+            library.prints(f"the code of {page[-1]}: runs", [library.path("page")], wanted)
+    fuzzer = library.path("fuzzer")
+    words = ["clang", "-O1", "-g", "-fsanitize=fuzzer,address", "-o", fuzzer]
+    if library.is_there("clang", "the harness by libFuzzer") and has_fuzzer(library):
+        if library.compiles("fuzz by libFuzzer", *words, os.path.join(EXAMPLES, "fuzz.c"), *library.flags):
+            ran = subprocess.run([fuzzer, "-runs=20000", "-seed=1"], cwd=library.folder, capture_output=True, timeout=600)
+            library.check("fuzz by libFuzzer: runs", (ran.returncode, b"Done 20000 runs" in ran.stderr), (0, True))
+    if library.is_there("valgrind", "the examples in C by valgrind"):
+        for name in "first", "frames", "state":
+            library.prints(f"{name}: by valgrind", ["valgrind", "-q", "--leak-check=full", "--error-exitcode=9",
+                                                    library.path(name)], text_of("examples", "library", f"{name}.txt"))
+
+
+def refused_memory(library):
+    """Each allocation fails in turn, with a heap that counts."""
+    if library.is_there("cc", "refused memory"):
+        target = library.path("refused")
+        source = os.path.join(TOP, "tests", "library_refused.c")
+        flags = ["-std=c99", "-g", *WARNINGS, SANITIZERS]
+        if library.compiles("refused memory", "cc", *flags, "-o", target, source, *library.flags):
+            library.prints("refused memory: runs", [target], "new: refused at each of 10 allocations\n"
+                           "peek: refused at each of 6 allocations\nno block is left\n")
+
+
+def examples_in_other_languages(library):
+    if library.is_there("c++", "the first example as C++"):
+        target = library.path("first_cpp")
+        source = os.path.join(EXAMPLES, "first.c")
+        if library.compiles("first as C++", "c++", "-x", "c++", *WARNINGS, "-o", target, source, "-x", "none", *library.flags):
+            library.prints("first as C++: runs", [target], text_of("examples", "library", "first.txt"))
+    if library.is_there("rustc", "the crate and the example in Rust"):
+        rustc = ["rustc", "--edition", "2021", "-O", "-D", "warnings"]
+        path = ["-L", f"native={os.path.join(library.root, 'lib')}"]
+        if library.compiles("the crate in Rust", *rustc, "--crate-type", "rlib", "--crate-name", "nic82540em", "-o",
+                            "libnic82540em.rlib", os.path.join(TOP, "bindings", "rust", "src", "lib.rs"), *path,
+                            "-l", "static=nic82540em"):
+            target = library.path("two_steps")
+            if library.compiles("two_steps", *rustc, "-o", target, os.path.join(EXAMPLES, "two_steps.rs"),
+                                "--extern", "nic82540em=libnic82540em.rlib", *path):
+                library.prints("two_steps: runs", [target], text_of("examples", "library", "two_steps.txt"))
+
+
+def is_built(library):
+    """Builds the library. Returns whether it is there."""
+    if not all([library.is_there(tool, "everything that needs the built library") for tool in ("cc", "ar")]):
+        return False
+    ran = subprocess.run([os.path.join(TOP, "tools", "library"), library.root], stdout=subprocess.PIPE, stderr=subprocess.STDOUT,
+                         text=True)
+    library.check("the library is built", (ran.returncode, ran.stdout[-2000:] if ran.returncode else ""), (0, ""))
+    return ran.returncode == 0
+
+
+def main():
+    if len(sys.argv) not in (2, 3):
+        sys.exit(__doc__)
+    program = os.path.abspath(sys.argv[1])
+    root = os.path.abspath(sys.argv[2] if sys.argv[2:] else os.path.join(TOP, ".build", "library"))
+    with tempfile.TemporaryDirectory() as folder:
+        library = Library(root, program, folder)
+        names(library)
+        if sys.argv[2:] or is_built(library):
+            for part in (same_answers, steps_by_schedule, state_without_accesses, drivers, page_in_python,
+                         refused_memory, examples_in_c, examples_in_other_languages):
+                part(library)
+    print(f"{library.passed} passed, {library.failed} failed")
+    sys.exit(1 if library.failed else 0)
+
+
+main()

@@ -1,0 +1,79 @@
+/* Makes each allocation of the C library fail in turn, with a heap in place of heap.c. A refused call must change
+ * nothing, and no block may be left. */
+#include <nic82540em.h>
+#include <stdio.h>
+#include <stdlib.h>
+
+struct tried {
+    bool ok;
+    void *block;
+};
+
+static char nothing;
+static long left, live; /* allocations until one fails, and blocks that aren't freed */
+
+static struct tried tried(void *block)
+{
+    struct tried result = { block != NULL, block != NULL ? block : &nothing };
+
+    live += block != NULL;
+    return result;
+}
+
+struct tried rattle_alloc(size_t size, size_t align);
+struct tried rattle_realloc(void *block, size_t kept, size_t size, size_t align);
+void rattle_dealloc(void *block);
+
+struct tried rattle_alloc(size_t size, size_t align)
+{
+    return tried(left-- == 0 ? NULL : malloc(size != 0 ? size : align));
+}
+
+struct tried rattle_realloc(void *block, size_t kept, size_t size, size_t align)
+{
+    (void)kept;
+    live--;
+    return tried(realloc(block, size != 0 ? size : align));
+}
+
+void rattle_dealloc(void *block)
+{
+    live--;
+    free(block);
+}
+
+#define CHECK(fact) ((fact) ? (void)0 : (fprintf(stderr, "%s is false\n", #fact), exit(1)))
+
+int main(void)
+{
+    struct nic82540em nic = NIC82540EM_NONE;
+    const struct nic82540em_options options = { 4096, 1, 48, { 2, 0, 0, 0, 0, 1 } };
+    uint32_t value = 7;
+    long refused;
+
+    for (refused = 0;; refused++) {
+        left = refused;
+        if (nic82540em_new(&nic, &options))
+            break;
+        CHECK(live == 0 && !nic.held);
+    }
+    CHECK(refused > 0);
+    printf("new: refused at each of %ld allocations\n", refused);
+    nic82540em_write(&nic, NIC_VET, 0x1234);
+    for (refused = 0;; refused++) {
+        long before = live;
+
+        left = refused;
+        if (nic82540em_peek(&nic, NIC_VET, &value))
+            break;
+        CHECK(live == before && value == 7);
+    }
+    CHECK(refused > 0 && value == 0x1234);
+    printf("peek: refused at each of %ld allocations\n", refused);
+    left = 0;
+    CHECK(nic82540em_read(&nic, NIC_VET) == 0x1234 && nic82540em_settle(&nic) == 0);
+    nic82540em_free(&nic);
+    CHECK(live == 0);
+    puts("no block is left");
+    return 0;
+}
