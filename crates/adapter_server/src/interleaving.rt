@@ -53,7 +53,8 @@ fn choice_numbered(number: u32) -> Choice
 
 impl Session {
     ghost use Rattle.adapter_server.specs.Devices.{TellsEvents};
-    ghost use Rattle.adapter_server.specs.Sessions.{AllArrive, Chosen, Interleaves, NextArrives, drawn, drawn_count, drawn_kind};
+    ghost use Rattle.adapter_server.specs.Sessions.{AllArrive, Chosen, Interleaves, NextArrives};
+    ghost use Rattle.adapter_server.specs.Sessions.{drawn, drawn_count, drawn_kind};
 
     /// The kind of steps that the next word of the generator chooses.
     fn draw_kind(&mut self) -> StepKind
