@@ -9,6 +9,7 @@ Commands:
   run    Run a scenario: hosts on wires, step by step
   show   List the frames of a trace, one per line
   serve  Serve an adapter and its memory to a driver, one request per line
+  drive  Run the driver on an adapter that another program models
   help   Print this message or the help of the given subcommand(s)
 
 Options:
@@ -26,17 +27,18 @@ from the top of the repository:
   0 60 02:00:00:00:00:02 02:00:00:00:00:01 0800
   frames 1 skipped 0 cut no
 
-Exit status: 0 success, 1 a trace, a scenario or an image is invalid, 2 usage error, help or version, 3 a
-file failed, 4 out of memory. If the status is 1, 3 or 4, nicbench prints 'nicbench: CODE NAME' on standard
-error, or 'nicbench: line N: CODE NAME' if a line of a scenario is invalid. IN is any input: also the TRACE
-of show, and the SCENARIO of run with each FILE that it feeds. If IN is -, it is standard input, which can
-be read only once. Standard input and named pipes are read to their end first, up to 1 GiB. OUT is any
-output: also each file in the OUTDIR of run. Codes E40 to E56 come from run only: nicbench run --help. For
-E57, E66, E67 and E68 of serve: nicbench serve --help
+Exit status: 0 success, 1 a trace, a scenario, an image or an answer is invalid, or drive ended too early,
+2 usage error, help or version, 3 a file failed, 4 out of memory. If the status is 1, 3 or 4, nicbench
+prints 'nicbench: CODE NAME' on standard error, or 'nicbench: line N: CODE NAME' if a line of a scenario is
+invalid. IN is any input: also the TRACE of show, and the SCENARIO of run with each FILE that it feeds. If
+IN is -, it is standard input, which can be read only once. Standard input and named pipes are read to their
+end first, up to 1 GiB. OUT is any output: also each file in the OUTDIR of run. Codes E40 to E56 come from
+run only (E46 from drive, too): nicbench run --help. For E57, E66, E67 and E68 of serve: nicbench serve --help
 
   E57 Memory    Out of memory before anything was written, or standard input or a pipe has more than
                 1 GiB. Free some, split IN, or copy it to a file first
   E58 Image     The file of --image of serve hasn't 128 bytes. Name another file
+  E59 Answer    A line isn't the answer to a request of drive. Check the program that answers
   E60 Header    IN has fewer than 24 bytes, so it isn't a trace. Name another file, or check the program
                 that writes into the pipe
   E61 Magic     IN isn't a pcap file. Convert a pcapng file: editcap -F pcap IN OUT
@@ -49,6 +51,8 @@ E57, E66, E67 and E68 of serve: nicbench serve --help
   E67 Write     OUT or standard output could not be written. Free space there
   E68 Open      IN couldn't be opened or is a device, OUT couldn't be created, or OUTDIR doesn't exist.
                 Check the paths and permissions. Copy a part of a device to a file: head -c SIZE DEVICE
+  E69 Fewer     drive ended before all frames of IN were sent and N were received. Check the adapter, or use a
+                larger --idle
 """
 
 PASS_HELP = b"""Send the frames of a trace through a receive filter and a ring
@@ -282,4 +286,46 @@ standard error:
   E67 Write     Standard output could not be written, or nobody reads it any more, status 3. Free space
                 there, or read all answers
   E68 Open      The file of --image couldn't be opened or is a device, status 3. Check its path
+"""
+
+DRIVE_HELP = b"""Run the driver on an adapter that another program models
+
+Usage: nicbench drive [OPTIONS] --send <IN> --receive <OUT>
+
+Options:
+      --registers <ADDRESS>  Address of the 131,072 bytes of registers [0xFEB00000]
+      --memory <BYTES>       Bytes of memory that the driver may use, from address 0, such as 0x100000 [1048576]
+      --expect <N>           Stop after N frames were received; status 1 if fewer were
+      --idle <N>             Stop after N calls of the handler in a row that received no frame
+      --send <IN>            The trace whose frames are sent, a pcap file
+      --receive <OUT>        The trace to write received frames into, a pcap file
+  -h, --help                 Print help
+
+The driver initializes the adapter, sends the frames of IN, and writes received frames to OUT. Each access is
+a request on standard output, and its answer is read from standard input, in QEMU's qtest protocol: readl,
+writel, read or write. The adapter may be QEMU's e1000, that of nicbench serve, or your own. This script joins
+drive with QEMU:
+
+  $ examples/emulators/qemu.py
+
+drive ends after N frames were received (--expect), or after N calls of the handler in a row in which no frame
+was received and none was accepted for sending (--idle, 1000 by default). At the end it prints its counts on
+standard error:
+
+  sent 10000 illegal 0 received 10000 missed 0 exact
+
+  sent      frames that the driver accepted
+  illegal   frames below 14 or above 1,518 bytes
+  received  frames in OUT
+  missed    frames that the adapter missed ('atleast' in place of 'exact' if there may be more)
+
+If drive fails, it prints 'nicbench: CODE NAME' on standard error:
+
+  E46           The adapter could not be initialized; the reason follows, such as E14 NoLink. Status 1
+  E59, E69      An answer isn't right, or drive ended too early, status 1
+  E60 to E64    IN is invalid, status 1
+  E66 to E68    Opening, reading or writing failed, status 3
+  E57, E65      Out of memory, status 4
+
+What each code means, and what to do: nicbench --help
 """

@@ -338,7 +338,10 @@ def ends(server):
 
 def talks(server):
     """Without deviations, a test gets the same answers as from the server; the log, and no random steps, if it asks for them."""
-    requests = ["log on", "readl 0xFEB00008", "step phy", "arrive 00", "settle", "line", "log off", "interleave 3", "interleave 65536", "log maybe",
+    # The packet buffer has room for one frame, so the last offered one is missed, and raises the interrupt line.
+    offers = [f"offer {FRAME.upper()}", "offer", "offer 0", "offer 00 00", "readb 5", "offer 00", "settle", "writel 0xFEB01000 2", "writel 0xFEB00100 0x8002",
+              "writel 0xFEB000D0 64", f"arrive {FRAME}", f"offer {FRAME}", "settle", "readl 0xFEB000C0", f"offer {FRAME}"]
+    requests = ["log on", "readl 0xFEB00008", "step phy", "arrive 00", "settle", "line", *offers, "wire full", "wire free", "wire", "log off", "interleave 3", "interleave 65536", "log maybe",
                 "writel 0xFEB000C8 128", "writel 0xFEB000D0 128", "readl\t0xFEB000C0 ", "", "fly", "read 0 65537", "write 0 2 0x00", "readb 0x100000",
                 "memset 0 4 1", "read 0 4", "read 0xFEB00000 4", "write 0xFEB000D0 4 0x01000000", "writel 0 0x1ffffffff", "readl 0\r", "read 0 65536",
                 "readl 0".ljust(140_000), "writel 0xFEB00020 0x04201200", "settle"]

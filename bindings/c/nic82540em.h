@@ -110,6 +110,11 @@ bool nic82540em_store(struct nic82540em *nic, uint64_t address, const void *byte
 /* The number of accesses so far. So it is the number of the next access; the first has number 0. */
 uint64_t nic82540em_accesses(struct nic82540em *nic);
 
+/* The numbers of frames in the packet buffer: frames that arrived (one of which pieces are moved counts until its last
+ * piece is), and frames that were fetched and aren't on the wire yet. */
+uint32_t nic82540em_waiting_received(struct nic82540em *nic);
+uint32_t nic82540em_waiting_transmit(struct nic82540em *nic);
+
 /* Stores the address of the first byte of the host's memory in `into`, if memory has a byte, and returns its size in
  * bytes. Use it for rings and buffers that your driver accesses by pointers. The address stays the same until
  * nic82540em_free. Such an access is none of the accesses above: it isn't counted, and no step is played before it. */
@@ -140,8 +145,8 @@ bool nic82540em_line(struct nic82540em *nic);
 uint64_t nic82540em_settle(struct nic82540em *nic);
 
 /* From now on, up to `count` random steps are played before each access; with 0, none. The seed determines the steps:
- * they are those of `nicbench serve --seed SEED` after its first `interleave COUNT`. Returns false, and changes nothing,
- * if `count` is above 65,535. */
+ * they are those of `nicbench serve --seed SEED` after its first `interleave COUNT`, while no frame is offered. Returns
+ * false, and changes nothing, if `count` is above 65,535. */
 bool nic82540em_interleave(struct nic82540em *nic, uint32_t count, uint64_t seed);
 
 /* Adds a step of this kind to the end of the schedule. Before each access, the first steps of the schedule whose
@@ -264,9 +269,9 @@ struct nic82540em_register {
     uint32_t offset;
 };
 
-/* Prints the registers by name, heads and tails among them, and the interrupt line into `into`, as snprintf does: at
- * most `room` bytes with a null byte at the end. Returns the number of bytes that the whole text has. It clears no
- * register. */
+/* Prints the registers by name, heads and tails among them, the numbers of frames in the packet buffer, and the
+ * interrupt line into `into`, as snprintf does: at most `room` bytes with a null byte at the end. Returns the number of
+ * bytes that the whole text has. It clears no register. */
 static inline size_t nic82540em_print(struct nic82540em *nic, char *into, size_t room)
 {
     static const struct nic82540em_register table[] = {
@@ -289,7 +294,9 @@ static inline size_t nic82540em_print(struct nic82540em *nic, char *into, size_t
                          table[place].name, (unsigned long)value);
         size += count > 0 ? (size_t)count : 0;
     }
-    count = snprintf(size < room ? into + size : NULL, size < room ? room - size : 0, "line   %d\n",
+    count = snprintf(size < room ? into + size : NULL, size < room ? room - size : 0,
+                     "packet buffer: received %lu, transmit %lu\nline   %d\n",
+                     (unsigned long)nic82540em_waiting_received(nic), (unsigned long)nic82540em_waiting_transmit(nic),
                      (int)nic82540em_line(nic));
     return size + (count > 0 ? (size_t)count : 0);
 }

@@ -42,6 +42,8 @@ CALLS = {
     "load": (ctypes.c_bool, [ctypes.c_uint64, ctypes.c_void_p, ctypes.c_size_t]),
     "store": (ctypes.c_bool, [ctypes.c_uint64, ctypes.c_char_p, ctypes.c_size_t]),
     "accesses": (ctypes.c_uint64, []),
+    "waiting_received": (ctypes.c_uint32, []),
+    "waiting_transmit": (ctypes.c_uint32, []),
     "memory": (ctypes.c_uint64, [ctypes.POINTER(ctypes.c_void_p)]),
     "peek": (ctypes.c_bool, [ctypes.c_uint32, ctypes.POINTER(ctypes.c_uint32)]),
     "step": (ctypes.c_uint32, [ctypes.c_uint32]),
@@ -118,6 +120,10 @@ class Nic:
     def accesses(self):
         """Returns the number of accesses so far."""
         return self.call("accesses")
+
+    def waiting(self):
+        """Returns the numbers of frames in the packet buffer: those that arrived, and those to be put on the wire."""
+        return self.call("waiting_received"), self.call("waiting_transmit")
 
     def memory(self):
         """Returns the host's memory as an array of bytes. Don't use the array after `free`."""

@@ -1,4 +1,4 @@
-/* Prints the state of an adapter whose receiver is on, after a frame has arrived. */
+/* Prints the state of an adapter whose receiver is on, after a frame was received and another one has arrived. */
 #include <nic82540em.h>
 #include <stdio.h>
 
@@ -18,6 +18,7 @@ int main(void)
     nic82540em_write(&nic, NIC_IMS, NIC_RXT0);
     nic82540em_arrive(&nic, frame, sizeof frame);
     nic82540em_settle(&nic);
+    nic82540em_arrive(&nic, frame, sizeof frame);
     nic82540em_print(&nic, text, sizeof text);
     fputs(text, stdout);
     nic82540em_free(&nic);

@@ -86,6 +86,11 @@ class Play:
     outcomes of a step by its answer if the server doesn't log it. Rows need the log. Without them, the server logs only
     what happens at the test's own `step` and `settle`.
     """
+    # Python finds attributes faster in slots, if there are many.
+    __slots__ = ("shadow", "memory", "known", "waiting", "size", "untold", "round", "access_number", "is_logged", "stop",
+                 "at_stop", "begun", "out", "offered", "offers", "met", "idle", "places", "rows", "reached", "others",
+                 "accesses", "answers", "counts", "server", "draw", "is_strict", "has_places", "has_rows", "has_log",
+                 "schedule", "left", "named")
 
     def __init__(self, base=DEFAULT_REGISTERS, memory=0):
         self.shadow, self.memory = Shadow(base), memory  # of `memory` bytes, the finder knows that they are there

@@ -184,6 +184,8 @@ extern "C" {
     fn nic82540em_load(nic: &mut Handle, address: u64, into: *mut u8, count: usize) -> bool;
     fn nic82540em_store(nic: &mut Handle, address: u64, bytes: *const u8, count: usize) -> bool;
     fn nic82540em_accesses(nic: &mut Handle) -> u64;
+    fn nic82540em_waiting_received(nic: &mut Handle) -> u32;
+    fn nic82540em_waiting_transmit(nic: &mut Handle) -> u32;
     fn nic82540em_memory(nic: &mut Handle, into: &mut *mut u8) -> u64;
     fn nic82540em_peek(nic: &mut Handle, offset: u32, into: &mut u32) -> bool;
     fn nic82540em_step(nic: &mut Handle, kind: u32) -> u32;
@@ -238,6 +240,11 @@ impl Nic {
     /// The number of accesses (reads, writes, loads and stores) so far.
     pub fn accesses(&mut self) -> u64 {
         unsafe { nic82540em_accesses(&mut self.handle) }
+    }
+
+    /// The numbers of frames in the packet buffer: those that arrived, and those to be put on the wire.
+    pub fn waiting(&mut self) -> (u32, u32) {
+        unsafe { (nic82540em_waiting_received(&mut self.handle), nic82540em_waiting_transmit(&mut self.handle)) }
     }
 
     /// The host's memory. Bytes that are read and written here are no accesses.

@@ -16,8 +16,17 @@ pub struct FrameCounts {
     pub transmitted: u32,
 }
 
+/// How many frames wait in the two parts of an adapter's packet buffer.
+#[derive(Clone, Copy, Debug, PartialEq, Eq)]
+pub struct WaitingFrames {
+    /// Frames that arrived. A frame of which pieces are moved counts until its last piece is.
+    pub received: u8,
+    /// Frames that were fetched and aren't on the wire yet.
+    pub transmit: u8,
+}
+
 impl Adapter {
-    ghost use Rattle.std.specs.Prelude.{◌≡◌};
+    ghost use Rattle.std.specs.Prelude.{◌≡◌, length};
     ghost use Rattle.adapter.specs.State.{IsAdapter};
 
     /// What the statistics registers hold. Unlike a driver's read, this call clears none of them.
@@ -32,6 +41,17 @@ impl Adapter {
             without_descriptor: self.file.rnbc.value(),
             received: self.file.gprc.value(),
             transmitted: self.file.gptc.value(),
+        }
+    }
+
+    /// How many frames wait in the packet buffer.
+    pub fn waiting(&self) -> WaitingFrames
+        ensures received { result.received ≡ length self.now.receiver.buffer }
+        ensures transmit { result.transmit ≡ length self.now.transmitter.buffer }
+    {
+        WaitingFrames {
+            received: self.receiver.buffered(),
+            transmit: self.transmitter.len(),
         }
     }
 

@@ -19,7 +19,7 @@ mod step;
 mod transmit;
 
 pub use adapter::Adapter;
-pub use counts::FrameCounts;
+pub use counts::{FrameCounts, WaitingFrames};
 pub use laws::{
     accesses_by_table, frames_by_steps, offsets_by_table, parts_have_their_laws, plain_by_history,
     resets_by_table,

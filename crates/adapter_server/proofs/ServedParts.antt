@@ -26,7 +26,12 @@ use Rattle.adapter_server.proofs.Writing.{appends_then, tells_so}
 
 begins_nothing : (lines : List Text) (a : Server) → BeginsNext lines a []
 begins_nothing [] a = refl
-begins_nothing (line ∷ later) a = record { text = []; rest = []; holds = inl (a.session.device, events_none a.session.device); text_is = refl }
+begins_nothing (line ∷ later) a = record {
+  text = [];
+  rest = [];
+  holds = inl (a.session.device, events_none a.session.device);
+  text_is = refl;
+}
 
 -- Nothing of a next answer was written.
 pub serves_stopped : (old new : Option (List ℕ)) (begin now : Server) (before after : Option (List ℕ))

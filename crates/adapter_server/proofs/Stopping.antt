@@ -74,7 +74,8 @@ pub events_of_draws : (turns : List ℕ) (a b : Session) (text : Text) → InOrd
 events_of_draws turns a b text all =
     events_in_order (λ (turn : ℕ). Draws) (λ (session : Session). session.device)
     (λ turn from to here draws.
-    events_of_chosen (drawn from.offered from.generator).0 (record from { generator = (drawn from.offered from.generator).1 }) to here draws)
+    let choice = drawn from.offered from.generator in
+    events_of_chosen choice.0 (record from { generator = choice.1 }) to here draws)
     turns a b text all
 
 pub events_of_interleaves : (a b : Session) (text : Text) → Interleaves a b text → Events a.device b.device text

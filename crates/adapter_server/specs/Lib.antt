@@ -2,6 +2,7 @@ pub mod Statuses
 pub mod Texts
 pub mod Order
 pub mod Outcomes
+pub mod Kinds
 pub mod Choices
 pub mod Happenings
 pub mod Defaults

@@ -9,9 +9,11 @@ use Rattle.adapter.specs.Registers.{after_write, new_adapter}
 use Rattle.adapter.specs.declared.outcome.Outcome.{Outcome}
 use Rattle.adapter.specs.State.{AdapterState}
 use Rattle.rx_engine.specs.declared.arrival.Fate.{Fate}
-use Rattle.adapter_server.specs.Choices.{choice_numbered, choices}
+use Rattle.adapter.specs.declared.step.StepKind.{StepKind}
+use Rattle.adapter_server.specs.Choices.{choice_numbered}
 use Rattle.adapter_server.specs.Devices.{Prints, Steps}
 use Rattle.adapter_server.specs.Happenings.{Arrived}
+use Rattle.adapter_server.specs.Kinds.{kind_numbered}
 use Rattle.adapter_server.specs.Order.{Times}
 use Rattle.adapter_server.specs.Texts.{Text}
 use Rattle.adapter_server.specs.declared.device.Device.{Device}
@@ -82,9 +84,15 @@ place_in session address count =
 
 -- What the words of the generator choose (its 32-bit words are those of rand_pcg's Lcg64Xsh32).
 
--- a choice, of one more if a frame waits
+-- the kind of a step
+abbrev pub drawn_kind : Lcg → StepKind × Lcg
+drawn_kind generator = let word = pcg32 generator in (kind_numbered (word.0 % 6), word.1)
+
+-- a choice: of the six kinds of steps, and of one more, an arrival, while a frame waits
 abbrev pub drawn : (offered : List (List ℕ)) → Lcg → Choice × Lcg
-drawn offered generator = let word = pcg32 generator in (choice_numbered (word.0 % choices offered), word.1)
+drawn offered generator =
+    if length offered == 0 then (let kind = drawn_kind generator in (Step kind.0, kind.1))
+    else (let word = pcg32 generator in (choice_numbered (word.0 % 7), word.1))
 
 -- the number of steps before an access, up to a maximum; no word is used if the maximum is 0
 abbrev pub drawn_count : (most : ℕ) → Lcg → ℕ × Lcg

@@ -2,6 +2,7 @@
 
 ghost use Rattle.std.specs.Prelude.{◌≡◌};
 ghost use Rattle.adapter_server.specs.Choices.{choice_numbered};
+ghost use Rattle.adapter_server.specs.Kinds.{kind_numbered};
 
 use crate::answer_error::AnswerError;
 use crate::session::Session;
@@ -13,6 +14,9 @@ use std::io::Write;
 /// The number of kinds of steps.
 const KINDS: u32 = 6;
 
+/// The number of choices while a frame waits: a step of each kind, and an arrival.
+const CHOICES: u32 = KINDS + 1;
+
 /// What a word of the generator chooses.
 #[derive(Clone, Copy)]
 pub enum Choice {
@@ -22,45 +26,55 @@ pub enum Choice {
     Arrival,
 }
 
+/// The kind of steps with this number, below 6.
+fn kind_numbered(number: u32) -> StepKind
+    ensures { result ≡ kind_numbered number }
+{
+    match number {
+        0 => StepKind::TxTake,
+        1 => StepKind::TxPut,
+        2 => StepKind::RxData,
+        3 => StepKind::RxDone,
+        4 => StepKind::EepromTick,
+        _ => StepKind::PhyTick,
+    }
+}
+
 /// The choice with this number, below 7.
 fn choice_numbered(number: u32) -> Choice
     ensures { result ≡ choice_numbered number }
 {
-    match number {
-        0 => Choice::Step(StepKind::TxTake),
-        1 => Choice::Step(StepKind::TxPut),
-        2 => Choice::Step(StepKind::RxData),
-        3 => Choice::Step(StepKind::RxDone),
-        4 => Choice::Step(StepKind::EepromTick),
-        5 => Choice::Step(StepKind::PhyTick),
-        _ => Choice::Arrival,
+    if number == KINDS {
+        Choice::Arrival
+    } else {
+        Choice::Step(kind_numbered(number))
     }
 }
 
 impl Session {
-    ghost use Rattle.adapter_server.specs.Choices.{choices};
     ghost use Rattle.adapter_server.specs.Devices.{TellsEvents};
-    ghost use Rattle.adapter_server.specs.Sessions.{AllArrive, Chosen, Interleaves, NextArrives, drawn, drawn_count};
+    ghost use Rattle.adapter_server.specs.Sessions.{AllArrive, Chosen, Interleaves, NextArrives};
+    ghost use Rattle.adapter_server.specs.Sessions.{drawn, drawn_count, drawn_kind};
 
-    /// The number of choices of a word: a step of each kind, and an arrival if a frame waits.
-    fn choices(&self) -> u32
-        ensures { result ≡ choices self.now.offered }
+    /// The kind of steps that the next word of the generator chooses.
+    fn draw_kind(&mut self) -> StepKind
+        ensures kind { result ≡ (drawn_kind self.old.generator).0 }
+        ensures state { self.new ≡ record self.old { generator = (drawn_kind self.old.generator).1 } }
     {
-        if self.offered.is_empty() {
-            KINDS
-        } else {
-            KINDS + 1
-        }
+        let word: u32 = self.generator.next_word();
+        kind_numbered(word % KINDS)
     }
 
-    /// What the next word of the generator chooses.
+    /// What the next word of the generator chooses: a step, or also an arrival while a frame waits.
     fn draw(&mut self) -> Choice
         ensures choice { result ≡ (drawn self.old.offered self.old.generator).0 }
         ensures state { self.new ≡ record self.old { generator = (drawn self.old.offered self.old.generator).1 } }
     {
-        let choices = self.choices();
+        if self.offered.is_empty() {
+            return Choice::Step(self.draw_kind());
+        }
         let word: u32 = self.generator.next_word();
-        choice_numbered(word % choices)
+        choice_numbered(word % CHOICES)
     }
 
     /// The number of steps that the next word of the generator chooses. Takes no word if the maximum is 0.

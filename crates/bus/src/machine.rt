@@ -10,7 +10,7 @@ ghost use Rattle.bus.specs.declared.event.Event.TheVariants.{Accesses, Arrives, 
 ghost use Rattle.descriptors.specs.Frames.{longest_frame};
 ghost use Rattle.dma_memory.specs.HostMemory.{bytes_at, LiesIn};
 
-use adapter::{Adapter, Fate, FrameCounts, Outcome, StepKind};
+use adapter::{Adapter, Fate, FrameCounts, Outcome, StepKind, WaitingFrames};
 use dma_memory::HostMemory;
 use std::marker::Model;
 
@@ -153,6 +153,14 @@ impl Machine {
         ensures transmitted { result.transmitted ≡ self.now.world.adapter.transmitted_packets }
     {
         self.adapter.counts()
+    }
+
+    /// How many frames wait in the adapter's packet buffer.
+    pub fn waiting(&self) -> WaitingFrames
+        ensures received { result.received ≡ length self.now.world.adapter.receiver.buffer }
+        ensures transmit { result.transmit ≡ length self.now.world.adapter.transmitter.buffer }
+    {
+        self.adapter.waiting()
     }
 
     /// The adapter and the memory.

@@ -237,12 +237,33 @@ pub(crate) const IDLE_HELP: &str =
     "Stop after N calls of the handler in a row that received no frame";
 
 pub(crate) const DRIVE_NOTE: &str =
-    "The driver initializes the adapter, sends the frames of IN and receives frames. It writes a request for
-each access to standard output, and reads the answer from standard input, in QEMU's qtest protocol: the
-adapter may be that of nicbench serve, QEMU's e1000, or your own. OUT gets the received frames.
+    "The driver initializes the adapter, sends the frames of IN, and writes received frames to OUT. Each access is
+a request on standard output, and its answer is read from standard input, in QEMU's qtest protocol: readl,
+writel, read or write. The adapter may be QEMU's e1000, that of nicbench serve, or your own. This script joins
+drive with QEMU:
 
-If drive fails, it prints 'nicbench: CODE NAME' on standard error. What each code means, and what to do:
-nicbench --help";
+  $ examples/emulators/qemu.py
+
+drive ends after N frames were received (--expect), or after N calls of the handler in a row in which no frame
+was received and none was accepted for sending (--idle, 1000 by default). At the end it prints its counts on
+standard error:
+
+  sent 10000 illegal 0 received 10000 missed 0 exact
+
+  sent      frames that the driver accepted
+  illegal   frames below 14 or above 1,518 bytes
+  received  frames in OUT
+  missed    frames that the adapter missed ('atleast' in place of 'exact' if there may be more)
+
+If drive fails, it prints 'nicbench: CODE NAME' on standard error:
+
+  E46           The adapter could not be initialized; the reason follows, such as E14 NoLink. Status 1
+  E59, E69      An answer isn't right, or drive ended too early, status 1
+  E60 to E64    IN is invalid, status 1
+  E66 to E68    Opening, reading or writing failed, status 3
+  E57, E65      Out of memory, status 4
+
+What each code means, and what to do: nicbench --help";
 
 /// An example; what each exit status and each code on standard error means, and what a user can do.
 pub(crate) const PROGRAM_NOTE: &str =
@@ -257,17 +278,18 @@ from the top of the repository:
   0 60 02:00:00:00:00:02 02:00:00:00:00:01 0800
   frames 1 skipped 0 cut no
 
-Exit status: 0 success, 1 a trace, a scenario or an image is invalid, 2 usage error, help or version, 3 a
-file failed, 4 out of memory. If the status is 1, 3 or 4, nicbench prints 'nicbench: CODE NAME' on standard
-error, or 'nicbench: line N: CODE NAME' if a line of a scenario is invalid. IN is any input: also the TRACE
-of show, and the SCENARIO of run with each FILE that it feeds. If IN is -, it is standard input, which can
-be read only once. Standard input and named pipes are read to their end first, up to 1 GiB. OUT is any
-output: also each file in the OUTDIR of run. Codes E40 to E56 come from run only: nicbench run --help. For
-E57, E66, E67 and E68 of serve: nicbench serve --help
+Exit status: 0 success, 1 a trace, a scenario, an image or an answer is invalid, or drive ended too early,
+2 usage error, help or version, 3 a file failed, 4 out of memory. If the status is 1, 3 or 4, nicbench
+prints 'nicbench: CODE NAME' on standard error, or 'nicbench: line N: CODE NAME' if a line of a scenario is
+invalid. IN is any input: also the TRACE of show, and the SCENARIO of run with each FILE that it feeds. If
+IN is -, it is standard input, which can be read only once. Standard input and named pipes are read to their
+end first, up to 1 GiB. OUT is any output: also each file in the OUTDIR of run. Codes E40 to E56 come from
+run only (E46 from drive, too): nicbench run --help. For E57, E66, E67 and E68 of serve: nicbench serve --help
 
   E57 Memory    Out of memory before anything was written, or standard input or a pipe has more than
                 1 GiB. Free some, split IN, or copy it to a file first
   E58 Image     The file of --image of serve hasn't 128 bytes. Name another file
+  E59 Answer    A line isn't the answer to a request of drive. Check the program that answers
   E60 Header    IN has fewer than 24 bytes, so it isn't a trace. Name another file, or check the program
                 that writes into the pipe
   E61 Magic     IN isn't a pcap file. Convert a pcapng file: editcap -F pcap IN OUT
@@ -279,4 +301,6 @@ E57, E66, E67 and E68 of serve: nicbench serve --help
   E66 Read      IN could not be read. Name a file, not a folder, or copy it to another disk
   E67 Write     OUT or standard output could not be written. Free space there
   E68 Open      IN couldn't be opened or is a device, OUT couldn't be created, or OUTDIR doesn't exist.
-                Check the paths and permissions. Copy a part of a device to a file: head -c SIZE DEVICE";
+                Check the paths and permissions. Copy a part of a device to a file: head -c SIZE DEVICE
+  E69 Fewer     drive ended before all frames of IN were sent and N were received. Check the adapter, or use a
+                larger --idle";

@@ -4,12 +4,13 @@ use Rattle.std.proofs.lemmas.Bool.Decides.{nat_tests}
 use Rattle.rand_pcg.specs.Lcg.{Lcg}
 use Rattle.adapter.specs.declared.outcome.Outcome.{Outcome}
 use Rattle.adapter.specs.declared.step.StepKind.{StepKind}
-use Rattle.adapter_server.specs.Sessions.{drawn_count, drawn_kind}
+use Rattle.adapter_server.specs.Sessions.{drawn_count}
 use Rattle.bus.proofs.Trails.{event_happens}
 use Rattle.bus.specs.Trails.{Occurs}
 use Rattle.bus.specs.declared.event.Event.TheVariants.{Accesses}
 use Rattle.linked_adapter.specs.LinkedAdapters.{DrawsStep, Interleaves, PlaysScheduled, PlaysStep, Prepares}
-use Rattle.linked_adapter.specs.LinkedAdapters.{QuietAccessesAreExact, after_access, counted, due_in, has_bytes, step_of, without_next}
+use Rattle.linked_adapter.specs.LinkedAdapters.{QuietAccessesAreExact, after_access, counted, drawn_kind, due_in, has_bytes}
+use Rattle.linked_adapter.specs.LinkedAdapters.{step_of, without_next}
 use Rattle.linked_adapter.specs.Order.{InOrder, Times}
 use Rattle.linked_adapter.specs.declared.linked_adapter.LinkedAdapter.{LinkedAdapter}
 use Rattle.linked_adapter.specs.declared.scheduling.ScheduledStep.{ScheduledStep}

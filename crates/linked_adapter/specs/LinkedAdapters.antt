@@ -11,7 +11,8 @@ use Rattle.adapter.specs.declared.outcome.Outcome.{Outcome}
 use Rattle.adapter.specs.declared.step.StepKind.{StepKind}
 use Rattle.adapter_server.specs.Devices.{most_rounds, round, with_last}
 use Rattle.adapter_server.specs.Outcomes.{moved_by}
-use Rattle.adapter_server.specs.Sessions.{drawn_count, drawn_kind, pba}
+use Rattle.adapter_server.specs.Sessions.{drawn, drawn_count, pba}
+use Rattle.rand_pcg.specs.Lcg.{Lcg}
 use Rattle.bus.specs.LivelyBuses.{most_accesses}
 use Rattle.bus.specs.Machines.{after_event, is_asserted}
 use Rattle.bus.specs.Trails.{Occurs}
@@ -24,7 +25,8 @@ use Rattle.eeprom.specs.Image.{image_with}
 use Rattle.mdic_phy.specs.declared.phy.Link.{Link}
 use Rattle.rx_engine.specs.declared.arrival.Fate.{Fate}
 use Rattle.tx_engine.specs.Transmitter.{Queued}
-use Rattle.linked_adapter.specs.Numbers.{fate_number, is_receive_share, kind_with, link_with, outcome_number, refused}
+use Rattle.linked_adapter.specs.Numbers.{fate_number, is_receive_share, kind_of, kind_with, link_with, outcome_number}
+use Rattle.linked_adapter.specs.Numbers.{refused}
 use Rattle.linked_adapter.specs.Order.{InOrder, Times}
 use Rattle.linked_adapter.specs.declared.linked_adapter.LinkedAdapter.{LinkedAdapter}
 use Rattle.linked_adapter.specs.declared.numbers.AdapterOptions.{AdapterOptions}
@@ -133,6 +135,10 @@ pub record AnswersTaking (old new : List ℕ) (answer : ℕ) (a b : LinkedAdapte
 -- the greatest maximum of steps that are drawn before an access
 abbrev pub most_drawn : ℕ
 most_drawn = 65535
+
+-- the kind of steps that the generator's next word chooses, as for `serve` without offered frames
+abbrev pub drawn_kind : Lcg → StepKind × Lcg
+drawn_kind generator = (kind_of (drawn [] generator).0, (drawn [] generator).1)
 
 -- A step of the kind that the generator's next word chooses is played.
 pub record DrawsStep (a b : LinkedAdapter) : Type 0 where

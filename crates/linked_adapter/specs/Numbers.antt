@@ -3,7 +3,10 @@ use Rattle.std.specs.Prelude.{◌==◌, ◌%◌, ◌&&◌, ℕ, Bool, Option, So
 use Rattle.adapter.specs.declared.outcome.Outcome.{Outcome}
 use Rattle.adapter.specs.declared.outcome.Outcome.TheVariants.{Took, Put, WireFull, Part, Moved, Done, Delivered, Ticked, Nothing, Fault}
 use Rattle.adapter.specs.declared.step.StepKind.{StepKind}
-use Rattle.adapter_server.specs.Kinds.{kind_numbered}
+use Rattle.adapter.specs.declared.step.StepKind.TheVariants.{PhyTick}
+use Rattle.adapter_server.specs.Choices.{choice_numbered}
+use Rattle.adapter_server.specs.declared.interleaving.Choice.{Choice}
+use Rattle.adapter_server.specs.declared.interleaving.Choice.TheVariants.{Arrival, Step}
 use Rattle.mdic_phy.specs.declared.phy.Link.{Link}
 use Rattle.mdic_phy.specs.declared.phy.Link.TheVariants.{After, Never}
 use Rattle.rx_engine.specs.declared.arrival.Fate.{Fate}
@@ -21,7 +24,15 @@ is_receive_share kilobytes = (kilobytes % 2 == 0) && nat_le 2 kilobytes && nat_l
 abbrev pub refused : ℕ
 refused = 0xFFFFFFFF
 
+-- the kind of steps that a choice of `serve` is; no frames are offered here, so each choice is a step
+abbrev pub kind_of : Choice → StepKind
+kind_of (Step kind) = kind
+kind_of Arrival = PhyTick
+
 -- the kinds of steps, in the order in which the words of the generator choose them
+abbrev pub kind_numbered : ℕ → StepKind
+kind_numbered number = kind_of (choice_numbered number)
+
 abbrev pub kind_with : ℕ → Option StepKind
 kind_with number = if nat_lt number 6 then Some (kind_numbered number) else None
 

@@ -1,8 +1,8 @@
 // The steps before an access, which the generator draws.
 
 ghost use Rattle.std.specs.Prelude.{◌≡◌};
-ghost use Rattle.adapter_server.specs.Sessions.{drawn_count, drawn_kind};
-ghost use Rattle.linked_adapter.specs.LinkedAdapters.{Interleaves, Prepares, counted};
+ghost use Rattle.adapter_server.specs.Sessions.{drawn_count};
+ghost use Rattle.linked_adapter.specs.LinkedAdapters.{Interleaves, Prepares, counted, drawn_kind};
 
 use crate::linked_adapter::LinkedAdapter;
 use crate::numbers::kind_numbered;

@@ -15,7 +15,7 @@ use crate::numbers::{
 };
 use crate::scheduling::{MOST_SCHEDULED, ScheduledStep};
 use adapter::offsets::PBA;
-use adapter::{Adapter, Outcome, StepKind};
+use adapter::{Adapter, Outcome, StepKind, WaitingFrames};
 use bus::Machine;
 use circular_buffer::HeapCircularBuffer;
 use dma_memory::HostMemory;
@@ -178,6 +178,14 @@ impl LinkedAdapter {
         ensures { result ≡ is_asserted self.now.machine.world.adapter }
     {
         self.machine.line()
+    }
+
+    /// How many frames wait in the adapter's packet buffer.
+    pub fn waiting(&self) -> WaitingFrames
+        ensures received { result.received ≡ length self.now.machine.world.adapter.receiver.buffer }
+        ensures transmit { result.transmit ≡ length self.now.machine.world.adapter.transmitter.buffer }
+    {
+        self.machine.waiting()
     }
 
     /// The size of memory in bytes.

@@ -1,7 +1,6 @@
 // Numbers that stand for options, kinds of steps, outcomes and fates in calls from C (our choice).
 
 ghost use Rattle.std.specs.Prelude.{◌≡◌};
-ghost use Rattle.adapter_server.specs.Kinds as kinds;
 ghost use Rattle.linked_adapter.specs.Numbers as numbers;
 
 use adapter::{Fate, Outcome, StepKind};
@@ -52,7 +51,7 @@ pub(crate) fn is_receive_share(kilobytes: u32) -> bool
 
 /// The kind of steps with this number, below 6.
 pub(crate) fn kind_numbered(number: u32) -> StepKind
-    ensures { result ≡ kinds.kind_numbered number }
+    ensures { result ≡ numbers.kind_numbered number }
 {
     match number {
         0 => StepKind::TxTake,

@@ -187,7 +187,8 @@ pub extern "C" fn nic82540em_take_put(alloc: Global, nic: &mut Nic, into: &mut [
     requires sound { nic.old.owner.full ≡ nic.old.held }
     ensures sound { nic.new.owner.full ≡ nic.new.held }
     ensures held { nic.new.held ≡ nic.old.held }
-    ensures done { nic.old.held ≡ true → AnswersTaking into.old into.new result nic.old.owner.value nic.new.owner.value }
+    ensures done { nic.old.held ≡ true →
+        AnswersTaking into.old into.new result nic.old.owner.value nic.new.owner.value }
     ensures none { nic.old.held ≡ false → (result ≡ 0) × (into.new ≡ into.old) × (nic.new ≡ nic.old) }
 {
     if !nic.held {
@@ -271,6 +272,44 @@ pub extern "C" fn nic82540em_accesses(alloc: Global, nic: &mut Nic) -> u64
     }
     let mut adapter = nic.owner.take(alloc);
     let answer = adapter.accesses();
+    nic.owner.put(adapter);
+    answer
+}
+
+/// The number of frames that arrived and wait in the packet buffer.
+#[unsafe(no_mangle)]
+pub extern "C" fn nic82540em_waiting_received(alloc: Global, nic: &mut Nic) -> u32
+    requires sound { nic.old.owner.full ≡ nic.old.held }
+    ensures sound { nic.new.owner.full ≡ nic.new.held }
+    ensures held { nic.new.held ≡ nic.old.held }
+    ensures count { nic.old.held ≡ true → result ≡ length nic.old.owner.value.machine.world.adapter.receiver.buffer }
+    ensures same { nic.old.held ≡ true → nic.new.owner.value ≡ nic.old.owner.value }
+    ensures none { nic.old.held ≡ false → (result ≡ 0) × (nic.new ≡ nic.old) }
+{
+    if !nic.held {
+        return 0;
+    }
+    let adapter = nic.owner.take(alloc);
+    let answer = u32::from(adapter.waiting().received);
+    nic.owner.put(adapter);
+    answer
+}
+
+/// The number of frames that were fetched, wait in the packet buffer, and aren't on the wire yet.
+#[unsafe(no_mangle)]
+pub extern "C" fn nic82540em_waiting_transmit(alloc: Global, nic: &mut Nic) -> u32
+    requires sound { nic.old.owner.full ≡ nic.old.held }
+    ensures sound { nic.new.owner.full ≡ nic.new.held }
+    ensures held { nic.new.held ≡ nic.old.held }
+    ensures count { nic.old.held ≡ true → result ≡ length nic.old.owner.value.machine.world.adapter.transmitter.buffer }
+    ensures same { nic.old.held ≡ true → nic.new.owner.value ≡ nic.old.owner.value }
+    ensures none { nic.old.held ≡ false → (result ≡ 0) × (nic.new ≡ nic.old) }
+{
+    if !nic.held {
+        return 0;
+    }
+    let adapter = nic.owner.take(alloc);
+    let answer = u32::from(adapter.waiting().transmit);
     nic.owner.put(adapter);
     answer
 }

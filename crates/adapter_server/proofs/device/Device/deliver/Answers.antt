@@ -44,5 +44,6 @@ returns g c =
     (printed c.tell.result one a c.tell.new.self machine before after c.arrive-fate.ensures.occurs c.arrive-fate.ensures.state
     c.tell.ensures.state
     (subst (λ (text : Text). Says c.tell.result before after text)
-    (same_text a fate c.fate_word.result.now c.as_bytes-digits.result.now (encode_lower frame) _ _ c.fate_word.ensures (c.as_bytes-digits.ensures.value ∙ c.in_ok-text.ensures) (c.as_slice.ensures.value ∙ c.in_ok-shown.ensures))
+    (same_text a fate c.fate_word.result.now c.as_bytes-digits.result.now (encode_lower frame) _ _ c.fate_word.ensures
+    (c.as_bytes-digits.ensures.value ∙ c.in_ok-text.ensures) (c.as_slice.ensures.value ∙ c.in_ok-shown.ensures))
     c.tell.ensures.text))

@@ -6,10 +6,11 @@ use Rattle.adapter_server.proofs.session.Session.deliver_next.Goals as goal
 pub returns-in_default : goal.returns-in_default
 returns-in_default g c =
     let a = c.args.self.now in
+    let none = c.in_default.ensures.none in
     record {
       text = [];
-      holds = none_arrives a (record a { offered = c.pop.new.self }) c.in_default.ensures.none.0
-          (ap (λ (offered : List (List ℕ)). record a { offered = offered }) (c.in_default.ensures.none.1 ∙ sym c.in_default.ensures.none.0));
+      holds = none_arrives a (record a { offered = c.pop.new.self }) none.0
+          (ap (λ (offered : List (List ℕ)). record a { offered = offered }) (none.1 ∙ sym none.0));
       written = appends_none (g.W.Write.contents c.args.out.now);
     }
 
