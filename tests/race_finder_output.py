@@ -278,7 +278,7 @@ def parallel(server):
         return
     server.put("small", SMALL.encode())
     here = command.replace(" --sshlogin one,two --workdir $PWD", "").replace("-j 1", "-j 2 --will-cite")
-    here = here.replace("tools/races", " ".join([*FINDER, "--server", server.program])).replace(".build/", "")
+    here = here.replace("--out .build/", "--out ").replace("tools/races", " ".join([*FINDER, "--server", server.program]))
     server.check("parallel: the command has these options", (here.count("--sshlogin"), here.count("--shard {}/2"), here.count("COMMAND")), (0, 1, 1))
     for words, status in (("sh small", PASSES), ("sh small fails", FOUND)):
         ran = subprocess.run(here.replace("COMMAND", words), shell=True, cwd=server.folder, capture_output=True, timeout=LIMIT)
