@@ -261,7 +261,7 @@ def has_fuzzer(library):
 def page_in_python(library):
     """The code of the page, with the library that was built."""
     code = re.search(r"```python\n(.*?)```", text_of("docs", "LIBRARY.md"), re.S)[1]
-    code = code.replace("/tmp/nic/lib/libnic82540em.so", library.shared)
+    code = code.replace("nic/lib/libnic82540em.so", library.shared)
     words = [sys.executable, "-B", "-c", f"import sys; sys.path = {sys.path!r}\n{code}"]
     library.prints("the page in Python: runs", words, "True 0x80\n")
 
