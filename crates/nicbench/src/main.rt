@@ -1,10 +1,11 @@
 //! `nicbench`: takes the frames of a trace file through the modelled adapter's receive filter and a receive ring, runs
-//! a scenario of hosts on wires, lists the frames of a trace, or serves a modelled adapter to a driver.
+//! a scenario of hosts on wires, lists the frames of a trace, serves a modelled adapter to a driver, or runs the driver
+//! on an adapter in another program.
 #![tactic(auto)]
 
 ghost use Rattle.command_line.specs.Jobs.{HasBounds};
 
-mod drive;
+mod drive_job;
 mod fault;
 mod files;
 mod late_file;
@@ -14,7 +15,7 @@ mod run;
 mod serve;
 mod show;
 
-use crate::drive::run_drive;
+use crate::drive_job::run_drive;
 use crate::fault::Fault;
 use crate::pass::run_pass;
 use crate::progress::Watched;

@@ -42,7 +42,10 @@ fn kind_of(line: &[u8]) -> Line {
         Line::Interrupt(true)
     } else if line.starts_with(b"IRQ lower ") {
         Line::Interrupt(false)
-    } else if line.starts_with(b"frame ") || line.starts_with(b"arrived ") || line.starts_with(b"#") {
+    } else if line.starts_with(b"frame ")
+        || line.starts_with(b"arrived ")
+        || line.starts_with(b"#")
+    {
         Line::Report
     } else {
         Line::Answer
