@@ -1,42 +1,60 @@
 -- What is printed for an event and for its request.
-use Rattle.std.proofs.Common.{◌≡◌, ◌++◌, ℕ, List, [], Option, ap, inr, refl, subst, sym, ◌∙◌}
+use Rattle.std.proofs.Common.{◌≡◌, ◌++◌, ℕ, Bool, true, false, List, [], Option, ap, cond, inr, refl, subst, sym, ◌∙◌}
+use Rattle.engine_faults.specs.declared.engine_fault.EngineFault.{EngineFault}
 use Rattle.std.proofs.lemmas.List.{append-nil}
-use Rattle.std.specs.Prelude.{Err, Ok, Result}
-use Rattle.std.specs.Io.KnownBytes.{Appends}
+use Rattle.std.specs.Prelude.{Err, Ok, OnOk, Result}
 use Rattle.bus.specs.Machines.{MachineState, after_event, is_asserted}
 use Rattle.bus.specs.Trails.{Occurs}
-use Rattle.bus.specs.declared.event.Access.{Access}
-use Rattle.bus.specs.declared.event.Event.TheVariants.{Accesses}
-use Rattle.adapter_server.specs.Answers.{Accessed, Answered, OnSession, Reaches, Replies, TellsAnswer}
-use Rattle.adapter_server.specs.Devices.{Happened, Prints, TellsEvents, told}
-use Rattle.adapter_server.specs.Happenings.{Happening, Logged, event_of, said_of, shown_of}
-use Rattle.adapter_server.specs.Order.{Joins, Says, Tells, TellsPart, WritesPart}
-use Rattle.adapter_server.specs.Sessions.{Interleaves, OnDevice}
-use Rattle.adapter_server.specs.Texts.{Text, line_moved, said_log}
+use Rattle.adapter_server.specs.Answers.{Answered, Changes, OnSession, Reaches, Replies, TellsAnswer}
+use Rattle.adapter_server.specs.Devices.{Prints, TellsEvents, keeping, told}
+use Rattle.adapter_server.specs.Happenings.{Happening, event_of, faults_of, put_by, said_of, shown_of}
+use Rattle.adapter_server.specs.Order.{Joins, Says, Tells}
+use Rattle.adapter_server.specs.Sessions.{OnDevice}
+use Rattle.adapter_server.specs.Texts.{Text, line_moved, ok_line, said_log}
 use Rattle.adapter_server.specs.declared.device.Device.{Device}
 use Rattle.adapter_server.specs.declared.session.Session.{Session}
 use Rattle.adapter_server.specs.declared.snapshot.Server.{Server}
 use Rattle.adapter_server.proofs.PartsWritten.{part_so, part_then}
-use Rattle.adapter_server.proofs.Stopping.{answer_so, events_of_interleaves, stopped_after, stopped_in}
+use Rattle.adapter_server.proofs.Stopping.{answer_so, stopped_in}
 use Rattle.adapter_server.proofs.Writing.{appends_then, tells_so}
 
 -- the text of what happens
 abbrev pub text_of : Happening → Device → MachineState → Text
-text_of one a machine = said_log a.log (said_of one) ++ (shown_of one ++ line_moved machine.reported (is_asserted machine.world.adapter))
+text_of one a machine =
+    said_log a.log (said_of one) ++ (shown_of a.events one ++ line_moved machine.reported (is_asserted machine.world.adapter))
+
+-- the device after it, with the machine after it
+abbrev pub kept : Happening → Device → MachineState → Device
+kept one a machine = told (keeping (put_by one) (faults_of one) (record a { machine = machine }))
+
+same_kept : {T : Type 0} (events : Bool) (wait : List T) → cond events wait (wait ++ []) ≡ wait
+same_kept true wait = refl
+same_kept false wait = append-nil wait
+
+-- Of an event that puts no frame and is no fault nothing is kept.
+pub kept_none : (a : Device) (machine : MachineState)
+    → told (keeping [] [] (record a { machine = machine })) ≡ told (record a { machine = machine })
+kept_none a machine =
+    ap (λ (put : List (List ℕ)). told (record a {
+      machine = machine;
+      put = put;
+      faults = cond a.events a.faults (a.faults ++ []);
+    })) (same_kept a.events a.put)
+    ∙ ap (λ (faults : List EngineFault). told (record a { machine = machine; faults = faults })) (same_kept a.events a.faults)
 
 -- It happened, and this is its text.
 pub prints : (one : Happening) (a b : Device) (machine : MachineState) → Occurs (event_of one) a.machine.world
-    → machine ≡ after_event (event_of one) a.machine → b ≡ told (record a { machine = machine }) → Prints one a b (text_of one a machine)
+    → machine ≡ after_event (event_of one) a.machine → b ≡ kept one a machine → Prints one a b (text_of one a machine)
 prints one a b machine occurs state tells = record {
   occurs = occurs;
-  after = tells ∙ ap (λ (m : MachineState). told (record a { machine = m })) state;
+  after = tells ∙ ap (kept one a) state;
   text_is = rw (tells, state) refl;
 }
 
 -- It happened and was printed.
 pub printed : {T E : Type 0} (result : Result T E) (one : Happening) (a b : Device) (machine : MachineState)
     (before after : Option (List ℕ)) → Occurs (event_of one) a.machine.world → machine ≡ after_event (event_of one) a.machine
-    → b ≡ told (record a { machine = machine }) → Says result before after (text_of one a machine)
+    → b ≡ kept one a machine → Says result before after (text_of one a machine)
     → TellsEvents result before after a (λ value. Prints one a b)
 printed (Ok value) one a b machine before after occurs state tells said = record {
   text = text_of one a machine;
@@ -102,6 +120,25 @@ replied (Err error) a line b before after said =
     part_so (λ (text : Text). text ≡ line) (Reaches (Replies line b) a) before after
     (λ text same. inr (b, record { after = refl; text_is = same })) said
 
+-- The state changed, and nothing was told.
+pub changed : {T E : Type 0} (answer : Result T E) (change : Session → Session) (a b : Session) (before after : Option (List ℕ))
+    → b ≡ change a → Says answer before after ok_line → TellsAnswer answer before after a.device (Changes change a) b
+changed answer change a b before after same said =
+    subst (λ (s : Session). TellsAnswer answer before after a.device (Changes change a) s) (sym same)
+    (replied answer a.device ok_line (change a) before after said)
+
+-- What waited was the answer, and if it was written nothing is left.
+pub fetched : {X T E : Type 0} (answer : Result T E) (a : Session) (with : List X → Session) (left : List X) (line : Text)
+    (before after : Option (List ℕ)) → OnOk answer (left ≡ []) → Says answer before after line
+    → TellsAnswer answer before after a.device (Replies line (with [])) (with left)
+fetched (Ok value) a with left line before after none said = record {
+  text = line;
+  holds = record { after = ap with none; text_is = refl };
+  written = said;
+}
+fetched {X} (Err error) a with left line before after none said =
+    replied {T = X} (Err error) a.device line (with []) before after said
+
 -- The answer of a session is that of its server.
 pub lifted : {T E : Type 0} (answer : Result T E) (Answers : Session → Session → Text → Type 0) (a : Server) (b : Session)
     (before after : Option (List ℕ)) → TellsAnswer answer before after a.session.device (Answers a.session) b
@@ -109,60 +146,3 @@ pub lifted : {T E : Type 0} (answer : Result T E) (Answers : Session → Session
 lifted answer Answers a b before after tells =
     answer_so answer (Answers a.session) (OnSession Answers a) (λ (s : Session). record a { session = s }) a.session.device b before after
     (λ s text answers. record { answers = answers; after = refl }) tells
-
--- Accesses.
-
--- An access was made after the steps before it.
-pub record IsMade (access : Access) (a middle moved : Session) (before now : Option (List ℕ)) : Type 0 where
-  pub steps : Tells before now (Interleaves a middle)
-  pub occurs : Occurs (Accesses access) middle.device.machine.world
-  pub after : moved ≡ record middle { device = record middle.device { machine = after_event (Accesses access) middle.device.machine } }
-
--- the text of an access
-abbrev pub access_text : (said : Text) → Device → Text
-access_text said moved = said_log moved.log (said ++ []) ++ line_moved moved.machine.reported (is_asserted moved.machine.world.adapter)
-
-access_prints : (access : Access) (said : Text) (a middle moved : Session) (before now : Option (List ℕ))
-    → IsMade access a middle moved before now
-    → Prints (Logged (Accesses access) said) middle.device (told moved.device) (access_text said moved.device)
-access_prints access said a middle moved before now made =
-    rw (made.after, append-nil)
-    (prints (Logged (Accesses access) said) middle.device
-    (told (record middle.device { machine = after_event (Accesses access) middle.device.machine }))
-    (after_event (Accesses access) middle.device.machine) made.occurs refl refl)
-
--- It was printed, and its answer.
-pub accessed : {T E : Type 0} (answer : Result T E) (access : Access) (said line : Text) (Answers : Session → Text → Type 0)
-    (a middle moved : Session) (device : Device) (before now then after : Option (List ℕ)) → IsMade access a middle moved before now
-    → device ≡ told moved.device → Appends now then (access_text said moved.device)
-    → ((text : Text) → Answered (Accessed access said a (record moved { device = device })) line text
-    → Answers (record moved { device = device }) text)
-    → Says answer then after line → TellsAnswer answer before after a.device Answers (record moved { device = device })
-accessed answer access said line Answers a middle moved device before now then after made tells written so says =
-    answers_then answer a.device Answers (record moved { device = device }) (Accessed access said a (record moved { device = device })) line
-    before then after (λ first happens. so (first ++ line) (record { told = first; happens = happens; text_is = refl }))
-    (record {
-      text = made.steps.text ++ access_text said moved.device;
-      holds = record {
-        middle = middle;
-        first = made.steps.text;
-        rest = access_text said moved.device;
-        happens = made.steps.holds;
-        goes_on = record {
-          happens = subst (λ (d : Device). Prints (Logged (Accesses access) said) middle.device d (access_text said moved.device))
-              (sym tells) (access_prints access said a middle moved before now made);
-          after = ap (λ (s : Session). record s { device = device }) made.after;
-        };
-        text_is = refl;
-      };
-      written = appends_then before now then made.steps.text (access_text said moved.device) made.steps.written written;
-    }) says
-
--- Its printing stopped.
-pub access_stopped : (access : Access) (said : Text) (a middle moved : Session) (before now after : Option (List ℕ))
-    → IsMade access a middle moved before now → WritesPart now after (access_text said moved.device)
-    → TellsPart before after (Happened a.device)
-access_stopped access said a middle moved before now after made part =
-    stopped_after (Interleaves a middle) a.device middle.device before now after (events_of_interleaves a middle) made.steps
-    (stopped_in (Logged (Accesses access) said) middle.device (told moved.device) (access_text said moved.device) now after
-    (access_prints access said a middle moved before now made) part)

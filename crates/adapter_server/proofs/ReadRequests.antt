@@ -1,12 +1,12 @@
 -- A line that was read, and its answer.
 use Rattle.std.proofs.Common.{◌≡◌, Ok, Err, Result, subst, sym}
 use Rattle.adapter_server.specs.Answers.{AnswersLine, AnswersTo, Does, Refuses}
-use Rattle.adapter_server.specs.Reading.{IsRead}
+use Rattle.server_requests.specs.Reading.{IsRead}
 use Rattle.adapter_server.specs.Texts.{Text}
-use Rattle.adapter_server.specs.declared.refusal.Refusal.{Refusal}
-use Rattle.adapter_server.specs.declared.refusal.Refusal.TheVariants as refusals
-use Rattle.adapter_server.specs.declared.refusal.Stop.TheVariants.{Refused}
-use Rattle.adapter_server.specs.declared.request.Request.{Request}
+use Rattle.server_requests.specs.declared.refusal.Refusal.{Refusal}
+use Rattle.server_requests.specs.declared.refusal.Refusal.TheVariants as refusals
+use Rattle.server_requests.specs.declared.refusal.Stop.TheVariants.{Refused}
+use Rattle.server_requests.specs.declared.request.Request.{Request}
 use Rattle.adapter_server.specs.declared.snapshot.Server.{Server}
 
 abbrev refused : Refusal → Result Request Refusal

@@ -1,6 +1,6 @@
 -- Rounds of steps.
 use Rattle.std.proofs.Common.{◌≡◌, ◌+◌, ◌<◌, ◌≤◌, ◌++◌, [], ◌∷◌}
-use Rattle.std.proofs.Common.{ℕ, Bool, true, List, Option, ap, arith, length, length-append, nat_lt}
+use Rattle.std.proofs.Common.{ℕ, Bool, true, false, List, Option, ap, arith, length, length-append, nat_lt}
 use Rattle.std.proofs.Common.{cond, refl, subst, sym}
 use Rattle.std.specs.Prelude.{All, sum}
 use Rattle.std.proofs.lemmas.Bool.Decides.{nat_tests}
@@ -8,7 +8,7 @@ use Rattle.std.proofs.lemmas.List.Elements.{All-append, All-cons, All-nil}
 use Rattle.std.proofs.lemmas.List.Sums.{sum_by-append}
 use Rattle.adapter.specs.declared.outcome.Outcome.{Outcome}
 use Rattle.adapter.specs.declared.outcome.Outcome.TheVariants.{Took, Put, WireFull, Part, Moved, Done, Delivered, Ticked, Nothing, Fault}
-use Rattle.adapter_server.specs.Devices.{Round, Settles, most_rounds, with_last}
+use Rattle.adapter_server.specs.Devices.{Round, Settles, with_last}
 use Rattle.adapter_server.specs.Order.{InOrder, Tells}
 use Rattle.adapter_server.specs.Outcomes.{moved_by}
 use Rattle.adapter_server.specs.declared.device.Device.{Device}
@@ -54,18 +54,21 @@ one_round count moved here a b c before now after so_far plays some = record {
   plays = tells_more Round so_far.busy here a b c before now after so_far.plays plays;
 }
 
-is_below : (n : ℕ) → n < most_rounds → nat_lt n most_rounds ≡ true
-is_below n below = grind (arith, nat_tests)
+is_below : (n most : ℕ) → n < most → nat_lt n most ≡ true
+is_below n most below = grind (arith, nat_tests)
+
+not_below : (n most : ℕ) → n ≡ most → nat_lt n most ≡ false
+not_below n most same = grind (arith, nat_tests)
 
 -- A round that did nothing is the last.
-pub settled : (count moved : ℕ) (a b c : Device) (before now after : Option (List ℕ)) → count < most_rounds
-    → BusyRounds count moved a b before now → Tells now after (Round 0 b c) → Tells before after (Settles moved a c)
-settled count moved a b c before now after below so_far idle =
-    let last : so_far.busy ++ 0 ∷ [] ≡ with_last so_far.busy =
+pub settled : (most count moved : ℕ) (a b c : Device) (before now after : Option (List ℕ)) → count < most
+    → BusyRounds count moved a b before now → Tells now after (Round 0 b c) → Tells before after (Settles most moved a c)
+settled most count moved a b c before now after below so_far idle =
+    let last : so_far.busy ++ 0 ∷ [] ≡ with_last most so_far.busy =
     sym (ap (λ (is : Bool). cond is (so_far.busy ++ 0 ∷ []) so_far.busy)
-    (is_below (length so_far.busy) (omega (arith, so_far.count_is)))) in
+    (is_below (length so_far.busy) most (omega (arith, so_far.count_is)))) in
     let plays = tells_more Round so_far.busy 0 a b c before now after so_far.plays idle in
-    tells_so _ (Settles moved a c) before after (λ text all. record {
+    tells_so _ (Settles most moved a c) before after (λ text all. record {
       busy = so_far.busy;
       each = so_far.each;
       few = omega (arith, so_far.count_is);
@@ -74,12 +77,12 @@ settled count moved a b c before now after below so_far idle =
     }) plays
 
 -- No round is left.
-pub settled_late : (moved : ℕ) (a b : Device) (before now : Option (List ℕ)) → BusyRounds most_rounds moved a b before now
-    → Tells before now (Settles moved a b)
-settled_late moved a b before now so_far =
-    let last : so_far.busy ≡ with_last so_far.busy = sym (ap (λ (n : ℕ). cond (nat_lt n most_rounds) (so_far.busy ++ 0 ∷ []) so_far.busy)
-    so_far.count_is) in
-    tells_so _ (Settles moved a b) before now (λ text all. record {
+pub settled_late : (most moved : ℕ) (a b : Device) (before now : Option (List ℕ)) → BusyRounds most moved a b before now
+    → Tells before now (Settles most moved a b)
+settled_late most moved a b before now so_far =
+    let last : so_far.busy ≡ with_last most so_far.busy =
+    sym (ap (λ (is : Bool). cond is (so_far.busy ++ 0 ∷ []) so_far.busy) (not_below (length so_far.busy) most so_far.count_is)) in
+    tells_so _ (Settles most moved a b) before now (λ text all. record {
       busy = so_far.busy;
       each = so_far.each;
       few = omega (arith, so_far.count_is);

@@ -7,19 +7,19 @@ use Rattle.std.specs.Prelude.{Err, IfErr, IfSome, MatchBool, Ok, Result}
 use Rattle.std.specs.Io.KnownBytes.{Appends, Keeps}
 use Rattle.adapter_server.specs.Answers.{AnswersLine, Refuses}
 use Rattle.adapter_server.specs.Order.{Tells}
-use Rattle.adapter_server.specs.Lines.{behind_line, first_line, lines_of, most_line_bytes}
-use Rattle.adapter_server.specs.LinesRead.{AtEnd, BothKnown, IsLong, IsNextLine, IsWhole}
+use Rattle.server_requests.specs.Lines.{behind_line, first_line, lines_of, most_line_bytes}
+use Rattle.server_requests.specs.LinesRead.{AtEnd, BothKnown, IsLong, IsNextLine, IsWhole}
 use Rattle.adapter_server.specs.Serving.{AnswersNext, Serves, ServesFront, ServesWhole, Turns}
 use Rattle.adapter_server.specs.Statuses.{ended_by}
 use Rattle.adapter_server.specs.Texts.{Text}
 use Rattle.adapter_server.specs.declared.answer_error.AnswerError.{AnswerError}
 use Rattle.adapter_server.specs.declared.answer_error.AnswerError.TheVariants as causes
-use Rattle.adapter_server.specs.declared.line_reader.NextLine.{NextLine}
-use Rattle.adapter_server.specs.declared.line_reader.NextLine.TheVariants.{End, Whole, Long}
-use Rattle.adapter_server.specs.declared.refusal.Refusal.TheVariants as refusals
+use Rattle.server_requests.specs.declared.line_reader.NextLine.{NextLine}
+use Rattle.server_requests.specs.declared.line_reader.NextLine.TheVariants.{End, Whole, Long}
+use Rattle.server_requests.specs.declared.refusal.Refusal.TheVariants as refusals
 use Rattle.adapter_server.specs.declared.serve_error.ServeError.TheVariants as errors
 use Rattle.adapter_server.specs.declared.snapshot.Server.{Server}
-use Rattle.adapter_server.proofs.ReadingLines.{known_same, known_then, lines_some}
+use Rattle.server_requests.proofs.ReadingLines.{known_same, known_then, lines_some}
 use Rattle.adapter_server.proofs.Writing.{appends_kept, appends_none, appends_then, in_order_more}
 
 -- The lines that were read up to here are served by this text.

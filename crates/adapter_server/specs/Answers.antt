@@ -1,28 +1,32 @@
 -- The answer to each request, and the state after it (our choice; the words of answers are QEMU's, docs/devel/testing/qtest).
-use Rattle.std.specs.Prelude.{◌≡◌, ◌++◌, ◌∷◌, ◌⊎◌, ℕ, List, [], Option, Some, None, Result, Ok, Err, codes, if◌then◌else◌, length, IsUtf8}
-use Rattle.std.specs.Int.{from_le_bytes, to_le_bytes, w32}
+use Rattle.std.specs.Prelude.{◌≡◌, ◌+◌, ◌^◌, ◌++◌, ◌∷◌, ◌⊎◌, max, nat_lt, ℕ, List, [], Option, Some, None, Result, Ok, Err, codes, if◌then◌else◌, length, IsUtf8}
+use Rattle.std.specs.Int.{to_le_bytes, w32}
 use Rattle.bus.specs.Machines.{is_asserted}
 use Rattle.bus.specs.declared.event.Access.{Access}
-use Rattle.bus.specs.declared.event.Access.TheVariants.{Loads, Reads, Stores, Writes}
+use Rattle.bus.specs.declared.event.Access.TheVariants.{Loads, Reads}
 use Rattle.bus.specs.declared.event.Event.TheVariants.{Accesses, Arrives}
 use Rattle.dma_memory.specs.HostMemory.{bytes_at}
 use Rattle.adapter.specs.declared.outcome.Outcome.{Outcome}
 use Rattle.adapter.specs.declared.step.StepKind.{StepKind}
+use Rattle.pci_function.specs.Ports.{after_write, answer_at}
+use Rattle.pci_function.specs.declared.port_width.PortWidth.{PortWidth}
 use Rattle.rx_engine.specs.declared.arrival.Fate.{Fate}
-use Rattle.adapter_server.specs.Devices.{Happened, Prints, Settles, Steps}
+use Rattle.adapter_server.specs.Devices.{Happened, Prints, Settles, Steps, most_rounds}
 use Rattle.adapter_server.specs.Happenings.{Logged}
-use Rattle.adapter_server.specs.Order.{Joins, Tells, TellsPart}
-use Rattle.adapter_server.specs.Reading.{request_in}
-use Rattle.adapter_server.specs.Sessions.{AllArrive, Interleaves, OnDevice, place_in}
-use Rattle.adapter_server.specs.Texts.{Text, fate_word, line_moved, number_line, ok_line, outcome_word, refusal_line, word_line}
-use Rattle.adapter_server.specs.Widths.{answer_line, size_of}
-use Rattle.adapter_server.specs.Words.{words_of}
+use Rattle.adapter_server.specs.Order.{Both, Joins, Tells, TellsPart}
+use Rattle.server_requests.specs.Reading.{request_in}
+use Rattle.adapter_server.specs.Sessions.{AllArrive, Interleaves, OnDevice, Paced, place_in, with_setting, write_to}
+use Rattle.adapter_server.specs.Texts.{Text, decimal_line, fate_word, faults_line, frames_line, line_moved, number_line, ok_line, outcome_word, word_line}
+use Rattle.adapter_server.specs.ReadLines.{answer_line}
+use Rattle.server_requests.specs.Refusals.{refusal_line}
+use Rattle.server_requests.specs.Widths.{size_of}
+use Rattle.server_requests.specs.Words.{words_of}
 use Rattle.adapter_server.specs.declared.device.Device.{Device}
-use Rattle.adapter_server.specs.declared.refusal.Refusal.{Refusal}
-use Rattle.adapter_server.specs.declared.refusal.Refusal.TheVariants as refusals
-use Rattle.adapter_server.specs.declared.request.Request.{Request}
-use Rattle.adapter_server.specs.declared.request.Request.TheVariants as requests
-use Rattle.adapter_server.specs.declared.request.Wanted.{Wanted}
+use Rattle.server_requests.specs.declared.refusal.Refusal.{Refusal}
+use Rattle.server_requests.specs.declared.refusal.Refusal.TheVariants as refusals
+use Rattle.server_requests.specs.declared.request.Request.{Request}
+use Rattle.server_requests.specs.declared.request.Request.TheVariants as requests
+use Rattle.server_requests.specs.declared.request.Wanted.{Wanted}
 use Rattle.adapter_server.specs.declared.session.Place.{Place}
 use Rattle.adapter_server.specs.declared.session.Place.TheVariants.{Register, Memory}
 use Rattle.adapter_server.specs.declared.session.Session.{Session}
@@ -66,20 +70,30 @@ Accessed access said a b text =
 abbrev pub in_memory : Session → (address size : ℕ) → List ℕ
 in_memory session address size = bytes_at session.device.machine.world.memory address size
 
--- Four bytes at a register are one access of it, the lowest byte first. Other bytes are in memory.
-abbrev pub ReadsAt : Option Place → Wanted → (address : ℕ) → (said : Text) → Session → Session → Text → Type 0
-ReadsAt (Some (Register offset)) wanted address said a b text =
-    (value : ℕ) × Answered (Accessed (Reads offset value) said a b) (answer_line wanted (to_le_bytes w32 value)) text
-ReadsAt (Some Memory) wanted address said a b text =
-    Answered (Accessed (Loads address (size_of wanted)) said a b) (answer_line wanted (in_memory b address (size_of wanted))) text
-ReadsAt None wanted address said a b text = Refuses refusals.Address a b text
+-- After this, rounds are played, and then comes this line; m is the state in between.
+abbrev pub PacedThen : (Happens : Session → Text → Type 0) → (m : Session) → (line : Text) → Session → Text → Type 0
+PacedThen Happens m line b text = Answered (Both (Happens m) (Paced m b)) line text
 
-abbrev pub WritesAt : Option Place → (address : ℕ) → List ℕ → (said : Text) → Session → Session → Text → Type 0
-WritesAt (Some (Register offset)) address bytes said a b text =
-    Answered (Accessed (Writes offset (from_le_bytes w32 bytes)) said a b) ok_line text
-WritesAt (Some Memory) address bytes said a b text =
-    Answered (Accessed (Stores address bytes) said a b) ok_line text
-WritesAt None address bytes said a b text = Refuses refusals.Address a b text
+-- A register is read, and its bytes are the answer, the lowest byte first.
+abbrev pub ReadsRegister : (offset : ℕ) → Wanted → (said : Text) → Session → Session → Text → Type 0
+ReadsRegister offset wanted said a b text =
+    (value : ℕ) × (m : Session) × PacedThen (Accessed (Reads offset value) said a) m (answer_line wanted (to_le_bytes w32 value)) b text
+
+-- Bytes in memory are read, and they are the answer.
+abbrev pub ReadsMemory : (address : ℕ) → Wanted → (said : Text) → Session → Session → Text → Type 0
+ReadsMemory address wanted said a b text = (m : Session)
+    × PacedThen (Accessed (Loads address (size_of wanted)) said a) m (answer_line wanted (in_memory m address (size_of wanted))) b text
+
+-- Four bytes at a register are one access of it. Other bytes are in memory.
+abbrev pub ReadsAt : Result Place Refusal → Wanted → (address : ℕ) → (said : Text) → Session → Session → Text → Type 0
+ReadsAt (Ok (Register offset)) wanted address said a b text = ReadsRegister offset wanted said a b text
+ReadsAt (Ok Memory) wanted address said a b text = ReadsMemory address wanted said a b text
+ReadsAt (Err refusal) wanted address said a b text = Refuses refusal a b text
+
+abbrev pub WritesAt : Result Place Refusal → (address : ℕ) → List ℕ → (said : Text) → Session → Session → Text → Type 0
+WritesAt (Ok place) address bytes said a b text =
+    (m : Session) × PacedThen (Accessed (write_to place address bytes) said a) m ok_line b text
+WritesAt (Err refusal) address bytes said a b text = Refuses refusal a b text
 
 abbrev pub AnswersStep : StepKind → Session → Session → Text → Type 0
 AnswersStep kind a b text =
@@ -87,15 +101,66 @@ AnswersStep kind a b text =
 
 abbrev pub AnswersArrival : (frame : List ℕ) → (said : Text) → Session → Session → Text → Type 0
 AnswersArrival frame said a b text =
-    (fate : Fate) × Answered (OnDevice (Prints (Logged (Arrives frame fate) said)) a b) (word_line (fate_word fate)) text
+    (fate : Fate) × (m : Session)
+    × PacedThen (OnDevice (Prints (Logged (Arrives frame fate) said)) a) m (word_line (fate_word fate)) b text
 
 -- All offered frames arrive, and then rounds are played.
 abbrev pub SettlesAll : (moved : ℕ) → Session → Session → Text → Type 0
-SettlesAll moved a b text = Joins (λ middle first. AllArrive a middle first) (λ middle rest. OnDevice (Settles moved) middle b rest) text
+SettlesAll moved a b text = Joins (λ middle first. AllArrive a middle first) (λ middle rest. OnDevice (Settles most_rounds moved) middle b rest) text
 
 -- A settle answers the number of steps that did something.
 abbrev pub AnswersSettle : Session → Session → Text → Type 0
 AnswersSettle a b text = (moved : ℕ) × Answered (SettlesAll moved a b) (number_line moved) text
+
+-- 1 if the interrupt line is asserted, else 0
+abbrev pub line_number : Device → ℕ
+line_number device = if is_asserted device.machine.world.adapter then 1 else 0
+
+-- The state changes in this way, and nothing is told.
+abbrev pub Changes : (change : Session → Session) → Session → Session → Text → Type 0
+Changes change a b text = Replies ok_line (change a) b text
+
+abbrev pub with_port_written : PortWidth → (port value : ℕ) → Session → Session
+with_port_written width port value session = record session { function = after_write port width value session.function }
+
+-- one more frame waits for its arrival
+abbrev pub with_offered : List ℕ → Session → Session
+with_offered frame session = record session { offered = session.offered ++ frame ∷ [] }
+
+-- The level of the interrupt line is the answer.
+abbrev pub AnswersLevel : Session → Session → Text → Type 0
+AnswersLevel a b text = Replies (number_line (line_number a.device)) a b text
+
+-- What is at an I/O port is the answer.
+abbrev pub AnswersPort : PortWidth → (port : ℕ) → Session → Session → Text → Type 0
+AnswersPort width port a b text =
+    Replies (number_line (answer_at port width (is_asserted a.device.machine.world.adapter) a.function)) a b text
+
+-- The frames that were put while events weren't printed are the answer, and none is left.
+abbrev pub AnswersFrames : Session → Session → Text → Type 0
+AnswersFrames a b text = Replies (frames_line a.device.put) (record a { device = record a.device { put = [] } }) b text
+
+-- The faults that stopped engines while events weren't printed are the answer, and none is left.
+abbrev pub AnswersFaults : Session → Session → Text → Type 0
+AnswersFaults a b text = Replies (faults_line a.device.faults) (record a { device = record a.device { faults = [] } }) b text
+
+-- The clock (QEMU, docs/devel/testing/qtest: clock_step, clock_set; that the adapter settles is our choice).
+
+-- All offered frames arrive, rounds are played, and then it is this time.
+pub record SettlesUntil (time : ℕ) (a b : Session) (text : Text) : Type 0 where
+  pub moved : ℕ
+  pub settled : Session
+  pub settles : SettlesAll moved a settled text
+  pub after : b ≡ record settled { clock = time }
+
+-- The time is the answer. If the clock can't show it, the request is refused.
+abbrev pub MovesClock : (time : Option ℕ) → Session → Session → Text → Type 0
+MovesClock (Some time) a b text = Answered (SettlesUntil time a b) (decimal_line time) text
+MovesClock None a b text = Refuses refusals.Value a b text
+
+-- the time after so many nanoseconds, if the clock can show it
+abbrev pub time_after : (clock nanoseconds : ℕ) → Option ℕ
+time_after clock nanoseconds = if nat_lt (clock + nanoseconds) (2 ^ 64) then Some (clock + nanoseconds) else None
 
 -- Answers of a server.
 
@@ -103,10 +168,6 @@ AnswersSettle a b text = (moved : ℕ) × Answered (SettlesAll moved a b) (numbe
 pub record OnSession (Answers : Session → Session → Text → Type 0) (a b : Server) (text : Text) : Type 0 where
   pub answers : Answers a.session b.session text
   pub after : b ≡ record a { session = b.session }
-
--- 1 if the interrupt line is asserted, else 0
-abbrev pub line_number : Device → ℕ
-line_number device = if is_asserted device.machine.world.adapter then 1 else 0
 
 -- what reports that the interrupt line of one session is that of another from now on
 abbrev pub line_between : Session → Session → Text
@@ -123,18 +184,21 @@ Does (requests.Read wanted address) said a b text =
     OnSession (ReadsAt (place_in a.session address (size_of wanted)) wanted address said) a b text
 Does (requests.Write address bytes) said a b text =
     OnSession (WritesAt (place_in a.session address (length bytes)) address bytes said) a b text
+Does (requests.ReadPort width port) said a b text = OnSession (AnswersPort width port) a b text
+Does (requests.WritePort width port value) said a b text = OnSession (Changes (with_port_written width port value)) a b text
 Does requests.Endianness said a b text = Replies (word_line (codes "little")) a b text
 Does (requests.Step kind) said a b text = OnSession (AnswersStep kind) a b text
 Does (requests.Arrive frame) said a b text = OnSession (AnswersArrival frame said) a b text
 Does requests.Settle said a b text = OnSession AnswersSettle a b text
-Does requests.Line said a b text = Replies (number_line (line_number a.session.device)) a b text
-Does (requests.Interleave count) said a b text = Replies ok_line (record a { session = record a.session { most_steps = count } }) b text
-Does (requests.Log on) said a b text =
-    Replies ok_line (record a { session = record a.session { device = record a.session.device { log = on } } }) b text
-Does (requests.Wire free) said a b text =
-    Replies ok_line (record a { session = record a.session { device = record a.session.device { wire_free = free } } }) b text
-Does (requests.Offer frame) said a b text =
-    Replies ok_line (record a { session = record a.session { offered = a.session.offered ++ frame ∷ [] } }) b text
+Does (requests.Set setting) said a b text = OnSession (Changes (with_setting setting)) a b text
+Does requests.Line said a b text = OnSession AnswersLevel a b text
+Does (requests.ClockStep nanoseconds) said a b text =
+    OnSession (MovesClock (time_after a.session.clock nanoseconds)) a b text
+Does (requests.ClockSet time) said a b text = OnSession (MovesClock (Some (max a.session.clock time))) a b text
+Does requests.Intercept said a b text = Replies ok_line a b text
+Does requests.Frames said a b text = OnSession AnswersFrames a b text
+Does requests.Faults said a b text = OnSession AnswersFaults a b text
+Does (requests.Offer frame) said a b text = OnSession (Changes (with_offered frame)) a b text
 Does requests.Save said a b text = Replies ok_line (record a { saved = Some a.session }) b text
 Does requests.Restore said a b text = Restores a.saved a b text
 

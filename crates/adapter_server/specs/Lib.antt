@@ -7,14 +7,7 @@ pub mod Choices
 pub mod Happenings
 pub mod Defaults
 pub mod Devices
-pub mod Words
-pub mod Spellings
-pub mod Tables
-pub mod Verbs
-pub mod Widths
-pub mod Reading
+pub mod ReadLines
 pub mod Sessions
 pub mod Answers
-pub mod Lines
-pub mod LinesRead
 pub mod Serving

@@ -38,6 +38,14 @@ pub record Joins {S : Type 0} (First Later : S → Text → Type 0) (text : Text
   pub goes_on : Later middle rest
   pub text_is : text ≡ first ++ rest
 
+-- One text, and then another.
+pub record Both (First Later : Text → Type 0) (text : Text) : Type 0 where
+  pub first : Text
+  pub rest : Text
+  pub happens : First first
+  pub goes_on : Later rest
+  pub text_is : text ≡ first ++ rest
+
 -- Something happens for each of a list in order, in the state after those before it.
 abbrev pub InOrder : {X S : Type 0} → (X → S → S → Text → Type 0) → List X → S → S → Text → Type 0
 InOrder Happens [] a b text = (b ≡ a) × (text ≡ [])

@@ -1,14 +1,14 @@
 -- What a server answers to all of its input (our choice).
 use Rattle.std.specs.Prelude.{◌≡◌, ◌++◌, ℕ, List, [], ◌∷◌, MatchBool, None, Option, length, nat_lt}
 use Rattle.adapter_server.specs.Answers.{AnswersLine, Reaches, Refuses}
-use Rattle.adapter_server.specs.Lines.{lines_of, most_line_bytes}
+use Rattle.server_requests.specs.Lines.{lines_of, most_line_bytes}
 use Rattle.adapter_server.specs.Order.{Begins, InOrder, Tells}
 use Rattle.adapter_server.specs.Sessions.{new_session}
 use Rattle.adapter_server.specs.Texts.{Text}
-use Rattle.adapter_server.specs.declared.line_reader.NextLine.{NextLine}
-use Rattle.adapter_server.specs.declared.line_reader.NextLine.TheVariants.{End, Whole, Long}
+use Rattle.server_requests.specs.declared.line_reader.NextLine.{NextLine}
+use Rattle.server_requests.specs.declared.line_reader.NextLine.TheVariants.{End, Whole, Long}
 use Rattle.adapter_server.specs.declared.options.ServeOptions.{ServeOptions}
-use Rattle.adapter_server.specs.declared.refusal.Refusal.TheVariants as refusals
+use Rattle.server_requests.specs.declared.refusal.Refusal.TheVariants as refusals
 use Rattle.adapter_server.specs.declared.snapshot.Server.{Server}
 
 -- a server before the first request

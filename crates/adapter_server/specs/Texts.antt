@@ -1,8 +1,10 @@
 -- The lines that a server writes (QEMU, docs/devel/testing/qtest: OK, ERR, FAIL and IRQ; frame, arrived and # are our choice).
-use Rattle.std.specs.Prelude.{◌++◌, ℕ, List, [], ◌∷◌, Bool, true, false, Option, Some, None, codes, map}
+use Rattle.std.specs.Prelude.{◌++◌, ℕ, List, [], ◌∷◌, Bool, true, false, Option, Some, None, codes, decimal, flat_map, map}
 use Rattle.std.specs.Borrow.{Bor}
 use Rattle.std.specs.Int.{to_be_bytes, w64}
 use Rattle.std.specs.List.{concat}
+use Rattle.base64.specs.Engines.{standard}
+use Rattle.base64.specs.GeneralPurpose.{encode_of}
 use Rattle.hex.specs.Hex.{encode_lower}
 use Rattle.adapter.specs.declared.step.StepKind.{StepKind}
 use Rattle.adapter.specs.declared.step.StepKind.TheVariants.{TxTake, TxPut, RxData, RxDone, EepromTick, PhyTick}
@@ -10,12 +12,12 @@ use Rattle.adapter.specs.declared.outcome.Outcome.{Outcome}
 use Rattle.adapter.specs.declared.outcome.Outcome.TheVariants.{Took, Put, WireFull, Part, Moved, Done, Delivered, Ticked, Nothing, Fault}
 use Rattle.rx_engine.specs.declared.arrival.Fate.{Fate}
 use Rattle.rx_engine.specs.declared.arrival.Fate.TheVariants.{Off, Illegal, Filtered, Missed, Stored}
-use Rattle.adapter_server.specs.declared.refusal.Refusal.{Refusal}
-use Rattle.adapter_server.specs.declared.refusal.Refusal.TheVariants as refusals
-
--- a text, as its bytes
-abbrev pub Text : Type 0
-Text = List ℕ
+use Rattle.engine_faults.specs.declared.engine_fault.Engine.{Engine}
+use Rattle.engine_faults.specs.declared.engine_fault.Engine.TheVariants as engines
+use Rattle.engine_faults.specs.declared.engine_fault.EngineFault.{EngineFault}
+use Rattle.engine_faults.specs.declared.engine_fault.Reason.{Reason}
+use Rattle.engine_faults.specs.declared.engine_fault.Reason.TheVariants as reasons
+pub use Rattle.server_requests.specs.Texts.{Text}
 
 -- the parts of a text, joined
 abbrev pub joined : List (Bor Text) → Text
@@ -110,12 +112,44 @@ number_line number = bytes_line (to_be_bytes w64 number)
 unfoldable pub word_line : Text → Text
 word_line word = codes "OK " ++ word ++ codes "\n"
 
-abbrev pub refusal_line : Refusal → Text
-refusal_line refusals.Unknown = codes "FAIL unknown\n"
-refusal_line refusals.Count = codes "ERR count\n"
-refusal_line refusals.Value = codes "ERR value\n"
-refusal_line refusals.Size = codes "ERR size\n"
-refusal_line refusals.Address = codes "ERR address\n"
-refusal_line refusals.Saved = codes "ERR saved\n"
-refusal_line refusals.Text = codes "ERR text\n"
-refusal_line refusals.Long = codes "ERR long\n"
+-- bytes in base64 (RFC 4648, section 4)
+abbrev pub base64_line : List ℕ → Text
+base64_line bytes = word_line (encode_of standard bytes)
+
+-- Faults of engines.
+
+abbrev pub engine_word : Engine → Text
+engine_word engines.Transmit = codes "tx"
+engine_word engines.Receive = codes "rx"
+
+abbrev pub reason_word : Reason → Text
+reason_word reasons.Ring = codes "ring"
+reason_word reasons.Descriptor = codes "descriptor"
+reason_word reasons.Dext = codes "dext"
+reason_word reasons.Eop = codes "eop"
+reason_word reasons.Length = codes "length"
+reason_word reasons.Buffer = codes "buffer"
+reason_word reasons.Bsex = codes "bsex"
+
+-- an engine, the index of a descriptor, and a reason
+abbrev pub fault_words : EngineFault → Text
+fault_words fault =
+    codes " " ++ engine_word fault.engine ++ codes " " ++ decimal fault.index ++ codes " " ++ reason_word fault.reason
+
+abbrev pub fault_line : EngineFault → Text
+fault_line fault = codes "fault" ++ fault_words fault ++ codes "\n"
+
+abbrev pub faults_line : List EngineFault → Text
+faults_line faults = codes "OK" ++ flat_map fault_words faults ++ codes "\n"
+
+-- a number in decimal digits
+abbrev pub decimal_line : ℕ → Text
+decimal_line number = word_line (decimal number)
+
+-- a space, 0x and the digits of a frame
+abbrev pub frame_word : List ℕ → Text
+frame_word frame = codes " 0x" ++ encode_lower frame
+
+-- frames, each as a word
+abbrev pub frames_line : List (List ℕ) → Text
+frames_line frames = codes "OK" ++ flat_map frame_word frames ++ codes "\n"

@@ -1,16 +1,17 @@
 // Reads and writes, and the steps before each.
 
-ghost use Rattle.std.specs.Prelude.{◌≡◌, ◌≤◌, IfOk, length};
+ghost use Rattle.std.specs.Prelude.{◌≡◌, ◌≤◌, IsTrue, length};
 ghost use Rattle.std.specs.Int.{from_le_bytes, w32};
 ghost use Rattle.adapter_server.specs.Order.{Says};
-ghost use Rattle.adapter_server.specs.Widths.{answer_line, bytes_of, bytes_spelling, number_spelled, size_of};
+ghost use Rattle.adapter_server.specs.ReadLines.{answer_line, number_spelled};
+ghost use Rattle.server_requests.specs.Widths.{size_of};
 
 use crate::answer_error::AnswerError;
-use crate::output::{refuse, say, say_bytes, say_number};
-use crate::refusal::Refusal;
-use crate::request::{Wanted, Width};
+use crate::device::Device;
+use crate::output::{refuse, say, say_base64, say_bytes, say_number};
 use crate::session::{Place, Session};
-use std::alloc::{AllocError, Global};
+use server_requests::Wanted;
+use std::alloc::Global;
 use std::io::Write;
 
 /// The number of bytes of a register.
@@ -19,30 +20,8 @@ const REGISTER_WIDTH: usize = 4;
 /// The maximum number of bytes of a number.
 const MOST_NUMBER_BYTES: usize = 8;
 
-impl Width {
-    /// The number of bytes of a number of this width.
-    fn bytes(self) -> usize
-        ensures { result ≡ bytes_of self }
-    {
-        match self {
-            Width::Byte => 1,
-            Width::Word => 2,
-            Width::Long => 4,
-            Width::Quad => 8,
-        }
-    }
-
-    /// The bytes of a number of this width, the lowest first.
-    #[tactic(auto, unfolding(crate::specs::Widths::bytes_spelling))]
-    pub(crate) fn bytes_spelling(self, alloc: Global, number: u64) -> Result<Vec<u8>, AllocError>
-        ensures { IfOk result (λ bytes. bytes.items ≡ bytes_spelling self number) }
-    {
-        Vec::from_slice(alloc, &number.to_le_bytes()[..self.bytes()])
-    }
-}
-
 /// The number with these bytes, the lowest first.
-#[tactic(auto, unfolding(crate::specs::Widths::number_spelled))]
+#[tactic(auto, unfolding(crate::specs::ReadLines::number_spelled))]
 fn number_of(bytes: &[u8]) -> u64
     requires { length bytes.now ≤ 8 }
     ensures { result ≡ number_spelled bytes.now }
@@ -62,34 +41,99 @@ fn register_value(bytes: &[u8]) -> u32
     u32::from_le_bytes(all)
 }
 
-impl Wanted {
-    /// The number of bytes that are read.
-    fn size(self) -> u64
-        ensures { result ≡ size_of self }
-    {
-        match self {
-            Wanted::Number(width) => width.bytes() as u64,
-            Wanted::Bytes(size) => size,
-        }
+/// Writes the line of the answer with these bytes.
+fn say_read<W: Write>(
+    alloc: Global,
+    out: &mut W,
+    wanted: Wanted,
+    bytes: &[u8],
+) -> Result<(), AnswerError>
+    requires { length bytes.now ≡ size_of wanted }
+    ensures { Says result (W.contents out.old) (W.contents out.new) (answer_line wanted bytes.now) }
+{
+    match wanted {
+        Wanted::Number(_) => say_number(alloc, out, number_of(bytes)),
+        Wanted::Bytes(_) => say_bytes(alloc, out, bytes),
+        Wanted::Base64(_) => say_base64(alloc, out, bytes),
     }
+}
 
-    /// Writes the line of the answer with these bytes.
-    fn say<W: Write>(self, alloc: Global, out: &mut W, bytes: &[u8]) -> Result<(), AnswerError>
-        requires { length bytes.now ≡ size_of self }
-        ensures { Says result (W.contents out.old) (W.contents out.new) (answer_line self bytes.now) }
+impl Device {
+    ghost use Rattle.adapter_server.specs.Sessions.{Takes, write_to};
+    ghost use Rattle.bus.specs.Machines.{after_event};
+    ghost use Rattle.bus.specs.declared.event.Event.TheVariants.{Accesses};
+
+    /// Writes bytes at a place.
+    fn write_to(&mut self, place: Place, address: u64, bytes: &[u8])
+        requires { Takes place address bytes.now self.old }
+        ensures { self.new ≡ record self.old {
+          machine = after_event (Accesses (write_to place address bytes.now)) self.old.machine;
+        } }
     {
-        match self {
-            Wanted::Number(_) => say_number(alloc, out, number_of(bytes)),
-            Wanted::Bytes(_) => say_bytes(alloc, out, bytes),
+        match place {
+            Place::Register(offset) => self.machine.write(offset, register_value(bytes)),
+            Place::Memory => self.machine.store(address, bytes),
         }
     }
 }
 
 impl Session {
-    ghost use Rattle.adapter_server.specs.Answers.{ReadsAt, TellsAnswer, WritesAt};
-    ghost use Rattle.adapter_server.specs.Sessions.{place_in};
+    ghost use Rattle.adapter_server.specs.Answers.{ReadsAt, ReadsMemory, ReadsRegister, TellsAnswer, WritesAt};
+    ghost use Rattle.adapter_server.specs.Sessions.{TellsRounds, is_memory, place_in};
 
-    /// `readb`, `readw`, `readl`, `readq`, `read`. Four bytes at a register are one access of it.
+    /// Prints what the log says of an access or an arrival that happened, and plays rounds.
+    pub(crate) fn finish<W: Write>(
+        &mut self,
+        alloc: Global,
+        out: &mut W,
+        said: &[u8],
+    ) -> Result<(), AnswerError>
+        ensures { TellsRounds result (W.contents out.old) (W.contents out.new) said.now self.old self.new }
+    {
+        self.device.tell(alloc, out, &[said], &[])?;
+        self.play_rounds(alloc, out)
+    }
+
+    /// Reads a register.
+    fn read_register<W: Write>(
+        &mut self,
+        alloc: Global,
+        out: &mut W,
+        said: &[u8],
+        wanted: Wanted,
+        offset: u32,
+    ) -> Result<(), AnswerError>
+        requires { size_of wanted ≡ 4 }
+        ensures { TellsAnswer result (W.contents out.old) (W.contents out.new) self.old.device
+            (ReadsRegister offset wanted said.now self.old) self.new }
+    {
+        self.interleave(alloc, out)?;
+        let value = self.device.machine.read(offset);
+        self.finish(alloc, out, said)?;
+        say_read(alloc, out, wanted, &value.to_le_bytes())
+    }
+
+    /// Reads bytes in memory.
+    fn read_memory<W: Write>(
+        &mut self,
+        alloc: Global,
+        out: &mut W,
+        said: &[u8],
+        wanted: Wanted,
+        address: u64,
+    ) -> Result<(), AnswerError>
+        requires { IsTrue (is_memory self.old address (size_of wanted)) }
+        ensures { TellsAnswer result (W.contents out.old) (W.contents out.new) self.old.device
+            (ReadsMemory address wanted said.now self.old) self.new }
+    {
+        let mut bytes = vec![in alloc; 0; wanted.size() as usize]?;
+        self.interleave(alloc, out)?;
+        self.device.machine.load(address, bytes.as_mut_slice());
+        self.finish(alloc, out, said)?;
+        say_read(alloc, out, wanted, bytes.as_slice())
+    }
+
+    /// `readb`, `readw`, `readl`, `readq`, `read`, `b64read`. Four bytes at a register are one access of it.
     pub(crate) fn read<W: Write>(
         &mut self,
         alloc: Global,
@@ -101,26 +145,15 @@ impl Session {
         ensures { TellsAnswer result (W.contents out.old) (W.contents out.new) self.old.device
             (ReadsAt (place_in self.old address (size_of wanted)) wanted address said.now self.old) self.new }
     {
-        let size = wanted.size();
-        match self.place_of(address, size) {
-            Some(Place::Register(offset)) => {
-                self.interleave(alloc, out)?;
-                let value = self.device.machine.read(offset);
-                self.device.tell(alloc, out, &[said], &[])?;
-                wanted.say(alloc, out, &value.to_le_bytes())
-            }
-            Some(Place::Memory) => {
-                let mut bytes = vec![in alloc; 0; size as usize]?;
-                self.interleave(alloc, out)?;
-                self.device.machine.load(address, bytes.as_mut_slice());
-                self.device.tell(alloc, out, &[said], &[])?;
-                wanted.say(alloc, out, bytes.as_slice())
-            }
-            None => refuse(out, Refusal::Address),
+        match self.place_of(address, wanted.size()) {
+            Ok(Place::Register(offset)) => self.read_register(alloc, out, said, wanted, offset),
+            Ok(Place::Memory) => self.read_memory(alloc, out, said, wanted, address),
+            Err(refusal) => refuse(out, refusal),
         }
     }
 
-    /// `writeb`, `writew`, `writel`, `writeq`, `write`, `memset`. Four bytes at a register are one access of it.
+    /// `writeb`, `writew`, `writel`, `writeq`, `write`, `b64write`, `memset`. Four bytes at a register are one access of
+    /// it.
     pub(crate) fn write<W: Write>(
         &mut self,
         alloc: Global,
@@ -132,15 +165,13 @@ impl Session {
         ensures { TellsAnswer result (W.contents out.old) (W.contents out.new) self.old.device
             (WritesAt (place_in self.old address (length bytes.now)) address bytes.now said.now self.old) self.new }
     {
-        let Some(place) = self.place_of(address, bytes.len() as u64) else {
-            return refuse(out, Refusal::Address);
+        let place = match self.place_of(address, bytes.len() as u64) {
+            Ok(place) => place,
+            Err(refusal) => return refuse(out, refusal),
         };
         self.interleave(alloc, out)?;
-        match place {
-            Place::Register(offset) => self.device.machine.write(offset, register_value(bytes)),
-            Place::Memory => self.device.machine.store(address, bytes),
-        }
-        self.device.tell(alloc, out, &[said], &[])?;
+        self.device.write_to(place, address, bytes);
+        self.finish(alloc, out, said)?;
         say(out, b"OK\n")
     }
 }

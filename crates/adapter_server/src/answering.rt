@@ -1,20 +1,19 @@
 // Answers to requests.
 
 use crate::answer_error::AnswerError;
-use crate::line_reader::NextLine;
+use crate::device::MOST_ROUNDS;
 use crate::output::{refuse, say, say_number, say_word};
-use crate::reading::read_line;
-use crate::refusal::{Refusal, Stop};
-use crate::request::Request;
 use crate::session::Session;
 use crate::snapshot::Server;
 use crate::text::{fate_word, outcome_word};
 use adapter::StepKind;
+use server_requests::{NextLine, Refusal, Request, Stop, read_line};
 use std::alloc::Global;
 use std::io::Write;
 
 impl Session {
-    ghost use Rattle.adapter_server.specs.Answers.{AnswersArrival, AnswersSettle, AnswersStep, TellsAnswer};
+    ghost use Rattle.adapter_server.specs.Answers.{AnswersArrival, AnswersSettle, AnswersStep, SettlesAll, TellsAnswer};
+    ghost use Rattle.adapter_server.specs.Devices.{TellsEvents};
 
     /// `step`.
     fn take_step<W: Write>(
@@ -42,8 +41,22 @@ impl Session {
             (AnswersArrival frame.now said.now self.old) self.new }
     {
         let fate = self.device.machine.arrive(frame);
-        self.device.tell(alloc, out, &[said], &[])?;
+        self.finish(alloc, out, said)?;
         say_word(alloc, out, fate_word(fate))
+    }
+
+    /// Delivers all offered frames, and plays rounds until one does nothing. Returns the number of steps that did
+    /// something.
+    pub(crate) fn settle_all<W: Write>(
+        &mut self,
+        alloc: Global,
+        out: &mut W,
+    ) -> Result<u64, AnswerError>
+        ensures { TellsEvents result (W.contents out.old) (W.contents out.new) self.old.device
+            (λ moved. SettlesAll moved self.old self.new) }
+    {
+        self.deliver_all(alloc, out)?;
+        self.device.settle(alloc, out, MOST_ROUNDS)
     }
 
     /// `settle`.
@@ -51,8 +64,7 @@ impl Session {
         ensures { TellsAnswer result (W.contents out.old) (W.contents out.new) self.old.device
             (AnswersSettle self.old) self.new }
     {
-        self.deliver_all(alloc, out)?;
-        let moved = self.device.settle(alloc, out)?;
+        let moved = self.settle_all(alloc, out)?;
         say_number(alloc, out, moved)
     }
 }
@@ -72,37 +84,28 @@ impl Server {
         ensures { TellsAnswer result (W.contents out.old) (W.contents out.new) self.old.session.device
             (Does request.now said.now self.old) self.new }
     {
+        let session = &mut self.session;
         match request {
-            Request::Read(wanted, address) => {
-                self.session.read(alloc, out, said, *wanted, *address)
+            Request::Read(wanted, address) => session.read(alloc, out, said, *wanted, *address),
+            Request::Write(address, bytes) => {
+                session.write(alloc, out, said, *address, bytes.as_slice())
             }
-            Request::Write(address, payload) => {
-                self.session
-                    .write(alloc, out, said, *address, payload.as_slice())
-            }
+            Request::ReadPort(width, port) => session.read_port(alloc, out, *width, *port),
+            Request::WritePort(width, port, value) => session.write_port(
+                out, *width, *port, *value,
+            ),
             Request::Endianness => say_word(alloc, out, b"little"),
-            Request::Step(kind) => self.session.take_step(alloc, out, *kind),
-            Request::Arrive(frame) => self.session.deliver(alloc, out, said, frame.as_slice()),
-            Request::Settle => self.session.settle(alloc, out),
-            Request::Line => {
-                say_number(alloc, out, u64::from(self.session.device.machine.line()))
-            }
-            Request::Interleave(count) => {
-                self.session.most_steps = *count;
-                say(out, b"OK\n")
-            }
-            Request::Log(on) => {
-                self.session.device.log = *on;
-                say(out, b"OK\n")
-            }
-            Request::Wire(free) => {
-                self.session.device.wire_free = *free;
-                say(out, b"OK\n")
-            }
-            Request::Offer(frame) => {
-                self.session.offered.push(alloc, frame.as_slice())?;
-                say(out, b"OK\n")
-            }
+            Request::Step(kind) => session.take_step(alloc, out, *kind),
+            Request::Arrive(frame) => session.deliver(alloc, out, said, frame.as_slice()),
+            Request::Settle => session.settle(alloc, out),
+            Request::Set(setting) => session.change(out, *setting),
+            Request::Line => session.say_level(alloc, out),
+            Request::ClockStep(nanoseconds) => session.step_clock(alloc, out, *nanoseconds),
+            Request::ClockSet(time) => session.set_clock(alloc, out, *time),
+            Request::Intercept => say(out, b"OK\n"),
+            Request::Frames => session.fetch_frames(alloc, out),
+            Request::Faults => session.fetch_faults(alloc, out),
+            Request::Offer(frame) => session.offer(alloc, out, frame.as_slice()),
             Request::Save => self.save(out),
             Request::Restore => self.restore(out),
         }

@@ -1,19 +1,25 @@
 // The served adapter, and the lines that it prints.
 
-ghost use Rattle.std.specs.Prelude.{◌≡◌, ◌++◌, ◌≤◌, IfOk, flat_map};
+ghost use Rattle.std.specs.Prelude.{◌≡◌, ◌++◌, ◌≤◌, [], IfOk, OnOk, flat_map, if◌then◌else◌, length};
 ghost use Rattle.adapter_server.specs.Outcomes.{moved_by};
 
 use crate::answer_error::AnswerError;
+use crate::faults::Faults;
+use crate::frames::Frames;
 use crate::output::say;
-use crate::text::{arrived_line, event_text, fate_word, frame_line, kind_word, outcome_word};
-use adapter::{Outcome, StepKind};
+use crate::text::{
+    arrived_line, event_text, fate_word, frame_line, kind_word, outcome_word, push_fault_line,
+};
+use adapter::{Fate, Outcome, StepKind};
 use bus::Machine;
+use engine_faults::{EngineFault, fault_of};
+use server_requests::Payload;
 use std::alloc::{AllocError, Global};
 use std::io::Write;
 
 /// The maximum number of rounds that `settle` plays (our choice). It is more than the descriptors of a ring and the
 /// ticks of a link.
-const MOST_ROUNDS: u32 = 131_072;
+pub(crate) const MOST_ROUNDS: u32 = 131_072;
 
 /// The kinds of steps, each once, in the order of a round.
 const ROUND: [StepKind; 6] = [
@@ -32,8 +38,14 @@ pub struct Device {
     pub machine: Machine,
     /// Whether steps, accesses and arrivals are printed.
     pub log: bool,
+    /// Whether frames that are put onto the wire, faults, and arrivals of offered frames are printed.
+    pub events: bool,
     /// Whether the wire has room for a frame.
     pub wire_free: bool,
+    /// The frames that were put onto the wire while events weren't printed, and that weren't fetched yet.
+    pub put: Frames,
+    /// The faults that stopped an engine while events weren't printed, and that weren't fetched yet.
+    pub faults: Faults,
 }
 
 /// 1 if a step with this outcome did something, else 0.
@@ -54,18 +66,22 @@ impl Clone for Device {
         Ok(Device {
             machine: self.machine.clone()?,
             log: self.log,
+            events: self.events,
             wire_free: self.wire_free,
+            put: self.put.clone()?,
+            faults: self.faults.clone()?,
         })
     }
 }
 
 impl Device {
-    ghost use Rattle.adapter_server.specs.Devices.{Prints, Round, Settles, Steps, TellsEvents, to_put, told};
+    ghost use Rattle.adapter_server.specs.Devices.{Prints, Round, Settles, Steps, TellsEvents, faults_told, keeping, listed};
+    ghost use Rattle.adapter_server.specs.Devices.{to_put, told};
     ghost use Rattle.adapter_server.specs.Order.{Says};
     ghost use Rattle.rx_engine.specs.declared.arrival.Fate.{Fate};
     ghost use Rattle.adapter_server.specs.Happenings.{Arrived};
     ghost use Rattle.bus.specs.Machines.{is_asserted};
-    ghost use Rattle.adapter_server.specs.Texts.{frame_line, joined, line_moved, said_log};
+    ghost use Rattle.adapter_server.specs.Texts.{digits_arrived, fate_word, fault_line, frame_line, joined, line_moved, said_log};
 
     /// Prints an event that happened: what the log says of it, what is always printed of it, and a change of the
     /// interrupt line.
@@ -86,19 +102,75 @@ impl Device {
         say(out, text.as_slice())
     }
 
-    /// The line of the frame that a step of this kind puts onto the wire, or no text if it puts none.
-    fn put_line(&self, alloc: Global, kind: StepKind) -> Result<Vec<u8>, AllocError>
-        ensures { IfOk result (λ line. line.items
-            ≡ flat_map frame_line (to_put kind self.now.wire_free self.now.machine.world.adapter)) }
+    /// A copy of the frame that a step of this kind puts onto the wire, if it puts one.
+    fn next_frame(&self, alloc: Global, kind: StepKind) -> Result<Option<Payload>, AllocError>
+        ensures { IfOk result (λ frame. listed frame ≡ to_put kind self.now.wire_free self.now.machine.world.adapter) }
     {
         if kind != StepKind::TxPut || !self.wire_free {
-            return Ok(Vec::new(alloc));
+            return Ok(None);
         }
         let Some(frame) = self.machine.to_put() else {
+            return Ok(None);
+        };
+        Ok(Some(Payload::copy_of(alloc, frame)?))
+    }
+
+    /// What is printed of a frame that was put onto the wire. If events aren't printed, the frame waits to be fetched.
+    fn put_text(&mut self, alloc: Global, frame: Option<Payload>) -> Result<Vec<u8>, AllocError>
+        ensures state { OnOk result (self.new ≡ keeping (listed frame) [] self.old) }
+        ensures text { IfOk result (λ text. text.items
+            ≡ (if self.old.events then flat_map frame_line (listed frame) else [])) }
+    {
+        let Some(frame) = frame else {
             return Ok(Vec::new(alloc));
         };
-        let digits = hex::encode(alloc, frame)?;
-        frame_line(alloc, digits.as_bytes())
+        if self.events {
+            let digits = hex::encode(alloc, frame.as_slice())?;
+            return frame_line(alloc, digits.as_bytes());
+        }
+        self.put.push(frame)?;
+        Ok(Vec::new(alloc))
+    }
+
+    /// Adds what is printed of a fault. If events aren't printed, the fault waits to be fetched.
+    fn push_fault(
+        &mut self,
+        text: &mut Vec<u8>,
+        fault: Option<EngineFault>,
+    ) -> Result<(), AllocError>
+        ensures state { OnOk result (self.new ≡ keeping [] (listed fault) self.old) }
+        ensures text { OnOk result (text.new.items ≡ text.old.items
+            ++ (if self.old.events then flat_map fault_line (listed fault) else [])) }
+    {
+        let Some(fault) = fault else {
+            return Ok(());
+        };
+        if self.events {
+            return push_fault_line(text, fault);
+        }
+        self.faults.push(fault)
+    }
+
+    /// The fault that a step was, if it was one.
+    fn fault_told(&mut self, kind: StepKind, outcome: Outcome<()>) -> Option<EngineFault>
+        ensures unchanged { self.new ≡ self.old }
+        ensures fault { listed result ≡ faults_told kind outcome self.old.machine.world }
+    {
+        match outcome {
+            Outcome::Fault => fault_of(&mut self.machine, kind),
+            _ => None,
+        }
+    }
+
+    /// What is printed of an offered frame that arrived, from its fate and its digits.
+    fn arrival_text(&self, alloc: Global, fate: Fate, digits: &[u8]) -> Result<Vec<u8>, AllocError>
+        ensures { IfOk result (λ text. text.items
+            ≡ (if self.now.events then digits_arrived (fate_word fate) digits.now else [])) }
+    {
+        if !self.events {
+            return Ok(Vec::new(alloc));
+        }
+        arrived_line(alloc, fate_word(fate), digits)
     }
 
     /// Makes the adapter take a step, and prints it.
@@ -111,10 +183,13 @@ impl Device {
         ensures { TellsEvents result (W.contents out.old) (W.contents out.new) self.old
             (λ outcome. Steps kind outcome self.old self.new) }
     {
-        let put = self.put_line(alloc, kind)?;
+        let frame = self.next_frame(alloc, kind)?;
         let outcome = self.machine.step(kind, self.wire_free);
+        let mut shown = self.put_text(alloc, frame)?;
+        let fault = self.fault_told(kind, outcome);
+        self.push_fault(&mut shown, fault)?;
         let said: [&[u8]; 4] = [b"step ", kind_word(kind), b" -> ", outcome_word(outcome)];
-        self.tell(alloc, out, &said, put.as_slice())?;
+        self.tell(alloc, out, &said, shown.as_slice())?;
         Ok(outcome)
     }
 
@@ -131,7 +206,7 @@ impl Device {
         let text = hex::encode(alloc, frame)?;
         let digits = text.as_bytes();
         let fate = self.machine.arrive(frame);
-        let shown = arrived_line(alloc, fate_word(fate), digits)?;
+        let shown = self.arrival_text(alloc, fate, digits)?;
         self.tell(alloc, out, &[b"arrive ", digits], shown.as_slice())
     }
 
@@ -149,17 +224,18 @@ impl Device {
         Ok(moved)
     }
 
-    /// Plays rounds of steps until one does nothing. Returns the number of steps that did something.
+    /// Plays rounds of steps until one does nothing, up to a maximum. Returns the number of steps that did something.
     pub(crate) fn settle<W: Write>(
         &mut self,
         alloc: Global,
         out: &mut W,
+        most: u32,
     ) -> Result<u64, AnswerError>
         ensures { TellsEvents result (W.contents out.old) (W.contents out.new) self.old
-            (λ moved. Settles moved self.old self.new) }
+            (λ moved. Settles most moved self.old self.new) }
     {
         let mut all = 0;
-        for _round in 0..MOST_ROUNDS {
+        for _round in 0..most {
             let moved = self.round(alloc, out)?;
             if moved == 0 {
                 return Ok(all);

@@ -1,4 +1,4 @@
-// What happens between two requests' accesses: steps, and arrivals of offered frames.
+// What happens before and after accesses: steps, and arrivals of offered frames.
 
 ghost use Rattle.std.specs.Prelude.{◌≡◌};
 ghost use Rattle.adapter_server.specs.Choices.{choice_numbered};
@@ -53,7 +53,7 @@ fn choice_numbered(number: u32) -> Choice
 
 impl Session {
     ghost use Rattle.adapter_server.specs.Devices.{TellsEvents};
-    ghost use Rattle.adapter_server.specs.Sessions.{AllArrive, Chosen, Interleaves, NextArrives};
+    ghost use Rattle.adapter_server.specs.Sessions.{AllArrive, Chosen, Interleaves, NextArrives, Paced};
     ghost use Rattle.adapter_server.specs.Sessions.{drawn, drawn_count, drawn_kind};
 
     /// The kind of steps that the next word of the generator chooses.
@@ -150,6 +150,19 @@ impl Session {
             let choice = self.draw();
             self.play(alloc, out, choice)?;
         }
+        Ok(())
+    }
+    /// Plays what comes after an access or an arrival: rounds of steps, until one does nothing or the number that was set
+    /// is reached.
+    pub(crate) fn play_rounds<W: Write>(
+        &mut self,
+        alloc: Global,
+        out: &mut W,
+    ) -> Result<(), AnswerError>
+        ensures { TellsEvents result (W.contents out.old) (W.contents out.new) self.old.device
+            (λ _. Paced self.old self.new) }
+    {
+        self.device.settle(alloc, out, u32::from(self.pace))?;
         Ok(())
     }
 }

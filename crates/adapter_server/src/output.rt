@@ -1,13 +1,16 @@
 // Writes text.
 
-ghost use Rattle.std.specs.Prelude.{◌≤◌, IfOk, OnErr, length, take};
+ghost use Rattle.std.specs.Prelude.{◌≡◌, ◌≤◌, [], IfOk, OnErr, OnOk, length, take};
 ghost use Rattle.std.specs.Io.KnownBytes.{Appends, Keeps};
 ghost use Rattle.adapter_server.specs.Order.{Says};
 ghost use Rattle.adapter_server.specs.Texts as texts;
+ghost use Rattle.server_requests.specs.Refusals.{refusal_line};
 
 use crate::answer_error::AnswerError;
-use crate::refusal::Refusal;
-use crate::text::{bytes_line, word_line};
+use crate::faults::Faults;
+use crate::frames::Frames;
+use crate::text::{base64_line, bytes_line, decimal_line, faults_line, frames_line, word_line};
+use server_requests::Refusal;
 use std::alloc::Global;
 use std::io::{ErrorKind, Write};
 
@@ -45,7 +48,7 @@ pub(crate) fn say<W: Write>(out: &mut W, text: &[u8]) -> Result<(), AnswerError>
 
 /// Writes the line of a refusal.
 pub(crate) fn refuse<W: Write>(out: &mut W, refusal: Refusal) -> Result<(), AnswerError>
-    ensures { Says result (W.contents out.old) (W.contents out.new) (texts.refusal_line refusal) }
+    ensures { Says result (W.contents out.old) (W.contents out.new) (refusal_line refusal) }
 {
     say(out, refusal.text())
 }
@@ -79,6 +82,55 @@ pub(crate) fn say_word<W: Write>(alloc: Global, out: &mut W, word: &[u8]) -> Res
     ensures { Says result (W.contents out.old) (W.contents out.new) (texts.word_line word.now) }
 {
     let line = word_line(alloc, word)?;
+    say(out, line.as_slice())
+}
+
+/// Writes the line of an answer with bytes in base64.
+pub(crate) fn say_base64<W: Write>(
+    alloc: Global,
+    out: &mut W,
+    bytes: &[u8],
+) -> Result<(), AnswerError>
+    ensures { Says result (W.contents out.old) (W.contents out.new) (texts.base64_line bytes.now) }
+{
+    let line = base64_line(alloc, bytes)?;
+    say(out, line.as_slice())
+}
+
+/// Writes the line of an answer with a decimal number.
+pub(crate) fn say_decimal<W: Write>(
+    alloc: Global,
+    out: &mut W,
+    number: u64,
+) -> Result<(), AnswerError>
+    ensures { Says result (W.contents out.old) (W.contents out.new) (texts.decimal_line number) }
+{
+    let line = decimal_line(alloc, number)?;
+    say(out, line.as_slice())
+}
+
+/// Writes the line of an answer with frames. If it was written, none of them is left.
+pub(crate) fn say_frames<W: Write>(
+    alloc: Global,
+    out: &mut W,
+    frames: &mut Frames,
+) -> Result<(), AnswerError>
+    ensures text { Says result (W.contents out.old) (W.contents out.new) (texts.frames_line frames.old) }
+    ensures none { OnOk result (frames.new ≡ []) }
+{
+    let line = frames_line(alloc, frames)?;
+    say(out, line.as_slice())
+}
+
+/// Writes the line of an answer with faults.
+pub(crate) fn say_faults<W: Write>(
+    alloc: Global,
+    out: &mut W,
+    faults: &Faults,
+) -> Result<(), AnswerError>
+    ensures { Says result (W.contents out.old) (W.contents out.new) (texts.faults_line faults.now) }
+{
+    let line = faults_line(alloc, faults)?;
     say(out, line.as_slice())
 }
 

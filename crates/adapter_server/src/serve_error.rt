@@ -5,6 +5,7 @@ ghost use Rattle.adapter_server.specs.declared.serve_error.ServeError.TheVariant
 ghost use Rattle.adapter_server.specs.Statuses.{ended_by, status_of};
 
 use crate::answer_error::AnswerError;
+use server_requests::ReadFailed;
 use std::alloc::AllocError;
 use thiserror::Error;
 
@@ -45,6 +46,14 @@ impl From<AllocError> for ServeError {
 
     fn from(_error: AllocError) -> ServeError {
         ServeError::Memory
+    }
+}
+
+impl From<ReadFailed> for ServeError {
+    ghost from_gives = { λ _ e. e ≡ errors.Read };
+
+    fn from(_error: ReadFailed) -> ServeError {
+        ServeError::Read
     }
 }
 

@@ -8,11 +8,11 @@ ghost use Rattle.adapter_server.specs.Serving.{ServesSome, ServesWhole};
 ghost use Rattle.adapter_server.specs.declared.serve_error.ServeError.TheVariants as errors;
 
 use crate::answer_error::AnswerError;
-use crate::line_reader::{MOST_LINE_BYTES, NextLine, next_line};
 use crate::options::ServeOptions;
 use crate::output::send;
 use crate::serve_error::ServeError;
 use crate::snapshot::Server;
+use server_requests::{MOST_LINE_BYTES, NextLine, next_line};
 use std::alloc::Global;
 use std::io::{Read, Write};
 

@@ -1,18 +1,21 @@
 // The state of an adapter that is served.
 
-ghost use Rattle.std.specs.Prelude.{◌≡◌, ◌+◌, IfOk, nat_le};
-ghost use Rattle.adapter_server.specs.Sessions.{first_adapter};
+ghost use Rattle.std.specs.Prelude.{◌≡◌, ◌+◌, ◌-◌, IfOk, None, Some, if◌then◌else◌, nat_le};
+ghost use Rattle.adapter_server.specs.Sessions.{first_adapter, is_register, meets_registers, place_with};
 
 use crate::answer_error::AnswerError;
 use crate::device::Device;
-use crate::offered::Offered;
+use crate::faults::Faults;
+use crate::frames::Frames;
 use crate::options::ServeOptions;
 use adapter::Adapter;
 use adapter::offsets::PBA;
 use bus::Machine;
 use dma_memory::HostMemory;
+use pci_function::PciFunction;
 use rand_core::SeedableRng;
 use rand_pcg::Lcg64Xsh32;
+use server_requests::{Refusal, Setting};
 use std::alloc::{AllocError, Global};
 
 /// The number of bytes of registers (13.4 "Main Register Descriptions").
@@ -26,14 +29,18 @@ const WORD_BYTES: u64 = 4;
 pub struct Session {
     /// The adapter and its memory.
     pub device: Device,
-    /// The address of the first byte of registers.
-    pub registers: u64,
+    /// The PCI function, which tells where the registers are.
+    pub function: PciFunction,
     /// The generator of interleaved steps.
     pub generator: Lcg64Xsh32,
     /// The maximum number of steps played before an access.
     pub most_steps: u16,
+    /// The maximum number of rounds played after an access or an arrival.
+    pub pace: u16,
+    /// The time of the clock, in nanoseconds.
+    pub clock: u64,
     /// The frames that wait for their arrival.
-    pub offered: Offered,
+    pub offered: Frames,
 }
 
 /// The target of an access.
@@ -50,6 +57,55 @@ fn is_within(size: u64, address: u64, count: u64) -> bool
     ensures { result ≡ nat_le (address + count) size }
 {
     count <= size && address <= size - count
+}
+
+/// Whether some of `count` bytes from an address on are those of registers.
+fn meets_registers(registers: u64, address: u64, count: u64) -> bool
+    ensures { result ≡ meets_registers registers address count }
+{
+    let address = u128::from(address);
+    let registers = u128::from(registers);
+    address < registers + u128::from(REGISTER_BYTES) && registers < address + u128::from(count)
+}
+
+/// The register at an address, for an access of `count` bytes: an aligned word of 32 bits.
+fn register_at(registers: u64, address: u64, count: u64) -> Option<u32>
+    ensures { result ≡ (if is_register registers address count then Some (address - registers) else None) }
+{
+    if count != WORD_BYTES || address < registers {
+        return None;
+    }
+    let offset = address - registers;
+    if offset < REGISTER_BYTES && offset % WORD_BYTES == 0 {
+        Some(offset as u32)
+    } else {
+        None
+    }
+}
+
+/// The target of an access of `count` bytes at an address, or why there is none, if the registers begin at this address,
+/// and if these bytes are in memory or not.
+fn place_with(
+    registers: Option<u64>,
+    in_memory: bool,
+    address: u64,
+    count: u64,
+) -> Result<Place, Refusal>
+    ensures { result ≡ place_with registers in_memory address count }
+{
+    if let Some(registers) = registers {
+        if let Some(offset) = register_at(registers, address, count) {
+            return Ok(Place::Register(offset));
+        }
+        if !in_memory && meets_registers(registers, address, count) {
+            return Err(Refusal::Register);
+        }
+    }
+    if in_memory {
+        Ok(Place::Memory)
+    } else {
+        Err(Refusal::Address)
+    }
 }
 
 /// A new adapter, whose PBA is written once and whose MPC is set.
@@ -69,16 +125,18 @@ impl Clone for Session {
     fn clone(&self) -> Result<Session, AllocError> {
         Ok(Session {
             device: self.device.clone()?,
-            registers: self.registers,
+            function: self.function,
             generator: self.generator.clone()?,
             most_steps: self.most_steps,
+            pace: self.pace,
+            clock: self.clock,
             offered: self.offered.clone()?,
         })
     }
 }
 
 impl Session {
-    ghost use Rattle.adapter_server.specs.Sessions.{is_memory, new_session, place_in};
+    ghost use Rattle.adapter_server.specs.Sessions.{is_memory, new_session, place_in, with_setting};
 
     /// The state before the first request: a new adapter, whose PBA is written once and whose MPC is set, and memory of
     /// zeros.
@@ -92,30 +150,43 @@ impl Session {
             device: Device {
                 machine: Machine::new(adapter, memory),
                 log: false,
+                events: false,
                 wire_free: true,
+                put: Frames::new(alloc),
+                faults: Faults::new(alloc),
             },
-            registers: options.registers,
+            function: PciFunction::new(options.registers),
             generator: Lcg64Xsh32::seed_from_u64(options.seed),
             most_steps: 0,
-            offered: Offered::new(alloc),
+            pace: 0,
+            clock: 0,
+            offered: Frames::new(alloc),
         })
     }
 
-    /// The target of an access of `count` bytes at an address, if there is one: an aligned word of 32 bits among the
-    /// registers is a register.
-    pub(crate) fn place_of(&self, address: u64, count: u64) -> Option<Place>
+    /// Sets how later requests are answered.
+    pub(crate) fn set(&mut self, setting: Setting)
+        ensures { self.new ≡ with_setting setting self.old }
+    {
+        match setting {
+            Setting::Interleave(count) => self.most_steps = count,
+            Setting::Pace(count) => self.pace = count,
+            Setting::Log(on) => self.device.log = on,
+            Setting::Events(on) => self.device.events = on,
+            Setting::Wire(free) => self.device.wire_free = free,
+        }
+    }
+
+    /// The target of an access of `count` bytes at an address, or why there is none.
+    pub(crate) fn place_of(&self, address: u64, count: u64) -> Result<Place, Refusal>
         ensures { result ≡ place_in self.now address count }
     {
-        if count == WORD_BYTES && address >= self.registers {
-            let offset = address - self.registers;
-            if offset < REGISTER_BYTES && offset % WORD_BYTES == 0 {
-                return Some(Place::Register(offset as u32));
-            }
-        }
-        if self.is_memory(address, count) {
-            return Some(Place::Memory);
-        }
-        None
+        place_with(
+            self.function.registers(),
+            self.is_memory(address, count),
+            address,
+            count,
+        )
     }
 
     /// Whether `count` bytes from an address on are in memory.

@@ -6,9 +6,9 @@ ghost use Rattle.adapter_server.specs.Texts.{ok_line};
 use crate::answer_error::AnswerError;
 use crate::options::ServeOptions;
 use crate::output::{refuse, say};
-use crate::refusal::Refusal;
 use crate::session::Session;
 use crate::text::restored_text;
+use server_requests::Refusal;
 use std::alloc::Global;
 use std::io::Write;
 

@@ -1,9 +1,14 @@
 // The lines that a server writes.
 
-ghost use Rattle.std.specs.Prelude.{◌≡◌, ◌++◌, IfOk, OnOk};
+ghost use Rattle.std.specs.Prelude.{◌≡◌, ◌++◌, ◌-◌, [], IfOk, OnOk, flat_map, length};
 ghost use Rattle.adapter_server.specs.Texts as texts;
 
+use crate::faults::Faults;
+use crate::frames::Frames;
 use adapter::{Fate, Outcome, StepKind};
+use base64::engine::general_purpose::STANDARD;
+use engine_faults::{Engine, EngineFault, Reason};
+use itoa::Buffer;
 use std::alloc::{AllocError, Global};
 
 /// The word of a kind of step.
@@ -157,4 +162,103 @@ pub(crate) fn word_line(alloc: Global, word: &[u8]) -> Result<Vec<u8>, AllocErro
     ensures { IfOk result (λ text. text.items ≡ texts.word_line word.now) }
 {
     joined(alloc, &[b"OK ", word, b"\n"])
+}
+
+/// The line of an answer with bytes in base64.
+pub(crate) fn base64_line(alloc: Global, bytes: &[u8]) -> Result<Vec<u8>, AllocError>
+    ensures { IfOk result (λ text. text.items ≡ texts.base64_line bytes.now) }
+{
+    let word = STANDARD.encode(alloc, bytes)?;
+    word_line(alloc, word.as_bytes())
+}
+
+/// The line of an answer with a number in decimal digits.
+pub(crate) fn decimal_line(alloc: Global, number: u64) -> Result<Vec<u8>, AllocError>
+    ensures { IfOk result (λ text. text.items ≡ texts.decimal_line number) }
+{
+    let mut digits = Buffer::new();
+    word_line(alloc, digits.format(number).as_bytes())
+}
+
+/// Appends the word of the oldest frame, and removes the frame.
+fn push_frame(alloc: Global, text: &mut Vec<u8>, frames: &mut Frames) -> Result<(), AllocError>
+    ensures same { OnOk result (text.new.items ++ flat_map texts.frame_word frames.new
+        ≡ text.old.items ++ flat_map texts.frame_word frames.old) }
+    ensures few { OnOk result (length frames.new ≡ length frames.old - 1) }
+{
+    let Some(frame) = frames.pop() else {
+        return Ok(());
+    };
+    let digits = hex::encode(alloc, frame.as_slice())?;
+    text.extend_from_slice(b" 0x")?;
+    text.extend_from_slice(digits.as_bytes())
+}
+
+/// The line of an answer with frames, the oldest first. Removes them.
+pub(crate) fn frames_line(alloc: Global, frames: &mut Frames) -> Result<Vec<u8>, AllocError>
+    ensures text { IfOk result (λ text. text.items ≡ texts.frames_line frames.old) }
+    ensures none { OnOk result (frames.new ≡ []) }
+{
+    let mut text = Vec::from_slice(alloc, b"OK")?;
+    let count = frames.len();
+    for _frame in 0..count {
+        push_frame(alloc, &mut text, frames)?;
+    }
+    text.extend_from_slice(b"\n")?;
+    Ok(text)
+}
+
+/// The word of an engine.
+fn engine_word(engine: Engine) -> &'static [u8]
+    ensures { result.now ≡ texts.engine_word engine }
+{
+    match engine {
+        Engine::Transmit => b"tx",
+        Engine::Receive => b"rx",
+    }
+}
+
+/// The word of the reason of a fault.
+fn reason_word(reason: Reason) -> &'static [u8]
+    ensures { result.now ≡ texts.reason_word reason }
+{
+    match reason {
+        Reason::Ring => b"ring",
+        Reason::Descriptor => b"descriptor",
+        Reason::Dext => b"dext",
+        Reason::Eop => b"eop",
+        Reason::Length => b"length",
+        Reason::Buffer => b"buffer",
+        Reason::Bsex => b"bsex",
+    }
+}
+
+/// Appends the words of a fault.
+pub(crate) fn push_fault(text: &mut Vec<u8>, fault: EngineFault) -> Result<(), AllocError>
+    ensures { OnOk result (text.new.items ≡ text.old.items ++ texts.fault_words fault) }
+{
+    let mut digits = Buffer::new();
+    text.extend_from_slice(b" ")?;
+    text.extend_from_slice(engine_word(fault.engine))?;
+    text.extend_from_slice(b" ")?;
+    text.extend_from_slice(digits.format(fault.index).as_bytes())?;
+    text.extend_from_slice(b" ")?;
+    text.extend_from_slice(reason_word(fault.reason))
+}
+
+/// Appends the line of a fault.
+pub(crate) fn push_fault_line(text: &mut Vec<u8>, fault: EngineFault) -> Result<(), AllocError>
+    ensures { OnOk result (text.new.items ≡ text.old.items ++ texts.fault_line fault) }
+{
+    text.extend_from_slice(b"fault")?;
+    push_fault(text, fault)?;
+    text.extend_from_slice(b"\n")
+}
+
+/// The line of an answer with faults, the oldest first.
+pub(crate) fn faults_line(alloc: Global, faults: &Faults) -> Result<Vec<u8>, AllocError>
+    ensures { IfOk result (λ text. text.items ≡ texts.faults_line faults.now) }
+{
+    let words = faults.words(alloc)?;
+    joined(alloc, &[b"OK", words.as_slice(), b"\n"])
 }

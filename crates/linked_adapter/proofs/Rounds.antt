@@ -40,7 +40,7 @@ is_below n below = grind (arith, nat_tests)
 pub settled : (count moved : ℕ) (a b c : LinkedAdapter) → count < most_rounds → BusyRounds count moved a b → Round 0 b c
     → Settles moved a c
 settled count moved a b c below so_far idle =
-    let last : so_far.busy ++ 0 ∷ [] ≡ with_last so_far.busy =
+    let last : so_far.busy ++ 0 ∷ [] ≡ with_last most_rounds so_far.busy =
     sym (ap (λ (is : Bool). cond is (so_far.busy ++ 0 ∷ []) so_far.busy)
     (is_below (length so_far.busy) (omega (arith, so_far.count_is)))) in
     record {
@@ -54,8 +54,8 @@ settled count moved a b c below so_far idle =
 -- No round is left.
 pub settled_late : (moved : ℕ) (a b : LinkedAdapter) → BusyRounds most_rounds moved a b → Settles moved a b
 settled_late moved a b so_far =
-    let last : so_far.busy ≡ with_last so_far.busy = sym (ap (λ (n : ℕ). cond (nat_lt n most_rounds) (so_far.busy ++ 0 ∷ []) so_far.busy)
-    so_far.count_is) in
+    let last : so_far.busy ≡ with_last most_rounds so_far.busy =
+    sym (ap (λ (n : ℕ). cond (nat_lt n most_rounds) (so_far.busy ++ 0 ∷ []) so_far.busy) so_far.count_is) in
     record {
       busy = so_far.busy;
       each = so_far.each;

@@ -248,5 +248,5 @@ pub record Settles (moved : ℕ) (a b : LinkedAdapter) : Type 0 where
   pub busy : List ℕ
   pub each : All (λ here. 0 < here) busy
   pub few : length busy ≤ most_rounds
-  pub plays : InOrder Round (with_last busy) a b
+  pub plays : InOrder Round (with_last most_rounds busy) a b
   pub moved_is : moved ≡ sum busy

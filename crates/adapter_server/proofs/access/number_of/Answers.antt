@@ -1,7 +1,7 @@
 use Rattle.std.proofs.Common.{◌∙◌, ◌++◌, List, ℕ, ap, drop, length, replicate}
 use Rattle.std.proofs.lemmas.List.{drop-replicate}
 use Rattle.std.specs.Int.{from_le_bytes, w64}
-use Rattle.adapter_server.specs.Widths.{number_spelled}
+use Rattle.adapter_server.specs.ReadLines.{number_spelled}
 use Rattle.adapter_server.proofs.access.number_of.Goals as goal
 
 pub returns : goal.returns

@@ -1,6 +1,6 @@
 use Rattle.std.proofs.Common.{◌≤◌}
 use Rattle.std.specs.Prelude.{vec_capacity}
-use Rattle.adapter_server.specs.Lines.{most_line_bytes}
+use Rattle.server_requests.specs.Lines.{most_line_bytes}
 use Rattle.adapter_server.proofs.ServedLines.{ServesOn}
 use Rattle.adapter_server.proofs.server.serve_lines.Given as goal
 

@@ -1,4 +1,4 @@
-use Rattle.std.proofs.Common.{◌≡◌, ◌∙◌, ◌++◌, ◌∷◌, [], codes, refl, subst}
+use Rattle.std.proofs.Common.{◌≡◌, ◌∙◌, ◌++◌, ◌∷◌, [], codes, cond, refl, subst, sym}
 use Rattle.std.specs.List.{concat}
 use Rattle.hex.specs.Hex.{encode_lower}
 use Rattle.adapter_server.specs.Devices.{Prints}
@@ -7,16 +7,16 @@ use Rattle.adapter_server.specs.Order.{Says}
 use Rattle.adapter_server.specs.Texts.{Text, digits_arrived, fate_word, said_log}
 use Rattle.adapter_server.specs.declared.device.Device.{Device}
 use Rattle.rx_engine.specs.declared.arrival.Fate.{Fate}
-use Rattle.adapter_server.proofs.Printing.{printed}
+use Rattle.adapter_server.proofs.Printing.{kept_none, printed}
 use Rattle.adapter_server.proofs.Stopping.{events_so, events_stop, stopped_before}
 use Rattle.adapter_server.proofs.device.Device.deliver.Goals as goal
 
 -- the text that is written is that of the arrival
-same_text : (a : Device) (fate : Fate) (word digits wanted shown level : Text) → word ≡ fate_word fate → digits ≡ wanted
-    → shown ≡ digits_arrived word digits
+same_text : (a : Device) (fate : Fate) (digits wanted shown level : Text) → digits ≡ wanted
+    → shown ≡ cond a.events (digits_arrived (fate_word fate) digits) []
     → said_log a.log (concat (codes "arrive " ∷ digits ∷ [])) ++ (shown ++ level)
-    ≡ said_log a.log (concat (codes "arrive " ∷ wanted ∷ [])) ++ (digits_arrived (fate_word fate) wanted ++ level)
-same_text a fate word digits wanted shown level same-word same told = rw (told, same, same-word) refl
+    ≡ said_log a.log (concat (codes "arrive " ∷ wanted ∷ [])) ++ (cond a.events (digits_arrived (fate_word fate) wanted) [] ++ level)
+same_text a fate digits wanted shown level same told = rw (told, same) refl
 
 pub returns-in_err-text : goal.returns-in_err-text
 returns-in_err-text g c =
@@ -42,8 +42,8 @@ returns g c =
     events_so c.tell.result a (λ unit. Prints one a c.tell.new.self)
     (λ unit text. (fate : Fate) × Prints (Arrived frame fate) a c.tell.new.self text) before after (λ unit text prints. (fate, prints))
     (printed c.tell.result one a c.tell.new.self machine before after c.arrive-fate.ensures.occurs c.arrive-fate.ensures.state
-    c.tell.ensures.state
+    (c.tell.ensures.state ∙ sym (kept_none a machine))
     (subst (λ (text : Text). Says c.tell.result before after text)
-    (same_text a fate c.fate_word.result.now c.as_bytes-digits.result.now (encode_lower frame) _ _ c.fate_word.ensures
+    (same_text a fate c.as_bytes-digits.result.now (encode_lower frame) _ _
     (c.as_bytes-digits.ensures.value ∙ c.in_ok-text.ensures) (c.as_slice.ensures.value ∙ c.in_ok-shown.ensures))
     c.tell.ensures.text))

@@ -11,7 +11,7 @@ loop-round-init g c = record { plays = no_rounds c.args.self.now (g.W.Write.cont
 pub returns-then-moved-eq0 : goal.returns-then-moved-eq0
 returns-then-moved-eq0 g c =
     let contents = g.W.Write.contents in
-    settled c.loop-round._round c.loop-round.all c.args.self.now c.loop-round.self c.round.new.self (contents c.args.out.now)
+    settled c.args.most c.loop-round._round c.loop-round.all c.args.self.now c.loop-round.self c.round.new.self (contents c.args.out.now)
     (contents c.loop-round.out) (contents c.round.new.out) (omega arith) c.loop-round.invariant.plays
     (subst (λ (n : ℕ). Tells (contents c.loop-round.out) (contents c.round.new.out) (Round n c.loop-round.self c.round.new.self))
     (omega arith) c.in_ok-moved.ensures.plays)
@@ -29,7 +29,7 @@ loop-round-preserved g c =
 pub returns : goal.returns
 returns g c =
     let contents = g.W.Write.contents in
-    settled_late c.loop-round.all c.args.self.now c.loop-round.self (contents c.args.out.now) (contents c.loop-round.out)
+    settled_late c.args.most c.loop-round.all c.args.self.now c.loop-round.self (contents c.args.out.now) (contents c.loop-round.out)
     (subst (λ (n : ℕ). BusyRounds n c.loop-round.all c.args.self.now c.loop-round.self (contents c.args.out.now)
     (contents c.loop-round.out)) (omega arith) c.loop-round.invariant.plays)
 

@@ -1,35 +1,33 @@
-use mir.Val.{bool_byte}
-use Rattle.std.proofs.Common.{◌≡◌, ◌∙◌, ◌++◌, ◌∷◌, [], Bool, List, true, false, ap, codes, if◌then◌else◌, length, refl, subst, ℕ}
-use Rattle.adapter_server.specs.Answers.{AnswersArrival, AnswersSettle, AnswersStep, ReadsAt, Replies, TellsAnswer, WritesAt, line_number}
-use Rattle.adapter_server.specs.Sessions.{place_in}
-use Rattle.adapter_server.specs.Texts.{number_line, ok_line, word_line}
-use Rattle.adapter_server.specs.Widths.{size_of}
-use Rattle.adapter_server.specs.declared.snapshot.Server.{Server}
+use Rattle.std.proofs.Common.{Some, codes, length, max}
+use Rattle.adapter_server.specs.Answers.{AnswersArrival, AnswersFaults, AnswersFrames, AnswersLevel, AnswersPort, AnswersSettle}
+use Rattle.adapter_server.specs.Answers.{AnswersStep, Changes, MovesClock, ReadsAt, WritesAt, time_after, with_offered, with_port_written}
+use Rattle.adapter_server.specs.Sessions.{place_in, with_setting}
+use Rattle.adapter_server.specs.Texts.{ok_line, word_line}
+use Rattle.server_requests.specs.Widths.{size_of}
 use Rattle.adapter_server.proofs.Printing.{lifted, replied}
-use Rattle.adapter_server.proofs.Stopping.{answer_stops, stopped_before}
 use Rattle.adapter_server.proofs.snapshot.Server.answer.Goals as goal
-
-as_number : (level : Bool) → bool_byte level ≡ (if level then 1 else 0)
-as_number true = refl
-as_number false = refl
 
 pub returns-in-Read : goal.returns-in-Read
 returns-in-Read g c =
-    let a = c.args.self.now in
-    let wanted = c.in-Read.wanted in
-    let address = c.in-Read.address in
     rw c.in-Read.is
-    (lifted c.read.result (ReadsAt (place_in a.session address (size_of wanted)) wanted address c.args.said.now) a c.read.new.self _ _
-    c.read.ensures)
+    (lifted c.read.result (ReadsAt (place_in c.args.self.now.session c.in-Read.address (size_of c.in-Read.wanted)) c.in-Read.wanted
+    c.in-Read.address c.args.said.now) c.args.self.now c.read.new.self _ _ c.read.ensures)
 
 pub returns-in-Write : goal.returns-in-Write
 returns-in-Write g c =
-    let a = c.args.self.now in
-    let address = c.in-Write.address in
-    let bytes = c.in-Write.payload in
     rw c.in-Write.is
-    (lifted c.write.result (WritesAt (place_in a.session address (length bytes)) address bytes c.args.said.now) a c.write.new.self _ _
-    (rw c.as_slice.ensures at c.write.ensures))
+    (lifted c.write.result (WritesAt (place_in c.args.self.now.session c.in-Write.address (length c.in-Write.bytes)) c.in-Write.address
+    c.in-Write.bytes c.args.said.now) c.args.self.now c.write.new.self _ _ (rw c.as_slice.ensures at c.write.ensures))
+
+pub returns-in-ReadPort : goal.returns-in-ReadPort
+returns-in-ReadPort g c =
+    rw c.in-ReadPort.is
+    (lifted c.read_port.result (AnswersPort c.in-ReadPort.width c.in-ReadPort.port) c.args.self.now c.read_port.new.self _ _ c.read_port.ensures)
+
+pub returns-in-WritePort : goal.returns-in-WritePort
+returns-in-WritePort g c =
+    rw c.in-WritePort.is
+    (lifted c.write_port.result (Changes (with_port_written c.in-WritePort.width c.in-WritePort.port c.in-WritePort.value)) c.args.self.now c.write_port.new.self _ _ c.write_port.ensures)
 
 pub returns-in-Endianness : goal.returns-in-Endianness
 returns-in-Endianness g c =
@@ -44,59 +42,52 @@ returns-in-Step g c =
 pub returns-in-Arrive : goal.returns-in-Arrive
 returns-in-Arrive g c =
     rw c.in-Arrive.is
-    (lifted c.deliver.result (AnswersArrival c.in-Arrive.frame c.args.said.now) c.args.self.now c.deliver.new.self _ _
-    (rw c.as_slice-in-Arrive.ensures at c.deliver.ensures))
+    (lifted c.deliver.result (AnswersArrival c.in-Arrive.frame c.args.said.now) c.args.self.now c.deliver.new.self _ _ (rw c.as_slice-in-Arrive.ensures at c.deliver.ensures))
 
 pub returns-in-Settle : goal.returns-in-Settle
 returns-in-Settle g c =
-    rw c.in-Settle.is (lifted c.settle.result AnswersSettle c.args.self.now c.settle.new.self _ _ c.settle.ensures)
+    rw c.in-Settle.is
+    (lifted c.settle.result (AnswersSettle) c.args.self.now c.settle.new.self _ _ c.settle.ensures)
+
+pub returns-in-Set : goal.returns-in-Set
+returns-in-Set g c =
+    rw c.in-Set.is
+    (lifted c.change.result (Changes (with_setting c.in-Set.setting)) c.args.self.now c.change.new.self _ _ c.change.ensures)
 
 pub returns-in-Line : goal.returns-in-Line
 returns-in-Line g c =
-    let a = c.args.self.now in
-    let level : c.from.result ≡ line_number a.session.device = c.from.ensures ∙ as_number c.line.result
-    ∙ ap (λ (level : Bool). if level then 1 else 0) c.line.ensures.line in
     rw c.in-Line.is
-    (replied c.say_number.result a.session.device (number_line (line_number a.session.device)) a _ _ (rw level at c.say_number.ensures))
+    (lifted c.say_level.result (AnswersLevel) c.args.self.now c.say_level.new.self _ _ c.say_level.ensures)
 
-pub returns-in-Interleave : goal.returns-in-Interleave
-returns-in-Interleave g c =
+pub returns-in-ClockStep : goal.returns-in-ClockStep
+returns-in-ClockStep g c =
+    rw c.in-ClockStep.is
+    (lifted c.step_clock.result (MovesClock (time_after c.args.self.now.session.clock c.in-ClockStep.nanoseconds)) c.args.self.now c.step_clock.new.self _ _ c.step_clock.ensures)
+
+pub returns-in-ClockSet : goal.returns-in-ClockSet
+returns-in-ClockSet g c =
+    rw c.in-ClockSet.is
+    (lifted c.set_clock.result (MovesClock (Some (max c.args.self.now.session.clock c.in-ClockSet.time))) c.args.self.now c.set_clock.new.self _ _ c.set_clock.ensures)
+
+pub returns-in-Intercept : goal.returns-in-Intercept
+returns-in-Intercept g c =
     let a = c.args.self.now in
-    rw c.in-Interleave.is
-    (replied c.say.result a.session.device ok_line (record a { session = record a.session { most_steps = c.in-Interleave.count } }) _ _
-    c.say.ensures)
+    rw c.in-Intercept.is (replied c.say.result a.session.device ok_line a _ _ c.say.ensures)
 
-pub returns-in-Log : goal.returns-in-Log
-returns-in-Log g c =
-    let a = c.args.self.now in
-    rw c.in-Log.is
-    (replied c.say-in-Log.result a.session.device ok_line
-    (record a { session = record a.session { device = record a.session.device { log = c.in-Log.on } } }) _ _ c.say-in-Log.ensures)
+pub returns-in-Frames : goal.returns-in-Frames
+returns-in-Frames g c =
+    rw c.in-Frames.is
+    (lifted c.fetch_frames.result (AnswersFrames) c.args.self.now c.fetch_frames.new.self _ _ c.fetch_frames.ensures)
 
-pub returns-in-Wire : goal.returns-in-Wire
-returns-in-Wire g c =
-    let a = c.args.self.now in
-    rw c.in-Wire.is
-    (replied c.say-in-Wire.result a.session.device ok_line
-    (record a { session = record a.session { device = record a.session.device { wire_free = c.in-Wire.free } } }) _ _
-    c.say-in-Wire.ensures)
+pub returns-in-Faults : goal.returns-in-Faults
+returns-in-Faults g c =
+    rw c.in-Faults.is
+    (lifted c.fetch_faults.result (AnswersFaults) c.args.self.now c.fetch_faults.new.self _ _ c.fetch_faults.ensures)
 
-pub returns-in_err-push-in-Offer : goal.returns-in_err-push-in-Offer
-returns-in_err-push-in-Offer g c =
-    let device = c.args.self.now.session.device in
-    let contents = g.W.Write.contents c.args.out.now in
-    answer_stops c.from_residual.result device _ _ contents contents c.from_residual.ensures.0 (stopped_before device contents)
-
-pub returns-in_ok-push-in-Offer : goal.returns-in_ok-push-in-Offer
-returns-in_ok-push-in-Offer g c =
-    let a = c.args.self.now in
-    let with : List (List ℕ) → Server = λ offered. record a { session = record a.session { offered = offered } } in
-    let added = c.in_ok-push-in-Offer.ensures ∙ ap (λ (frame : List ℕ). a.session.offered ++ frame ∷ []) c.as_slice-in-Offer.ensures in
+pub returns-in-Offer : goal.returns-in-Offer
+returns-in-Offer g c =
     rw c.in-Offer.is
-    (subst
-    (λ (offered : List (List ℕ)). TellsAnswer c.say-in-Offer.result (g.W.Write.contents c.args.out.now)
-    (g.W.Write.contents c.say-in-Offer.new.out) a.session.device (Replies ok_line (with offered)) (with c.push.new.self)) added
-    (replied c.say-in-Offer.result a.session.device ok_line (with c.push.new.self) _ _ c.say-in-Offer.ensures))
+    (lifted c.offer.result (Changes (with_offered c.in-Offer.frame)) c.args.self.now c.offer.new.self _ _ (rw c.as_slice-in-Offer.ensures at c.offer.ensures))
 
 pub returns-in-Save : goal.returns-in-Save
 returns-in-Save g c = rw c.in-Save.is c.save.ensures

@@ -1,6 +1,0 @@
-use Rattle.std.proofs.Common.{rules}
-use Rattle.adapter_server.proofs.Numbers.{same-number}
-use Rattle.adapter_server.proofs.spelling.digits_of.Goals as goal
-
-pub returns : goal.returns
-returns c = same-number c.args.radix c.args.text.now c.ok.result (search rules)

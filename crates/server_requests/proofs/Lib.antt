@@ -1,0 +1,4 @@
+pub mod FewWords
+pub mod Numbers
+pub mod ReadingLines
+pub mod Slices

@@ -1,0 +1,10 @@
+pub mod Texts
+pub mod Words
+pub mod Spellings
+pub mod Tables
+pub mod Verbs
+pub mod Widths
+pub mod Reading
+pub mod Refusals
+pub mod Lines
+pub mod LinesRead

@@ -1,0 +1,175 @@
+-- The request of a line (QEMU, docs/devel/testing/qtest; our choice).
+use Rattle.std.specs.Prelude.{◌==◌, ℕ, List, [], ◌∷◌, Bool, true, false, Option, Some, None, Result, Ok, Err, codes, if◌then◌else◌, length}
+use Rattle.std.specs.Prelude.{replicate, IsUtf8}
+use Rattle.std.specs.Str.{bytes_eq}
+use Rattle.adapter.specs.declared.step.StepKind.{StepKind}
+use Rattle.server_requests.specs.Spellings.{Gives, base64_in, bytes_in, greatest_number, number_below, payload_in, size_in, ◌>>=◌}
+use Rattle.server_requests.specs.Texts.{Text}
+use Rattle.server_requests.specs.Verbs.{kind_named, takes_words, verb_named}
+use Rattle.server_requests.specs.Widths.{bytes_spelling, greatest, greatest_at_port}
+use Rattle.server_requests.specs.Words.{word, words_of}
+use Rattle.pci_function.specs.declared.port_width.PortWidth.{PortWidth}
+use Rattle.server_requests.specs.declared.refusal.Refusal.{Refusal}
+use Rattle.server_requests.specs.declared.refusal.Refusal.TheVariants as refusals
+use Rattle.server_requests.specs.declared.refusal.Stop.{Stop}
+use Rattle.server_requests.specs.declared.request.Request.{Request}
+use Rattle.server_requests.specs.declared.request.Request.TheVariants as requests
+use Rattle.server_requests.specs.declared.request.Setting.TheVariants as settings
+use Rattle.server_requests.specs.declared.request.Wanted.TheVariants as wanted
+use Rattle.server_requests.specs.declared.request.Width.{Width}
+use Rattle.server_requests.specs.declared.verb.Verb.{Verb}
+use Rattle.server_requests.specs.declared.verb.Verb.TheVariants.{ReadNumber, WriteNumber, Read, Write, ReadBase64, WriteBase64, Memset, ReadPort, WritePort}
+use Rattle.server_requests.specs.declared.verb.Verb.TheVariants.{Endianness, Intercept, ClockStep, ClockSet, Step, Arrive, Settle}
+use Rattle.server_requests.specs.declared.verb.Verb.TheVariants.{Line, Interleave, Log, Wire, Offer, Events, Frames, Faults, Pace}
+use Rattle.server_requests.specs.declared.verb.Verb.TheVariants.{Save, Restore}
+
+-- the maximum number of steps before an access, or of rounds after it, that a request may set
+abbrev pub most_count : ℕ
+most_count = 65535
+
+-- the request to write bytes, if their number is the size
+abbrev pub sized : ℕ → ℕ → List ℕ → Result Request Refusal
+sized address size bytes = if length bytes == size then Ok (requests.Write address bytes) else Err refusals.Value
+
+abbrev pub write_in : List Text → Result Request Refusal
+write_in words = do
+  address ← number_below greatest_number (word 1 words)
+  size ← size_in (word 2 words)
+  bytes ← payload_in (word 3 words)
+  sized address size bytes
+
+abbrev pub write_base64_in : List Text → Result Request Refusal
+write_base64_in words = do
+  address ← number_below greatest_number (word 1 words)
+  size ← size_in (word 2 words)
+  bytes ← base64_in (word 3 words)
+  sized address size bytes
+
+abbrev pub memset_in : List Text → Result Request Refusal
+memset_in words = do
+  address ← number_below greatest_number (word 1 words)
+  size ← size_in (word 2 words)
+  value ← number_below 0xFF (word 3 words)
+  Ok (requests.Write address (replicate size value))
+
+-- which of two words it is: true for the first
+abbrev pub is_first : (first second word : Text) → Result Bool Refusal
+is_first first second word =
+    if bytes_eq word first then Ok true else if bytes_eq word second then Ok false else Err refusals.Value
+
+abbrev pub log_in : Text → Result Request Refusal
+log_in word = is_first (codes "on") (codes "off") word >>= λ on. Ok (requests.Set (settings.Log on))
+
+abbrev pub wire_in : Text → Result Request Refusal
+wire_in word = is_first (codes "free") (codes "full") word >>= λ free. Ok (requests.Set (settings.Wire free))
+
+abbrev pub events_in : Text → Result Request Refusal
+events_in word = is_first (codes "on") (codes "off") word >>= λ on. Ok (requests.Set (settings.Events on))
+
+abbrev pub step_or_refusal : Option StepKind → Result Request Refusal
+step_or_refusal (Some kind) = Ok (requests.Step kind)
+step_or_refusal None = Err refusals.Value
+
+abbrev pub step_in : Text → Result Request Refusal
+step_in word = step_or_refusal (kind_named word)
+
+abbrev pub read_number_in : Width → List Text → Result Request Refusal
+read_number_in width words = do
+  address ← number_below greatest_number (word 1 words)
+  Ok (requests.Read (wanted.Number width) address)
+
+abbrev pub write_number_in : Width → List Text → Result Request Refusal
+write_number_in width words = do
+  address ← number_below greatest_number (word 1 words)
+  value ← number_below (greatest width) (word 2 words)
+  Ok (requests.Write address (bytes_spelling width value))
+
+abbrev pub read_in : List Text → Result Request Refusal
+read_in words = do
+  address ← number_below greatest_number (word 1 words)
+  size ← size_in (word 2 words)
+  Ok (requests.Read (wanted.Bytes size) address)
+
+abbrev pub read_base64_in : List Text → Result Request Refusal
+read_base64_in words = do
+  address ← number_below greatest_number (word 1 words)
+  size ← size_in (word 2 words)
+  Ok (requests.Read (wanted.Base64 size) address)
+
+-- the maximum number of an I/O port
+abbrev pub most_port : ℕ
+most_port = 0xFFFF
+
+abbrev pub read_port_in : PortWidth → Text → Result Request Refusal
+read_port_in width word = number_below most_port word >>= λ port. Ok (requests.ReadPort width port)
+
+abbrev pub write_port_in : PortWidth → List Text → Result Request Refusal
+write_port_in width words = do
+  port ← number_below most_port (word 1 words)
+  value ← number_below (greatest_at_port width) (word 2 words)
+  Ok (requests.WritePort width port value)
+
+abbrev pub arrive_in : Text → Result Request Refusal
+arrive_in word = bytes_in word >>= λ bytes. Ok (requests.Arrive bytes)
+
+abbrev pub offer_in : Text → Result Request Refusal
+offer_in word = bytes_in word >>= λ bytes. Ok (requests.Offer bytes)
+
+abbrev pub interleave_in : Text → Result Request Refusal
+interleave_in word = number_below most_count word >>= λ count. Ok (requests.Set (settings.Interleave count))
+
+abbrev pub pace_in : Text → Result Request Refusal
+pace_in word = number_below most_count word >>= λ count. Ok (requests.Set (settings.Pace count))
+
+-- the clock advances by this many nanoseconds, or by none if there is no such word
+abbrev pub clock_step_in : List Text → Result Request Refusal
+clock_step_in words =
+    if length words == 1 then Ok (requests.ClockStep 0)
+    else number_below greatest_number (word 1 words) >>= λ time. Ok (requests.ClockStep time)
+
+abbrev pub clock_set_in : Text → Result Request Refusal
+clock_set_in word = number_below greatest_number word >>= λ time. Ok (requests.ClockSet time)
+
+-- the request of a line with the right number of words
+abbrev pub request_with : Verb → List Text → Result Request Refusal
+request_with (ReadNumber width) words = read_number_in width words
+request_with (WriteNumber width) words = write_number_in width words
+request_with Read words = read_in words
+request_with Write words = write_in words
+request_with ReadBase64 words = read_base64_in words
+request_with WriteBase64 words = write_base64_in words
+request_with Memset words = memset_in words
+request_with (ReadPort width) words = read_port_in width (word 1 words)
+request_with (WritePort width) words = write_port_in width words
+request_with Endianness words = Ok requests.Endianness
+request_with Intercept words = Ok requests.Intercept
+request_with ClockStep words = clock_step_in words
+request_with ClockSet words = clock_set_in (word 1 words)
+request_with Step words = step_in (word 1 words)
+request_with Arrive words = arrive_in (word 1 words)
+request_with Settle words = Ok requests.Settle
+request_with Line words = Ok requests.Line
+request_with Interleave words = interleave_in (word 1 words)
+request_with Log words = log_in (word 1 words)
+request_with Wire words = wire_in (word 1 words)
+request_with Offer words = offer_in (word 1 words)
+request_with Events words = events_in (word 1 words)
+request_with Frames words = Ok requests.Frames
+request_with Faults words = Ok requests.Faults
+request_with Pace words = pace_in (word 1 words)
+request_with Save words = Ok requests.Save
+request_with Restore words = Ok requests.Restore
+
+abbrev pub request_if : Option Verb → List Text → Result Request Refusal
+request_if (Some verb) words = if takes_words verb (length words) then request_with verb words else Err refusals.Count
+request_if None words = Err refusals.Unknown
+
+-- the request of the words of a line
+abbrev pub request_in : List Text → Result Request Refusal
+request_in [] = Err refusals.Unknown
+request_in (first ∷ rest) = request_if (verb_named first) (first ∷ rest)
+
+-- The result is the request of the line's words if the line is UTF-8, and else a refusal.
+pub record IsRead (line : Text) (result : Result Request Stop) : Type 0 where
+  pub text : IsUtf8 line → Gives result (request_in (words_of line))
+  pub other : (¬ (IsUtf8 line)) → Gives {A = Request} result (Err refusals.Text)

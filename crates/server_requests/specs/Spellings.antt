@@ -1,0 +1,100 @@
+-- Which words spell a number and bytes, and which ones (QEMU, docs/devel/testing/qtest; only decimal digits and 0x: our choice).
+use Rattle.std.specs.Prelude.{⊤, ◌≡◌, ◌^◌, ◌&&◌, ◌==◌, ℕ, Bool, List, Option, Some, None, if◌then◌else◌}
+use Rattle.std.specs.Prelude.{codes, Ok, Err, Result, length, nat_le, nat_lt}
+use Rattle.std.specs.Char.{digit_value}
+use Rattle.std.specs.List.{after_first, before_first, list_all, position_or_len}
+use Rattle.std.specs.Str.{bytes_eq}
+use Rattle.std.specs.Str.Parse.{digits_value}
+use Rattle.hex.specs.Hex as hex
+use Rattle.base64.specs.Engines.{standard}
+use Rattle.base64.specs.GeneralPurpose.{decode_of}
+use Rattle.server_requests.specs.Texts.{Text}
+use Rattle.server_requests.specs.declared.refusal.Refusal.{Refusal}
+use Rattle.server_requests.specs.declared.refusal.Refusal.TheVariants as refusals
+use Rattle.server_requests.specs.declared.refusal.Stop.{Stop}
+use Rattle.server_requests.specs.declared.refusal.Stop.TheVariants.{Memory, Refused}
+
+-- A reading function returns this result, or memory was refused.
+abbrev pub Fails : {A : Type 0} → Stop → Result A Refusal → Type 0
+Fails Memory read = ⊤
+Fails (Refused refusal) read = read ≡ Err refusal
+
+abbrev pub Gives : {A : Type 0} → Result A Stop → Result A Refusal → Type 0
+Gives (Ok value) read = read ≡ Ok value
+Gives (Err stop) read = Fails stop read
+
+-- the second result, if the first is Ok
+infixl 10 ◌>>=◌
+abbrev pub ◌>>=◌ : {A B : Type 0} → Result A Refusal → (A → Result B Refusal) → Result B Refusal
+(Ok value) >>= next = next value
+(Err refusal) >>= next = Err refusal
+
+abbrev pub is_digit : ℕ → ℕ → Bool
+is_digit radix digit = nat_lt (digit_value digit) radix
+
+-- one or more digits of this radix and nothing else, which spell a number of 64 bits
+abbrev pub are_digits : (radix : ℕ) → Text → Bool
+are_digits radix text = nat_lt 0 (length text) && list_all (is_digit radix) text && nat_lt (digits_value radix text) (2 ^ 64)
+
+-- the number that they spell
+abbrev pub digits_in : (radix : ℕ) → Text → Option ℕ
+digits_in radix text = if are_digits radix text then Some (digits_value radix text) else None
+
+abbrev pub is_x : ℕ → Bool
+is_x byte = byte == 0x78
+
+-- it has an x
+abbrev pub has_x : Text → Bool
+has_x word = nat_lt (position_or_len is_x word) (length word)
+
+-- the part before its first x is 0
+abbrev pub begins_0x : Text → Bool
+begins_0x word = bytes_eq (before_first is_x word) (codes "0")
+
+-- the part after it
+abbrev pub behind_0x : Text → Text
+behind_0x word = after_first is_x word
+
+-- decimal digits, or hexadecimal digits after 0x
+abbrev pub number_in : Text → Option ℕ
+number_in word =
+    if has_x word then (if begins_0x word then digits_in 16 (behind_0x word) else None)
+    else digits_in 10 word
+
+-- a number, if it is at most this large
+abbrev pub at_most : ℕ → Option ℕ → Result ℕ Refusal
+at_most most (Some number) = if nat_le number most then Ok number else Err refusals.Value
+at_most most None = Err refusals.Value
+
+abbrev pub number_below : (most : ℕ) → Text → Result ℕ Refusal
+number_below most word = at_most most (number_in word)
+
+abbrev pub greatest_number : ℕ
+greatest_number = 0xFFFFFFFFFFFFFFFF
+
+-- the maximum number of bytes that a request reads or writes
+abbrev pub most_bytes : ℕ
+most_bytes = 65536
+
+abbrev pub size_of_number : ℕ → Result ℕ Refusal
+size_of_number size = if nat_lt most_bytes size then Err refusals.Size else Ok size
+
+-- a number of bytes
+abbrev pub size_in : Text → Result ℕ Refusal
+size_in word = number_below greatest_number word >>= size_of_number
+
+abbrev pub bytes_or_refusal : {E : Type 0} → Result (List ℕ) E → Result (List ℕ) Refusal
+bytes_or_refusal (Ok bytes) = Ok bytes
+bytes_or_refusal (Err fault) = Err refusals.Value
+
+-- the bytes that hexadecimal digits spell, two digits a byte
+abbrev pub bytes_in : Text → Result (List ℕ) Refusal
+bytes_in word = bytes_or_refusal (hex.decode_of word)
+
+-- the bytes that a text in base64 encodes (RFC 4648, section 4)
+abbrev pub base64_in : Text → Result (List ℕ) Refusal
+base64_in word = bytes_or_refusal (decode_of standard word)
+
+-- the bytes of the digits after 0x
+abbrev pub payload_in : Text → Result (List ℕ) Refusal
+payload_in word = if has_x word then (if begins_0x word then bytes_in (behind_0x word) else Err refusals.Value) else Err refusals.Value

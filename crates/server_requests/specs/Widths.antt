@@ -1,0 +1,39 @@
+-- Numbers in memory: the lowest byte first (our choice: a little-endian host, as QEMU's x86 machines are).
+use Rattle.std.specs.Prelude.{ℕ, List, take}
+use Rattle.std.specs.Int.{to_le_bytes, w64}
+use Rattle.pci_function.specs.declared.port_width.PortWidth.{PortWidth}
+use Rattle.pci_function.specs.declared.port_width.PortWidth.TheVariants as port
+use Rattle.server_requests.specs.declared.request.Wanted.{Wanted}
+use Rattle.server_requests.specs.declared.request.Wanted.TheVariants.{Base64, Bytes, Number}
+use Rattle.server_requests.specs.declared.request.Width.{Width}
+use Rattle.server_requests.specs.declared.request.Width.TheVariants.{Byte, Word, Long, Quad}
+
+-- the number of bytes of a number
+abbrev pub bytes_of : Width → ℕ
+bytes_of Byte = 1
+bytes_of Word = 2
+bytes_of Long = 4
+bytes_of Quad = 8
+
+-- the number of bytes that a read asks for
+abbrev pub size_of : Wanted → ℕ
+size_of (Number width) = bytes_of width
+size_of (Bytes size) = size
+size_of (Base64 size) = size
+
+-- the greatest number of a width
+abbrev pub greatest : Width → ℕ
+greatest Byte = 0xFF
+greatest Word = 0xFFFF
+greatest Long = 0xFFFFFFFF
+greatest Quad = 0xFFFFFFFFFFFFFFFF
+
+-- the greatest number that an access of an I/O port writes
+abbrev pub greatest_at_port : PortWidth → ℕ
+greatest_at_port port.Byte = 0xFF
+greatest_at_port port.Word = 0xFFFF
+greatest_at_port port.Long = 0xFFFFFFFF
+
+-- the bytes of a number of this width
+unfoldable pub bytes_spelling : Width → ℕ → List ℕ
+bytes_spelling width number = take (bytes_of width) (to_le_bytes w64 number)

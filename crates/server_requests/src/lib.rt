@@ -1,0 +1,20 @@
+//! The requests of the server's line protocol: reads lines from an input, and the request of a line from its words.
+//!
+//! The protocol is that of QEMU's `qtest`, with words for the adapter's own steps. [`next_line`] reads a line, and
+//! [`read_line`] reads its request.
+#![tactic(auto)]
+
+mod line_reader;
+mod reading;
+mod refusal;
+mod request;
+mod spelling;
+mod table;
+mod verb;
+mod width;
+mod words;
+
+pub use line_reader::{MOST_LINE_BYTES, NextLine, ReadFailed, next_line};
+pub use reading::read_line;
+pub use refusal::{Refusal, Stop};
+pub use request::{Payload, Request, Setting, Wanted, Width};

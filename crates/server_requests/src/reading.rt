@@ -1,0 +1,301 @@
+// Reads requests from the words of a line.
+
+ghost use Rattle.std.specs.Prelude.{◌≡◌, ◌≤◌, IsTrue, length};
+ghost use Rattle.server_requests.specs.Reading as reading;
+ghost use Rattle.server_requests.specs.Spellings.{Gives, number_below};
+ghost use Rattle.server_requests.specs.Verbs.{takes_words};
+ghost use Rattle.server_requests.specs.Words.{texts};
+ghost use Rattle.server_requests.specs.declared.verb.Verb.TheVariants as verbs;
+
+use crate::refusal::{Refusal, Stop};
+use crate::request::{Payload, Request, Setting, Wanted, Width};
+use crate::spelling::{base64_at, bytes_at, number_at, payload_at, size_at};
+use crate::verb::{Verb, kind_of, verb_of};
+use crate::width::greatest_at_port;
+use crate::words::{word_at, words_in};
+use pci_function::PortWidth;
+use std::alloc::Global;
+use std::str;
+
+/// The maximum number of steps before an access, or of rounds after it, that a request may set (our choice).
+const MOST_COUNT: u64 = 65_535;
+
+/// The maximum number of an I/O port.
+const MOST_PORT: u64 = 0xFFFF;
+
+/// The request to write bytes, if their number is the size.
+fn sized(address: u64, size: u64, payload: Payload) -> Result<Request, Stop>
+    ensures { Gives result (reading.sized address size payload) }
+{
+    if payload.bytes.len() as u64 != size {
+        return Err(Stop::Refused(Refusal::Value));
+    }
+    Ok(Request::Write(address, payload))
+}
+
+/// `write ADDR SIZE 0xHEX`.
+fn write_of(alloc: Global, words: &[&str]) -> Result<Request, Stop>
+    requires { length words.now ≡ 4 }
+    ensures { Gives result (reading.write_in (texts words.now)) }
+{
+    let address = number_at(word_at(words, 1), u64::MAX)?;
+    let size = size_at(word_at(words, 2))?;
+    let payload = payload_at(alloc, word_at(words, 3))?;
+    sized(address, size, payload)
+}
+
+/// `b64write ADDR SIZE BASE64`.
+fn write_base64_of(alloc: Global, words: &[&str]) -> Result<Request, Stop>
+    requires { length words.now ≡ 4 }
+    ensures { Gives result (reading.write_base64_in (texts words.now)) }
+{
+    let address = number_at(word_at(words, 1), u64::MAX)?;
+    let size = size_at(word_at(words, 2))?;
+    let payload = base64_at(alloc, word_at(words, 3))?;
+    sized(address, size, payload)
+}
+
+/// `memset ADDR SIZE VALUE`.
+fn memset_of(alloc: Global, words: &[&str]) -> Result<Request, Stop>
+    requires { length words.now ≡ 4 }
+    ensures { Gives result (reading.memset_in (texts words.now)) }
+{
+    let address = number_at(word_at(words, 1), u64::MAX)?;
+    let size = size_at(word_at(words, 2))?;
+    let value = number_at(word_at(words, 3), u64::from(u8::MAX))?;
+    let bytes = vec![in alloc; value as u8; size as usize]?;
+    Ok(Request::Write(address, Payload { bytes }))
+}
+
+/// `readb ADDR`, `readw`, `readl`, `readq`.
+fn read_number_of(width: Width, words: &[&str]) -> Result<Request, Stop>
+    requires { length words.now ≡ 2 }
+    ensures { Gives result (reading.read_number_in width (texts words.now)) }
+{
+    let address = number_at(word_at(words, 1), u64::MAX)?;
+    Ok(Request::Read(Wanted::Number(width), address))
+}
+
+/// `writeb ADDR VALUE`, `writew`, `writel`, `writeq`.
+fn write_number_of(alloc: Global, width: Width, words: &[&str]) -> Result<Request, Stop>
+    requires { length words.now ≡ 3 }
+    ensures { Gives result (reading.write_number_in width (texts words.now)) }
+{
+    let address = number_at(word_at(words, 1), u64::MAX)?;
+    let value = number_at(word_at(words, 2), width.greatest())?;
+    let bytes = width.bytes_spelling(alloc, value)?;
+    Ok(Request::Write(address, Payload { bytes }))
+}
+
+/// `read ADDR SIZE`.
+fn read_of(words: &[&str]) -> Result<Request, Stop>
+    requires { length words.now ≡ 3 }
+    ensures { Gives result (reading.read_in (texts words.now)) }
+{
+    let address = number_at(word_at(words, 1), u64::MAX)?;
+    let size = size_at(word_at(words, 2))?;
+    Ok(Request::Read(Wanted::Bytes(size), address))
+}
+
+/// `b64read ADDR SIZE`.
+fn read_base64_of(words: &[&str]) -> Result<Request, Stop>
+    requires { length words.now ≡ 3 }
+    ensures { Gives result (reading.read_base64_in (texts words.now)) }
+{
+    let address = number_at(word_at(words, 1), u64::MAX)?;
+    let size = size_at(word_at(words, 2))?;
+    Ok(Request::Read(Wanted::Base64(size), address))
+}
+
+/// The number of an I/O port that a word spells.
+fn port_at(word: &str) -> Result<u16, Refusal>
+    ensures { result ≡ number_below reading.most_port word.now }
+{
+    let port = number_at(word, MOST_PORT)?;
+    Ok(port as u16)
+}
+
+/// `inb PORT`, `inw`, `inl`.
+fn read_port_of(width: PortWidth, word: &str) -> Result<Request, Stop>
+    ensures { Gives result (reading.read_port_in width word.now) }
+{
+    let port = port_at(word)?;
+    Ok(Request::ReadPort(width, port))
+}
+
+/// `outb PORT VALUE`, `outw`, `outl`.
+fn write_port_of(width: PortWidth, words: &[&str]) -> Result<Request, Stop>
+    requires { length words.now ≡ 3 }
+    ensures { Gives result (reading.write_port_in width (texts words.now)) }
+{
+    let port = port_at(word_at(words, 1))?;
+    let value = number_at(word_at(words, 2), greatest_at_port(width))?;
+    Ok(Request::WritePort(width, port, value as u32))
+}
+
+/// `arrive HEX`.
+fn arrive_of(alloc: Global, word: &str) -> Result<Request, Stop>
+    ensures { Gives result (reading.arrive_in word.now) }
+{
+    let frame = bytes_at(alloc, word)?;
+    Ok(Request::Arrive(frame))
+}
+
+/// `offer HEX`.
+fn offer_of(alloc: Global, word: &str) -> Result<Request, Stop>
+    ensures { Gives result (reading.offer_in word.now) }
+{
+    let frame = bytes_at(alloc, word)?;
+    Ok(Request::Offer(frame))
+}
+
+/// `interleave COUNT`.
+fn interleave_of(word: &str) -> Result<Request, Stop>
+    ensures { Gives result (reading.interleave_in word.now) }
+{
+    let count = number_at(word, MOST_COUNT)?;
+    Ok(Request::Set(Setting::Interleave(count as u16)))
+}
+
+/// Which of two words a word is: true for the first.
+fn is_first(word: &str, first: &str, second: &str) -> Result<bool, Refusal>
+    ensures { result ≡ reading.is_first first.now second.now word.now }
+{
+    if word == first {
+        return Ok(true);
+    }
+    if word == second {
+        return Ok(false);
+    }
+    Err(Refusal::Value)
+}
+
+/// `log on`, `log off`.
+fn log_of(word: &str) -> Result<Request, Stop>
+    ensures { Gives result (reading.log_in word.now) }
+{
+    let on = is_first(word, "on", "off")?;
+    Ok(Request::Set(Setting::Log(on)))
+}
+
+/// `wire free`, `wire full`.
+fn wire_of(word: &str) -> Result<Request, Stop>
+    ensures { Gives result (reading.wire_in word.now) }
+{
+    let free = is_first(word, "free", "full")?;
+    Ok(Request::Set(Setting::Wire(free)))
+}
+
+/// `events on`, `events off`.
+fn events_of(word: &str) -> Result<Request, Stop>
+    ensures { Gives result (reading.events_in word.now) }
+{
+    let on = is_first(word, "on", "off")?;
+    Ok(Request::Set(Setting::Events(on)))
+}
+
+/// `pace COUNT`.
+fn pace_of(word: &str) -> Result<Request, Stop>
+    ensures { Gives result (reading.pace_in word.now) }
+{
+    let count = number_at(word, MOST_COUNT)?;
+    Ok(Request::Set(Setting::Pace(count as u16)))
+}
+
+/// `clock_step`, `clock_step NS`.
+fn clock_step_of(words: &[&str]) -> Result<Request, Stop>
+    requires { 1 ≤ length words.now }
+    ensures { Gives result (reading.clock_step_in (texts words.now)) }
+{
+    if words.len() == 1 {
+        return Ok(Request::ClockStep(0));
+    }
+    let time = number_at(word_at(words, 1), u64::MAX)?;
+    Ok(Request::ClockStep(time))
+}
+
+/// `clock_set NS`.
+fn clock_set_of(word: &str) -> Result<Request, Stop>
+    ensures { Gives result (reading.clock_set_in word.now) }
+{
+    let time = number_at(word, u64::MAX)?;
+    Ok(Request::ClockSet(time))
+}
+
+/// `step KIND`.
+fn step_of(word: &str) -> Result<Request, Stop>
+    ensures { Gives result (reading.step_in word.now) }
+{
+    match kind_of(word) {
+        Some(kind) => Ok(Request::Step(kind)),
+        None => Err(Stop::Refused(Refusal::Value)),
+    }
+}
+
+/// The request of a line with the right number of words.
+fn request_with(alloc: Global, verb: Verb, words: &[&str]) -> Result<Request, Stop>
+    requires { IsTrue (takes_words verb (length words.now)) }
+    ensures { Gives result (reading.request_with verb (texts words.now)) }
+{
+    match verb {
+        Verb::ReadNumber(width) => read_number_of(width, words),
+        Verb::WriteNumber(width) => write_number_of(alloc, width, words),
+        Verb::Read => read_of(words),
+        Verb::Write => write_of(alloc, words),
+        Verb::ReadBase64 => read_base64_of(words),
+        Verb::WriteBase64 => write_base64_of(alloc, words),
+        Verb::Memset => memset_of(alloc, words),
+        Verb::ReadPort(width) => read_port_of(width, word_at(words, 1)),
+        Verb::WritePort(width) => write_port_of(width, words),
+        Verb::Endianness => Ok(Request::Endianness),
+        Verb::Intercept => Ok(Request::Intercept),
+        Verb::ClockStep => clock_step_of(words),
+        Verb::ClockSet => clock_set_of(word_at(words, 1)),
+        Verb::Step => step_of(word_at(words, 1)),
+        Verb::Arrive => arrive_of(alloc, word_at(words, 1)),
+        Verb::Settle => Ok(Request::Settle),
+        Verb::Line => Ok(Request::Line),
+        Verb::Interleave => interleave_of(word_at(words, 1)),
+        Verb::Log => log_of(word_at(words, 1)),
+        Verb::Wire => wire_of(word_at(words, 1)),
+        Verb::Offer => offer_of(alloc, word_at(words, 1)),
+        Verb::Events => events_of(word_at(words, 1)),
+        Verb::Frames => Ok(Request::Frames),
+        Verb::Faults => Ok(Request::Faults),
+        Verb::Pace => pace_of(word_at(words, 1)),
+        Verb::Save => Ok(Request::Save),
+        Verb::Restore => Ok(Request::Restore),
+    }
+}
+
+/// What the words of a line ask for.
+fn request_of(alloc: Global, words: &[&str]) -> Result<Request, Stop>
+    ensures { Gives result (reading.request_in (texts words.now)) }
+{
+    let Some(first) = words.first() else {
+        return Err(Stop::Refused(Refusal::Unknown));
+    };
+    let Some(verb) = verb_of(first) else {
+        return Err(Stop::Refused(Refusal::Unknown));
+    };
+    if !verb.takes_words(words.len()) {
+        return Err(Stop::Refused(Refusal::Count));
+    }
+    request_with(alloc, verb, words)
+}
+
+/// What a line asks for. A line that isn't a request is refused.
+///
+/// # Errors
+///
+/// The line is refused, for the first reason that applies: `text`, `unknown`, `count`; then, for the words from left to
+/// right, `value` or `size`; then `value` if a payload hasn't the size that the line names. Or memory was refused.
+pub fn read_line(alloc: Global, line: &[u8]) -> Result<Request, Stop>
+    ensures { reading.IsRead line.now result }
+{
+    let Ok(line) = str::from_utf8(line) else {
+        return Err(Stop::Refused(Refusal::Text));
+    };
+    let words = words_in(alloc, line)?;
+    request_of(alloc, words.as_slice())
+}

@@ -1,0 +1,74 @@
+// Why a line is refused.
+
+ghost use Rattle.std.specs.Prelude.{◌≡◌};
+ghost use Rattle.server_requests.specs.declared.refusal.Stop.TheVariants as stops;
+ghost use Rattle.server_requests.specs.Refusals.{refusal_line};
+
+use std::alloc::AllocError;
+
+/// Why a line is refused. A refused line changes nothing.
+#[derive(Clone, Copy)]
+pub enum Refusal {
+    /// `FAIL unknown`: its first word isn't known, or it has none.
+    Unknown,
+    /// `ERR count`: it has too few or too many words.
+    Count,
+    /// `ERR value`: a word doesn't have the form for its place.
+    Value,
+    /// `ERR size`: it asks for more than 65,536 bytes.
+    Size,
+    /// `ERR address`: its bytes are neither in memory nor a register.
+    Address,
+    /// `ERR register`: some of its bytes are those of registers, and it isn't an access of four bytes at an aligned address.
+    Register,
+    /// `ERR saved`: it restores a state, and none was saved.
+    Saved,
+    /// `ERR text`: it isn't UTF-8.
+    Text,
+    /// `ERR long`: it has more than 131,200 bytes.
+    Long,
+}
+
+/// Why a line wasn't read.
+#[derive(Clone, Copy)]
+pub enum Stop {
+    /// It is refused.
+    Refused(Refusal),
+    /// Memory was refused.
+    Memory,
+}
+
+impl From<Refusal> for Stop {
+    ghost from_gives = { λ refusal stop. stop ≡ stops.Refused refusal };
+
+    fn from(refusal: Refusal) -> Stop {
+        Stop::Refused(refusal)
+    }
+}
+
+impl From<AllocError> for Stop {
+    ghost from_gives = { λ _ stop. stop ≡ stops.Memory };
+
+    fn from(_error: AllocError) -> Stop {
+        Stop::Memory
+    }
+}
+
+impl Refusal {
+    /// The line that is written for it.
+    pub fn text(self) -> &'static [u8]
+        ensures { result.now ≡ refusal_line self }
+    {
+        match self {
+            Refusal::Unknown => b"FAIL unknown\n",
+            Refusal::Count => b"ERR count\n",
+            Refusal::Value => b"ERR value\n",
+            Refusal::Size => b"ERR size\n",
+            Refusal::Address => b"ERR address\n",
+            Refusal::Register => b"ERR register\n",
+            Refusal::Saved => b"ERR saved\n",
+            Refusal::Text => b"ERR text\n",
+            Refusal::Long => b"ERR long\n",
+        }
+    }
+}

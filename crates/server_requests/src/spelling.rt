@@ -1,0 +1,100 @@
+// What words spell: numbers and bytes.
+
+ghost use Rattle.std.specs.Prelude.{◌≡◌, ◌≤◌};
+ghost use Rattle.server_requests.specs.Spellings.{Gives, base64_in, bytes_in, digits_in, number_in, number_below, payload_in};
+ghost use Rattle.server_requests.specs.Spellings.{size_in};
+
+use crate::refusal::{Refusal, Stop};
+use crate::request::Payload;
+use base64::DecodeAllocError;
+use base64::engine::general_purpose::STANDARD;
+use hex::FromHexError;
+use std::alloc::Global;
+
+/// The maximum number of bytes that a request reads or writes (our choice).
+pub(crate) const MOST_BYTES: u64 = 65_536;
+
+const HEXADECIMAL: u32 = 16;
+
+/// The number of 64 bits that digits of this radix spell, if there is nothing else.
+fn digits_of(text: &str, radix: u32) -> Option<u64>
+    requires low { 2 ≤ radix }
+    requires high { radix ≤ 36 }
+    ensures { result ≡ digits_in radix text.now }
+{
+    if text.starts_with('+') {
+        return None;
+    }
+    u64::from_str_radix(text, radix).ok()
+}
+
+/// The number of 64 bits that a word spells: decimal digits, or hexadecimal digits after `0x`.
+fn number_of(text: &str) -> Option<u64>
+    ensures { result ≡ number_in text.now }
+{
+    match text.split_once('x') {
+        Some((front, digits)) => if front == "0" {
+            digits_of(digits, HEXADECIMAL)
+        } else {
+            None
+        },
+        None => digits_of(text, 10),
+    }
+}
+
+/// The number, at most `most`, that a word spells.
+pub(crate) fn number_at(text: &str, most: u64) -> Result<u64, Refusal>
+    ensures { result ≡ number_below most text.now }
+{
+    match number_of(text) {
+        Some(number) if number <= most => Ok(number),
+        _ => Err(Refusal::Value),
+    }
+}
+
+/// The number of bytes that a word spells.
+pub(crate) fn size_at(text: &str) -> Result<u64, Refusal>
+    ensures { result ≡ size_in text.now }
+{
+    let size = number_at(text, u64::MAX)?;
+    if size > MOST_BYTES {
+        return Err(Refusal::Size);
+    }
+    Ok(size)
+}
+
+/// The bytes that pairs of hexadecimal digits spell.
+pub(crate) fn bytes_at(alloc: Global, text: &str) -> Result<Payload, Stop>
+    ensures { Gives result (bytes_in text.now) }
+{
+    match hex::decode(alloc, text) {
+        Ok(bytes) => Ok(Payload { bytes }),
+        Err(FromHexError::OutOfMemory) => Err(Stop::Memory),
+        Err(_) => Err(Stop::Refused(Refusal::Value)),
+    }
+}
+
+/// The bytes that a text in base64 encodes (RFC 4648, section 4).
+pub(crate) fn base64_at(alloc: Global, text: &str) -> Result<Payload, Stop>
+    ensures { Gives result (base64_in text.now) }
+{
+    match STANDARD.decode(alloc, text.as_bytes()) {
+        Ok(bytes) => Ok(Payload { bytes }),
+        Err(DecodeAllocError::OutOfMemory) => Err(Stop::Memory),
+        Err(_) => Err(Stop::Refused(Refusal::Value)),
+    }
+}
+
+/// The bytes that pairs of hexadecimal digits after `0x` spell.
+pub(crate) fn payload_at(alloc: Global, text: &str) -> Result<Payload, Stop>
+    ensures { Gives result (payload_in text.now) }
+{
+    match text.split_once('x') {
+        Some((front, digits)) => if front == "0" {
+            bytes_at(alloc, digits)
+        } else {
+            Err(Stop::Refused(Refusal::Value))
+        },
+        None => Err(Stop::Refused(Refusal::Value)),
+    }
+}

@@ -1,0 +1,155 @@
+// What a line asks for, by its first word.
+
+ghost use Rattle.std.specs.Prelude.{◌≡◌};
+ghost use Rattle.server_requests.specs.Verbs.{kind_named, takes_words, verb_named};
+
+use crate::request::Width;
+use crate::table::value_of;
+use adapter::StepKind;
+use pci_function::PortWidth;
+
+/// What a line asks for, by its first word.
+#[derive(Clone, Copy)]
+pub(crate) enum Verb {
+    /// `readb`, `readw`, `readl`, `readq`.
+    ReadNumber(Width),
+    /// `writeb`, `writew`, `writel`, `writeq`.
+    WriteNumber(Width),
+    /// `read`.
+    Read,
+    /// `write`.
+    Write,
+    /// `b64read`: reads bytes in base64.
+    ReadBase64,
+    /// `b64write`: writes bytes in base64.
+    WriteBase64,
+    /// `memset`: writes one byte many times.
+    Memset,
+    /// `inb`, `inw`, `inl`: reads an I/O port.
+    ReadPort(PortWidth),
+    /// `outb`, `outw`, `outl`: writes an I/O port.
+    WritePort(PortWidth),
+    /// `endianness`.
+    Endianness,
+    /// `step`.
+    Step,
+    /// `arrive`.
+    Arrive,
+    /// `settle`.
+    Settle,
+    /// `line`.
+    Line,
+    /// `interleave`.
+    Interleave,
+    /// `log`.
+    Log,
+    /// `wire`.
+    Wire,
+    /// `offer`.
+    Offer,
+    /// `events`.
+    Events,
+    /// `frames`.
+    Frames,
+    /// `faults`.
+    Faults,
+    /// `pace`.
+    Pace,
+    /// `clock_step`.
+    ClockStep,
+    /// `clock_set`.
+    ClockSet,
+    /// `irq_intercept_in`, `irq_intercept_out`.
+    Intercept,
+    /// `save`.
+    Save,
+    /// `restore`.
+    Restore,
+}
+
+impl Verb {
+    /// Whether its line has this number of words.
+    pub(crate) fn takes_words(self, count: usize) -> bool
+        ensures { result ≡ takes_words self count }
+    {
+        match self {
+            Verb::Endianness | Verb::Settle | Verb::Line | Verb::Frames | Verb::Faults => count
+                == 1,
+            Verb::Save | Verb::Restore => count == 1,
+            Verb::ClockStep => count == 1 || count == 2,
+            Verb::ReadNumber(_) | Verb::Step | Verb::Arrive | Verb::Interleave => count == 2,
+            Verb::Log | Verb::Wire | Verb::Offer | Verb::Events | Verb::Pace => count == 2,
+            Verb::ClockSet | Verb::Intercept | Verb::ReadPort(_) => count == 2,
+            Verb::WriteNumber(_) | Verb::WritePort(_) | Verb::Read | Verb::ReadBase64 => count == 3,
+            Verb::Write | Verb::WriteBase64 | Verb::Memset => count == 4,
+        }
+    }
+}
+
+/// The first words of requests, and what these ask for.
+const VERBS: [(&str, Verb); 38] = [
+    ("readb", Verb::ReadNumber(Width::Byte)),
+    ("readw", Verb::ReadNumber(Width::Word)),
+    ("readl", Verb::ReadNumber(Width::Long)),
+    ("readq", Verb::ReadNumber(Width::Quad)),
+    ("writeb", Verb::WriteNumber(Width::Byte)),
+    ("writew", Verb::WriteNumber(Width::Word)),
+    ("writel", Verb::WriteNumber(Width::Long)),
+    ("writeq", Verb::WriteNumber(Width::Quad)),
+    ("read", Verb::Read),
+    ("write", Verb::Write),
+    ("b64read", Verb::ReadBase64),
+    ("b64write", Verb::WriteBase64),
+    ("memset", Verb::Memset),
+    ("inb", Verb::ReadPort(PortWidth::Byte)),
+    ("inw", Verb::ReadPort(PortWidth::Word)),
+    ("inl", Verb::ReadPort(PortWidth::Long)),
+    ("outb", Verb::WritePort(PortWidth::Byte)),
+    ("outw", Verb::WritePort(PortWidth::Word)),
+    ("outl", Verb::WritePort(PortWidth::Long)),
+    ("endianness", Verb::Endianness),
+    ("irq_intercept_in", Verb::Intercept),
+    ("irq_intercept_out", Verb::Intercept),
+    ("clock_step", Verb::ClockStep),
+    ("clock_set", Verb::ClockSet),
+    ("step", Verb::Step),
+    ("arrive", Verb::Arrive),
+    ("settle", Verb::Settle),
+    ("line", Verb::Line),
+    ("interleave", Verb::Interleave),
+    ("log", Verb::Log),
+    ("wire", Verb::Wire),
+    ("offer", Verb::Offer),
+    ("events", Verb::Events),
+    ("frames", Verb::Frames),
+    ("faults", Verb::Faults),
+    ("pace", Verb::Pace),
+    ("save", Verb::Save),
+    ("restore", Verb::Restore),
+];
+
+/// What a line with this first word asks for.
+#[tactic(auto, unfolding(crate::specs::Verbs::verb_named))]
+pub(crate) fn verb_of(word: &str) -> Option<Verb>
+    ensures { result ≡ verb_named word.now }
+{
+    value_of(&VERBS, word)
+}
+
+/// The names of the kinds of steps.
+const STEP_KINDS: [(&str, StepKind); 6] = [
+    ("txtake", StepKind::TxTake),
+    ("txput", StepKind::TxPut),
+    ("rxdata", StepKind::RxData),
+    ("rxdone", StepKind::RxDone),
+    ("eeprom", StepKind::EepromTick),
+    ("phy", StepKind::PhyTick),
+];
+
+/// The kind of steps with this name.
+#[tactic(auto, unfolding(crate::specs::Verbs::kind_named))]
+pub(crate) fn kind_of(word: &str) -> Option<StepKind>
+    ensures { result ≡ kind_named word.now }
+{
+    value_of(&STEP_KINDS, word)
+}

@@ -1,0 +1,65 @@
+// The sizes of accesses, and the bytes of numbers.
+
+ghost use Rattle.std.specs.Prelude.{◌≡◌, IfOk};
+ghost use Rattle.server_requests.specs.Widths.{bytes_of, bytes_spelling, greatest, greatest_at_port, size_of};
+
+use crate::request::{Wanted, Width};
+use pci_function::PortWidth;
+use std::alloc::{AllocError, Global};
+
+impl Width {
+    /// The greatest number of this width.
+    pub(crate) fn greatest(self) -> u64
+        ensures { result ≡ greatest self }
+    {
+        match self {
+            Width::Byte => u64::from(u8::MAX),
+            Width::Word => u64::from(u16::MAX),
+            Width::Long => u64::from(u32::MAX),
+            Width::Quad => u64::MAX,
+        }
+    }
+
+    /// The number of bytes of a number of this width.
+    pub fn bytes(self) -> usize
+        ensures { result ≡ bytes_of self }
+    {
+        match self {
+            Width::Byte => 1,
+            Width::Word => 2,
+            Width::Long => 4,
+            Width::Quad => 8,
+        }
+    }
+
+    /// The bytes of a number of this width, the lowest first.
+    #[tactic(auto, unfolding(crate::specs::Widths::bytes_spelling))]
+    pub fn bytes_spelling(self, alloc: Global, number: u64) -> Result<Vec<u8>, AllocError>
+        ensures { IfOk result (λ bytes. bytes.items ≡ bytes_spelling self number) }
+    {
+        Vec::from_slice(alloc, &number.to_le_bytes()[..self.bytes()])
+    }
+}
+
+/// The greatest number that an access of this width writes to an I/O port.
+pub(crate) fn greatest_at_port(width: PortWidth) -> u64
+    ensures { result ≡ greatest_at_port width }
+{
+    match width {
+        PortWidth::Byte => u64::from(u8::MAX),
+        PortWidth::Word => u64::from(u16::MAX),
+        PortWidth::Long => u64::from(u32::MAX),
+    }
+}
+
+impl Wanted {
+    /// The number of bytes that are read.
+    pub fn size(self) -> u64
+        ensures { result ≡ size_of self }
+    {
+        match self {
+            Wanted::Number(width) => width.bytes() as u64,
+            Wanted::Bytes(size) | Wanted::Base64(size) => size,
+        }
+    }
+}

@@ -1,0 +1,32 @@
+// The words of a line.
+
+ghost use Rattle.std.specs.Prelude.{◌≡◌, ◌<◌, ◌+◌, IfOk, length, take};
+ghost use Rattle.server_requests.specs.Reading.{request_in};
+ghost use Rattle.server_requests.specs.Words.{texts, word, words_of};
+
+use std::alloc::{AllocError, Global};
+
+/// The maximum number of words of a request.
+const MOST_WORDS: usize = 4;
+
+/// The first five words of a line, or all if it has fewer. Spaces and tabs separate words. A request has at most four,
+/// so the fifth shows that there are too many.
+pub(crate) fn words_in<'a>(alloc: Global, line: &'a str) -> Result<Vec<&'a str>, AllocError>
+    ensures words { IfOk result (λ words. texts words.items ≡ take (MOST_WORDS + 1) (words_of line.entry.now)) }
+    ensures asked { IfOk result (λ words. request_in (texts words.items) ≡ request_in (words_of line.entry.now)) }
+{
+    line.split(' ')
+        .flat_map(|part| part.split('\t'))
+        .filter(|word| !word.is_empty())
+        .take(MOST_WORDS + 1)
+        .collect(alloc)
+}
+
+/// The word with this number, from 0.
+#[tactic(auto, using(crate::proofs::Slices::at_texts))]
+pub(crate) fn word_at<'a>(words: &[&'a str], place: usize) -> &'a str
+    requires { place < length words.now }
+    ensures { result.now ≡ word place (texts words.entry.now) }
+{
+    words[place]
+}
