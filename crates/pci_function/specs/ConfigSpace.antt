@@ -1,0 +1,67 @@
+-- The configuration space of the adapter: 256 bytes, as dwords at the offsets 0, 4, 8 and so on.
+-- Registers: PCI Local Bus Specification 2.2, 6.1 "Configuration Space Organization" and 6.2 "Configuration Space
+-- Functions". Values: section 4.1, "PCI Configuration", of Intel's "PCI/PCI-X Family of Gigabit Ethernet Controllers
+-- Software Developer's Manual".
+use Rattle.std.specs.Prelude.{◌==◌, ℕ, Bool, Option, Some, None, bit_and, bit_or, if◌then◌else◌}
+
+-- what a function stores
+pub record PciState : Type 0 where
+  -- CONFIG_ADDRESS
+  pub address : ℕ
+  -- the command register
+  pub command : ℕ
+  -- the address of the adapter's first register, of which base address register 0 shows a part
+  pub registers : ℕ
+  -- the interrupt line register
+  pub interrupt_line : ℕ
+
+-- the command register keeps bits 0, 1, 2, 4, 6 and 8 (6.2.2 "Device Control"; manual, 4.1)
+abbrev pub kept_command : ℕ → ℕ
+kept_command word = bit_and word 0x157
+
+-- bit 1 of the command register, Memory Space (6.2.2)
+abbrev pub has_memory_space : ℕ → Bool
+has_memory_space command = bit_and command 2 == 2
+
+-- base address register 0: the registers take 128 KB, so bits 16:0 are 0 (6.2.5.1 "Address Maps"; manual, 4.1)
+abbrev pub base_of : ℕ → ℕ
+base_of address = bit_and address 0xFFFE0000
+
+-- Interrupt Status, bit 3 of the status register (manual, 4.1), which is the high half of the dword at 04h
+abbrev pub interrupt_status : Bool → ℕ
+interrupt_status asserted = if asserted then 0x80000 else 0
+
+-- The table of configuration space: the dword at an offset. `asserted` is the interrupt line. The other dwords are 0
+-- (6.1; that the adapter has no capabilities, no ROM and no registers in I/O space is our choice).
+abbrev pub config_word : PciState → Bool → ℕ → ℕ
+config_word function asserted offset =
+    -- device ID and vendor ID
+    if offset == 0x00 then 0x100E8086
+    -- status (66 MHz capable, DEVSEL timing medium, Interrupt Status) and command
+    else if offset == 0x04 then bit_or (bit_or 0x02200000 (interrupt_status asserted)) function.command
+    -- class code (an Ethernet controller) and revision
+    else if offset == 0x08 then 0x02000002
+    -- base address register 0: 32 bits wide, in memory space, not prefetchable
+    else if offset == 0x10 then base_of function.registers
+    -- subsystem ID and subsystem vendor ID
+    else if offset == 0x2C then 0x001E8086
+    -- Max_Lat, Min_Gnt, interrupt pin INTA#, and interrupt line
+    else if offset == 0x3C then bit_or 0x00FF0100 function.interrupt_line
+    else 0
+
+-- A write of the dword at an offset. The other rows of the table can't be written.
+abbrev pub after_write_of : ℕ → ℕ → PciState → PciState
+after_write_of offset word function =
+    if offset == 0x04 then record function { command = kept_command word }
+    else if offset == 0x10 then record function { registers = base_of word }
+    else if offset == 0x3C then record function { interrupt_line = bit_and word 0xFF }
+    else function
+
+-- A function whose firmware has enabled memory space and bus mastering (our choice). The address of the registers may
+-- be one that the base address register can't show, until that register is written.
+abbrev pub new_function : ℕ → PciState
+new_function registers = record { address = 0; command = 0x6; registers = registers; interrupt_line = 0 }
+
+-- where the registers begin, while the function answers in memory space
+abbrev pub registers_of : PciState → Option ℕ
+registers_of function = if has_memory_space function.command then Some function.registers else None

@@ -1,0 +1,15 @@
+//! The PCI configuration space of the adapter, and the two I/O ports through which a driver accesses it.
+//!
+//! Sources: "PCI Local Bus Specification", revision 2.2, and section 4.1, "PCI Configuration", of Intel's "PCI/PCI-X
+//! Family of Gigabit Ethernet Controllers Software Developer's Manual".
+#![tactic(auto)]
+
+mod command;
+mod config_address;
+mod pci_function;
+mod port_width;
+#[cfg(test)]
+mod readme;
+
+pub use pci_function::PciFunction;
+pub use port_width::PortWidth;
