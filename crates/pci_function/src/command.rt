@@ -1,6 +1,6 @@
 // The command register.
 
-ghost use Rattle.std.specs.Prelude.{⊤, ◌≡◌, ◌==◌, [], ◌∷◌, bit_and, codes};
+ghost use Rattle.std.specs.Prelude.{⊤, ◌≡◌, [], ◌∷◌, codes};
 ghost use Rattle.pci_function.specs.ConfigSpace.{has_memory_space, kept_command};
 
 use bitflags::{Flag, Flags, bitflag_items};

@@ -69,7 +69,6 @@ impl Model for PciFunction {
 }
 
 impl PciFunction {
-    ghost use Rattle.std.specs.Prelude.{Bool, false};
     ghost use Rattle.pci_function.specs.ConfigSpace.{after_write_of, config_word, new_function, registers_of};
     ghost use Rattle.pci_function.specs.Ports.{after_write};
 
