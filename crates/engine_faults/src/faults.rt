@@ -1,0 +1,149 @@
+// The reason of a fault.
+
+ghost use Rattle.std.specs.Prelude.{◌≡◌, Some, None, if◌then◌else◌};
+ghost use Rattle.descriptors.specs.Ring.{address_of};
+ghost use Rattle.dma_memory.specs.HostMemory.{bytes_at};
+ghost use Rattle.registers.specs.Bits.{is_set};
+ghost use Rattle.registers.specs.Places.{rctl_bsex};
+ghost use Rattle.descriptors.specs.TxFields.{command_bits, tx_dext, tx_eop};
+ghost use Rattle.engine_faults.specs.Faults.{fault_if_any, fault_of_data, fault_of_take, reason_of_data};
+ghost use Rattle.engine_faults.specs.Faults.{reason_of_descriptor, reason_of_take};
+ghost use Rattle.engine_faults.specs.Rings.{is_inside, ring_from};
+
+use crate::engine_fault::{Engine, EngineFault, Reason};
+use crate::ring_words::RingWords;
+use adapter::StepKind;
+use adapter::offsets::RCTL;
+use bitflags::Flags;
+use bus::Machine;
+use descriptors::{LONGEST_SENDABLE, Ring, TX_DESC_BYTES, TxCommand, TxDesc};
+use registers::Rctl;
+
+/// Why a step of this kind is a fault: for a step whose outcome is a fault, before the step or right after it. If the
+/// step isn't a fault, its result doesn't apply. Steps of the kinds other than [`TxTake`](StepKind::TxTake) and
+/// [`RxData`](StepKind::RxData) are never faults.
+pub fn fault_of(machine: &mut Machine, kind: StepKind) -> Option<EngineFault>
+    ensures unchanged { machine.new ≡ machine.old }
+    ensures fault { result ≡ fault_if_any kind machine.old.world }
+{
+    match kind {
+        StepKind::TxTake => Some(fault_of_take(machine)),
+        StepKind::RxData => Some(fault_of_data(machine)),
+        StepKind::TxPut | StepKind::RxDone | StepKind::EepromTick | StepKind::PhyTick => None,
+    }
+}
+
+/// Why a step that takes a frame from the transmit ring is a fault, if it is.
+fn fault_of_take(machine: &mut Machine) -> EngineFault
+    ensures unchanged { machine.new ≡ machine.old }
+    ensures fault { result ≡ fault_of_take machine.old.world }
+{
+    let words = RingWords::read(machine, Engine::Transmit);
+    EngineFault {
+        engine: Engine::Transmit,
+        index: words.head,
+        reason: reason_of_take(machine, words),
+    }
+}
+
+/// Why a step that moves a piece of a received frame to memory is a fault, if it is.
+fn fault_of_data(machine: &mut Machine) -> EngineFault
+    ensures unchanged { machine.new ≡ machine.old }
+    ensures fault { result ≡ fault_of_data machine.old.world }
+{
+    let words = RingWords::read(machine, Engine::Receive);
+    let control = read_receive_control(machine);
+    EngineFault {
+        engine: Engine::Receive,
+        index: words.head,
+        reason: reason_of_data(machine, words, control),
+    }
+}
+
+/// Reads RCTL, which changes nothing.
+fn read_receive_control(machine: &mut Machine) -> Rctl
+    ensures unchanged { machine.new ≡ machine.old }
+    ensures value { result.0 ≡ machine.old.world.adapter.filter.rctl }
+{
+    Rctl(machine.read(RCTL))
+}
+
+/// The first reason why the descriptor at the head of the transmit ring can't be taken.
+fn reason_of_take(machine: &Machine, words: RingWords) -> Reason
+    ensures { result ≡ reason_of_take machine.now.world.memory (ring_from words) }
+{
+    let Some(ring) = words.ring() else {
+        return Reason::Ring;
+    };
+    match descriptor_at_head(machine, ring) {
+        Some(bytes) => reason_of_descriptor(&TxDesc::from_bytes(&bytes)),
+        None => Reason::Descriptor,
+    }
+}
+
+/// The first reason why a transmit descriptor can't be taken.
+fn reason_of_descriptor(desc: &TxDesc) -> Reason
+    ensures { result ≡ reason_of_descriptor desc.now }
+{
+    if is_extended(desc.command) {
+        Reason::Dext
+    } else if !ends_packet(desc.command) {
+        Reason::Eop
+    } else if desc.length == 0 || usize::from(desc.length) > LONGEST_SENDABLE {
+        Reason::Length
+    } else {
+        Reason::Buffer
+    }
+}
+
+/// The first reason why no piece can be moved to the buffer of the descriptor at the head of the receive ring.
+fn reason_of_data(machine: &Machine, words: RingWords, control: Rctl) -> Reason
+    ensures { result ≡ reason_of_data control.0 machine.now.world.memory (ring_from words) }
+{
+    let Some(ring) = words.ring() else {
+        return Reason::Ring;
+    };
+    if extends_buffer_size(control) {
+        return Reason::Bsex;
+    }
+    match descriptor_at_head(machine, ring) {
+        Some(_) => Reason::Buffer,
+        None => Reason::Descriptor,
+    }
+}
+
+/// The bytes of the descriptor at the head of a ring, or `None` exactly if they aren't inside memory.
+fn descriptor_at_head(machine: &Machine, ring: Ring) -> Option<[u8; TX_DESC_BYTES]>
+    ensures { result ≡ (if is_inside machine.now.world.memory (address_of ring ring.head) 16
+        then Some (bytes_at machine.now.world.memory (address_of ring ring.head) 16) else None) }
+{
+    let size = machine.size();
+    let address = ring.descriptor(ring.head)?;
+    if size.saturating_sub(address) < 16 {
+        return None;
+    }
+    let mut bytes = [0; TX_DESC_BYTES];
+    machine.load(address, &mut bytes);
+    Some(bytes)
+}
+
+/// Whether DEXT is set.
+fn is_extended(command: TxCommand) -> bool
+    ensures { result ≡ is_set (command_bits command) tx_dext }
+{
+    command.contains(TxCommand::DEXT)
+}
+
+/// Whether EOP is set.
+fn ends_packet(command: TxCommand) -> bool
+    ensures { result ≡ is_set (command_bits command) tx_eop }
+{
+    command.contains(TxCommand::EOP)
+}
+
+/// Whether RCTL.BSEX is set.
+fn extends_buffer_size(control: Rctl) -> bool
+    ensures { result ≡ is_set control.0 rctl_bsex }
+{
+    control.contains(Rctl::BSEX)
+}

@@ -1,0 +1,106 @@
+// The registers of a ring, as a driver reads them.
+
+ghost use Rattle.std.specs.Prelude.{◌≡◌, Some, None, if◌then◌else◌};
+ghost use Rattle.adapter.specs.Rings.{ring_answer};
+ghost use Rattle.adapter.specs.Table.{row_of};
+ghost use Rattle.engine_faults.specs.Rings.{has_valid_indices, register_of, registers_of, ring_from, ring_of_engine};
+
+use crate::engine_fault::Engine;
+use adapter::RingRegister;
+use adapter::offsets::{RDBAH, RDBAL, RDH, RDLEN, RDT, TDBAH, TDBAL, TDH, TDLEN, TDT};
+use bus::Machine;
+use descriptors::Ring;
+
+/// A ring as its registers read. Its indices may be ones that no ring has.
+#[derive(Clone, Copy)]
+pub(crate) struct RingWords {
+    pub(crate) base: u64,
+    pub(crate) bytes: u32,
+    pub(crate) head: u32,
+    pub(crate) tail: u32,
+}
+
+impl RingWords {
+    /// The registers of an engine's ring. Reading them changes nothing.
+    pub(crate) fn read(machine: &mut Machine, engine: Engine) -> RingWords
+        ensures unchanged { machine.new ≡ machine.old }
+        ensures ring { ring_from result ≡ ring_of_engine engine machine.old.world }
+    {
+        let base_low = read_register(machine, engine, RingRegister::BaseLow);
+        let base_high = read_register(machine, engine, RingRegister::BaseHigh);
+        let bytes = read_register(machine, engine, RingRegister::Length);
+        let head = read_register(machine, engine, RingRegister::Head);
+        let tail = read_register(machine, engine, RingRegister::Tail);
+        RingWords {
+            base: (u64::from(base_high) << 32) + u64::from(base_low),
+            bytes,
+            head,
+            tail,
+        }
+    }
+
+    /// The ring, or `None` exactly if head or tail isn't an index of it.
+    pub(crate) fn ring(self) -> Option<Ring>
+        ensures { result ≡ (if has_valid_indices (ring_from self) then Some (ring_from self) else None) }
+    {
+        let Ok(head) = u16::try_from(self.head) else {
+            return None;
+        };
+        let Ok(tail) = u16::try_from(self.tail) else {
+            return None;
+        };
+        let ring = Ring {
+            base: self.base,
+            bytes: self.bytes,
+            head,
+            tail,
+        };
+        if ring.has_valid_indices() {
+            Some(ring)
+        } else {
+            None
+        }
+    }
+}
+
+/// Reads a register of an engine's ring, which changes nothing.
+fn read_register(machine: &mut Machine, engine: Engine, register: RingRegister) -> u32
+    ensures unchanged { machine.new ≡ machine.old }
+    ensures value { result ≡ ring_answer register (registers_of engine machine.old.world) }
+{
+    machine.read(offset_of(engine, register))
+}
+
+/// The offset of a register of an engine's ring.
+fn offset_of(engine: Engine, register: RingRegister) -> u32
+    ensures { result ≡ (row_of (register_of engine register)).offset }
+{
+    match engine {
+        Engine::Transmit => transmit_offset(register),
+        Engine::Receive => receive_offset(register),
+    }
+}
+
+fn transmit_offset(register: RingRegister) -> u32
+    ensures { result ≡ (row_of (register_of Engine.Transmit register)).offset }
+{
+    match register {
+        RingRegister::BaseLow => TDBAL,
+        RingRegister::BaseHigh => TDBAH,
+        RingRegister::Length => TDLEN,
+        RingRegister::Head => TDH,
+        RingRegister::Tail => TDT,
+    }
+}
+
+fn receive_offset(register: RingRegister) -> u32
+    ensures { result ≡ (row_of (register_of Engine.Receive register)).offset }
+{
+    match register {
+        RingRegister::BaseLow => RDBAL,
+        RingRegister::BaseHigh => RDBAH,
+        RingRegister::Length => RDLEN,
+        RingRegister::Head => RDH,
+        RingRegister::Tail => RDT,
+    }
+}
