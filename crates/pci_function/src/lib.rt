@@ -6,6 +6,7 @@
 
 mod command;
 mod config_address;
+mod offsets;
 mod pci_function;
 mod port_width;
 #[cfg(test)]

@@ -6,6 +6,7 @@ ghost use Rattle.pci_function.specs.Ports.{answer_at, first_byte, is_address_por
 
 use crate::command::Command;
 use crate::config_address::ConfigAddress;
+use crate::offsets::*;
 use crate::port_width::PortWidth;
 use bitflags::Flags;
 use std::marker::Model;
@@ -13,7 +14,7 @@ use std::marker::Model;
 /// The port CONFIG_ADDRESS (PCI 2.2, 3.2.2.3.2).
 const ADDRESS_PORT: u16 = 0xCF8;
 
-/// The first of the four ports of CONFIG_DATA (the same place).
+/// The first of the four ports of CONFIG_DATA (PCI 2.2, 3.2.2.3.2).
 const DATA_PORT: u16 = 0xCFC;
 
 /// Device ID 100Eh and vendor ID 8086h.
@@ -29,7 +30,7 @@ const INTERRUPT_STATUS: u32 = 1 << 19;
 const CLASS: u32 = 0x0200_0002;
 
 /// Subsystem ID 001Eh and subsystem vendor ID 8086h.
-const SUBSYSTEM: u32 = 0x001E_8086;
+const SUBSYSTEM_IDENTITY: u32 = 0x001E_8086;
 
 /// Max_Lat 0, Min_Gnt 255, and interrupt pin 1, INTA#.
 const INTERRUPT_PIN: u32 = 0x00FF_0100;
@@ -105,6 +106,7 @@ impl PciFunction {
             self.address = ConfigAddress::kept(value);
         } else if let Some(first) = self.first_byte(port, width) {
             let offset = self.address.offset();
+            // Interrupt Status can't be written, so any interrupt line will do.
             let word = self.word(offset, false);
             self.set_word(offset, width.replaced_in(word, first, value));
         }
@@ -141,12 +143,12 @@ impl PciFunction {
         ensures { result ≡ config_word self.now asserted offset }
     {
         match offset {
-            0x00 => IDENTITY,
-            0x04 => STATUS | interrupt_status(asserted) | self.command.0,
-            0x08 => CLASS,
-            0x10 => (self.registers & BASE_BITS) as u32,
-            0x2C => SUBSYSTEM,
-            0x3C => INTERRUPT_PIN | u32::from(self.interrupt_line),
+            DEVICE_AND_VENDOR => IDENTITY,
+            STATUS_AND_COMMAND => STATUS | interrupt_status(asserted) | self.command.0,
+            CLASS_AND_REVISION => CLASS,
+            BASE_ADDRESS => (self.registers & BASE_BITS) as u32,
+            SUBSYSTEM => SUBSYSTEM_IDENTITY,
+            INTERRUPT => INTERRUPT_PIN | u32::from(self.interrupt_line),
             _ => 0,
         }
     }
@@ -156,9 +158,9 @@ impl PciFunction {
         ensures { self.new ≡ after_write_of offset word self.old }
     {
         match offset {
-            0x04 => self.command = Command::kept(word),
-            0x10 => self.registers = u64::from(word) & BASE_BITS,
-            0x3C => self.interrupt_line = (word & 0xFF) as u8,
+            STATUS_AND_COMMAND => self.command = Command::kept(word),
+            BASE_ADDRESS => self.registers = u64::from(word) & BASE_BITS,
+            INTERRUPT => self.interrupt_line = (word & 0xFF) as u8,
             _ => {}
         }
     }

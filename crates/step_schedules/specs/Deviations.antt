@@ -1,0 +1,153 @@
+-- The deviation of a line (our choice; the format is that of `tools/race_finder/README.md`, "A schedule").
+use Rattle.std.specs.Prelude.{◌==◌, ◌&&◌, ◌||◌, ℕ, Bool, List, [], ◌∷◌, Option, Some, None, Result, Ok, Err}
+use Rattle.std.specs.Prelude.{if◌then◌else◌, codes, drop, is_some, length, nat_lt, string_bytes}
+use Rattle.std.specs.List.{after_first, before_first, position_or_len}
+use Rattle.std.specs.Str.{bytes_eq}
+use Rattle.step_schedules.specs.Results.{◌>>=◌}
+use Rattle.step_schedules.specs.Spellings.{number_in, place_in}
+use Rattle.step_schedules.specs.Words.{Text, access_words, action_words, value_in, word}
+use Rattle.step_schedules.specs.declared.deviation.AccessKind.{AccessKind}
+use Rattle.step_schedules.specs.declared.deviation.AccessKind.TheVariants.{Read, Write}
+use Rattle.step_schedules.specs.declared.deviation.Action.{Action}
+use Rattle.step_schedules.specs.declared.deviation.Action.TheVariants.{TxTake, TxPut, RxData, RxDone, Tx, Rx, Arrive}
+use Rattle.step_schedules.specs.declared.deviation.Action.TheVariants.{HoldEeprom, HoldPhy}
+use Rattle.step_schedules.specs.declared.deviation.Deviation.{Deviation}
+use Rattle.step_schedules.specs.declared.deviation.Place.{Place}
+use Rattle.step_schedules.specs.declared.deviation.Site.{Site}
+use Rattle.step_schedules.specs.declared.deviation.Site.TheVariants as site
+use Rattle.step_schedules.specs.declared.deviation_words.NamedAccess.{NamedAccess}
+use Rattle.step_schedules.specs.declared.schedule_error.Fault.{Fault}
+use Rattle.step_schedules.specs.declared.schedule_error.Fault.TheVariants as faults
+
+abbrev pub is_before : Place → Place → Bool
+is_before place other =
+    nat_lt place.round other.round || (place.round == other.round && nat_lt place.access other.access)
+
+-- Actions.
+
+-- the action of one word
+unfoldable pub action_named : Text → Option Action
+action_named word =
+    value_in (
+    (codes "txtake", TxTake) ∷ (codes "txput", TxPut) ∷ (codes "rxdata", RxData) ∷ (codes "rxdone", RxDone)
+    ∷ (codes "tx", Tx) ∷ (codes "rx", Rx) ∷ (codes "arrive", Arrive) ∷ []
+    ) word
+
+-- the action of two words that begins with `hold`, by the second one
+unfoldable pub hold_named : Text → Option Action
+hold_named word = value_in ((codes "eeprom", HoldEeprom) ∷ (codes "phy", HoldPhy) ∷ []) word
+
+abbrev pub is_hold : Text → Bool
+is_hold word = bytes_eq word (codes "hold")
+
+abbrev pub action_in : List Text → Option Action
+action_in words =
+    if length words == 1 then action_named (word 0 words)
+    else if length words == 2 && is_hold (word 0 words) then hold_named (word 1 words)
+    else None
+
+abbrev pub begins_action : Text → Bool
+begins_action word = is_some (action_named word) || is_hold word
+
+-- The place at the beginning of a line.
+
+abbrev pub place_or_action : Option Place → Text → Result (Option Place) Fault
+place_or_action (Some place) word = Ok (Some place)
+place_or_action None word = if begins_action word then Ok None else Err faults.Place
+
+-- the first word is a place, or an action begins with it
+abbrev pub place_at : Text → Result (Option Place) Fault
+place_at word = place_or_action (place_in word) word
+
+-- the words after the place, if there is one
+abbrev pub words_after : Option Place → List Text → List Text
+words_after None words = words
+words_after (Some place) words = drop 1 words
+
+-- The access at the end of a line.
+
+-- an access, without the place of its name in memory
+pub record AccessRead : Type 0 where
+  pub kind : AccessKind
+  pub name : Text
+  pub number : Option ℕ
+
+abbrev pub access_read : NamedAccess → AccessRead
+access_read access = record { kind = access.kind; name = string_bytes access.name; number = access.number }
+
+unfoldable pub kind_named : Text → Option AccessKind
+kind_named word = value_in ((codes "read", Read) ∷ (codes "write", Write) ∷ []) word
+
+abbrev pub is_hash : ℕ → Bool
+is_hash byte = byte == 0x23
+
+abbrev pub has_hash : Text → Bool
+has_hash word = nat_lt (position_or_len is_hash word) (length word)
+
+-- the part of a word before its first #, or the word without one
+abbrev pub name_in : Text → Text
+name_in word = if has_hash word then before_first is_hash word else word
+
+abbrev pub some_number : Option ℕ → Result (Option ℕ) Fault
+some_number (Some number) = Ok (Some number)
+some_number None = Err faults.Access
+
+-- the number after its first #
+abbrev pub number_after : Text → Result (Option ℕ) Fault
+number_after word = if has_hash word then some_number (number_in (after_first is_hash word)) else Ok None
+
+-- an access whose name isn't empty
+abbrev pub named_access : AccessKind → Text → Option ℕ → Result AccessRead Fault
+named_access kind name number =
+    if length name == 0 then Err faults.Access else Ok (record { kind = kind; name = name; number = number })
+
+abbrev pub access_with : Option AccessKind → Text → Result AccessRead Fault
+access_with (Some kind) word = number_after word >>= λ number. named_access kind (name_in word) number
+access_with None word = Err faults.Access
+
+-- two words: a kind, and a name that may have a number
+abbrev pub access_in : List Text → Result AccessRead Fault
+access_in words =
+    if length words == 2 then access_with (kind_named (word 0 words)) (word 1 words) else Err faults.Access
+
+-- Deviations.
+
+-- which access a deviation is for, by the place and the number of its line
+abbrev pub site_in : Option Place → Option ℕ → Result Site Fault
+site_in (Some place) None = Ok (site.Place place)
+site_in (Some place) (Some number) = Err faults.PlaceAndNumber
+site_in None None = Err faults.NoNumber
+site_in None (Some number) = if nat_lt 0 number then Ok (site.Number number) else Err faults.NoNumber
+
+-- a deviation, without the place of its name in memory
+pub record DeviationRead : Type 0 where
+  pub site : Site
+  pub action : Action
+  pub kind : AccessKind
+  pub name : Text
+
+abbrev pub deviation_read : Deviation → DeviationRead
+deviation_read deviation = record {
+  site = deviation.site;
+  action = deviation.action;
+  kind = deviation.kind;
+  name = string_bytes deviation.name;
+}
+
+abbrev pub action_or_fault : Option Action → Result Action Fault
+action_or_fault (Some action) = Ok action
+action_or_fault None = Err faults.Action
+
+-- the deviation of a line, by its words after the place
+abbrev pub deviation_after : Option Place → List Text → Result DeviationRead Fault
+deviation_after place words = do
+  action ← action_or_fault (action_in (action_words words))
+  access ← access_in (access_words words)
+  site ← site_in place access.number
+  Ok (record { site = site; action = action; kind = access.kind; name = access.name })
+
+-- the deviation of a line that isn't empty, by its words
+abbrev pub deviation_in : List Text → Result DeviationRead Fault
+deviation_in words = do
+  place ← place_at (word 0 words)
+  deviation_after place (words_after place words)

@@ -1,0 +1,6 @@
+pub mod Words
+pub mod Spellings
+pub mod Results
+pub mod Deviations
+pub mod Schedules
+pub mod Texts

@@ -1,0 +1,27 @@
+-- Results of reading.
+use Rattle.std.specs.Prelude.{⊤, ◌≡◌, ℕ, Result, Ok, Err}
+use Rattle.step_schedules.specs.declared.schedule_error.Fault.{Fault as LineFault}
+use Rattle.step_schedules.specs.declared.schedule_error.ScheduleError.{ScheduleError}
+use Rattle.step_schedules.specs.declared.schedule_error.ScheduleError.TheVariants as errors
+use Rattle.step_schedules.specs.declared.schedule_error.Stop.{Stop}
+use Rattle.step_schedules.specs.declared.schedule_error.Stop.TheVariants.{Fault, Memory}
+
+abbrev pub Fails : {A : Type 0} → Stop → Result A LineFault → Type 0
+Fails Memory read = ⊤
+Fails (Fault fault) read = read ≡ Err fault
+
+-- A reading function returns this result, which is seen by `view`, or memory was refused.
+abbrev pub Gives : {A B : Type 0} → (A → B) → Result A Stop → Result B LineFault → Type 0
+Gives view (Ok value) read = read ≡ Ok (view value)
+Gives view (Err stop) read = Fails stop read
+
+-- the second result, if the first is Ok
+infixl 10 ◌>>=◌
+abbrev pub ◌>>=◌ : {A B : Type 0} → Result A LineFault → (A → Result B LineFault) → Result B LineFault
+(Ok value) >>= next = next value
+(Err fault) >>= next = Err fault
+
+-- the error of a text if this line isn't read
+abbrev pub error_at : ℕ → Stop → ScheduleError
+error_at line (Fault fault) = errors.Line line fault
+error_at line Memory = errors.Memory

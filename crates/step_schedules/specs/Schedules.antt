@@ -1,0 +1,131 @@
+-- The schedule of a text (our choice; the format is that of `tools/race_finder/README.md`, "A schedule").
+use Rattle.std.specs.Prelude.{⊤, ◌≡◌, ◌+◌, ◌++◌, ◌||◌, ◌∷◌, [], ℕ, Bool, List, Option, Some, None, Result, Ok, Err}
+use Rattle.std.specs.Prelude.{IsUtf8, String, Vec, codes, drop, if◌then◌else◌, is_some, length, map, nat_lt}
+use Rattle.std.specs.Prelude.{string_bytes}
+use Rattle.std.specs.Option.{option_map}
+use Rattle.std.specs.Str.{bytes_eq}
+use Rattle.std.specs.Str.Lines.{lines}
+use Rattle.std.specs.declared.alloc.Global.{Global}
+use Rattle.step_schedules.specs.Deviations.{DeviationRead, deviation_in, deviation_read, is_before}
+use Rattle.step_schedules.specs.Results.{Fails, ◌>>=◌}
+use Rattle.step_schedules.specs.Words.{Text, words_of}
+use Rattle.step_schedules.specs.declared.deviation.Place.{Place}
+use Rattle.step_schedules.specs.declared.deviation.Site.{Site}
+use Rattle.step_schedules.specs.declared.deviation.Site.TheVariants as site
+use Rattle.step_schedules.specs.declared.reader.Reader.{Reader}
+use Rattle.step_schedules.specs.declared.schedule.Schedule.{Schedule}
+use Rattle.step_schedules.specs.declared.schedule_error.Fault.{Fault}
+use Rattle.step_schedules.specs.declared.schedule_error.Fault.TheVariants as faults
+use Rattle.step_schedules.specs.declared.schedule_error.ScheduleError.{ScheduleError}
+use Rattle.step_schedules.specs.declared.schedule_error.ScheduleError.TheVariants.{Line, Memory, Text as NoText}
+use Rattle.step_schedules.specs.declared.schedule_error.Stop.{Stop}
+
+-- a schedule, without the places of its words in memory
+pub record ScheduleRead : Type 0 where
+  -- the words of the server's options, if the text has them
+  pub options : Option (List Text)
+  pub deviations : List DeviationRead
+
+-- the part of a schedule that was read, and the place of the last deviation that has one
+pub record SoFar : Type 0 where
+  pub schedule : ScheduleRead
+  pub last : Place
+
+abbrev pub option_texts : Vec (String Global) Global → List Text
+option_texts options = map string_bytes options.items
+
+abbrev pub schedule_read : Schedule → ScheduleRead
+schedule_read schedule = record {
+  options = option_map option_texts schedule.options;
+  deviations = map deviation_read schedule.deviations.items;
+}
+
+abbrev pub so_far : Reader → SoFar
+so_far reader = record { schedule = schedule_read reader.schedule; last = reader.last }
+
+abbrev pub nothing_read : SoFar
+nothing_read = record {
+  schedule = record { options = None; deviations = [] };
+  last = record { round = 0; access = 0 };
+}
+
+-- `options` must be the first line that says something
+abbrev pub has_begun : ScheduleRead → Bool
+has_begun schedule = is_some schedule.options || nat_lt 0 (length schedule.deviations)
+
+abbrev pub after_options : List Text → SoFar → Result SoFar Fault
+after_options words before =
+    if has_begun before.schedule then Err faults.Options
+    else Ok (record before { schedule = record before.schedule { options = Some (drop 1 words) } })
+
+-- the last place after a deviation, which isn't before the last one
+abbrev pub place_after : Site → Place → Result Place Fault
+place_after (site.Place place) last = if is_before place last then Err faults.Order else Ok place
+place_after (site.Number number) last = Ok last
+
+abbrev pub after_deviation : DeviationRead → SoFar → Result SoFar Fault
+after_deviation deviation before = do
+  last ← place_after deviation.site before.last
+  Ok (record {
+    schedule = record before.schedule { deviations = before.schedule.deviations ++ deviation ∷ [] };
+    last = last;
+  })
+
+-- after the words of a line
+abbrev pub after_words : List Text → SoFar → Result SoFar Fault
+after_words [] before = Ok before
+after_words (first ∷ rest) before =
+    if bytes_eq first (codes "options") then after_options (first ∷ rest) before
+    else deviation_in (first ∷ rest) >>= λ deviation. after_deviation deviation before
+
+abbrev pub after_line : Text → SoFar → Result SoFar Fault
+after_line line before = after_words (words_of line) before
+
+-- A call has left what was read like this, or memory was refused.
+abbrev pub Becomes : Result (Unit {0}) Stop → Result SoFar Fault → SoFar → Type 0
+Becomes (Ok u) read after = read ≡ Ok after
+Becomes (Err stop) read after = Fails stop read
+
+-- what follows a line: the rest, or the end of the reading, with the line's number and its fault
+abbrev pub then_rest : Result SoFar Fault → (number : ℕ) → (SoFar → Result SoFar (ℕ × Fault)) → Result SoFar (ℕ × Fault)
+then_rest (Ok after) number rest = rest after
+then_rest (Err fault) number rest = Err (number, fault)
+
+-- after lines, of which the first has this number
+abbrev pub after_lines : List Text → (number : ℕ) → SoFar → Result SoFar (ℕ × Fault)
+after_lines [] number before = Ok before
+after_lines (line ∷ rest) number before = then_rest (after_line line before) number (after_lines rest (number + 1))
+
+-- a text that is UTF-8; its lines are numbered from 1
+abbrev pub read_in : Text → Result SoFar (ℕ × Fault)
+read_in text = after_lines (lines text) 1 nothing_read
+
+-- Reading ends with this error, unless memory was refused.
+abbrev pub Stops : {A : Type 0} → ScheduleError → Result A (ℕ × Fault) → Type 0
+Stops (Line line fault) read = read ≡ Err (line, fault)
+Stops NoText read = ⊥
+Stops Memory read = ⊤
+
+-- A call has left what was read like this, or reading has ended.
+abbrev pub AreLinesRead : Result SoFar (ℕ × Fault) → Result (Unit {0}) ScheduleError → SoFar → Type 0
+AreLinesRead read (Ok u) after = read ≡ Ok after
+AreLinesRead read (Err error) after = Stops error read
+
+abbrev pub IsTextRead : Text → Result Reader ScheduleError → Type 0
+IsTextRead text (Ok reader) = read_in text ≡ Ok (so_far reader)
+IsTextRead text (Err error) = Stops error (read_in text)
+
+abbrev pub schedule_of : Result SoFar (ℕ × Fault) → Result ScheduleRead (ℕ × Fault)
+schedule_of (Ok read) = Ok read.schedule
+schedule_of (Err fault) = Err fault
+
+-- the schedule of a text that is UTF-8, or the number of its first faulty line and the fault
+abbrev pub schedule_in : Text → Result ScheduleRead (ℕ × Fault)
+schedule_in text = schedule_of (read_in text)
+
+-- The result is the schedule of the text, if the text is UTF-8, unless memory was refused.
+abbrev pub IsRead : Text → Result Schedule ScheduleError → Type 0
+IsRead text (Ok schedule) = IsUtf8 text × (schedule_in text ≡ Ok (schedule_read schedule))
+IsRead text (Err (Line line fault)) = IsUtf8 text × (schedule_in text ≡ Err (line, fault))
+IsRead text (Err NoText) = ¬ (IsUtf8 text)
+IsRead text (Err Memory) = ⊤

@@ -1,0 +1,62 @@
+-- Schedules as texts (our choice; the format is that of `tools/race_finder/README.md`, "A schedule").
+use Rattle.std.specs.Prelude.{◌++◌, [], List, Option, Some, None, codes, flat_map}
+use Rattle.std.specs.Fmt.{decimal}
+use Rattle.step_schedules.specs.Deviations.{DeviationRead}
+use Rattle.step_schedules.specs.Schedules.{ScheduleRead}
+use Rattle.step_schedules.specs.Words.{Text}
+use Rattle.step_schedules.specs.declared.deviation.AccessKind.{AccessKind}
+use Rattle.step_schedules.specs.declared.deviation.AccessKind.TheVariants.{Read, Write}
+use Rattle.step_schedules.specs.declared.deviation.Action.{Action}
+use Rattle.step_schedules.specs.declared.deviation.Action.TheVariants.{TxTake, TxPut, RxData, RxDone, Tx, Rx, Arrive}
+use Rattle.step_schedules.specs.declared.deviation.Action.TheVariants.{HoldEeprom, HoldPhy}
+use Rattle.step_schedules.specs.declared.deviation.Site.{Site}
+use Rattle.step_schedules.specs.declared.deviation.Site.TheVariants as site
+
+abbrev pub action_text : Action → Text
+action_text TxTake = codes "txtake"
+action_text TxPut = codes "txput"
+action_text RxData = codes "rxdata"
+action_text RxDone = codes "rxdone"
+action_text Tx = codes "tx"
+action_text Rx = codes "rx"
+action_text Arrive = codes "arrive"
+action_text HoldEeprom = codes "hold eeprom"
+action_text HoldPhy = codes "hold phy"
+
+abbrev pub kind_text : AccessKind → Text
+kind_text Read = codes "read"
+kind_text Write = codes "write"
+
+-- what happens, and the access without its number
+abbrev pub event_text : DeviationRead → Text
+event_text deviation =
+    action_text deviation.action ++ codes " before " ++ kind_text deviation.kind ++ codes " " ++ deviation.name
+
+abbrev pub text_at : Site → Text → Text
+text_at (site.Place place) event = decimal place.round ++ codes "." ++ decimal place.access ++ codes " " ++ event
+text_at (site.Number number) event = event ++ codes "#" ++ decimal number
+
+-- the line of a deviation
+abbrev pub deviation_text : DeviationRead → Text
+deviation_text deviation = text_at deviation.site (event_text deviation)
+
+abbrev pub deviation_line : DeviationRead → Text
+deviation_line deviation = deviation_text deviation ++ codes "\n"
+
+abbrev pub deviation_lines : List DeviationRead → Text
+deviation_lines deviations = flat_map deviation_line deviations
+
+abbrev pub option_text : Text → Text
+option_text option = codes " " ++ option
+
+-- the line of the server's options
+abbrev pub options_line : List Text → Text
+options_line options = codes "options" ++ flat_map option_text options ++ codes "\n"
+
+abbrev pub options_text : Option (List Text) → Text
+options_text (Some options) = options_line options
+options_text None = []
+
+-- a text with these options and deviations
+abbrev pub schedule_text : ScheduleRead → Text
+schedule_text schedule = options_text schedule.options ++ deviation_lines schedule.deviations

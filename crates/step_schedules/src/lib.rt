@@ -1,0 +1,20 @@
+//! Schedules: what an adapter does otherwise than by default, and before which accesses of its driver.
+//!
+//! The tool `tools/races` finds schedules, stores them as texts, and plays them.
+#![tactic(auto)]
+
+mod deviation;
+mod deviation_words;
+mod printing;
+mod reader;
+#[cfg(test)]
+mod readme;
+mod schedule;
+mod schedule_error;
+mod spelling;
+mod table;
+mod words;
+
+pub use deviation::{AccessKind, Action, Deviation, Place, Site};
+pub use schedule::Schedule;
+pub use schedule_error::{Fault, ScheduleError};

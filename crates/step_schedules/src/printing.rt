@@ -1,0 +1,97 @@
+// Writes schedules as texts.
+
+ghost use Rattle.std.specs.Prelude.{◌≡◌, Some, map, string_bytes};
+ghost use Rattle.std.specs.Fmt.{WritesOnOk};
+ghost use Rattle.step_schedules.specs.Deviations.{deviation_read};
+ghost use Rattle.step_schedules.specs.Schedules.{schedule_read};
+ghost use Rattle.step_schedules.specs.Texts.{action_text, deviation_lines, deviation_text, kind_text, options_line};
+ghost use Rattle.step_schedules.specs.Texts.{schedule_text};
+
+use crate::deviation::{AccessKind, Action, Deviation, Site};
+use crate::schedule::Schedule;
+use std::fmt;
+
+impl Action {
+    /// Its words in a line.
+    fn words(self) -> &'static str
+        ensures { result.now ≡ action_text self }
+    {
+        match self {
+            Action::TxTake => "txtake",
+            Action::TxPut => "txput",
+            Action::RxData => "rxdata",
+            Action::RxDone => "rxdone",
+            Action::Tx => "tx",
+            Action::Rx => "rx",
+            Action::Arrive => "arrive",
+            Action::HoldEeprom => "hold eeprom",
+            Action::HoldPhy => "hold phy",
+        }
+    }
+}
+
+impl AccessKind {
+    /// Its word in a line.
+    fn word(self) -> &'static str
+        ensures { result.now ≡ kind_text self }
+    {
+        match self {
+            AccessKind::Read => "read",
+            AccessKind::Write => "write",
+        }
+    }
+}
+
+impl fmt::Display for Deviation {
+    ghost output = { λ deviation. Some (deviation_text (deviation_read deviation)) };
+
+    fn fmt<W: fmt::Write>(&self, f: &mut fmt::Formatter<W>) -> fmt::Result {
+        let action = self.action.words();
+        let kind = self.kind.word();
+        let name = self.name.as_str();
+        match self.site {
+            Site::Place(place) => {
+                let round = place.round;
+                let access = place.access;
+                write!(f, "{round}.{access} {action} before {kind} {name}")
+            }
+            Site::Number(number) => write!(f, "{action} before {kind} {name}#{number}"),
+        }
+    }
+}
+
+/// Writes the line of the server's options.
+fn write_options<W: fmt::Write>(options: &[String], f: &mut fmt::Formatter<W>) -> fmt::Result
+    ensures { WritesOnOk W.write_str_gives f.old result (options_line (map string_bytes options.now)) f.new }
+{
+    write!(f, "options")?;
+    for option in options {
+        write!(f, " {option}")?;
+    }
+    write!(f, "\n")
+}
+
+/// Writes the lines of deviations.
+fn write_deviations<W: fmt::Write>(
+    deviations: &[Deviation],
+    f: &mut fmt::Formatter<W>,
+) -> fmt::Result
+    ensures { WritesOnOk W.write_str_gives f.old result (deviation_lines (map deviation_read deviations.now)) f.new }
+{
+    for deviation in deviations {
+        write!(f, "{deviation}\n")?;
+    }
+    Ok(())
+}
+
+/// The text of a schedule, which [`Schedule::parse`] reads.
+impl fmt::Display for Schedule {
+    ghost output = { λ schedule. Some (schedule_text (schedule_read schedule)) };
+
+    fn fmt<W: fmt::Write>(&self, f: &mut fmt::Formatter<W>) -> fmt::Result {
+        if let Some(options) = &self.options {
+            write_options(options.as_slice(), f)?;
+        }
+        write_deviations(self.deviations.as_slice(), f)
+    }
+}

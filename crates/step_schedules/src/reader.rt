@@ -1,0 +1,117 @@
+// Reads a schedule line by line.
+
+ghost use Rattle.std.specs.Prelude.{◌≡◌, ◌<◌, length};
+ghost use Rattle.step_schedules.specs.Deviations.{deviation_read};
+ghost use Rattle.step_schedules.specs.Schedules as spec;
+ghost use Rattle.step_schedules.specs.Words.{texts};
+
+use crate::deviation::{Deviation, Place, Site};
+use crate::deviation_words::deviation_of;
+use crate::schedule::Schedule;
+use crate::schedule_error::{Fault, ScheduleError, Stop};
+use crate::words::{lines_in, strings_of, words_in};
+use std::alloc::Global;
+
+/// The part of a schedule that was read.
+#[derive(Drop)]
+pub(crate) struct Reader {
+    /// Its options and deviations.
+    pub(crate) schedule: Schedule,
+    /// The place of the last deviation that has one.
+    pub(crate) last: Place,
+}
+
+impl Reader {
+    /// Before the first line.
+    fn new(alloc: Global) -> Reader
+        ensures { spec.so_far result ≡ spec.nothing_read }
+    {
+        Reader {
+            schedule: Schedule {
+                options: None,
+                deviations: Vec::new(alloc),
+            },
+            last: Place {
+                round: 0,
+                access: 0,
+            },
+        }
+    }
+
+    /// Stores the words of a line `options`.
+    fn set_options(&mut self, alloc: Global, words: &[&str]) -> Result<(), Stop>
+        requires { 0 < length words.now }
+        ensures { spec.Becomes result (spec.after_options (texts words.now) (spec.so_far self.old))
+            (spec.so_far self.new) }
+    {
+        if self.schedule.options.is_some() || !self.schedule.deviations.is_empty() {
+            return Err(Stop::Fault(Fault::Options));
+        }
+        let (_, options) = words.split_at(1);
+        self.schedule.options = Some(strings_of(alloc, options)?);
+        Ok(())
+    }
+
+    /// Appends a deviation, whose place isn't before that of an earlier one.
+    fn push(&mut self, deviation: Deviation) -> Result<(), Stop>
+        ensures { spec.Becomes result (spec.after_deviation (deviation_read deviation) (spec.so_far self.old))
+            (spec.so_far self.new) }
+    {
+        if let Site::Place(place) = deviation.site {
+            if place.is_before(self.last) {
+                return Err(Stop::Fault(Fault::Order));
+            }
+            self.last = place;
+        }
+        self.schedule.deviations.push(deviation)?;
+        Ok(())
+    }
+
+    /// Reads the words of a line.
+    fn read_words(&mut self, alloc: Global, words: &[&str]) -> Result<(), Stop>
+        ensures { spec.Becomes result (spec.after_words (texts words.now) (spec.so_far self.old))
+            (spec.so_far self.new) }
+    {
+        let Some(first) = words.first() else {
+            return Ok(());
+        };
+        if *first == "options" {
+            return self.set_options(alloc, words);
+        }
+        let deviation = deviation_of(alloc, words)?;
+        self.push(deviation)
+    }
+
+    /// Reads a line.
+    fn read_line(&mut self, alloc: Global, line: &str) -> Result<(), Stop>
+        ensures { spec.Becomes result (spec.after_line line.now (spec.so_far self.old)) (spec.so_far self.new) }
+    {
+        let words = words_in(alloc, line)?;
+        self.read_words(alloc, words.as_slice())
+    }
+
+    /// Reads lines, of which the first has number 1.
+    fn read_lines(&mut self, alloc: Global, lines: &[&str]) -> Result<(), ScheduleError>
+        ensures { spec.AreLinesRead (spec.after_lines (texts lines.now) 1 (spec.so_far self.old)) result
+            (spec.so_far self.new) }
+    {
+        let mut number = 0;
+        for line in lines {
+            number += 1;
+            if let Err(stop) = self.read_line(alloc, line) {
+                return Err(stop.at(number));
+            }
+        }
+        Ok(())
+    }
+
+    /// Reads a text.
+    pub(crate) fn read(alloc: Global, text: &str) -> Result<Reader, ScheduleError>
+        ensures { spec.IsTextRead text.now result }
+    {
+        let lines = lines_in(alloc, text)?;
+        let mut reader = Reader::new(alloc);
+        reader.read_lines(alloc, lines.as_slice())?;
+        Ok(reader)
+    }
+}

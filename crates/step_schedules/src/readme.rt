@@ -1,0 +1,21 @@
+//! The code of README.md, word for word.
+
+use crate::{Fault, Schedule, ScheduleError};
+use std::test::Fail;
+
+#[test]
+fn the_code_of_the_readme(rt: HostRuntime) -> Result<(), Fail> {
+    let text = b"options --rxa 2\n7.26 rx before read ICR # late\ntx before write TDT#1\n";
+    let schedule = Schedule::parse(rt.alloc(), text)?;
+    assert_eq!(rt; schedule.deviations.len(), 2);
+    let written = schedule.to_string(rt.alloc())?;
+    let lines = "options --rxa 2\n7.26 rx before read ICR\ntx before write TDT#1\n";
+    assert_eq!(rt; written.as_str(), lines);
+    let unsorted = b"4.2 rx before read ICR\n4.1 rx before read RDT\n";
+    let error = ScheduleError::Line {
+        line: 2,
+        fault: Fault::Order,
+    };
+    assert_eq!(rt; Schedule::parse(rt.alloc(), unsorted).err(), Some(error));
+    Ok(())
+}

@@ -1,0 +1,42 @@
+// What words spell: numbers, places, and the names of accesses.
+
+ghost use Rattle.std.specs.Prelude.{◌≡◌};
+ghost use Rattle.step_schedules.specs.Spellings as spec;
+
+use crate::deviation::Place;
+
+/// The maximum number of digits of a number.
+const MOST_DIGITS: usize = 9;
+
+/// The number of 32 bits that decimal digits spell, if there is nothing else.
+fn digits_of(text: &str) -> Option<u32>
+    ensures { result ≡ spec.digits_in text.now }
+{
+    if text.starts_with('+') {
+        return None;
+    }
+    text.parse::<u32>().ok()
+}
+
+/// The number that one to nine decimal digits spell, if there is nothing else.
+pub(crate) fn number_of(text: &str) -> Option<u32>
+    ensures { result ≡ spec.number_in text.now }
+{
+    if text.len() > MOST_DIGITS {
+        return None;
+    }
+    digits_of(text)
+}
+
+/// The place that a word such as `4.6` spells. Accesses count from 1.
+pub(crate) fn place_of(word: &str) -> Option<Place>
+    ensures { result ≡ spec.place_in word.now }
+{
+    let (round, access) = word.split_once('.')?;
+    let round = number_of(round)?;
+    let access = number_of(access)?;
+    if access == 0 {
+        return None;
+    }
+    Some(Place { round, access })
+}
