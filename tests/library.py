@@ -183,7 +183,7 @@ def requests_of(seed):
     asked = [f"interleave {STEPS}"] if seed % 2 else []
     while len(asked) < REQUESTS:
         drawn.phase(40)
-        asked += [request for request, _ in drawn.take() if not request.startswith("log")]
+        asked += [request for request, _ in drawn.take() if not request.startswith(("log", "events"))]
         asked += ["line", "settle", f"read {MEMORY - 2:#x} 3", f"write {2**64 - 1:#x} 1 0x00", f"read {MEMORY:#x} 0"]
     return asked[:REQUESTS]
 
@@ -192,6 +192,7 @@ def same_answers(library):
     for seed in range(1, SEEDS + 1):
         inside = InProcess(library.shared, MEMORY)
         with Served(library.program, "--memory", str(MEMORY), "--seed", str(seed)) as served:
+            served.events(True)
             differ = next(((request, got, wanted) for request in requests_of(seed)
                            if (got := inside.reply(request, seed)) != (wanted := served.reply(request))), None)
             library.check(f"{REQUESTS} requests of seed {seed}, in process and served", differ, None)
@@ -205,6 +206,7 @@ def steps_by_schedule(library):
         inside, asked = InProcess(library.shared, MEMORY), requests_of(seed)
         frames, answers, wanted, scheduled = [], [], [], 0
         with Served(library.program, "--memory", str(MEMORY)) as served:
+            served.events(True)
             for request, later in zip(asked, [*asked[1:], ""]):
                 answer, put, _ = served.reply(request)
                 frames += put

@@ -1,7 +1,7 @@
 """Programs with an adapter that answer requests, one a line: QEMU with its e1000, and `nicbench serve`.
 
 Every emulator here has a memory that begins at address 0, and the adapter's registers at `registers`. A request is a line
-such as `readl 0xFEB00008`; docs/SERVE.md lists the requests and the answers.
+such as `readl 0xFEB00008`; docs/REQUESTS.md lists the requests and the answers.
 """
 
 import fcntl
@@ -30,8 +30,8 @@ class Ended(Exception):
 class Emulator:
     """A program that answers requests.
 
-    `ask` returns the answer to a request and the lines that came before it: `IRQ raise 0`, `IRQ lower 0` and
-    `frame HEX`, in order.
+    `ask` returns the answer to a request and the lines that came before it: `IRQ raise 0`, `IRQ lower 0`, `frame HEX`
+    and those of faults, in order.
     """
 
     # The most times that something is waited for, and the most frames that arrive at once
@@ -68,6 +68,12 @@ class Emulator:
         if not answer.startswith("OK 0x"):
             raise Ended(f"{request!r:.80} was answered by {answer!r:.80}")
         return int(answer[3:], 16), told
+
+    def expect_ok(self, request, *others):
+        """Sends a request whose answer must begin with OK, or with one of the other words."""
+        answer, _ = self.ask(request)
+        if not answer.startswith(("OK", *others)):
+            raise Ended(f"{request!r} was answered by {answer!r:.80}")
 
     def patience(self):
         """Turns of waiting for something that another thread of the emulator does: many at once, and then slower ones."""
@@ -129,6 +135,7 @@ class Serve(Emulator):
                 file.flush()
                 super().__init__(words + ["--image", file.name], registers)
                 self.ask("endianness")  # it has read the image when it answers
+        self.expect_ok("events on")
         if interleave:
             self.ask(f"interleave {interleave}")
 
@@ -155,11 +162,12 @@ class Serve(Emulator):
 class Other(Emulator):
     """A program that answers the requests of `nicbench serve`: `readl`, `writel`, `read`, `write`, `memset` and `arrive`.
 
-    It may not know `settle`, if its adapter does its work at once.
+    It may not know `settle`, if its adapter does its work at once, and not `events`, if it always reports frames.
     """
 
     def __init__(self, command, registers):
         super().__init__(shlex.split(command), registers)
+        self.expect_ok("events on", "FAIL")
 
     def arrive(self, frame):
         answer, told = self.ask(f"arrive {frame.hex()}")
