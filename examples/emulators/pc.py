@@ -1,0 +1,171 @@
+"""The adapter of `nicbench serve` in a machine as QEMU's `pc`: its wire, and the number of its interrupt."""
+
+import socket
+import struct
+import sys
+from collections import deque
+
+from emulators import Emulator
+from machine_options import DEVICE, Unusable
+
+# Rounds of steps after each access: the longest ring has 65,528 descriptors, so the adapter never has more work than this.
+ROUNDS = 65_535
+SHORTEST = 60
+# The adapter as QEMU has it before firmware runs: without an address, and without memory space. First the command register.
+UNCONFIGURED = [f"outl 0xCF8 {0x80000000 | DEVICE << 11 | offset:#x}\noutl 0xCFC 0" for offset in (0x04, 0x10, 0x3C)]
+# What a reset does before that: the registers are at some address, and CTRL.RST is written.
+RESET_ADDRESS, RESET = 0xFEB00000, 1 << 26
+RESETS = [f"outl 0xCF8 {0x80000000 | DEVICE << 11 | offset:#x}\noutl 0xCFC {value:#x}" for offset, value in ((0x10, RESET_ADDRESS), (0x04, 2))]
+# The ports of configuration, and their accesses
+ADDRESS_PORT, DATA_PORT, WIDTHS = 0xCF8, 0xCFC, {"b": 1, "w": 2, "l": 4}
+
+
+class Wire:
+    """The socket of a netdev. Each frame has four bytes of length before it, the highest first."""
+
+    def __init__(self, descriptor):
+        try:
+            self.socket = socket.socket(fileno=descriptor)
+        except OSError as error:
+            raise Unusable(f"-netdev socket,fd={descriptor}: {error}") from None
+        if self.socket.type != socket.SOCK_STREAM:
+            raise Unusable(f"-netdev socket,fd={descriptor}: only a stream")
+        self.rest = b""
+        self.is_open = True
+
+    def fileno(self):
+        return self.socket.fileno()
+
+    def frames(self):
+        """The complete frames that have come. Short ones are padded, as on a wire."""
+        try:
+            data = self.socket.recv(1 << 20, socket.MSG_DONTWAIT)
+        except BlockingIOError:
+            return []
+        self.is_open = bool(data)
+        self.rest += data
+        found = []
+        while len(self.rest) >= 4 and len(self.rest) - 4 >= (size := struct.unpack_from(">I", self.rest)[0]):
+            found.append(self.rest[4:4 + size].ljust(SHORTEST, b"\0"))
+            self.rest = self.rest[4 + size:]
+        return found
+
+    def send(self, frame):
+        self.socket.setblocking(True)
+        self.socket.sendall(struct.pack(">I", len(frame)) + frame)
+
+
+class Interrupts:
+    """The PCI bridge PIIX3, device 1, as far as it routes the interrupt of the adapter.
+
+    A client writes the number of an interrupt to the register of its PCI interrupt. For pin A of device 4 this is PIRQD.
+    """
+
+    SELECTED, ROUTES, ROUTE, OFF = 0x80000800, range(0x60, 0x64), 0x63, 0x80
+    # Its ids, its class and its header (PCI 2.2, 6.1)
+    FIRST = {0x00: 0x86, 0x01: 0x80, 0x02: 0x00, 0x03: 0x70, 0x0A: 0x01, 0x0B: 0x06, 0x0E: 0x80}
+
+    def __init__(self):
+        self.bytes = bytearray(self.FIRST.get(place, self.OFF if place in self.ROUTES else 0) for place in range(256))
+        self.address = 0
+        self.is_reported = self.is_asserted = False
+        self.told = None  # the number that was reported as raised
+
+    def port(self, request):
+        """The answer to an access of this device's configuration, or None if the request is something else."""
+        name, *words = request.split() or [""]
+        width = WIDTHS.get(name[-1:]) if name[:-1] in ("in", "out") else None
+        try:
+            port, *values = (int(word, 0) for word in words)
+        except ValueError:
+            return None
+        if name == "outl" and port == ADDRESS_PORT and len(values) == 1:
+            self.address = values[0] & 0x80FFFFFC
+        lane = port - DATA_PORT if width else -1
+        if not 0 <= lane <= 4 - (width or 0) or self.address & ~0xFF != self.SELECTED or len(values) != (name[:3] == "out"):
+            return None
+        place = (self.address & 0xFC) + lane
+        if not values:
+            return f"OK 0x{int.from_bytes(self.bytes[place:place + width], 'little'):016x}"
+        for at, byte in enumerate((values[0] & (1 << 8 * width) - 1).to_bytes(width, "little"), place):
+            if at in self.ROUTES:
+                self.bytes[at] = byte
+        return "OK"
+
+    def lines(self):
+        """The lines that report where the interrupt is raised now, if the client has asked for them."""
+        route = self.bytes[self.ROUTE]
+        number = route if self.is_asserted and route < 16 else None
+        if number == self.told or not self.is_reported:
+            return []
+        told, self.told = self.told, number
+        return [f"IRQ {level} {which}" for level, which in (("lower", told), ("raise", number)) if which is not None]
+
+
+class Pc(Emulator):
+    """The machine: it answers a client's requests, and the frames of its wire arrive."""
+
+    def __init__(self, program, options):
+        words = [program, "serve", "--memory", str(options.memory), "--address", options.address]
+        super().__init__(words, 0)
+        self.interrupts = Interrupts()
+        self.wire = Wire(options.wire) if options.wire is not None else None
+        self.waiting = deque()  # frames that wait while the adapter doesn't receive
+        self.configure(["events on", f"pace {ROUNDS}", *UNCONFIGURED])
+
+    def configure(self, requests):
+        for request in "\n".join(requests).split("\n"):
+            self.expect_ok(request)
+        self.expect_ok("outl 0xCF8 0")
+        self.interrupts.address = 0
+
+    def reset(self):
+        """Resets the adapter and the bridge, as the machine does. Returns the lines about the interrupt."""
+        self.configure([*RESETS, f"writel {RESET_ADDRESS:#x} {RESET:#x}", *UNCONFIGURED])
+        self.interrupts.is_asserted = False
+        self.interrupts.bytes[0x60:0x64] = bytes([Interrupts.OFF] * 4)
+        return self.interrupts.lines()
+
+    def hear(self, lines):
+        """Does what the server's lines say, and returns the lines for the client."""
+        told = []
+        for line in lines:
+            word, *rest = line.split()
+            if word == "IRQ":
+                self.interrupts.is_asserted = rest[0] == "raise"
+                told += self.interrupts.lines()
+            elif word == "frame" and self.wire and self.wire.is_open:
+                self.wire.send(bytes.fromhex(rest[0]))
+            elif word == "fault":
+                print(f"qemu-system-nicbench: {line}: docs/REQUESTS.md explains the reason", file=sys.stderr, flush=True)
+        return told
+
+    def request(self, line):
+        """The lines that a client gets for a request, the answer last."""
+        told = self.arrivals()
+        answer = self.interrupts.port(line)
+        if answer is None:
+            answer, lines = self.ask(line)
+            told += self.hear(lines)
+        if line.startswith("irq_intercept") and answer == "OK":
+            self.interrupts.is_reported = True
+        told += self.interrupts.lines()
+        if self.waiting and line.startswith(("write", "b64write", "memset", "out")):
+            told += self.deliver()
+        return [*told, answer]
+
+    def arrivals(self):
+        """Frames that have come on the wire arrive. Returns the lines that this causes."""
+        self.waiting += self.wire.frames() if self.wire and self.wire.is_open else []
+        return self.deliver()
+
+    def deliver(self):
+        """Frames arrive, in order. While the adapter doesn't receive, they wait, as QEMU's netdev lets them wait."""
+        told = []
+        while self.waiting:
+            fate, lines = self.ask(f"arrive {self.waiting[0].hex()}")
+            if fate == "OK off":
+                break
+            self.waiting.popleft()
+            told += self.hear(lines)
+        return told
