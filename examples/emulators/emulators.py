@@ -14,6 +14,8 @@ import tempfile
 import termios
 import time
 
+from qemu_clock import ROM, WORDS, VirtualTime
+
 # Bytes of memory that a driver may use from address 0 on. On QEMU's machine the memory of the screen begins there.
 MEMORY = 0xA0000
 # The Ethernet address of each adapter
@@ -186,29 +188,25 @@ class Qemu(Emulator):
 
     # The interrupt of the device, on the interrupt controller whose inputs are reported
     INTERRUPT = 11
-    # The clock of the machine (HPET): its control, its counter, the control of its first timer, and when that fires. Its ticks
-    # have 10 ns. `HELD` is a little more than the time for which reception is held back.
-    CLOCK, COUNTER, TIMER, ALARM, HELD = 0xFED00010, 0xFED000F0, 0xFED00100, 0xFED00108, 100_200_000
-    # The control of the clock: it runs, and its first timer is interrupt 0. The control of a timer: it interrupts once.
-    RUNS, INTERRUPTS = 3, 4
+    # The nanoseconds for which reception is held back after a write of RCTL, and some more
+    HELD = 1_002_000_000
 
     def __init__(self, program="qemu-system-x86_64", registers=0xE0000000):
         self.folder = tempfile.TemporaryDirectory()
         rom = os.path.join(self.folder.name, "rom")
         with open(rom, "wb") as file:
-            # The processor begins 16 bytes before the end of the ROM: cli; hlt
-            file.write(b"\xf4" * (0x20000 - 16) + b"\xfa\xf4\xeb\xfd" + b"\xf4" * 12)
+            file.write(ROM)
         self.wire, theirs = socket.socketpair(socket.AF_UNIX, socket.SOCK_DGRAM)
         self.wire.setblocking(False)
         words = shlex.split(program) + [
-            "-nodefaults", "-machine", "pc", "-accel", "tcg", "-icount", "shift=0,sleep=off", "-m", "64M",
-            "-bios", rom, "-display", "none", "-qtest", "stdio", "-qtest-log", "/dev/null",
+            "-nodefaults", "-machine", "pc", *WORDS, "-m", "64M", "-bios", rom, "-display", "none", "-qtest", "stdio", "-qtest-log", "/dev/null",
             "-netdev", f"dgram,id=net,local.type=fd,local.str={theirs.fileno()}",
             "-device", f"e1000,mac={ADDRESS},mitigation=off,netdev=net"]
         # It warns that no timer runs, which is so.
         with open(os.path.join(self.folder.name, "errors"), "wb") as errors:
             super().__init__(words, registers, pass_fds=[theirs.fileno()], stderr=errors)
         theirs.close()
+        self.time = VirtualTime(self.lines)
         self.set_up()
 
     def ask(self, request):
@@ -219,26 +217,13 @@ class Qemu(Emulator):
         if word.startswith("write"):
             told = self.sent() + told
             if int(rest[0], 0) == self.registers + RCTL:
-                told += self.pass_time()
+                told += self.interrupts(self.time.step(self.HELD))
         return answer, told
 
     def interrupts(self, lines):
         """The lines about the device's interrupt."""
         levels = [line.split()[1:] for line in lines if line.startswith("IRQ ")]
         return [f"IRQ {level} 0" for level, number in levels if number == str(self.INTERRUPT)]
-
-    def pass_time(self):
-        """Waits until the adapter receives again after a write of RCTL: until a timer has fired that was set to a later time.
-        The processor's thread runs the timers, and must get the time to do it. Returns the lines about the interrupt."""
-        now = int(self.lines(f"readq {self.COUNTER:#x}")[-1][3:], 16)
-        lines = self.lines(f"writeq {self.ALARM:#x} {now + self.HELD}") + self.lines(f"writeq {self.TIMER:#x} {self.INTERRUPTS}")
-        for _ in self.patience():
-            if "IRQ raise 0" in lines:
-                self.lines(f"writeq {self.TIMER:#x} 0")
-                return self.interrupts(lines)
-            time.sleep(0.0001)
-            lines += self.lines("inb 0x80")
-        raise Ended("time stands still")
 
     def turns(self):
         """Requests that do nothing, so that QEMU's main loop does what it has to do. Returns the lines about the interrupt."""
@@ -267,7 +252,6 @@ class Qemu(Emulator):
         self.configure(1, 0x60, self.INTERRUPT * 0x01010101)  # the four interrupts of the bus
         self.configure(device, 0x10, self.registers)
         self.configure(device, 4, 6)  # memory, bus master
-        self.lines(f"writeq {self.CLOCK:#x} {self.RUNS}")
         self.lines("irq_intercept_in ioapic")
 
     def arrive(self, frame):
