@@ -1,4 +1,4 @@
-"""A model of the PCI configuration space of the adapter, written from docs/REQUESTS.md: two I/O ports (PCI 2.2, 3.2.2.3.2), and 256 bytes."""
+"""A model of the adapter's I/O ports (PCI 2.2, 3.2.2.3.2) and configuration space, written from docs/REQUESTS.md."""
 
 ADDRESS_PORT, DATA_PORT, ENABLE = 0xCF8, 0xCFC, 1 << 31
 # The bits of the address that are stored
@@ -27,7 +27,7 @@ class Configuration:
     def place(self, port, width):
         """The offset in configuration space that an access of the data port goes to, or None."""
         lane, address = port - DATA_PORT, self.address
-        is_ours = address & ENABLE and address >> 16 & 0xFF == 0 and address >> 11 & 0x1F == DEVICE and address >> 8 & 7 == 0
+        is_ours = address & ENABLE and address >> 8 & 0xFFFF == DEVICE << 3  # bus 0, this device, function 0
         return (address & 0xFC) + lane if is_ours and 0 <= lane <= 4 - width else None
 
     def read(self, port, width, is_asserted):

@@ -13,8 +13,9 @@ EXAMPLES = os.path.join(TOP, "examples", "emulators")
 NICBENCH, TCG = os.path.join(EXAMPLES, "qemu-system-nicbench"), os.path.join(EXAMPLES, "qemu-system-tcg")
 # What a connection or an answer may take, in seconds.
 LIMIT = 60
-PASSED = "e1000_test: 131 checks passed\n"
-BASE, IMS, ICS, ICR, RCTL, RDLEN, RDT, TDLEN, TDT, TCTL = 0xE0000000, 0xD0, 0xC8, 0xC0, 0x100, 0x2808, 0x2818, 0x3808, 0x3818, 0x400
+PASSED = "e1000_test: 132 checks passed\n"
+BASE, ICR, ICS, IMS, RCTL, TCTL = 0xE0000000, 0x00C0, 0x00C8, 0x00D0, 0x0100, 0x0400
+RDLEN, RDT, TDBAL, TDLEN, TDT = 0x2808, 0x2818, 0x3800, 0x3808, 0x3818
 DEVICE, BRIDGE = 0x80002000, 0x80000800
 # The adapter at its address, and its interrupt routed to number 11
 SET_UP = [f"outl 0xcf8 {DEVICE + 0x10:#x}", f"outl 0xcfc {BASE:#x}", f"outl 0xcf8 {DEVICE + 4:#x}", "outl 0xcfc 6",
@@ -28,14 +29,16 @@ def compiled(bench):
         return None
     path = bench.path("e1000_test")
     words = ["cc", "-std=c99", "-D_DEFAULT_SOURCE", "-Wall", "-Wextra", "-Werror", "-O1", "-o", path]
-    ran = subprocess.run([*words, *(os.path.join(EXAMPLES, name) for name in ("e1000_test.c", "libqtest_client.c"))], capture_output=True, text=True)
+    ran = subprocess.run([*words, *(os.path.join(EXAMPLES, name) for name in ("e1000_test.c", "libqtest_client.c"))],
+        capture_output=True, text=True)
     bench.check("libqtest: the test is compiled", (ran.returncode, ran.stderr), (0, ""))
     return path if ran.returncode == 0 else None
 
 
 def runs(bench, test, program):
     """Runs the test on an adapter: its status, its output and its errors."""
-    ran = subprocess.run([test], env={**os.environ, "QTEST_QEMU_BINARY": program, "NICBENCH": bench.program}, capture_output=True, text=True, timeout=LIMIT)
+    ran = subprocess.run([test], env={**os.environ, "QTEST_QEMU_BINARY": program, "NICBENCH": bench.program},
+        capture_output=True, text=True, timeout=LIMIT)
     return ran.returncode, ran.stdout, ran.stderr
 
 
@@ -47,15 +50,18 @@ def test_on_both(bench, has_qemu):
     for options in "--rxa 2", "--link never":
         bench.put("other", f'#!/bin/sh\nshift\nexec "{bench.program}" serve {options} "$@"\n'.encode())
         os.chmod(bench.path("other"), 0o755)
-        ran = subprocess.run([test], env={**os.environ, "QTEST_QEMU_BINARY": NICBENCH, "NICBENCH": bench.path("other")}, capture_output=True, text=True)
-        wanted = (0, PASSED, "") if options == "--rxa 2" else (1, "", "e1000_test: check 8 failed: the link is up: 0x0\n")
-        bench.check(f"libqtest: the test on another adapter, {options}", (ran.returncode, ran.stdout, ran.stderr), wanted)
+        ran = subprocess.run([test], env={**os.environ, "QTEST_QEMU_BINARY": NICBENCH, "NICBENCH": bench.path("other")},
+            capture_output=True, text=True)
+        wanted = (0, PASSED, "") if options == "--rxa 2" else (1, "",
+            "e1000_test: check 9 failed: the link is up: 0x0\n")
+        bench.check(f"libqtest: the test on another adapter, {options}", (ran.returncode, ran.stdout, ran.stderr),
+            wanted)
     if has_qemu:
         bench.check("libqtest: the test on QEMU", runs(bench, test, TCG), (0, PASSED, ""))
 
 
 class Session:
-    """A client of `qemu-system-nicbench`, which it starts as libqtest does. The frames of its wire go over a pair of sockets."""
+    """A client of `qemu-system-nicbench`, which it starts as libqtest does. Frames go over a pair of sockets."""
 
     def __init__(self, bench, *words, has_wire=True):
         self.folder = tempfile.TemporaryDirectory()
@@ -63,7 +69,8 @@ class Session:
         self.wire, theirs = socket.socketpair()
         wire = ["-netdev", f"socket,id=n0,fd={theirs.fileno()}", "-device", "e1000,netdev=n0"] if has_wire else []
         self.process = subprocess.Popen(
-            [NICBENCH, "-qtest", f"unix:{self.path('qtest')}", "-chardev", f"socket,path={self.path('qmp')},id=char0", "-mon", "chardev=char0,mode=control",
+            [NICBENCH, "-qtest", f"unix:{self.path('qtest')}", "-chardev", f"socket,path={self.path('qmp')},id=char0",
+            "-mon", "chardev=char0,mode=control",
              "-display", "none", *wire, *words, "-accel", "qtest"], pass_fds=[theirs.fileno()], stderr=subprocess.PIPE,
             env={**os.environ, "NICBENCH": bench.program})
         theirs.close()
@@ -121,14 +128,20 @@ def monitored(bench):
     bench.check("qmp: the handshake", session.command('{"execute": "qmp_capabilities"}\n'), {"return": {}})
     bench.check("qmp: a mark", session.command('{ "execute" : "query-status", "id": 7 }'), {
         "return": {"status": "running", "running": True, "singlestep": False}, "id": 7})
-    bench.check("qmp: the machines", [one["name"] for one in session.command('{"execute": "query-machines"}')["return"]], ["pc"])
-    bench.check("qmp: the devices", session.command('{"execute": "qom-list-types", "arguments": {"implements": "pci-device"}}')["return"][0]["name"], "e1000")
-    bench.check("qmp: an unknown command", session.command('{"execute": "device_add"}\n')["error"]["class"], "CommandNotFound")
-    bench.check("qmp: a register before the reset", session.ask(*SET_UP, f"writel {BASE + RDLEN:#x} 128", f"readl {BASE + RDLEN:#x}")[-1], "OK 0x0000000000000080")
+    bench.check("qmp: the machines",
+        [one["name"] for one in session.command('{"execute": "query-machines"}')["return"]], ["pc"])
+    bench.check("qmp: the devices",
+        session.command('{"execute": "qom-list-types", "arguments": {"implements": "pci-device"}}')["return"],
+        [{"name": "e1000", "parent": "pci-device"}])
+    bench.check("qmp: an unknown command", session.command('{"execute": "device_add"}\n')["error"]["class"],
+        "CommandNotFound")
+    bench.check("qmp: a register before the reset", session.ask(*SET_UP, f"writel {BASE + RDLEN:#x} 128",
+        f"readl {BASE + RDLEN:#x}")[-1], "OK 0x0000000000000080")
     bench.check("qmp: a reset", session.command('{"execute": "system_reset"}'), {"return": {}})
     bench.check("qmp: the event of a reset", json.loads(session.messages.readline())["event"], "RESET")
     bench.check("qmp: no address after a reset", session.ask(f"readl {BASE + RDLEN:#x}"), ["ERR address"])
-    bench.check("qmp: the registers after a reset", session.ask(*SET_UP, f"readl {BASE + RDLEN:#x}"), ["OK 0x0000000000000000"])
+    bench.check("qmp: the registers after a reset", session.ask(*SET_UP, f"readl {BASE + RDLEN:#x}"),
+        ["OK 0x0000000000000000"])
     bench.check("qmp: quit", session.command('{"execute": "quit"}'), {"return": {}})
     bench.check("qmp: the event of the end", json.loads(session.messages.readline())["event"], "SHUTDOWN")
     bench.check("qmp: the end", session.closed(), (0, ""))
@@ -138,24 +151,31 @@ def unconfigured(bench):
     """The adapter before it is set up is as QEMU has it before firmware runs; memory has the size of -m."""
     session = Session(bench, "-m", "size=2M", has_wire=False)
     for name, requests, wanted in [
-        ("no registers", ["readl 0xFEB00008"], ["ERR address"]), ("no address port", ["inl 0xCF8"], ["OK 0x0000000000000000"]),
+        ("no registers", ["readl 0xFEB00008"], ["ERR address"]),
+        ("no address port", ["inl 0xCF8"], ["OK 0x0000000000000000"]),
         ("the command", [f"outl 0xCF8 {DEVICE + 4:#x}", "inw 0xCFC"], ["OK 0x0000000000000000"]),
-        ("BAR0", [f"outl 0xCF8 {DEVICE + 16:#x}", "inl 0xCFC"], ["OK 0x0000000000000000"]), ("the end of memory", ["readb 0x1FFFFF"], ["OK 0x0000000000000000"]),
-        ("past the end of memory", ["readb 0x200000"], ["ERR address"]), ("the bridge", [f"outl 0xCF8 {BRIDGE:#x}", "inl 0xCFC"], ["OK 0x0000000070008086"]),
-        ("its routes", [f"outl 0xCF8 {BRIDGE + 0x60:#x}", "inl 0xCFC"], ["OK 0x0000000080808080"]), ("the default address", [*SET_UP, f"readl {BASE + 0x5400:#x}"], [
-            "OK 0x0000000012005452"]), ("a number in another form", ["outl 0xCF8 x"], ["ERR value"]), ("an unknown request", ["set_irq_in a b 0 1"], ["FAIL unknown"])]:
+        ("BAR0", [f"outl 0xCF8 {DEVICE + 16:#x}", "inl 0xCFC"], ["OK 0x0000000000000000"]),
+        ("the end of memory", ["readb 0x1FFFFF"], ["OK 0x0000000000000000"]),
+        ("past the end of memory", ["readb 0x200000"], ["ERR address"]),
+        ("the bridge", [f"outl 0xCF8 {BRIDGE:#x}", "inl 0xCFC"], ["OK 0x0000000070008086"]),
+        ("its routes", [f"outl 0xCF8 {BRIDGE + 0x60:#x}", "inl 0xCFC"], ["OK 0x0000000080808080"]),
+        ("the default address", [*SET_UP, f"readl {BASE + 0x5400:#x}"], [
+            "OK 0x0000000012005452"]), ("a number in another form", ["outl 0xCF8 x"], ["ERR value"]),
+            ("an unknown request", ["set_irq_in a b 0 1"], ["FAIL unknown"])]:
         bench.check(f"qemu-system-nicbench: {name}", session.ask(*requests), wanted)
     bench.check("qemu-system-nicbench: a signal ends it", session.end(), (0, ""))
 
 
 def interrupts(bench):
-    """The interrupt line has the number that the client has routed it to, and is reported only after a request for it."""
+    """The interrupt line has the number that the client has routed it to. It is reported after a request for it."""
     session = Session(bench)
     session.ask(*SET_UP, f"writel {BASE + IMS:#x} 0x80")
-    bench.check("interrupts: not reported at the start", session.ask(f"writel {BASE + ICS:#x} 0x80", f"readl {BASE + ICR:#x}"), ["OK 0x0000000000000080"])
+    bench.check("interrupts: not reported at the start", session.ask(f"writel {BASE + ICS:#x} 0x80",
+        f"readl {BASE + ICR:#x}"), ["OK 0x0000000000000080"])
     session.ask("irq_intercept_in ioapic")
     bench.check("interrupts: raised", session.ask(f"writel {BASE + ICS:#x} 0x80"), ["IRQ raise 11", "OK"])
-    bench.check("interrupts: another route", session.ask(f"outl 0xcf8 {BRIDGE + 0x60:#x}", "outb 0xcff 5"), ["IRQ lower 11", "IRQ raise 5", "OK"])
+    bench.check("interrupts: another route", session.ask(f"outl 0xcf8 {BRIDGE + 0x60:#x}", "outb 0xcff 5"),
+        ["IRQ lower 11", "IRQ raise 5", "OK"])
     bench.check("interrupts: what was routed", session.ask("inl 0xcfc"), ["OK 0x00000000050b0b0b"])
     bench.check("interrupts: no route", session.ask("outb 0xcff 0x80"), ["IRQ lower 5", "OK"])
     bench.check("interrupts: a route again", session.ask("outw 0xcfe 0x0a00"), ["IRQ raise 10", "OK"])
@@ -170,48 +190,68 @@ def frames(bench):
     session, frame = Session(bench, "-qtest-log", bench.path("log")), bytes.fromhex("ffffffffffff020000000009080045")
     session.put(frame)
     session.put(frame + bytes(100))
-    begun = [*SET_UP, "irq_intercept_in ioapic", f"writel {BASE + IMS:#x} 0x81", f"writel {BASE + RDLEN:#x} 128", f"writel {BASE + RDT:#x} 7",
+    begun = [*SET_UP, "irq_intercept_in ioapic", f"writel {BASE + IMS:#x} 0x81", f"writel {BASE + RDLEN:#x} 128",
+        f"writel {BASE + RDT:#x} 7",
              "writeq 0 0x1000", "writeq 16 0x2000"]
     session.ask(*begun)
-    bench.check("frames: they wait until reception is on", session.ask(f"writel {BASE + RCTL:#x} 0x04008002"), ["IRQ raise 11", "OK"])
+    bench.check("frames: they wait until reception is on", session.ask(f"writel {BASE + RCTL:#x} 0x04008002"),
+        ["IRQ raise 11", "OK"])
     bench.check("frames: a short one is padded", session.ask("readq 8"), ["OK 0x000000030000003c"])
     bench.check("frames: the next one", session.ask("readq 24"), ["OK 0x0000000300000073"])
     bench.check("frames: the bytes", session.ask("read 0x2000 16"), [f"OK 0x{frame.hex()}00"])
     session.put(frame + bytes(60))
-    bench.check("frames: one that came before a request has arrived", session.ask("readq 40"), ["OK 0x000000030000004b"])
-    sent = [f"readl {BASE + ICR:#x}", "memset 0x8000 60 7", "write 0x4000 16 0x00800000000000003c00000900000000", f"writel {BASE + 0x3800:#x} 0x4000",
+    bench.check("frames: one that came before a request has arrived", session.ask("readq 40"),
+        ["OK 0x000000030000004b"])
+    sent = [f"readl {BASE + ICR:#x}", "memset 0x8000 60 7", "write 0x4000 16 0x00800000000000003c00000900000000",
+        f"writel {BASE + TDBAL:#x} 0x4000",
             f"writel {BASE + TDLEN:#x} 128", f"writel {BASE + TCTL:#x} 2", f"writel {BASE + TDT:#x} 1"]
     bench.check("frames: one is sent", session.ask(*sent), ["IRQ raise 11", "OK"])
-    bench.check("frames: one is on the wire", session.wire.recv(64, socket.MSG_WAITALL), struct.pack(">I", 60) + b"\7" * 60)
+    bench.check("frames: one is on the wire", session.wire.recv(64, socket.MSG_WAITALL),
+        struct.pack(">I", 60) + b"\7" * 60)
     session.wire.close()
     bench.check("frames: the wire is closed", session.ask(f"writel {BASE + TDT:#x} 2"), ["OK"])
-    bench.check("frames: a fault is reported", session.end(), (0, "qemu-system-nicbench: fault tx 1 eop: docs/REQUESTS.md explains the reason\n"))
+    bench.check("frames: a fault is reported", session.end(),
+        (0, "qemu-system-nicbench: fault tx 1 eop: docs/REQUESTS.md explains the reason\n"))
     log = [line.split("] ", 1) for line in (bench.get("log") or b"").decode().splitlines()]
-    bench.check("frames: the log", [(row[0][:4], row[1]) for row in log[-2:]], [("[R +", f"writel {BASE + TDT:#x} 2"), ("[S +", "OK")])
+    bench.check("frames: the log", [(row[0][:4], row[1]) for row in log[-2:]],
+        [("[R +", f"writel {BASE + TDT:#x} 2"), ("[S +", "OK")])
 
 
 REFUSED = [
-    (["-device", "virtio-net-pci"], "-device virtio-net-pci: only e1000"), (["-device", "e1000", "-device", "e1000"], "-device e1000: there is one adapter"),
-    (["-device", "e1000,addr=5"], "-device e1000,addr=5: only addr=4"), (["-device", "e1000,netdev=x"], "-device e1000,netdev=x: there is no such -netdev before it"),
-    (["-netdev", "user,id=n0"], "-netdev user,id=n0: only socket,id=NAME,fd=N, or hubport, to which nothing is connected"),
-    (["-netdev", "socket,id=n0,listen=:1"], "-netdev socket,id=n0,listen=:1: only socket,id=NAME,fd=N, or hubport, to which nothing is connected"),
-    (["-netdev", "socket,id=n0,fd=200", "-device", "e1000,netdev=n0"], "-netdev socket,fd=200: [Errno 9] Bad file descriptor"),
-    (["-accel", "kvm"], "-accel kvm: there is no processor; only qtest"), (["-machine", "q35"], "-machine q35: only pc, whose interrupt controllers are those here"),
-    (["-m", "x"], "-m x: this isn't a size"), (["-kernel", "linux"], "-kernel: there is an adapter alone, without a guest"), (["disk.img"], "disk.img: there is no disk"),
+    (["-device", "virtio-net-pci"], "-device virtio-net-pci: only e1000"),
+    (["-device", "e1000", "-device", "e1000"], "-device e1000: there is one adapter"),
+    (["-device", "e1000,addr=5"], "-device e1000,addr=5: only addr=4"),
+    (["-device", "e1000,netdev=x"], "-device e1000,netdev=x: there is no such -netdev before it"),
+    (["-netdev", "user,id=n0"],
+    "-netdev user,id=n0: only socket,id=NAME,fd=N, or hubport, to which nothing is connected"),
+    (["-netdev", "socket,id=n0,listen=:1"],
+    "-netdev socket,id=n0,listen=:1: only socket,id=NAME,fd=N, or hubport, to which nothing is connected"),
+    (["-netdev", "socket,id=n0,fd=200", "-device", "e1000,netdev=n0"],
+    "-netdev socket,fd=200: [Errno 9] Bad file descriptor"),
+    (["-accel", "kvm"], "-accel kvm: there is no processor; only qtest"),
+    (["-machine", "q35"], "-machine q35: only pc, whose interrupt controllers are those here"),
+    (["-m", "x"], "-m x: this isn't a size"), (["-kernel", "linux"],
+    "-kernel: there is an adapter alone, without a guest"), (["disk.img"], "disk.img: there is no disk"),
     (["-nic", "user"], "-nic user: use -netdev and -device"), (["-qtest", "stdio"], "-qtest stdio: only unix:PATH"), (
-        ["-mon", "chardev=c,mode=readline"], "-mon chardev=c,mode=readline: only mode=control over -chardev socket,path=PATH")]
-IGNORED = ["-nodefaults", "-no-reboot", "-machine", "pc-i440fx-7.2,accel=qtest", "-M", "none", "-name", "x", "-audio", "none", "-net", "none", "-smp", "2", "-netdev",
+        ["-mon", "chardev=c,mode=readline"],
+        "-mon chardev=c,mode=readline: only mode=control over -chardev socket,path=PATH")]
+IGNORED = ["-nodefaults", "-no-reboot", "-machine", "pc-i440fx-7.2,accel=qtest", "-M", "none", "-name", "x", "-audio",
+    "none", "-net", "none", "-smp", "2", "-netdev",
            "hubport,id=h0,hubid=0", "-object", "rng-builtin,id=r0", "-m", "1M"]
 
 
 def options(bench):
     """Options that don't matter are ignored, others are refused."""
     nowhere = ["-qtest", f"unix:{bench.path('nowhere')}"]
-    for words, told in [*((["-display", "none", *words, *nowhere], told) for words, told in REFUSED), (["-m", "1M"], "-qtest unix:PATH is missing: the client must listen there"),
+    for words, told in [*((["-display", "none", *words, *nowhere], told) for words, told in REFUSED),
+        (["-m", "1M"], "-qtest unix:PATH is missing: the client must listen there"),
                         (nowhere, "[Errno 2] No such file or directory")]:
-        ran = subprocess.run([NICBENCH, *words], env={**os.environ, "NICBENCH": bench.program}, capture_output=True, text=True, timeout=LIMIT)
-        bench.check(f"options: {words[:-2] or words}", (ran.returncode, ran.stdout, ran.stderr), (1, "", f"qemu-system-nicbench: {told}\n"))
-    ran = subprocess.run([NICBENCH, *nowhere], env={**os.environ, "NICBENCH": bench.path("none")}, capture_output=True, text=True, timeout=LIMIT)
+        ran = subprocess.run([NICBENCH, *words], env={**os.environ, "NICBENCH": bench.program}, capture_output=True,
+            text=True, timeout=LIMIT)
+        bench.check(f"options: {words[:-2] or words}", (ran.returncode, ran.stdout, ran.stderr),
+            (1, "", f"qemu-system-nicbench: {told}\n"))
+    ran = subprocess.run([NICBENCH, *nowhere], env={**os.environ, "NICBENCH": bench.path("none")}, capture_output=True,
+        text=True, timeout=LIMIT)
     bench.check("options: no program", (ran.returncode, ran.stderr), (
         1, f"qemu-system-nicbench: there is no program {bench.path('none')}: set NICBENCH, or run ./nicbench once\n"))
     session = Session(bench, *IGNORED)

@@ -86,9 +86,12 @@ FORMS = {
     "b64read": [ADDRESS, size_in], "b64write": [ADDRESS, size_in, base64_in], "endianness": [],
     **{f"in{letter}": [at_most(LAST_PORT)] for letter in PORT_WIDTHS},
     **{f"out{letter}": [at_most(LAST_PORT), at_most((1 << 8 * size) - 1)] for letter, size in PORT_WIDTHS.items()},
-    "step": [one_of(*KINDS)], "arrive": [hex_in], "offer": [hex_in], "settle": [], "line": [], "frames": [], "faults": [],
-    "interleave": [at_most(MOST_STEPS)], "pace": [at_most(MOST_ROUNDS)], "clock_step": [NANOSECONDS], "clock_set": [NANOSECONDS],
-    "log": [one_of("on", "off")], "events": [one_of("on", "off")], "wire": [one_of("full", "free")], "save": [], "restore": [],
+    "step": [one_of(*KINDS)], "arrive": [hex_in], "offer": [hex_in], "settle": [], "line": [], "frames": [],
+    "faults": [],
+    "interleave": [at_most(MOST_STEPS)], "pace": [at_most(MOST_ROUNDS)], "clock_step": [NANOSECONDS],
+    "clock_set": [NANOSECONDS],
+    "log": [one_of("on", "off")], "events": [one_of("on", "off")], "wire": [one_of("full", "free")], "save": [],
+    "restore": [],
     "irq_intercept_in": [str], "irq_intercept_out": [str],
 }
 # The values that stand for words that may be missing

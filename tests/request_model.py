@@ -165,21 +165,24 @@ class Model:
 
     def does_question(self, name, _):
         """What changes nothing. No frame was put on the wire, and no engine had a fault."""
-        return [], {"endianness": "OK little", "line": number(int(self.is_asserted())), "frames": "OK", "faults": "OK"}[name]
+        return [], {"endianness": "OK little", "line": number(int(self.is_asserted())), "frames": "OK",
+            "faults": "OK"}[name]
 
     def does(self, name, values):
         """The lines before the answer of a request, and the answer."""
         for names, does in [
-            (("endianness", "line", "frames", "faults"), self.does_question), (("clock_step", "clock_set"), self.does_clock),
+            (("endianness", "line", "frames", "faults"), self.does_question),
+            (("clock_step", "clock_set"), self.does_clock),
             (("step", "settle", "arrive", "offer"), self.does_adapter), (("save", "restore"), self.does_state),
-            (("log", "events", "pace", "interleave", "wire", "irq_intercept_in", "irq_intercept_out"), self.does_setting),
+            (("log", "events", "pace", "interleave", "wire", "irq_intercept_in", "irq_intercept_out"),
+            self.does_setting),
         ]:
             if name in names:
                 return does(name, values)
         return self.does_port(name, values) if name.startswith(("in", "out")) else self.does_access(name, values)
 
     def answer(self, line):
-        """The bytes of the lines up to the answer to this line, and whether it is refused; the model is then unchanged."""
+        """The bytes of the lines up to the answer, and whether the line is refused; the model is then unchanged."""
         try:
             told, answer = self.does(*request_in(line))
         except Refused as refused:

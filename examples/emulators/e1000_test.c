@@ -1,4 +1,5 @@
-/* A test of an 82540EM with QEMU's libqtest: sets the PCI device up, sends and receives frames, and follows the interrupt line.
+/* A test of an 82540EM with QEMU's libqtest: sets the PCI device up, sends and receives frames, and follows the interrupt
+ * line.
  *
  * It runs on QEMU's e1000 and on `nicbench serve`:
  *
@@ -6,7 +7,8 @@
  *   QTEST_QEMU_BINARY=./qemu-system-nicbench ./e1000_test
  *   QTEST_QEMU_BINARY=./qemu-system-tcg ./e1000_test
  *
- * Use QEMU itself instead of qemu-system-tcg if it has the accelerator qtest. Compile with -DLIBQTEST='"libqtest.h"' for QEMU's libqtest.
+ * Use QEMU itself instead of qemu-system-tcg if it has the accelerator qtest. Compile with -DLIBQTEST='"libqtest.h"' for
+ * QEMU's libqtest.
  */
 #ifdef LIBQTEST
 #include LIBQTEST
@@ -27,13 +29,14 @@ enum { ID = 0x00, COMMAND = 0x04, BAR0 = 0x10, ROUTES = 0x60, MEMORY_AND_MASTER 
 static const uint32_t REGISTERS = 0xE0000000, INTERRUPT_STATUS = 1 << 19;
 
 /* Registers and their bits */
-enum { CTRL = 0x0000, STATUS = 0x0008, EERD = 0x0014, MDIC = 0x0020, ICR = 0x00C0, IMS = 0x00D0, IMC = 0x00D8, RCTL = 0x0100, TCTL = 0x0400 };
-enum { RDBAL = 0x2800, RDBAH = 0x2804, RDLEN = 0x2808, RDH = 0x2810, RDT = 0x2818, TDBAL = 0x3800, TDBAH = 0x3804, TDLEN = 0x3808, TDH = 0x3810 };
-enum { TDT = 0x3818, RAL = 0x5400, RAH = 0x5404 };
+enum { CTRL = 0x0000, STATUS = 0x0008, EERD = 0x0014, MDIC = 0x0020, ICR = 0x00C0, IMS = 0x00D0, IMC = 0x00D8 };
+enum { RCTL = 0x0100, TCTL = 0x0400, RAL = 0x5400, RAH = 0x5404 };
+enum { RDBAL = 0x2800, RDBAH = 0x2804, RDLEN = 0x2808, RDH = 0x2810, RDT = 0x2818, TDBAL = 0x3800, TDH = 0x3810, TDT = 0x3818 };
 enum { LINK_UP = 2, TXDW = 1, RXT0 = 0x80, DONE = 1, END_OF_PACKET = 2, READY = 1 << 28 };
 
 /* Memory: two rings of eight descriptors, and their buffers. The tests of QEMU use memory from 1 MiB on. */
-enum { SLOTS = 8, RECEIVE_RING = 0x100000, TRANSMIT_RING = 0x101000, RECEIVE_BUFFERS = 0x110000, TRANSMIT_BUFFERS = 0x120000, BUFFER = 2048 };
+enum { SLOTS = 8, BUFFER = 2048, RECEIVE_RING = 0x100000, TRANSMIT_RING = 0x101000 };
+enum { RECEIVE_BUFFERS = 0x110000, TRANSMIT_BUFFERS = 0x120000 };
 enum { SECOND = 1000000000, PATIENCE = 1000, LONGEST = 1518 };
 
 static const uint8_t OURS[6] = { 0x52, 0x54, 0, 0x12, 0x34, 0x57 };
@@ -114,15 +117,20 @@ static uint32_t make_frame(uint8_t *frame, const uint8_t *to, unsigned number, u
 
 static void set_up_device(void)
 {
-    check(read_configuration(DEVICE, ID) == 0x100E8086, "the id of the device", read_configuration(DEVICE, ID));
+    uint32_t word = read_configuration(DEVICE, ID);
+
+    check(word == 0x100E8086, "the id of the device", word);
     write_configuration(DEVICE, BAR0, 0xFFFFFFFF);
-    check(read_configuration(DEVICE, BAR0) == 0xFFFE0000, "the size of the registers", read_configuration(DEVICE, BAR0));
+    word = read_configuration(DEVICE, BAR0);
+    check(word == 0xFFFE0000, "the size of the registers", word);
     write_configuration(DEVICE, BAR0, REGISTERS);
-    check(read_configuration(DEVICE, BAR0) == REGISTERS, "the address of the registers", read_configuration(DEVICE, BAR0));
+    word = read_configuration(DEVICE, BAR0);
+    check(word == REGISTERS, "the address of the registers", word);
     write_configuration(DEVICE, COMMAND, MEMORY_AND_MASTER);
-    qtest_outl(machine, ADDRESS_PORT, 0x80000000 | DEVICE << 11 | COMMAND);
-    check(qtest_inw(machine, DATA_PORT) == MEMORY_AND_MASTER, "the command register", qtest_inw(machine, DATA_PORT));
-    check(!(read_configuration(DEVICE, COMMAND) & INTERRUPT_STATUS), "no interrupt in the status", 0);
+    word = read_configuration(DEVICE, COMMAND);
+    check((word & 0xFFFF) == MEMORY_AND_MASTER, "the command register", word);
+    check(qtest_inw(machine, DATA_PORT) == MEMORY_AND_MASTER, "the command register as a word", 0);
+    check(!(word & INTERRUPT_STATUS), "no interrupt in the status", word);
     write_configuration(BRIDGE, ROUTES, INTERRUPT * 0x01010101);
     qtest_irq_intercept_in(machine, "ioapic");
     check(!is_interrupted(), "no interrupt at the start", 0);
@@ -149,7 +157,7 @@ static void read_eeprom(void)
     }
     check(sum == 0xBABA, "the checksum of the EEPROM", sum);
     for (unsigned number = 0; number < 3; number++)
-        check(word[number] == (OURS[2 * number] | OURS[2 * number + 1] << 8), "the address in the EEPROM", word[number]);
+        check(word[number] == (OURS[2 * number] | OURS[2 * number + 1] << 8), "the EEPROM's address", word[number]);
     check(read_register(RAL) == 0x12005452, "RAL", read_register(RAL));
     check(read_register(RAH) == 0x80005734, "RAH", read_register(RAH));
 }

@@ -1,5 +1,5 @@
-/* libqtest_client.h describes the calls. The client listens on two sockets, starts the program, and accepts its connections: one for
- * requests, and one for QEMU's machine protocol (QMP), over which only the handshake goes. */
+/* libqtest_client.h describes the calls. The client listens on two sockets, starts the program, and accepts its connections:
+ * one for requests, and one for QEMU's machine protocol (QMP), over which only the handshake goes. */
 #define _POSIX_C_SOURCE 200809L
 #include "libqtest_client.h"
 

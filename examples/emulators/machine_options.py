@@ -10,8 +10,10 @@ MODELS, DEVICE = ("e1000", "e1000-82540em"), 4
 MACHINES = ("pc", "none")
 # Options that need a processor, a disk or a guest
 NEEDS = {
-    "bios": "firmware", "kernel": "a guest", "initrd": "a guest", "drive": "a disk", "blockdev": "a disk", "hda": "a disk", "hdb": "a disk",
-    "hdc": "a disk", "hdd": "a disk", "cdrom": "a disk", "fda": "a disk", "fdb": "a disk", "incoming": "migration", "loadvm": "snapshots",
+    "bios": "firmware", "kernel": "a guest", "initrd": "a guest", "drive": "a disk", "blockdev": "a disk",
+    "hda": "a disk", "hdb": "a disk",
+    "hdc": "a disk", "hdd": "a disk", "cdrom": "a disk", "fda": "a disk", "fdb": "a disk", "incoming": "migration",
+    "loadvm": "snapshots",
     "daemonize": "a process in the background", "readconfig": "a file of options"}
 
 
@@ -20,7 +22,7 @@ class Unusable(Exception):
 
 
 def pairs_of(words):
-    """The options of a command line with their values. A word that doesn't begin with - is the value of the option before it."""
+    """The options of a command line with their values. A word that doesn't begin with - belongs to the one before."""
     pairs = []
     for word in words:
         if word.startswith("-") and len(word) > 1:
@@ -66,8 +68,10 @@ class MachineOptions:
         if name in NEEDS:
             raise Unusable(f"-{name}: there is an adapter alone, without {NEEDS[name]}")
         readers = {
-            "qtest": self.read_client, "qtest-log": self.read_log, "chardev": self.read_socket, "mon": self.read_monitor, "m": self.read_memory,
-            "machine": self.read_machine, "M": self.read_machine, "accel": self.read_accelerator, "device": self.read_device,
+            "qtest": self.read_client, "qtest-log": self.read_log, "chardev": self.read_socket,
+            "mon": self.read_monitor, "m": self.read_memory,
+            "machine": self.read_machine, "M": self.read_machine, "accel": self.read_accelerator,
+            "device": self.read_device,
             "netdev": self.read_netdev, "nic": self.read_network, "net": self.read_network}
         if name in readers:
             readers[name](value or "")
@@ -112,7 +116,8 @@ class MachineOptions:
 
     def read_netdev(self, value):
         found = properties_of(value, "type")
-        if found["type"] not in ("socket", "hubport") or (found["type"] == "socket" and not found.get("fd", "").isdecimal()):
+        if found["type"] not in ("socket", "hubport") or (found["type"] == "socket" and not found.get("fd",
+            "").isdecimal()):
             raise Unusable(f"-netdev {value}: only socket,id=NAME,fd=N, or hubport, to which nothing is connected")
         self.netdevs[found.get("id")] = found.get("fd")
 

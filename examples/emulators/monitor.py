@@ -4,12 +4,15 @@ import json
 import socket
 import time
 
-GREETING = {"QMP": {"version": {"qemu": {"major": 7, "minor": 2, "micro": 0}, "package": "nicbench"}, "capabilities": []}}
+GREETING = {"QMP": {"version": {"qemu": {"major": 7, "minor": 2, "micro": 0}, "package": "nicbench"},
+    "capabilities": []}}
 # What queries return
 RETURNS = {
-    "qmp_capabilities": {}, "quit": {}, "system_reset": {}, "query-version": GREETING["QMP"]["version"], "query-name": {},
+    "qmp_capabilities": {}, "quit": {}, "system_reset": {}, "query-version": GREETING["QMP"]["version"],
+    "query-name": {},
     "query-status": {"status": "running", "running": True, "singlestep": False},
-    "query-machines": [{"name": "pc", "is-default": True, "cpu-max": 1, "hotpluggable-cpus": False, "numa-mem-supported": False, "deprecated": False}],
+    "query-machines": [{"name": "pc", "is-default": True, "cpu-max": 1, "hotpluggable-cpus": False,
+    "numa-mem-supported": False, "deprecated": False}],
     "qom-list-types": [{"name": "e1000", "parent": "pci-device"}]}
 RETURNS["query-commands"] = [{"name": name} for name in RETURNS]
 
@@ -58,4 +61,5 @@ class Monitor:
     def tell(self, event, **data):
         """Reports an event."""
         now = time.time()
-        self.send({"event": event, "data": data, "timestamp": {"seconds": int(now), "microseconds": int(now % 1 * 1_000_000)}})
+        self.send({"event": event, "data": data, "timestamp": {"seconds": int(now),
+            "microseconds": int(now % 1 * 1_000_000)}})

@@ -8,16 +8,16 @@ from collections import deque
 from emulators import Emulator
 from machine_options import DEVICE, Unusable
 
-# Rounds of steps after each access: the longest ring has 65,528 descriptors, so the adapter never has more work than this.
+# Rounds of steps after each access: a ring has at most 65,528 descriptors, so the adapter has no more work than this.
 ROUNDS = 65_535
 SHORTEST = 60
-# The adapter as QEMU has it before firmware runs: without an address, and without memory space. First the command register.
-UNCONFIGURED = [f"outl 0xCF8 {0x80000000 | DEVICE << 11 | offset:#x}\noutl 0xCFC 0" for offset in (0x04, 0x10, 0x3C)]
-# What a reset does before that: the registers are at some address, and CTRL.RST is written.
-RESET_ADDRESS, RESET = 0xFEB00000, 1 << 26
-RESETS = [f"outl 0xCF8 {0x80000000 | DEVICE << 11 | offset:#x}\noutl 0xCFC {value:#x}" for offset, value in ((0x10, RESET_ADDRESS), (0x04, 2))]
-# The ports of configuration, and their accesses
+# Ports of PCI configuration (PCI 2.2, 3.2.2.3.2), the widths of their accesses, and offsets in configuration space
 ADDRESS_PORT, DATA_PORT, WIDTHS = 0xCF8, 0xCFC, {"b": 1, "w": 2, "l": 4}
+COMMAND, BAR0, LINE, MEMORY_SPACE = 0x04, 0x10, 0x3C, 2
+# The adapter as QEMU has it before firmware runs, without memory space and without an address
+UNCONFIGURED = [(COMMAND, 0), (BAR0, 0), (LINE, 0)]
+# Where the registers are while the machine is reset, and the value of CTRL that resets the adapter
+RESET_ADDRESS, RESET = 0xFEB00000, 1 << 26
 
 
 class Wire:
@@ -56,9 +56,9 @@ class Wire:
 
 
 class Interrupts:
-    """The PCI bridge PIIX3, device 1, as far as it routes the interrupt of the adapter.
+    """The PCI bridge of the machine (PIIX3, device 1), as far as it routes the interrupt of the adapter.
 
-    A client writes the number of an interrupt to the register of its PCI interrupt. For pin A of device 4 this is PIRQD.
+    A client writes the number of an interrupt to a register of the bridge. For pin A of device 4, this is PIRQD.
     """
 
     SELECTED, ROUTES, ROUTE, OFF = 0x80000800, range(0x60, 0x64), 0x63, 0x80
@@ -66,31 +66,41 @@ class Interrupts:
     FIRST = {0x00: 0x86, 0x01: 0x80, 0x02: 0x00, 0x03: 0x70, 0x0A: 0x01, 0x0B: 0x06, 0x0E: 0x80}
 
     def __init__(self):
+        self.is_reported = False  # whether the client has asked for it
+        self.told = None  # the number that was reported as raised
+        self.reset()
+
+    def reset(self):
         self.bytes = bytearray(self.FIRST.get(place, self.OFF if place in self.ROUTES else 0) for place in range(256))
         self.address = 0
-        self.is_reported = self.is_asserted = False
-        self.told = None  # the number that was reported as raised
+        self.is_asserted = False
 
     def port(self, request):
-        """The answer to an access of this device's configuration, or None if the request is something else."""
+        """The answer to an access of the bridge's configuration, or None if the request is something else."""
         name, *words = request.split() or [""]
-        width = WIDTHS.get(name[-1:]) if name[:-1] in ("in", "out") else None
+        width = WIDTHS.get(name[-1:])
+        if width is None or (name[:-1], len(words)) not in (("in", 1), ("out", 2)):
+            return None
         try:
             port, *values = (int(word, 0) for word in words)
         except ValueError:
             return None
-        if name == "outl" and port == ADDRESS_PORT and len(values) == 1:
+        if (name, port) == ("outl", ADDRESS_PORT):
             self.address = values[0] & 0x80FFFFFC
-        lane = port - DATA_PORT if width else -1
-        if not 0 <= lane <= 4 - (width or 0) or self.address & ~0xFF != self.SELECTED or len(values) != (name[:3] == "out"):
+        lane = port - DATA_PORT
+        if not 0 <= lane <= 4 - width or self.address & ~0xFF != self.SELECTED:
             return None
         place = (self.address & 0xFC) + lane
-        if not values:
-            return f"OK 0x{int.from_bytes(self.bytes[place:place + width], 'little'):016x}"
-        for at, byte in enumerate((values[0] & (1 << 8 * width) - 1).to_bytes(width, "little"), place):
+        if values:
+            self.write(place, (values[0] & (1 << 8 * width) - 1).to_bytes(width, "little"))
+            return "OK"
+        return f"OK 0x{int.from_bytes(self.bytes[place:place + width], 'little'):016x}"
+
+    def write(self, place, data):
+        """Writes bytes of configuration. Only those of the routes are stored."""
+        for at, byte in enumerate(data, place):
             if at in self.ROUTES:
                 self.bytes[at] = byte
-        return "OK"
 
     def lines(self):
         """The lines that report where the interrupt is raised now, if the client has asked for them."""
@@ -111,19 +121,23 @@ class Pc(Emulator):
         self.interrupts = Interrupts()
         self.wire = Wire(options.wire) if options.wire is not None else None
         self.waiting = deque()  # frames that wait while the adapter doesn't receive
-        self.configure(["events on", f"pace {ROUNDS}", *UNCONFIGURED])
+        self.expect_ok("events on")
+        self.expect_ok(f"pace {ROUNDS}")
+        self.configure(UNCONFIGURED)
 
-    def configure(self, requests):
-        for request in "\n".join(requests).split("\n"):
-            self.expect_ok(request)
-        self.expect_ok("outl 0xCF8 0")
-        self.interrupts.address = 0
+    def configure(self, pairs):
+        """Writes double words of the adapter's configuration, each pair an offset and a value."""
+        for offset, value in pairs:
+            self.expect_ok(f"outl {ADDRESS_PORT:#x} {0x80000000 | DEVICE << 11 | offset:#x}")
+            self.expect_ok(f"outl {DATA_PORT:#x} {value:#x}")
+        self.expect_ok(f"outl {ADDRESS_PORT:#x} 0")
 
     def reset(self):
         """Resets the adapter and the bridge, as the machine does. Returns the lines about the interrupt."""
-        self.configure([*RESETS, f"writel {RESET_ADDRESS:#x} {RESET:#x}", *UNCONFIGURED])
-        self.interrupts.is_asserted = False
-        self.interrupts.bytes[0x60:0x64] = bytes([Interrupts.OFF] * 4)
+        self.configure([(BAR0, RESET_ADDRESS), (COMMAND, MEMORY_SPACE)])
+        self.expect_ok(f"writel {RESET_ADDRESS:#x} {RESET:#x}")
+        self.configure(UNCONFIGURED)
+        self.interrupts.reset()
         return self.interrupts.lines()
 
     def hear(self, lines):
@@ -137,7 +151,8 @@ class Pc(Emulator):
             elif word == "frame" and self.wire and self.wire.is_open:
                 self.wire.send(bytes.fromhex(rest[0]))
             elif word == "fault":
-                print(f"qemu-system-nicbench: {line}: docs/REQUESTS.md explains the reason", file=sys.stderr, flush=True)
+                print(f"qemu-system-nicbench: {line}: docs/REQUESTS.md explains the reason", file=sys.stderr,
+                    flush=True)
         return told
 
     def request(self, line):
