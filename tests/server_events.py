@@ -1,13 +1,19 @@
 """Frames and faults that the server reports as they happen or keeps, rounds after accesses, and the clock."""
 
 import base64
+import os
+import sys
 
 from adapter_sessions import (
     BASE, BROADCAST, CTRL, EERD, ICR, ICS, IMS, MDIC, OFFERED, PBA, RCTL, RDBAH, RDBAL, RDH, RDLEN, RDT, RECEIVE, RESET,
     RING, SLOTS, STATUS,
     TDBAH, TDBAL, TDH, TDLEN, TDT, arrives, loads, reads, slot, steps, stores, writes)
 from request_forms import KINDS
-from server import ONE, ZERO, number
+from server import ONE, ZERO, lines, number
+from server_pages import TOP
+
+sys.path.append(os.path.join(TOP, "examples", "drivers"))
+from random_requests import RandomRequests, Words  # noqa: E402
 
 EVENTS, QUIET = ("events on", "OK"), ("events off", "OK")
 LOG = ("log on", "OK")
@@ -92,7 +98,8 @@ def stops(server, engine, kind, begun, name, reason, index, changed):
     stopped = [("restore", "OK"), EVENTS]
     server.talks(f"faults: {engine}: {name}", [
         *begun, *changed, ("faults", "OK"), ("save", "OK"), (f"step {kind}", "OK fault"),
-        (f"step {kind}", "OK nothing"), ("faults", f"OK {words}"), ("faults", "OK"), *stopped, (f"step {kind}", f"fault {words}\nOK fault"),
+        (f"step {kind}", "OK nothing"), ("faults", f"OK {words}"), ("faults", "OK"), *stopped,
+        (f"step {kind}", f"fault {words}\nOK fault"),
         ("faults", "OK"), *stopped, LOG, (f"step {kind}", f"# step {kind} -> fault\nfault {words}\nOK fault"),
         (f"step {kind}", f"# step {kind} -> nothing\nOK nothing")])
 
@@ -160,6 +167,32 @@ def paced(server):
         ("pace 65536", "ERR value"), ("pace", "ERR count"), ("pace x", "ERR value")])
 
 
+class Memory:
+    """What the requests of a hostile driver have to know of memory."""
+
+    def __init__(self, size):
+        self.memory, self.registers = bytes(size), {}
+
+
+def replayed(server):
+    """Rounds are the steps that the log has: played by requests, they do the same."""
+    for seed, count, steps_before in (1, 1, 0), (2, 3, 0), (3, 65_535, 0), (5, 2, 3):
+        drawn, asked = RandomRequests(Words(seed), Memory(8192)), []
+        while len(asked) < 2000:
+            drawn.phase(60)
+            asked += [request for request, _ in drawn.take() if not request.startswith("read 0 ")]
+        begun = ["events on", "log on"]
+        asked = [*begun, f"interleave {steps_before}", f"pace {count}", *asked, "clock_step 1"]
+        ran = server.serve(lines(asked), "--memory", "8192")
+        told = [text for text in ran[1].decode().splitlines() if not text.startswith("OK")]
+        again = [text.removeprefix("# ").partition(" ->")[0] for text in told if text.startswith("#")]
+        ran = server.serve(lines([*begun, *again]), "--memory", "8192")
+        repeated = [text for text in ran[1].decode().splitlines() if not text.startswith("OK")]
+        kinds = {text.split()[0] for text in told}
+        server.check(f"pace: seed {seed}: what happens", kinds >= {"#", "IRQ", "frame", "fault"}, True)
+        server.check(f"pace: seed {seed}: played again by steps", (ran[0], repeated == told, ran[2]), (0, True, b""))
+
+
 def clocks(server):
     """The clock moves only by requests, which play rounds first, as `settle` does."""
     last = (1 << 64) - 1
@@ -224,5 +257,5 @@ def compatible(server):
 
 
 def all_cases(server):
-    for part in [frames, faults, paced, clocks, restored, compatible]:
+    for part in [frames, faults, paced, replayed, clocks, restored, compatible]:
         part(server)
