@@ -9,6 +9,7 @@ and valgrind. For a compiler or tool that isn't there, the script prints a line.
 and the exit status is 1 if anything failed.
 """
 
+import base64
 import os
 import re
 import shutil
@@ -134,6 +135,8 @@ class InProcess:
             return "0x" + self.load(int(words[0], 0), int(words[1], 0)).hex()
         if verb == "write":
             return self.store(int(words[0], 0), bytes.fromhex(words[2][2:]))
+        if verb == "b64write":
+            return self.store(int(words[0], 0), base64.b64decode(words[2]))
         if verb == "memset":
             return self.store(int(words[0], 0), bytes([int(words[2], 0)]) * int(words[1], 0))
         if verb in ("settle", "line"):
