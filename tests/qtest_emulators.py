@@ -28,7 +28,7 @@ def compiled(bench):
         print("not played, because there is no cc: the test with libqtest")
         return None
     path = bench.path("e1000_test")
-    words = ["cc", "-std=c99", "-D_DEFAULT_SOURCE", "-Wall", "-Wextra", "-Werror", "-O1", "-o", path]
+    words = ["cc", "-std=c99", "-Wall", "-Wextra", "-Werror", "-O1", "-o", path]
     ran = subprocess.run([*words, *(os.path.join(EXAMPLES, name) for name in ("e1000_test.c", "libqtest_client.c"))],
         capture_output=True, text=True)
     bench.check("libqtest: the test is compiled", (ran.returncode, ran.stderr), (0, ""))
@@ -56,6 +56,8 @@ def test_on_both(bench, has_qemu):
             "e1000_test: check 9 failed: the link is up: 0x0\n")
         bench.check(f"libqtest: the test on another adapter, {options}", (ran.returncode, ran.stdout, ran.stderr),
             wanted)
+    bench.check("libqtest: a program that ends at once", runs(bench, test, "false"), (
+        1, "", "libqtest_client: the program didn't connect to its socket: qtest\n"))
     if has_qemu:
         bench.check("libqtest: the test on QEMU", runs(bench, test, TCG), (0, PASSED, ""))
 

@@ -13,6 +13,7 @@
 #ifdef LIBQTEST
 #include LIBQTEST
 #else
+#define _DEFAULT_SOURCE
 #include "libqtest_client.h"
 #endif
 

@@ -1,6 +1,6 @@
 /* libqtest_client.h describes the calls. The client listens on two sockets, starts the program, and accepts its connections:
  * one for requests, and one for QEMU's machine protocol (QMP), over which only the handshake goes. */
-#define _POSIX_C_SOURCE 200809L
+#define _DEFAULT_SOURCE
 #include "libqtest_client.h"
 
 #include <inttypes.h>
@@ -21,7 +21,7 @@ struct QTestState {
     FILE *requests, *answers, *monitor;
     pid_t program;
     bool raised[INTERRUPTS];
-    char folder[32], line[LONGEST];
+    char folder[80], line[LONGEST];
 };
 
 static pid_t started; /* the program that ends with the test */
@@ -39,7 +39,7 @@ static void fail(const char *what, const char *detail)
 static int listen_at(const char *folder, const char *name)
 {
     struct sockaddr_un address = { .sun_family = AF_UNIX };
-    struct timeval limit = { .tv_sec = SECONDS };
+    struct timeval limit = { .tv_sec = 1 };
     int end = socket(AF_UNIX, SOCK_STREAM | SOCK_CLOEXEC, 0);
 
     snprintf(address.sun_path, sizeof address.sun_path, "%s/%s", folder, name);
@@ -49,13 +49,17 @@ static int listen_at(const char *folder, const char *name)
     return end;
 }
 
+/* Waits until the program has connected to a socket. */
 static int accept_at(int end, const char *folder, const char *name)
 {
-    char path[64];
-    int connection = accept(end, NULL, NULL);
+    char path[sizeof(struct sockaddr_un)];
+    int connection = -1;
 
-    if (connection < 0)
-        fail("the program didn't connect to its socket", name);
+    for (unsigned turn = 0; connection < 0; turn++) {
+        connection = accept(end, NULL, NULL);
+        if (connection < 0 && (turn == SECONDS || waitpid(started, NULL, WNOHANG) != 0))
+            fail("the program didn't connect to its socket", name);
+    }
     close(end);
     snprintf(path, sizeof path, "%s/%s", folder, name);
     unlink(path);
@@ -89,11 +93,15 @@ static void expect_message(QTestState *s, const char *text)
 
 QTestState *qtest_init(const char *extra_args)
 {
+    const char *temporary = getenv("TMPDIR");
     QTestState *s = calloc(1, sizeof *s);
     int requests, monitor, end;
 
-    if (!s || !mkdtemp(strcpy(s->folder, "/tmp/qtest-XXXXXX")))
-        fail("no folder", "/tmp/qtest-XXXXXX");
+    if (!s)
+        fail("no memory", "for a test");
+    snprintf(s->folder, sizeof s->folder, "%s/qtest-XXXXXX", temporary ? temporary : P_tmpdir);
+    if (!mkdtemp(s->folder))
+        fail("no folder", s->folder);
     requests = listen_at(s->folder, "qtest");
     monitor = listen_at(s->folder, "qmp");
     start(s, extra_args);
