@@ -14,8 +14,8 @@ NICBENCH, TCG = os.path.join(EXAMPLES, "qemu-system-nicbench"), os.path.join(EXA
 # What a connection or an answer may take, in seconds.
 LIMIT = 60
 PASSED = "e1000_test: 132 checks passed\n"
-BASE, ICR, ICS, IMS, RCTL, TCTL = 0xE0000000, 0x00C0, 0x00C8, 0x00D0, 0x0100, 0x0400
-RDLEN, RDT, TDBAL, TDLEN, TDT = 0x2808, 0x2818, 0x3800, 0x3808, 0x3818
+BASE, ICR, ICS, IMS, IMC, RCTL, TCTL = 0xE0000000, 0x00C0, 0x00C8, 0x00D0, 0x00D8, 0x0100, 0x0400
+RDLEN, RDT, TDBAL, TDLEN, TDT, GPTC = 0x2808, 0x2818, 0x3800, 0x3808, 0x3818, 0x4080
 DEVICE, BRIDGE = 0x80002000, 0x80000800
 # The adapter at its address, and its interrupt routed to number 11
 SET_UP = [f"outl 0xcf8 {DEVICE + 0x10:#x}", f"outl 0xcfc {BASE:#x}", f"outl 0xcf8 {DEVICE + 4:#x}", "outl 0xcfc 6",
@@ -107,6 +107,13 @@ class Session:
 
     def put(self, frame):
         self.wire.sendall(struct.pack(">I", len(frame)) + frame)
+
+    def taken(self, size):
+        """The next bytes on the wire."""
+        data = b""
+        while len(data) < size and (more := self.wire.recv(size - len(data))):
+            data += more
+        return data
 
     def end(self):
         """Ends the program by a signal, as libqtest does. Returns its status and its errors."""
@@ -208,8 +215,17 @@ def frames(bench):
         f"writel {BASE + TDBAL:#x} 0x4000",
             f"writel {BASE + TDLEN:#x} 128", f"writel {BASE + TCTL:#x} 2", f"writel {BASE + TDT:#x} 1"]
     bench.check("frames: one is sent", session.ask(*sent), ["IRQ raise 11", "OK"])
-    bench.check("frames: one is on the wire", session.wire.recv(64, socket.MSG_WAITALL),
+    bench.check("frames: one is on the wire", session.taken(64),
         struct.pack(">I", 60) + b"\7" * 60)
+    # The ring's eight descriptors are sent again and again, while nobody reads the wire: it takes some, and the rest waits.
+    ring = [f"write 0x4000 128 0x{'00800000000000003c00000900000000' * 8}",
+            *(f"writel {BASE + TDT:#x} {tail}" for tail in (0, 7, 6))]
+    session.ask(f"writel {BASE + IMC:#x} 0xffff", *ring * 1000)
+    count = int(session.ask(f"readl {BASE + GPTC:#x}")[0][3:], 16)
+    bench.check("frames: many are sent before the first is read", count > 14_000, True)
+    one = struct.pack(">I", 60) + b"\7" * 60
+    bench.check("frames: many are on the wire", session.taken(64 * (count - 1)) == one * (count - 1), True)
+    session.ask(f"writel {BASE + TDT:#x} 0", "write 0x4010 16 0x00000000000000000000000000000000")
     session.wire.close()
     bench.check("frames: the wire is closed", session.ask(f"writel {BASE + TDT:#x} 2"), ["OK"])
     bench.check("frames: a fault is reported", session.end(),

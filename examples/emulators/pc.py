@@ -10,7 +10,8 @@ from machine_options import DEVICE, Unusable
 
 # Rounds of steps after each access: a ring has at most 65,528 descriptors, so the adapter has no more work than this.
 ROUNDS = 65_535
-SHORTEST = 60
+# The lengths of frames in bytes: of the shortest on a wire, and of the longest over a socket of QEMU
+SHORTEST, MOST = 60, 69_632
 # Ports of PCI configuration (PCI 2.2, 3.2.2.3.2), the widths of their accesses, and offsets in configuration space
 ADDRESS_PORT, DATA_PORT, WIDTHS = 0xCF8, 0xCFC, {"b": 1, "w": 2, "l": 4}
 COMMAND, BAR0, LINE, MEMORY_SPACE = 0x04, 0x10, 0x3C, 2
@@ -30,29 +31,54 @@ class Wire:
             raise Unusable(f"-netdev socket,fd={descriptor}: {error}") from None
         if self.socket.type != socket.SOCK_STREAM:
             raise Unusable(f"-netdev socket,fd={descriptor}: only a stream")
-        self.rest = b""
+        self.socket.setblocking(False)
+        self.come, self.gone = b"", b""  # bytes that have come, and that wait to be sent
         self.is_open = True
 
     def fileno(self):
         return self.socket.fileno()
 
+    def receive(self):
+        """Takes the bytes that have come."""
+        try:
+            data = self.socket.recv(1 << 20)
+            self.is_open = bool(data)
+            self.come += data
+        except BlockingIOError:
+            pass
+        except ConnectionResetError:
+            self.is_open = False
+
     def frames(self):
         """The complete frames that have come. Short ones are padded, as on a wire."""
-        try:
-            data = self.socket.recv(1 << 20, socket.MSG_DONTWAIT)
-        except BlockingIOError:
-            return []
-        self.is_open = bool(data)
-        self.rest += data
+        if self.is_open:
+            self.receive()
         found = []
-        while len(self.rest) >= 4 and len(self.rest) - 4 >= (size := struct.unpack_from(">I", self.rest)[0]):
-            found.append(self.rest[4:4 + size].ljust(SHORTEST, b"\0"))
-            self.rest = self.rest[4 + size:]
+        while len(self.come) >= 4 and len(self.come) - 4 >= (size := self.size()):
+            found.append(self.come[4:4 + size].ljust(SHORTEST, b"\0"))
+            self.come = self.come[4 + size:]
         return found
 
+    def size(self):
+        """The length of the next frame."""
+        size, = struct.unpack_from(">I", self.come)
+        if size > MOST:
+            raise Unusable(f"the wire has a frame of {size} bytes: QEMU takes at most {MOST}")
+        return size
+
     def send(self, frame):
-        self.socket.setblocking(True)
-        self.socket.sendall(struct.pack(">I", len(frame)) + frame)
+        self.gone += struct.pack(">I", len(frame)) + frame
+        self.flush()
+
+    def flush(self):
+        """Sends what the socket takes now. The rest waits."""
+        try:
+            while self.gone and self.is_open:
+                self.gone = self.gone[self.socket.send(self.gone):]
+        except BlockingIOError:
+            pass
+        except (BrokenPipeError, ConnectionResetError):
+            self.is_open = False
 
 
 class Interrupts:
@@ -148,7 +174,7 @@ class Pc(Emulator):
             if word == "IRQ":
                 self.interrupts.is_asserted = rest[0] == "raise"
                 told += self.interrupts.lines()
-            elif word == "frame" and self.wire and self.wire.is_open:
+            elif word == "frame" and self.wire:
                 self.wire.send(bytes.fromhex(rest[0]))
             elif word == "fault":
                 print(f"qemu-system-nicbench: {line}: docs/REQUESTS.md explains the reason", file=sys.stderr,
@@ -171,7 +197,7 @@ class Pc(Emulator):
 
     def arrivals(self):
         """Frames that have come on the wire arrive. Returns the lines that this causes."""
-        self.waiting += self.wire.frames() if self.wire and self.wire.is_open else []
+        self.waiting += self.wire.frames() if self.wire else []
         return self.deliver()
 
     def deliver(self):
