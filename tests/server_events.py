@@ -22,6 +22,8 @@ FRAME = "07" * 60
 ONE_SLOT = [slot(60, 0x0B), writes(TDT, 1)]
 PUT = f"frame {FRAME}\n"
 NOTHING = [f"# step {kind} -> nothing" for kind in KINDS]
+# Three slots whose frames aren't offered yet
+THREE = [*RING, *(slot(60, 0x0B, number_of) for number_of in range(3)), EVENTS]
 
 
 def told(*texts):
@@ -132,15 +134,29 @@ def paced(server):
         *SLOTS, *OFFERED, writes(IMS, 0x80), ("pace 1", "OK"), (f"arrive {BROADCAST}", "IRQ raise 0\nOK stored"),
         loads(0x4800, BROADCAST),
         reads(ICR, 0x80, "IRQ lower 0\n")])
-    three = [*RING, *(slot(60, 0x0B, number_of) for number_of in range(3)), EVENTS]
     server.talks("pace: at most two rounds", [
-        *three, ("pace 2", "OK"), writes(TDT, 3, PUT * 2), ("line", ZERO), ("step phy", "OK nothing"),
+        *THREE, ("pace 2", "OK"), writes(TDT, 3, PUT * 2), ("line", ZERO), ("step phy", "OK nothing"),
         ("readb 0x100000", "ERR address"), reads(TDH, 2, PUT), reads(TDH, 3)])
     server.talks("pace: a round for each access", [
-        *three, writes(TDT, 3), ("pace 1", "OK"), ("b64read 0 1", PUT + "OK AA=="), ("b64write 0 1 AQ==", PUT + "OK"),
+        *THREE, writes(TDT, 3), ("pace 1", "OK"), ("b64read 0 1", PUT + "OK AA=="), ("b64write 0 1 AQ==", PUT + "OK"),
         ("memset 1 1 1", PUT + "OK"), ("readb 0", ONE)])
+    server.talks("pace: the EEPROM and the PHY answer at once", [
+        ("pace 3", "OK"), writes(EERD, 1), reads(EERD, 0x00020010), writes(MDIC, 0x04201200), reads(MDIC, 0x14201200),
+        writes(CTRL, 0x40), reads(STATUS, 0x83)])
+    server.talks("pace: a reset is an access, too", [
+        *THREE, writes(TDT, 3), ("pace 1", "OK"), writes(CTRL, RESET), ("frames", "OK"), reads(TDT, 0)])
+    server.talks("pace: a fault of an engine", [
+        *RING, EVENTS, ("pace 1", "OK"), writes(TDT, 8, "fault tx 0 ring\n"), ("readb 0", ZERO)])
+    server.talks("pace: a frame that is missed", [
+        writes(PBA, 2), writes(RCTL, RECEIVE), ("pace 7", "OK"), arrives("stored"), arrives("missed"), ("settle", ZERO),
+        ("pace 65535", "OK"),
+        ("pace 65536", "ERR value"), ("pace", "ERR count"), ("pace x", "ERR value")])
+
+
+def not_paced(server):
+    """No round comes after other requests, after a round that does nothing, and on a full wire."""
     server.talks("pace: not after other requests", [
-        *three, writes(TDT, 3), ("pace 65535", "OK"), ("endianness", "OK little"), ("frames", "OK"),
+        *THREE, writes(TDT, 3), ("pace 65535", "OK"), ("endianness", "OK little"), ("frames", "OK"),
         ("inl 0xCF8", ZERO), ("outl 0xCF8 0", "OK"),
         ("offer 00", "OK"), ("log off", "OK"), ("wire free", "OK"), ("save", "OK"), ("restore", "OK"),
         ("irq_intercept_in x", "OK"), ("pace 0", "OK"),
@@ -151,20 +167,9 @@ def paced(server):
         LOG, ("pace 5", "OK"), ("readl 0", told("# readl 0", *NOTHING, ZERO)),
         ("arrive 00", told("# arrive 00", *NOTHING, "OK off"))])
     server.talks("pace: a full wire ends the rounds", [
-        *three, writes(TDT, 1), ("wire full", "OK"), ("pace 9", "OK"), LOG,
+        *THREE, writes(TDT, 1), ("wire full", "OK"), ("pace 9", "OK"), LOG,
         ("readb 0", told("# readb 0", "# step txtake -> took", "# step txput -> wirefull", *NOTHING[2:], NOTHING[0],
         "# step txput -> wirefull", *NOTHING[2:], ZERO))])
-    server.talks("pace: the EEPROM and the PHY answer at once", [
-        ("pace 3", "OK"), writes(EERD, 1), reads(EERD, 0x00020010), writes(MDIC, 0x04201200), reads(MDIC, 0x14201200),
-        writes(CTRL, 0x40), reads(STATUS, 0x83)])
-    server.talks("pace: a reset is an access, too", [
-        *three, writes(TDT, 3), ("pace 1", "OK"), writes(CTRL, RESET), ("frames", "OK"), reads(TDT, 0)])
-    server.talks("pace: a fault of an engine", [
-        *RING, EVENTS, ("pace 1", "OK"), writes(TDT, 8, "fault tx 0 ring\n"), ("readb 0", ZERO)])
-    server.talks("pace: a frame that is missed", [
-        writes(PBA, 2), writes(RCTL, RECEIVE), ("pace 7", "OK"), arrives("stored"), arrives("missed"), ("settle", ZERO),
-        ("pace 65535", "OK"),
-        ("pace 65536", "ERR value"), ("pace", "ERR count"), ("pace x", "ERR value")])
 
 
 class Memory:
@@ -257,5 +262,5 @@ def compatible(server):
 
 
 def all_cases(server):
-    for part in [frames, faults, paced, replayed, clocks, restored, compatible]:
+    for part in [frames, faults, paced, not_paced, replayed, clocks, restored, compatible]:
         part(server)
