@@ -43,6 +43,9 @@ def runs(bench, test, program):
 
 
 def test_on_both(bench, has_qemu):
+    with open(os.path.join(TOP, "docs", "EMULATORS.md")) as file:
+        shown = f"$ QTEST_QEMU_BINARY=./qemu-system-nicbench ./e1000_test\n{PASSED}"
+        bench.check("libqtest: the page shows what the test prints", shown in file.read(), True)
     test = compiled(bench)
     if test is None:
         return

@@ -95,7 +95,7 @@ RECEIVE_FAULTS = [
 
 
 def stops(server, engine, kind, begun, name, reason, index, changed):
-    """An engine stops for this reason, which is kept, or reported behind the step in the log."""
+    """An engine stops for this reason, which is kept, or reported after the step's line of the log."""
     words = f"{engine} {index} {reason}"
     stopped = [("restore", "OK"), EVENTS]
     server.talks(f"faults: {engine}: {name}", [
