@@ -35,11 +35,18 @@ class CheckedAdapter(Adapter):
     """An adapter whose answers are checked one by one, and must come in time."""
 
     def __init__(self, program, size, limit):
-        # In a session of its own, the server doesn't end at Ctrl-C.
-        super().__init__(program, "--memory", str(size), start_new_session=True)
+        super().__init__(program, "--memory", str(size))
         self.limit = limit
         self.awaited = None  # the request whose answer is read next
         self.checks = iter([])
+
+    def start(self, *words):
+        """Starts the server. Ctrl-C is blocked meanwhile, and so for the server, which doesn't end at it."""
+        signal.pthread_sigmask(signal.SIG_BLOCK, {signal.SIGINT})
+        try:
+            return super().start(*words)
+        finally:
+            signal.pthread_sigmask(signal.SIG_UNBLOCK, {signal.SIGINT})
 
     def ask_checked(self, pairs):
         """Sends requests, and calls the check of each with its answer and the events that came before the answer."""
