@@ -17,9 +17,9 @@ class Refused(Exception):
 class Adapter:
     """Registers and memory, an interrupt line, and a wire."""
 
-    def __init__(self, program, *options, **settings):
-        """Starts the server with these options of `serve`, and these settings of its process."""
-        self.requests, self.answers = self.start(program, options, settings)
+    def __init__(self, program, *options):
+        """Starts the server with these options of `serve`."""
+        self.requests, self.answers = self.start(program, options)
         self.line = False  # whether the interrupt line is asserted
         self.wire = []  # the frames that were put onto the wire
         self.told = []  # the lines of the log
@@ -35,10 +35,9 @@ class Adapter:
         """Ends the input, which ends the server."""
         self.process.communicate()
 
-    def start(self, program, options, settings):
+    def start(self, program, options):
         """Starts the server, and returns the stream of requests and the stream of answers."""
-        self.process = subprocess.Popen([program, "serve", *options], stdin=subprocess.PIPE, stdout=subprocess.PIPE,
-                                        **settings)
+        self.process = subprocess.Popen([program, "serve", *options], stdin=subprocess.PIPE, stdout=subprocess.PIPE)
         return self.process.stdin, self.process.stdout
 
     # Requests and answers
