@@ -343,6 +343,10 @@ def slot(length, told, number=0):
 RING = [("memset 0x800 16384 7", "OK"), writes(TDBAL, 0x80), writes(TDLEN, 128), writes(TCTL, TRANSMIT)]
 
 
+# From now on frames and faults are reported as they happen.
+EVENTS = ("events on", "OK")
+
+
 def put(frame, told=""):
     return "step txput", f"frame {frame}\n{told}OK put"
 
@@ -352,19 +356,19 @@ def sending(server):
     two = [*RING, slot(14, 0x0B), slot(14, 0x03, 1), writes(TDT, 2)]
     padded = ("07" * 14).ljust(120, "0")
     server.talks("adapter: frames are taken and put", [
-        *two, *steps(("txput", "nothing"), ("txtake", "took")), reads(ICR, 0), *steps(("txtake", "took")), reads(ICR, 2), *steps(("txtake", "nothing")),
+        EVENTS, *two, *steps(("txput", "nothing"), ("txtake", "took")), reads(ICR, 0), *steps(("txtake", "took")), reads(ICR, 2), *steps(("txtake", "nothing")),
         reads(TDH, 2), put(padded), loads(0x8C, "01000000"), reads(ICR, 1), put(padded), loads(0x9C, "00000000"), reads(ICR, 0), reads(GPTC, 2), reads(GPTC, 0),
         *steps(("txput", "nothing"))])
     server.talks("adapter: a reset drops frames that were taken", [*two, *steps(("txtake", "took")), writes(CTRL, RESET), *steps(("txput", "nothing"))])
     server.talks("adapter: four frames wait for the wire at most", [
-        *RING, *(slot(1518, 0x0B, number) for number in range(8)), writes(TDT, 7), *steps(*[("txtake", "took")] * 4, ("txtake", "nothing")), reads(TDH, 4),
+        EVENTS, *RING, *(slot(1518, 0x0B, number) for number in range(8)), writes(TDT, 7), *steps(*[("txtake", "took")] * 4, ("txtake", "nothing")), reads(TDH, 4),
         put("07" * 1518), *steps(("txtake", "took"), ("txtake", "nothing"))])
     server.talks("adapter: the wire is full", [
-        ("wire full", "OK"), *steps(("txput", "nothing")), *two, *steps(("txtake", "took"), ("txput", "wirefull")),
+        EVENTS, ("wire full", "OK"), *steps(("txput", "nothing")), *two, *steps(("txtake", "took"), ("txput", "wirefull")),
         loads(0x8C, "00000000"), reads(GPTC, 0), ("wire full", "OK"), ("settle", "OK 0x0000000000000001"), ("wire free", "OK"),
         put(padded), reads(GPTC, 1), ("wire full", "OK"), *steps(("txput", "wirefull")), writes(CTRL, RESET), *steps(("txput", "nothing")),
         ("wire free", "OK"), *steps(("txput", "nothing")), reads(GPTC, 0)])
-    server.talks("adapter: a short frame without padding", [*RING, writes(TCTL, 2), slot(14, 0x0B), writes(TDT, 1), *steps(("txtake", "took")), put("07" * 14)])
+    server.talks("adapter: a short frame without padding", [EVENTS, *RING, writes(TCTL, 2), slot(14, 0x0B), writes(TDT, 1), *steps(("txtake", "took")), put("07" * 14)])
     server.talks("adapter: it is turned off", [*RING, writes(TCTL, 8), slot(14, 0x0B), writes(TDT, 1), *steps(("txtake", "nothing"))])
     for name, length, told, changed, outcome in [
         ("one byte", 1, 0x01, [], "took"), ("no byte", 0, 0x01, [], "fault"), ("the longest", 1518, 0x01, [], "took"), ("1,519 bytes", 1519, 0x01, [], "fault"),

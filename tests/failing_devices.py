@@ -233,14 +233,16 @@ STEPS = ["txtake", "txput", "rxdata", "rxdone", "eeprom", "phy"]
 ZERO = "OK 0x" + 16 * "0"
 # Requests of each kind, each with the lines up to its answer.
 TALK = [
-    ("writel 0xFEB000D0 0x80", "OK"), ("writel 0xFEB000C8 0x80", "IRQ raise 0\nOK"), ("line", "OK 0x0000000000000001"),
+    ("events on", "OK"), ("writel 0xFEB000D0 0x80", "OK"), ("writel 0xFEB000C8 0x80", "IRQ raise 0\nOK"), ("line", "OK 0x0000000000000001"),
     ("readl 0xFEB000C0", "IRQ lower 0\nOK 0x0000000000000080"), ("write 0x1000 9000 0x" + 9000 * "5a", "OK"), ("read 0x1000 9000", "OK 0x" + 9000 * "5a"),
     ("memset 0 65536 0", "OK"), ("log on", "OK"), ("read 0 2", "# read 0 2\nOK 0x0000"), ("step phy", "# step phy -> nothing\nOK nothing"),
     ("arrive 00", "# arrive 00\nOK off"), ("settle", "".join(f"# step {step} -> nothing\n" for step in STEPS) + ZERO), ("log off", "OK"),
     ("interleave 0", "OK"), ("endianness", "OK little"), ("", "FAIL unknown"), ("fly", "FAIL unknown"), ("readl", "ERR count"), ("readb x", "ERR value"),
     ("read 0 65537", "ERR size"), ("readb 0x100000", "ERR address"), (f"write 0x800 18 0x{SENT}", "OK"),
     ("write 0 16 0x00080000000000001200000900000000", "OK"), ("writel 0xFEB03808 128", "OK"), ("writel 0xFEB00400 0xA", "OK"), ("writel 0xFEB03818 1", "OK"),
-    ("step txtake", "OK took"), ("step txput", f"frame {SENT.ljust(120, '0')}\nOK put"), ("readw 0xFFFFE", ZERO)]
+    ("step txtake", "OK took"), ("step txput", f"frame {SENT.ljust(120, '0')}\nOK put"), ("b64write 0x900 3 AQID", "OK"), ("b64read 0x900 3", "OK AQID"),
+    ("pace 1", "OK"), ("writel 0xFEB03818 2", "fault tx 1 eop\nOK"), ("frames", "OK"), ("faults", "OK"), ("outl 0xCF8 0x80002000", "OK"),
+    ("inl 0xCFC", "OK 0x00000000100e8086"), ("clock_step 5", "OK 5"), ("readb 0xFEB00000", "ERR register"), ("readw 0xFFFFE", ZERO)]
 # The last line has no LF.
 REQUESTS = "\n".join(request for request, _ in TALK).encode()
 

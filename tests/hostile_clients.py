@@ -175,7 +175,7 @@ def kills(server):
 # Requests that leave the adapter as it was: a frame is received, a frame is sent, random steps are played, and lines are rejected.
 DESCRIPTOR = "00080000000000000000000000000000"
 SENT = "00080000000000003c00000900000000"
-OPEN = ["writel 0xFEB02808 128", "writel 0xFEB03808 128", "writel 0xFEB03800 0x80", "writel 0xFEB00100 0x8002", "writel 0xFEB00400 0xA",
+OPEN = ["events on", "writel 0xFEB02808 128", "writel 0xFEB03808 128", "writel 0xFEB03800 0x80", "writel 0xFEB00100 0x8002", "writel 0xFEB00400 0xA",
         "writel 0xFEB000D0 0x81"]
 ROUND = [
     (f"write 0 16 0x{DESCRIPTOR}", "OK"), ("writel 0xFEB02810 0", "OK"), ("writel 0xFEB02818 1", "OK"), ("arrive " + "ff" * 60, "OK stored"),
@@ -183,7 +183,9 @@ ROUND = [
     ("readl 0xFEB000C0", "IRQ lower 0\n" + number(0x80)), ("read 0 16", "OK 0x00080000000000003c00000003000000"), ("readl 0xFEB04074", number(1)),
     (f"write 0x80 16 0x{SENT}", "OK"), ("writel 0xFEB03810 0", "OK"), ("writel 0xFEB03818 1", "OK"), ("step txtake", "OK took"),
     ("step txput", "frame " + "ff" * 60 + "\nIRQ raise 0\nOK put"), ("readl 0xFEB000C0", "IRQ lower 0\n" + number(3)), ("readl 0xFEB04080", number(1)),
-    ("settle", ZERO), ("interleave 3", "OK"), ("readl 0xFEB00008", ZERO), ("writeq 0x100 1", "OK"), ("interleave 0", "OK"), ("fly", "FAIL unknown"),
+    ("frames", "OK"), ("settle", ZERO), ("pace 2", "OK"), ("b64write 0x300 3 AQID", "OK"), ("b64read 0x301 2", "OK AgM="), ("pace 0", "OK"),
+    ("outl 0xCF8 0x80002004", "OK"), ("inw 0xCFC", number(6)), ("irq_intercept_in ioapic", "OK"), ("clock_set 1000", "OK 1000"), ("events off", "OK"),
+    ("faults", "OK"), ("events on", "OK"), ("interleave 3", "OK"), ("readl 0xFEB00008", ZERO), ("writeq 0x100 1", "OK"), ("interleave 0", "OK"), ("fly", "FAIL unknown"),
     ("readl", "ERR count"), ("readl x", "ERR value"), ("read 0 65537", "ERR size"), ("readl 0x100000", "ERR address"), ("log on", "OK"),
     ("memset 0x200 4 9", "# memset 0x200 4 9\nOK"), ("log off", "OK"), ("endianness", "OK little"), ("readq 0x100", number(1)), ("", "FAIL unknown"),
     ("arrive 00", "OK illegal"), ("readb 0x200", number(9)), ("\u00e9", "FAIL unknown"), ("readw 0x201", number(0x0909)), ("step phy", "OK nothing"),

@@ -1,9 +1,12 @@
 """Request lines of any bytes and lengths. An independent reader knows the answer to each line, and what each line changes."""
 
+import base64
 import random
 
 from adapter_sessions import BASE, IMS, PLAIN, RULED
-from request_model import FORMS, KINDS, Model, Unknown
+from configuration_model import ADDRESS_PORT, DATA_PORT
+from request_forms import FORMS, KINDS
+from request_model import Model, Unknown
 from server import LONGEST, ZERO
 
 SEEDS = range(20)
@@ -56,22 +59,65 @@ def of_vocabulary(draw):
     return joined(draw, [some_word(draw) for _ in range(draw.randrange(6))])
 
 
+def some_base64(draw, size):
+    """A word in base64, of this number of bytes in most cases, or nearly in base64."""
+    text = base64.b64encode(draw.randbytes(size)).decode()
+    return draw.choice([text, text, text, text.rstrip("="), text + "=", text[:-2] + "B=", text[1:], "A\u00e9==", "-_8="])
+
+
+def some_port(draw):
+    return draw.choice([str(ADDRESS_PORT), hex(DATA_PORT + draw.randrange(5)), hex(ADDRESS_PORT + draw.randrange(8)), some_number(draw)])
+
+
+def some_port_value(draw):
+    """An address in configuration space (PCI 2.2, 3.2.2.3.2), the address of the first register, or any number."""
+    address = 1 << 31 | draw.choice([0, 0, 0, 0x10000, 0x100]) | draw.choice([4, 4, 4, 1, 20]) << 11 | draw.randrange(0x50)
+    return draw.choice([hex(address), hex(BASE), str(draw.randrange(256)), some_number(draw)])
+
+
+def some_frame(draw):
+    return draw.choice([some_digits(draw), "ff" * 60, "0x00", "f" * 121])
+
+
+# The word after the name of a request that has one word, unless it is a number
+ONE_WORD = {
+    "step": lambda draw: draw.choice(KINDS), "log": lambda draw: draw.choice(["on", "off"]), "events": lambda draw: draw.choice(["on", "off"]),
+    "wire": lambda draw: draw.choice(["full", "free"]), "arrive": some_frame, "offer": some_frame,
+    "pace": lambda draw: draw.choice(["0", "1", "3", "65535", "65536", some_number(draw)]),
+    "clock_step": lambda draw: draw.choice(["", str(draw.randrange(1 << 20)), some_number(draw)]),
+    "irq_intercept_in": lambda draw: draw.choice(["ioapic", some_word(draw)]), "irq_intercept_out": lambda draw: draw.choice(["/machine", some_word(draw)]),
+    **{name: some_port for name in ("inb", "inw", "inl")}}
+
+
+def of_an_access(draw, name):
+    """The words of an access of bytes."""
+    if name in ("write", "b64write"):
+        size = draw.choice([0, 1, 2, 3, 4, 5, 8, 255, 256, 257])
+        payload = draw.choice([some_digits(draw), "a5" * size, "5A" * size, "3c" * size + "3"])
+        return [some_number(draw), draw.choice([str(size), str(size), str(size), some_number(draw)]),
+                "0x" + payload if name == "write" else some_base64(draw, size)]
+    size = draw.choice([some_number(draw), str(draw.randrange(9)), "4", str(65_536 + draw.randrange(3))])
+    return [some_number(draw), size, *([draw.choice([some_number(draw), str(draw.randrange(260))])] if name == "memset" else [])]
+
+
 def of_a_form(draw):
     """A request with the right number of words; most of them have the right form."""
     name = draw.choice(list(FORMS))
-    words = [name, *(some_number(draw) for _ in FORMS[name])]
-    if name == "write":
-        size = draw.choice([0, 1, 2, 3, 4, 5, 8, 255, 256, 257])
-        words[2] = draw.choice([str(size), str(size), str(size), some_number(draw)])
-        words[3] = "0x" + draw.choice([some_digits(draw), "a5" * size, "5A" * size, "3c" * size + "3"])
-    elif name in ("step", "log", "wire", "arrive", "offer"):
-        words[1] = draw.choice({"step": KINDS, "log": ["on", "off"], "wire": ["full", "free"],
-                                "arrive": [some_digits(draw), "ff" * 60, "0x00", "f" * 121],
-                                "offer": [some_digits(draw), "ff" * 60, "0x00", "f" * 121]}[name])
-    elif name in ("read", "memset"):
-        words[2] = draw.choice([some_number(draw), str(draw.randrange(9)), "4", str(65_536 + draw.randrange(3))])
-        words[3:] = [draw.choice([some_number(draw), str(draw.randrange(260))])] if name == "memset" else []
-    return joined(draw, words)
+    if name in ONE_WORD:
+        return joined(draw, [name, ONE_WORD[name](draw)])
+    if name in ("read", "write", "b64read", "b64write", "memset"):
+        return joined(draw, [name, *of_an_access(draw, name)])
+    if name.startswith("out"):
+        return joined(draw, [name, some_port(draw), some_port_value(draw)])
+    return joined(draw, [name, *(some_number(draw) for _ in FORMS[name])])
+
+
+def of_a_port(draw):
+    """An access of configuration space: the address, a register that can be written, or any other."""
+    value = draw.choice([hex(0x80002000 + draw.choice([4, 0x10, 0x10, 0x12, 0x3C])), hex(BASE), "2", some_port_value(draw)])
+    letter = draw.choice("bwlll")
+    port = draw.choice([hex(ADDRESS_PORT), hex(DATA_PORT), hex(DATA_PORT + draw.randrange(4))])
+    return joined(draw, draw.choice([[f"in{letter}", port], [f"out{letter}", port, value]]))
 
 
 def of_a_changed_form(draw):
@@ -94,7 +140,7 @@ def of_bytes(draw):
     return draw.choice([b"", b"", name, name + b" "]) + some_bytes(draw, draw.choice([2, 10, 40, 300]))
 
 
-MAKERS = [of_bytes, of_vocabulary, of_a_form, of_a_form, of_a_changed_form, of_no_text]
+MAKERS = [of_bytes, of_vocabulary, of_a_form, of_a_form, of_a_form, of_a_port, of_a_changed_form, of_no_text]
 
 
 def told(model, request):
@@ -151,7 +197,7 @@ def short_lines(server):
         talk += [(row, told(model, row)) for row in rest]
         plays(server, f"short lines: seed {seed}", talk, "--memory", str(MEMORY))
     server.check("short lines: refusals of each kind", [counts.get(answer, 0) > 100 for answer in [
-        b"ERR text\n", b"FAIL unknown\n", b"ERR count\n", b"ERR value\n", b"ERR size\n", b"ERR address\n"]], [True] * 6)
+        b"ERR text\n", b"FAIL unknown\n", b"ERR count\n", b"ERR value\n", b"ERR size\n", b"ERR address\n", b"ERR register\n"]], [True] * 7)
     server.check("short lines: a state was restored before any was saved", counts.get(b"ERR saved\n", 0) > 0, True)
 
 
@@ -183,8 +229,11 @@ def long_lines(server):
 SESSION = [
     b"log on", b"write 0x10 4 0x01020304", b"  readl\t0x10 ", b"writeb 1 255", b"readb 0x11", b"writew 2 0x1234", b"readw 2", b"writel 0xFEB000D0 0x80",
     b"writel 0xFEB000C8 0x80", b"line", b"readl 0xFEB000C0", b"writeq 8 0x1122334455667788", b"readq 8", b"memset 4 9 200", b"read 0 32",
-    b"endianness", b"step phy", b"restore", b"offer ff", b"save", b"arrive ffffffffffff", b"settle", b"restore", b"settle", b"interleave 0", b"", b"fly", b"read 0 65537", b"readl", b"writel 4 x",
-    b"readb 256", b"\xc3\xa9", b"\xff", b"write 0xFEB02800 4 0x00010000", b"read 0xFEB02800 4", b"log off", b"readl 0xFEB02800"]
+    b"endianness", b"step phy", b"restore", b"offer ff", b"save", b"arrive ffffffffffff", b"settle", b"events on", b"restore", b"settle", b"restore",
+    b"events on", b"settle", b"interleave 0", b"pace 2", b"b64write 7 4 AAECAw==", b"b64read 6 5", b"clock_step 7", b"clock_set 1000", b"clock_step",
+    b"irq_intercept_in ioapic", b"irq_intercept_out ioapic", b"outl 0xcf8 0x80002004", b"inl 0xcfc", b"outb 0xcfc 0", b"inw 0xcfe", b"outw 0xcfc 0x106",
+    b"readl 0xFEB02802", b"inb 0xcfd", b"frames", b"faults", b"pace 0", b"", b"fly", b"read 0 65537", b"readl", b"writel 4 x", b"readb 256",
+    b"\xc3\xa9", b"\xff", b"write 0xFEB02800 4 0x00010000", b"read 0xFEB02800 4", b"log off", b"readl 0xFEB02800"]
 
 
 def cut_input(server):
@@ -201,8 +250,8 @@ def cut_input(server):
 # A session in which a frame is received and a frame is sent.
 FRAME = b"ff" * 60
 ACTIVE = [
-    (b"writel 0xFEB02808 128", b"OK\n"), (b"writeq 0 0x800", b"OK\n"), (b"writel 0xFEB02818 1", b"OK\n"), (b"writel 0xFEB00100 0x8002", b"OK\n"),
-    (b"writel 0xFEB000D0 0x81", b"OK\n"), (b"arrive " + FRAME, b"OK stored\n"), (b"step rxdata", b"OK moved\n"), (b"step rxdone", b"IRQ raise 0\nOK done\n"),
+    (b"events on", b"OK\n"), (b"writel 0xFEB02808 128", b"OK\n"), (b"writeq 0 0x800", b"OK\n"), (b"writel 0xFEB02818 1", b"OK\n"),
+    (b"writel 0xFEB00100 0x8002", b"OK\n"), (b"writel 0xFEB000D0 0x81", b"OK\n"), (b"arrive " + FRAME, b"OK stored\n"), (b"step rxdata", b"OK moved\n"), (b"step rxdone", b"IRQ raise 0\nOK done\n"),
     (b"readl 4272947392", b"IRQ lower 0\nOK 0x0000000000000080\n"), (b"read 0 16", b"OK 0x00080000000000003c00000003000000\n"),
     (b"write 0x80 16 0x00080000000000003c00000900000000", b"OK\n"), (b"writel 0xFEB03800 0x80", b"OK\n"), (b"writel 0xFEB03808 128", b"OK\n"),
     (b"writel 0xFEB00400 0xA", b"OK\n"), (b"writel 0xFEB03818 1", b"OK\n"), (b"step txtake", b"OK took\n"),

@@ -40,13 +40,13 @@ LEAST = {
     "arrive filtered": 5000, "arrive illegal": 3500, "arrive missed": 6000, "arrive off": 7000, "arrive stored": 12000, "eeprom nothing": 3500,
     "eeprom ticked": 120, "frames taken while the rings overlap": 300, "phy nothing": 4000, "phy ticked": 80, "pieces over the transmit ring": 200,
     "pieces over their own descriptors": 250, "resets with a frame in the transmit packet buffer": 500, "resets with a piece in progress": 400, "rxdata fault": 1700,
-    "rxdata fault: BSEX": 130, "rxdata fault: buffer outside memory": 400, "rxdata fault: buffer partly outside memory": 80,
+    "rxdata fault: BSEX": 75, "rxdata fault: buffer outside memory": 400, "rxdata fault: buffer partly outside memory": 80,
     "rxdata fault: buffer past 2^64": 11, "rxdata fault: descriptor outside memory": 200, "rxdata fault: descriptor past 2^64": 9,
     "rxdata fault: head outside the ring": 250, "rxdata fault: no descriptors": 250, "rxdata fault: tail outside the ring": 200, "rxdata moved": 1900, "rxdata nothing": 23000,
     "rxdata part": 1000, "rxdone done": 2500, "rxdone nothing": 17000, "txput nothing": 16000, "txput put": 3000, "txtake fault": 1800,
     "txtake fault: buffer outside memory": 70, "txtake fault: buffer partly outside memory": 40, "txtake fault: buffer past 2^64": 20,
-    "txtake fault: command": 50, "txtake fault: descriptor outside memory": 200, "txtake fault: descriptor past 2^64": 10, "txtake fault: head outside the ring": 200,
-    "txtake fault: length": 500, "txtake fault: no descriptors": 350, "txtake fault: tail outside the ring": 200, "txtake nothing": 14000, "txtake took": 4000,
+    "txtake fault: DEXT": 200, "txtake fault: EOP": 140, "txtake fault: descriptor outside memory": 200, "txtake fault: descriptor past 2^64": 10, "txtake fault: head outside the ring": 200,
+    "txtake fault: length": 250, "txtake fault: no descriptors": 350, "txtake fault: tail outside the ring": 200, "txtake nothing": 14000, "txtake took": 4000,
     "write-backs after a write of RDBAL or RDBAH": 350, "write-backs outside the receive ring": 300, "write-backs outside the transmit ring": 300,
     "writes with a frame in the transmit packet buffer": 9000, "writes with a piece in progress": 6000,
 }
@@ -153,7 +153,7 @@ def memory(bench):
                         [line for line in log if line.startswith("# step")][-1:], [f"# step {kind} -> {outcome}"])
             replayed(bench, log)
     for request, answer in [("writel 0x.*", ""), ("arrive .*", "stored"), ("arrive .*", "missed"), ("arrive .*", "filtered"), ("arrive .*", "illegal"),
-                            ("arrive .*", "off"), ("write 0x.*", ""), ("memset .*", "")]:
+                            ("arrive .*", "off"), ("write 0x.*", ""), ("b64write 0x.*", ""), ("memset .*", "")]:
         finds(bench, f"memory changes in {request} {answer}", f"{request[:-2]}.*: " + OTHER_BYTE.format("0x0"), request, answer, 3, "flip(b'b', 0)")
     finds(bench, "memory changes in a read of a register", ".*: " + OTHER_BYTE.format("0x0"), "readl .*", "", 500, "flip(b'b', 0)")
     finds(bench, "several bytes change", r"step rxdone: after it, byte 0x1ff0 of memory is .* \(wrong bytes: 3\)", "step rxdone", "done", 1,
@@ -163,7 +163,7 @@ def memory(bench):
 def replayed(bench, log):
     """A log can be replayed as docs/SERVE.md says. The server itself has no fault, so its log is the same."""
     requests = [line.removeprefix("# ").partition(" ->")[0] for line in log if line.startswith("#")]
-    ran = bench.run("serve", "--memory", str(SIZE), given="\n".join(["log on", *requests, ""]).encode())
+    ran = bench.run("serve", "--memory", str(SIZE), given="\n".join(["events on", "log on", *requests, ""]).encode())
     told = [line for line in ran.stdout.decode().splitlines() if not line.startswith("OK")]
     bench.check("hostile: a log is replayed", (ran.returncode, told == log), (0, True))
 
@@ -194,6 +194,23 @@ def steps(bench):
     put, action = r"there is a frame of 2 bytes \(abcd\) on the wire", "lines.insert(0, b'frame abcd\\n')"
     finds(bench, "a frame after an access", f"readl 0x.*: {put}", "readl .*", "", 300, action)
     finds(bench, "a frame after another step", f"step rxdone: {put} instead of no frame", "step rxdone", "done", 1, action)
+
+
+def told_faults(bench):
+    """Wrong reasons and indices of faults are found, and lines that are missing or too many."""
+    for engine, kind in ("rx", "rxdata"), ("tx", "txtake"):
+        told = r"step {}: the faults are \[{}\] instead of \['{} \d+ [a-z]+'\]"
+        for name, action, seen in [
+            ("another reason", f"[b'fault {engine} ' + line.split()[2] + b' wire\\n']", rf"'{engine} \d+ wire'"),
+            ("another index", f"[b'fault {engine} 70000 ' + line.split()[3] + b'\\n']", rf"'{engine} 70000 [a-z]+'"),
+            ("another engine", "[line.replace(b'rx' if b'rx' in line else b'tx', b'no')]", r"'no \d+ [a-z]+'"), ("no line", "[]", ""),
+            ("two lines", "[line, line]", rf"'{engine} \d+ [a-z]+', '{engine} \d+ [a-z]+'"),
+        ]:
+            action = f"lines = [one for line in lines for one in ({action} if line[:5] == b'fault' else [line])]"
+            finds(bench, f"{name} of a fault of {kind}", told.format(kind, seen, engine), f"step {kind}", "fault", 2, action)
+    told, action = r"the faults (are )?\['rx 0 ring'\]", "lines.insert(0, b'fault rx 0 ring\\n')"
+    finds(bench, "a fault after an access", f"readl 0x.*: there are {told}", "readl .*", "", 300, action)
+    finds(bench, "a fault after another step", rf"step rxdone: {told} instead of \[\]", "step rxdone", "done", 1, action)
 
 
 # A fault of an adapter that uses the registers of the receive ring for a write-back: it also writes to where the descriptor would be now.
@@ -320,7 +337,7 @@ def requests(bench):
     bench.check("hostile: lengths of frames", (min(lengths), max(lengths), {59, 60, 1518, 1519} - lengths), (1, 1600, set()))
     destinations = [sum(request.startswith(f"arrive {start}") for request, _ in rows) > 50 for start in ["0200000000010", "ffffffffffff0", "01005e0000010"]]
     bench.check("hostile: destinations of frames", destinations, [True] * 3)
-    only = {"log", "writel", "readl", "write", "memset", "arrive", "step"}
+    only = {"events", "log", "writel", "readl", "write", "b64write", "memset", "arrive", "step"}
     bench.check("hostile: its requests, besides reads of memory", {request.split()[0] for request, _ in rows}, only)
 
 
@@ -352,5 +369,5 @@ def used(bench):
 
 
 def all_cases(bench):
-    for part in [requests, memory, steps, moved_rings, fates, answers, used, ten_seeds]:
+    for part in [requests, memory, steps, told_faults, moved_rings, fates, answers, used, ten_seeds]:
         part(bench)

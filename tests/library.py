@@ -9,6 +9,7 @@ and valgrind. For a compiler or tool that isn't there, the script prints a line.
 and the exit status is 1 if anything failed.
 """
 
+import base64
 import os
 import re
 import shutil
@@ -134,6 +135,8 @@ class InProcess:
             return "0x" + self.load(int(words[0], 0), int(words[1], 0)).hex()
         if verb == "write":
             return self.store(int(words[0], 0), bytes.fromhex(words[2][2:]))
+        if verb == "b64write":
+            return self.store(int(words[0], 0), base64.b64decode(words[2]))
         if verb == "memset":
             return self.store(int(words[0], 0), bytes([int(words[2], 0)]) * int(words[1], 0))
         if verb in ("settle", "line"):
@@ -183,7 +186,7 @@ def requests_of(seed):
     asked = [f"interleave {STEPS}"] if seed % 2 else []
     while len(asked) < REQUESTS:
         drawn.phase(40)
-        asked += [request for request, _ in drawn.take() if not request.startswith("log")]
+        asked += [request for request, _ in drawn.take() if not request.startswith(("log", "events"))]
         asked += ["line", "settle", f"read {MEMORY - 2:#x} 3", f"write {2**64 - 1:#x} 1 0x00", f"read {MEMORY:#x} 0"]
     return asked[:REQUESTS]
 
@@ -192,6 +195,7 @@ def same_answers(library):
     for seed in range(1, SEEDS + 1):
         inside = InProcess(library.shared, MEMORY)
         with Served(library.program, "--memory", str(MEMORY), "--seed", str(seed)) as served:
+            served.events(True)
             differ = next(((request, got, wanted) for request in requests_of(seed)
                            if (got := inside.reply(request, seed)) != (wanted := served.reply(request))), None)
             library.check(f"{REQUESTS} requests of seed {seed}, in process and served", differ, None)
@@ -205,6 +209,7 @@ def steps_by_schedule(library):
         inside, asked = InProcess(library.shared, MEMORY), requests_of(seed)
         frames, answers, wanted, scheduled = [], [], [], 0
         with Served(library.program, "--memory", str(MEMORY)) as served:
+            served.events(True)
             for request, later in zip(asked, [*asked[1:], ""]):
                 answer, put, _ = served.reply(request)
                 frames += put

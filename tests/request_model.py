@@ -1,116 +1,24 @@
-"""An independent reader of request lines, written from docs/SERVE.md, and a model of a server whose adapter is idle.
+"""A model of `nicbench serve` whose adapter is idle, written from docs/REQUESTS.md and docs/ADAPTER.md.
 
 The model has no answer to the few requests that start something in the adapter.
 """
 
 import copy
-import re
 
 from adapter_sessions import BASE, CTRL, EERD, EN, ICR, ICS, IMC, IMS, MDIC, PBA, PLAIN, RCTL, RESET, TCTL
-from server import LONGEST, ZERO, number
+from configuration_model import Configuration
+from request_forms import KINDS, PORT_WIDTHS, Refused, access_in, answer_of, request_in
+from server import ZERO, number
 
-KINDS = ["txtake", "txput", "rxdata", "rxdone", "eeprom", "phy"]
-WIDTHS = {"b": 1, "w": 2, "l": 4, "q": 8}
-MOST_BYTES = 65_536
-MOST_STEPS = 65_535
-# The last offset of a register.
-LAST = 131_068
+# The last offset of a register, and the bytes of all registers
+LAST, AREA = 131_068, 131_072
 CAUSES = 0x2D7
 PBA_RESET = 0x00100030
 MOST_RXA = 48
 # The sum of the two halves of PBA, in kilobytes.
 ALL_KILOBYTES = 64
-
-
-class Refused(Exception):
-    """A line that isn't a request, with the answer to it."""
-
-
-def number_in(word, most):
-    """The number that a word spells, at most `most`."""
-    if re.fullmatch("[0-9]+", word):
-        digits = word.lstrip("0") or "0"
-        value = int(digits) if len(digits) <= 20 else 1 << 64
-    elif re.fullmatch("0x[0-9a-fA-F]+", word):
-        value = int(word, 16)
-    else:
-        raise Refused("ERR value")
-    if value >= 1 << 64 or value > most:
-        raise Refused("ERR value")
-    return value
-
-
-def size_in(word):
-    value = number_in(word, (1 << 64) - 1)
-    if value > MOST_BYTES:
-        raise Refused("ERR size")
-    return value
-
-
-def hex_in(digits):
-    """The bytes of an even number of hexadecimal digits."""
-    if not re.fullmatch("([0-9a-fA-F]{2})*", digits):
-        raise Refused("ERR value")
-    return bytes.fromhex(digits)
-
-
-def payload_in(word):
-    if not word.startswith("0x"):
-        raise Refused("ERR value")
-    return hex_in(word[2:])
-
-
-def one_of(*choices):
-    def read(word):
-        if word not in choices:
-            raise Refused("ERR value")
-        return word
-    return read
-
-
-def at_most(most):
-    return lambda word: number_in(word, most)
-
-
-ADDRESS = at_most((1 << 64) - 1)
-# The words after the name of each request: how each is read.
-FORMS = {
-    **{f"read{letter}": [ADDRESS] for letter in WIDTHS},
-    **{f"write{letter}": [ADDRESS, at_most((1 << 8 * size) - 1)] for letter, size in WIDTHS.items()},
-    "read": [ADDRESS, size_in], "write": [ADDRESS, size_in, payload_in], "memset": [ADDRESS, size_in, at_most(255)], "endianness": [],
-    "step": [one_of(*KINDS)], "arrive": [hex_in], "settle": [], "line": [], "interleave": [at_most(MOST_STEPS)], "log": [one_of("on", "off")],
-    "wire": [one_of("full", "free")], "offer": [hex_in], "save": [], "restore": [],
-}
-
-
-def request_in(line):
-    """The name and the values of a line's request."""
-    if len(line) > LONGEST:
-        raise Refused("ERR long")
-    try:
-        text = line.decode("utf-8")
-    except UnicodeDecodeError:
-        raise Refused("ERR text") from None
-    words = [word for word in text.replace("\t", " ").split(" ") if word]
-    if not words or words[0] not in FORMS:
-        raise Refused("FAIL unknown")
-    if len(words) - 1 != len(FORMS[words[0]]):
-        raise Refused("ERR count")
-    values = [read(word) for read, word in zip(FORMS[words[0]], words[1:])]
-    if words[0] == "write" and len(values[2]) != values[1]:
-        raise Refused("ERR value")
-    return words[0], values
-
-
-def access_in(name, values):
-    """The address, the size and the bytes of an access; the bytes are None if it reads."""
-    if name in ("read", "write", "memset"):
-        address, size = values[:2]
-        data = None if name == "read" else values[2] if name == "write" else bytes([values[2]]) * size
-    else:
-        address, size = values[0], WIDTHS[name[-1]]
-        data = values[1].to_bytes(size, "little") if name.startswith("write") else None
-    return address, size, data
+# The lines of a round of an idle adapter
+ROUND = [f"# step {kind} -> nothing" for kind in KINDS]
 
 
 class Unknown(Exception):
@@ -122,9 +30,11 @@ class Model:
 
     def __init__(self, size):
         self.memory = bytearray(size)
-        self.log = False
+        self.is_logged = self.has_events = False
+        self.rounds = self.clock = 0
         self.offered = []
         self.saved = None
+        self.configuration = Configuration(BASE)
         self.power_on()
         self.packet_buffer = PBA_RESET
 
@@ -140,16 +50,9 @@ class Model:
         """A copy of all that `save` keeps."""
         return copy.deepcopy({name: value for name, value in vars(self).items() if name != "saved"})
 
-    def restore(self):
-        if self.saved is None:
-            raise Refused("ERR saved")
-        vars(self).update(copy.deepcopy(self.saved))
-
-    def arrivals(self):
-        """The lines of the arrivals of all offered frames, at an adapter that is off."""
-        told = [line for frame in self.offered for line in (f"# arrive {frame.hex()}", f"arrived off {frame.hex()}")]
-        self.offered = []
-        return told
+    def is_asserted(self):
+        """Whether the interrupt line is asserted."""
+        return bool(self.causes & self.mask)
 
     def read(self, offset):
         """The value of a register."""
@@ -175,62 +78,114 @@ class Model:
 
     def access(self, address, size, data):
         """The bytes that an access reads, or none if it writes."""
-        offset = address - BASE
+        first = self.configuration.registers()
+        offset = AREA if first is None else address - first
         if size == 4 and 0 <= offset <= LAST and offset % 4 == 0:
             if data is None:
                 return self.read(offset).to_bytes(4, "little")
             self.write(offset, int.from_bytes(data, "little"))
             return b""
         if address + size > len(self.memory):
-            raise Refused("ERR address")
+            raise Refused("ERR register" if size and -size < offset < AREA else "ERR address")
         if data is None:
             return bytes(self.memory[address:address + size])
         self.memory[address:address + size] = data
         return b""
 
+    # The lines before an answer. Those that begin with # are printed only if the log is on.
+
     def line_changes(self, before):
         """The line that reports a change of the interrupt line."""
-        after = bool(self.causes & self.mask)
+        after = self.is_asserted()
         return [] if before == after else ["IRQ raise 0" if after else "IRQ lower 0"]
 
-    def does(self, name, values):
-        """The lines before the answer of a request, and the answer. Lines that begin with # are printed only if the log is on."""
-        before = bool(self.causes & self.mask)
-        quiet = {"endianness": "OK little", "line": number(int(before))}
-        if name in quiet:
-            return [], quiet[name]
-        if name == "wire":  # no frame waits for the wire
-            return [], "OK"
+    def arrivals(self):
+        """The lines of the arrivals of all offered frames, at an adapter that is off."""
+        told = []
+        for frame in self.offered:
+            told += [f"# arrive {frame.hex()}", *([f"arrived off {frame.hex()}"] if self.has_events else [])]
+        self.offered = []
+        return told
+
+    def paced(self):
+        """The lines of the rounds after an access or an arrival: an idle adapter has one, which does nothing."""
+        return ROUND if self.rounds else []
+
+    # Requests: each returns the lines before the answer, and the answer.
+
+    def does_access(self, name, values):
+        before = self.is_asserted()
+        got = self.access(*access_in(name, values))
+        return ["# {}", *self.line_changes(before), *self.paced()], answer_of(name, got)
+
+    def does_port(self, name, values):
+        width = PORT_WIDTHS[name[-1]]
+        if name.startswith("in"):
+            return [], number(self.configuration.read(values[0], width, self.is_asserted()))
+        self.configuration.write(values[0], width, values[1])
+        return [], "OK"
+
+    def does_clock(self, name, values):
+        """Offered frames arrive, and a round does nothing; then the clock moves."""
+        clock = self.clock + values[0] if name == "clock_step" else max(self.clock, values[0])
+        if clock >= 1 << 64:
+            raise Refused("ERR value")
+        self.clock = clock
+        return [*self.arrivals(), *ROUND], f"OK {clock}"
+
+    def does_setting(self, name, values):
+        if name == "log":
+            self.is_logged = values[0] == "on"
+        elif name == "events":
+            self.has_events = values[0] == "on"
+        elif name == "pace":
+            self.rounds = values[0]
+        elif name == "interleave" and values[0]:
+            raise Unknown
+        return [], "OK"  # no frame waits for the wire, and `IRQ` lines always come
+
+    def does_state(self, name, _):
+        before = self.is_asserted()
+        if name == "save":
+            self.saved = self.state()
+        elif self.saved is None:
+            raise Refused("ERR saved")
+        else:
+            vars(self).update(copy.deepcopy(self.saved))
+        return self.line_changes(before), "OK"
+
+    def does_adapter(self, name, values):
+        """A step, an arrival or rounds, at an adapter that is off."""
         if name == "offer":
             self.offered.append(values[0])
             return [], "OK"
-        if name == "save":
-            self.saved = self.state()
-            return [], "OK"
-        if name == "restore":
-            self.restore()
-            return self.line_changes(before), "OK"
-        if name in ("log", "interleave"):
-            if values[0] in ("on", "off"):
-                self.log = values[0] == "on"
-            elif values[0]:
-                raise Unknown
-            return [], "OK"
         if name == "step":
             return [f"# step {values[0]} -> nothing"], "OK nothing"
-        if name == "settle":
-            return [*self.arrivals(), *(f"# step {kind} -> nothing" for kind in KINDS)], ZERO
-        if name == "arrive":
-            return ["# {}"], "OK off"
-        got = self.access(*access_in(name, values))
-        answer = f"OK 0x{got.hex()}" if name == "read" else number(int.from_bytes(got, "little")) if name.startswith("read") else "OK"
-        return ["# {}", *self.line_changes(before)], answer
+        return ([*self.arrivals(), *ROUND], ZERO) if name == "settle" else (["# {}", *self.paced()], "OK off")
+
+    def does_question(self, name, _):
+        """What changes nothing. No frame was put on the wire, and no engine had a fault."""
+        return [], {"endianness": "OK little", "line": number(int(self.is_asserted())), "frames": "OK",
+            "faults": "OK"}[name]
+
+    def does(self, name, values):
+        """The lines before the answer of a request, and the answer."""
+        for names, does in [
+            (("endianness", "line", "frames", "faults"), self.does_question),
+            (("clock_step", "clock_set"), self.does_clock),
+            (("step", "settle", "arrive", "offer"), self.does_adapter), (("save", "restore"), self.does_state),
+            (("log", "events", "pace", "interleave", "wire", "irq_intercept_in", "irq_intercept_out"),
+            self.does_setting),
+        ]:
+            if name in names:
+                return does(name, values)
+        return self.does_port(name, values) if name.startswith(("in", "out")) else self.does_access(name, values)
 
     def answer(self, line):
-        """The bytes of the lines up to the answer to this line, and whether it is refused; the model is then unchanged."""
+        """The bytes of the lines up to the answer, and whether the line is refused; the model is then unchanged."""
         try:
             told, answer = self.does(*request_in(line))
         except Refused as refused:
             return f"{refused}\n".encode(), True
-        texts = [text.encode().replace(b"{}", line) for text in told if self.log or not text.startswith("#")]
+        texts = [text.encode().replace(b"{}", line) for text in told if self.is_logged or not text.startswith("#")]
         return b"".join(text + b"\n" for text in [*texts, answer.encode()]), False

@@ -40,30 +40,48 @@ def commands(server):
         server.check(f"commands: {command}", (follow(got, wanted), ran.returncode, ran.stderr), (True, 0, b""))
 
 
+# The sessions with an answer next to each request: the page, the first word of each, and the column of the answers
+SESSIONS = [
+    (("crates", "adapter_server", "README.md"), ["readl"], 30), (("docs", "REQUESTS.md"), ["memset", "memset", "events", "outl"], 48)]
+
+
 def columns(server):
     """The requests in two pages have the answers next to them. `...` at the end of a line means any text."""
-    for names, first, width in [(("crates", "adapter_server", "README.md"), "readl", 30), (("docs", "SERVE.md"), "memset", 48), (("docs", "SERVE.md"), "save", 48)]:
-        block = re.search(rf"^```\n({first} .*?)^```$", read_page(*names), re.M | re.S)[1]
-        rows = [(row[:width].strip(), row[width:]) for row in block.splitlines()]
-        server.check(f"columns: {names[-1]} has some for {first}", len(rows) > 6, True)
-        status, out, errors = server.serve(lines(request for request, _ in rows if request))
-        shown = "".join(f"{told}\n" for _, told in rows)
-        server.check(f"columns: {names[-1]}: {first}", (status, follow(out.decode(), shown), errors), (0, True, b""))
+    for names, firsts, width in SESSIONS:
+        blocks = re.findall(r"^```\n(.*?)^```$", read_page(*names), re.M | re.S)
+        server.check(f"columns: {names[-1]}: its sessions", [block.split()[0] for block in blocks], firsts)
+        for block in blocks:
+            rows = [(row[:width].strip(), row[width:]) for row in block.splitlines()]
+            server.check(f"columns: {names[-1]} has some for {rows[0]}", len(rows) > 6, True)
+            status, out, errors = server.serve(lines(request for request, _ in rows if request))
+            shown = "".join(f"{told}\n" for _, told in rows)
+            server.check(f"columns: {names[-1]}: {rows[0]}", (status, follow(out.decode(), shown), errors), (0, True, b""))
+
+
+def prints(server, name, words, printed):
+    """Compiles a driver of docs/SERVE.md, and checks what it prints."""
+    built = subprocess.run(words, cwd=server.folder, capture_output=True)
+    server.check(f"page: the driver in {name} is compiled", (built.returncode, built.stderr), (0, b""))
+    ran = subprocess.run([server.path("page"), server.program], cwd=server.folder, capture_output=True, timeout=LIMIT)
+    server.check(f"page: what the driver in {name} prints", (ran.returncode, ran.stdout, ran.stderr), (0, printed.encode(), b""))
 
 
 def page(server):
-    """The driver in C of docs/SERVE.md prints the output on the page."""
-    code, printed = re.search(r"```c\n(.*?)```.*?It prints\n\n```\n(.*?)```", read_page("docs", "SERVE.md"), re.S).groups()
+    """The drivers in C and Rust of docs/SERVE.md print the output on the page. Without a compiler for Rust, a line says so."""
+    text = read_page("docs", "SERVE.md")
+    code, printed = re.search(r"```c\n(.*?)```.*?It prints\n\n```\n(.*?)```", text, re.S).groups()
     cc = next((path for path in map(shutil.which, ["cc", "clang", "gcc"]) if path), None)
     server.check("page: a C compiler is here", cc is not None, True)
-    if cc is None:
+    if cc:
+        server.put("page.c", code.encode())
+        prints(server, "C", [cc, "-std=c99", "-D_POSIX_C_SOURCE=200809L", "-Wall", "-Wextra", "-Werror", "-o", "page", "page.c"], printed)
+    if shutil.which("rustc") is None:
+        print("not played, because there is no rustc: the driver in Rust of docs/SERVE.md")
         return
-    server.put("page.c", code.encode())
-    words = [cc, "-std=c99", "-D_POSIX_C_SOURCE=200809L", "-Wall", "-Wextra", "-Werror", "-o", "page", "page.c"]
-    built = subprocess.run(words, cwd=server.folder, capture_output=True)
-    server.check("page: its code is compiled", (built.returncode, built.stderr), (0, b""))
-    ran = subprocess.run([server.path("page"), server.program], cwd=server.folder, capture_output=True, timeout=LIMIT)
-    server.check("page: what its code prints", (ran.returncode, ran.stdout, ran.stderr), (0, printed.encode(), b""))
+    code, again = re.search(r"```rust\n(.*?)```.*?```\n\$ rustc .*?\n\$ .*?\n(.*?)```", text, re.S).groups()
+    server.check("page: both drivers print the same", again, printed)
+    server.put("page.rs", code.encode())
+    prints(server, "Rust", ["rustc", "--edition", "2021", "-D", "warnings", "-o", "page", "page.rs"], printed)
 
 
 def shown_in_help(server):

@@ -55,16 +55,16 @@ def offered(server):
     """Offered frames arrive at a settle, oldest first, or by an interleaved step."""
     second = "02" * 60
     server.talks("offers: a settle", [
-        (f"offer {FRAME}", "OK"), ("settle", f"arrived off {FRAME}\n{ZERO}"), ("settle", ZERO), *RECEIVES, (f"offer {FRAME.upper()}", "OK"),
+        ("events on", "OK"), (f"offer {FRAME}", "OK"), ("settle", f"arrived off {FRAME}\n{ZERO}"), ("settle", ZERO), *RECEIVES, (f"offer {FRAME.upper()}", "OK"),
         (f"offer {second}", "OK"), ("offer 00", "OK"), ("readb 12", ZERO), ("step rxdata", "OK nothing"),
         ("settle", f"arrived stored {FRAME}\narrived filtered {second}\narrived illegal 00\nIRQ raise 0\n{number(2)}"), ("readb 12", number(3)),
         ("settle", ZERO), ("log on", "OK"), ("offer", "ERR count"), ("offer 0102", "OK"), ("offer ", "ERR count"),
         ("settle", f"# arrive 0102\narrived illegal 0102\n{NOTHING}\n{ZERO}")])
     server.talks("offers: a miss raises the line", [
-        *RECEIVES, (f"offer {FRAME}", "OK"), (f"offer {FRAME}", "OK"),
+        ("events on", "OK"), *RECEIVES, (f"offer {FRAME}", "OK"), (f"offer {FRAME}", "OK"),
         ("settle", f"arrived stored {FRAME}\narrived missed {FRAME}\nIRQ raise 0\n{number(2)}"), (f"readl {BASE + MPC}", ONE)], "--rxa", "2")
     server.talks("offers: saved and restored", [
-        (f"offer {FRAME}", "OK"), ("save", "OK"), ("offer 01", "OK"), ("restore", "OK"), ("settle", f"arrived off {FRAME}\n{ZERO}"), ("settle", ZERO),
+        ("events on", "OK"), (f"offer {FRAME}", "OK"), ("save", "OK"), ("offer 01", "OK"), ("restore", "OK"), ("settle", f"arrived off {FRAME}\n{ZERO}"), ("settle", ZERO),
         ("restore", "OK"), ("settle", f"arrived off {FRAME}\n{ZERO}")])
 
 
@@ -74,12 +74,12 @@ def drawn(server):
     plain = server.serve(lines(["log on", "interleave 3", *reads]), "--seed", "3")
     server.check("offers: none waits", server.serve(lines(["log on", "offer 00", "settle", "interleave 3", *reads]), "--seed", "3")[1].split(b"\nOK\n", 2)[2],
                  plain[1].split(b"\nOK\n", 1)[1])
-    ran = server.serve(lines(["log on", "interleave 3", "offer 00", "offer 01", *reads]), "--seed", "3")
+    ran = server.serve(lines(["events on", "log on", "interleave 3", "offer 00", "offer 01", *reads]), "--seed", "3")
     texts = ran[1].decode().split("\n")
     server.check("offers: both come between accesses, in order", [text for text in texts if text.startswith("arrived")], ["arrived off 00", "arrived off 01"])
     server.check("offers: each has a line of the log before it", [text for text in texts if text.startswith("# arrive")], ["# arrive 00", "# arrive 01"])
     server.check("offers: they come before accesses", texts[texts.index("arrived off 01") + 1].startswith("#"), True)
-    again = ["log on", *[text.removeprefix("# ").partition(" ->")[0] for text in texts if text.startswith("#")]]
+    again = ["events on", "log on", *[text.removeprefix("# ").partition(" ->")[0] for text in texts if text.startswith("#")]]
     replayed = server.serve(lines(again))[1].decode().split("\n")
     server.check("offers: the log is replayed", [text for text in replayed if text.startswith("#")], [text for text in texts if text.startswith("#")])
 
@@ -88,7 +88,7 @@ def missed_between(server):
     """A seed alone finds a miss between the reads of ICR and MPC."""
     found = []
     for seed in range(60):
-        ran = server.serve(lines([*(request for request, _ in RECEIVES), f"arrive {FRAME}", "interleave 2", f"offer {FRAME}", f"readl {BASE + ICR}",
+        ran = server.serve(lines(["events on", *(request for request, _ in RECEIVES), f"arrive {FRAME}", "interleave 2", f"offer {FRAME}", f"readl {BASE + ICR}",
                                   f"readl {BASE + MPC}", f"readl {BASE + ICR}"]), "--rxa", "2", "--seed", str(seed))
         answers = [text for text in ran[1].decode().split("\n") if text.startswith("OK 0x")]
         if f"arrived missed {FRAME}" in ran[1].decode() and answers[1:] == [ONE, number(0x40)]:

@@ -285,5 +285,8 @@ class Adapter:
         """From now on plays up to `count` steps before each access. The seed determines them from their first word on."""
         self.nic.interleave(count, self.seed)
 
+    def events(self, on):
+        """Does nothing: frames are always noted."""
+
     def log(self, on):
         """Does nothing: the library has no log of steps."""

@@ -17,13 +17,14 @@ class Refused(Exception):
 class Adapter:
     """Registers and memory, an interrupt line, and a wire."""
 
-    def __init__(self, program, *options, **settings):
-        """Starts the server with these options of `serve`, and these settings of its process."""
-        self.requests, self.answers = self.start(program, options, settings)
+    def __init__(self, program, *options):
+        """Starts the server with these options of `serve`."""
+        self.requests, self.answers = self.start(program, options)
         self.line = False  # whether the interrupt line is asserted
         self.wire = []  # the frames that were put onto the wire
         self.told = []  # the lines of the log
         self.arrived = []  # the frames that arrived, each as a pair with its fate
+        self.faults = []  # the faults of engines, each as the words after `fault`
         self.handler = None  # if set, it is called as soon as the line is asserted, between any two requests
         self.takes_interrupts = True  # whether the processor takes interrupts, so that the handler may be called
 
@@ -34,10 +35,9 @@ class Adapter:
         """Ends the input, which ends the server."""
         self.process.communicate()
 
-    def start(self, program, options, settings):
+    def start(self, program, options):
         """Starts the server, and returns the stream of requests and the stream of answers."""
-        self.process = subprocess.Popen([program, "serve", *options], stdin=subprocess.PIPE, stdout=subprocess.PIPE,
-                                        **settings)
+        self.process = subprocess.Popen([program, "serve", *options], stdin=subprocess.PIPE, stdout=subprocess.PIPE)
         return self.process.stdin, self.process.stdout
 
     # Requests and answers
@@ -86,7 +86,9 @@ class Adapter:
             if word == "arrived":
                 fate, _, frame = rest.partition(" ")
                 self.arrived.append((fate, bytes.fromhex(frame)))
-            if word in ("IRQ", "frame", "arrived", "#"):
+            if word == "fault":
+                self.faults.append(rest)
+            if word in ("IRQ", "frame", "arrived", "fault", "#"):
                 self.told.append(f"{word} {rest}")
             else:
                 raise Refused(f"{request}: {word} {rest}")
@@ -148,6 +150,10 @@ class Adapter:
     def interleave(self, count):
         """From now on plays up to `count` steps before each access."""
         self.ask(f"interleave {count}")
+
+    def events(self, on):
+        """Has the server report frames, arrivals of offered frames and faults before answers, or not."""
+        self.ask(f"events {'on' if on else 'off'}")
 
     def log(self, on):
         """Turns the log of steps, accesses and arrivals on or off."""

@@ -6,8 +6,12 @@ registers of both rings. docs/ADAPTER.md defines the rules.
 
 import struct
 from collections import Counter, deque
+from typing import NamedTuple
 
 from driver import CTRL, PBA, RCTL, RDBAH, RDBAL, RDH, RDLEN, RDT, TCTL, TDBAH, TDBAL, TDH, TDLEN, TDT
+
+# The engine of each step that may be a fault, as in the line that reports the fault
+ENGINES = {"rxdata": "rx", "txtake": "tx"}
 
 # The registers that decide a frame's fate, and what the next step does. Reading them changes nothing.
 FOR_FRAMES = RCTL, PBA
@@ -29,6 +33,20 @@ SHORTEST, LONGEST, TRANSMIT_ROOM = 60, 1518, 4
 
 class Found(Exception):
     """The adapter did something that it must not do."""
+
+
+class Reason(NamedTuple):
+    """Why a step is a fault: the word in the line that reports it, and more exactly for the counts."""
+
+    word: str
+    detail: str
+
+
+class Told(NamedTuple):
+    """The events before an answer: frames that were put on the wire, and faults of engines."""
+
+    frames: list
+    faults: list
 
 
 class Ring:
@@ -127,8 +145,8 @@ class Expected:
 
     # Steps
 
-    def step(self, kind, outcome, frames):
-        """Checks the outcome of a step and the frames that it put on the wire, and notes what it must change."""
+    def step(self, kind, outcome, told):
+        """Checks the outcome of a step and the events that were told before it, and notes what it must change."""
         receive, transmit = Ring(self.registers, RDBAL), Ring(self.registers, TDBAL)
         self.kind, self.heads = kind, {RDH: receive.head, TDH: transmit.head}
         allowed, reason = {"rxdata": self.of_rxdata, "rxdone": self.of_rxdone, "txtake": self.of_txtake,
@@ -138,7 +156,7 @@ class Expected:
         self.counts["steps"] += 1
         self.counts[f"{kind} {outcome}"] += 1
         if outcome == "fault":
-            self.counts[f"{kind} fault: {reason}"] += 1
+            self.counts[f"{kind} fault: {reason.detail}"] += 1
             self.stopped.add(kind)
         elif outcome in ("part", "moved"):
             self.move(receive, transmit)
@@ -147,8 +165,12 @@ class Expected:
         elif outcome == "took":
             self.take(receive, transmit)
         wanted = [self.send(transmit)] if outcome == "put" else []
-        if frames != wanted:
-            raise Found(f"step {kind}: there is {shown(frames)} on the wire instead of {shown(wanted)}")
+        if told.frames != wanted:
+            raise Found(f"step {kind}: there is {shown(told.frames)} on the wire instead of {shown(wanted)}")
+        head = receive.head if kind == "rxdata" else transmit.head
+        wanted = [f"{ENGINES[kind]} {head} {reason.word}"] if outcome == "fault" else []
+        if told.faults != wanted:
+            raise Found(f"step {kind}: the faults are {told.faults} instead of {wanted}")
 
     def head(self, register, value):
         """Checks RDH or TDH after a step."""
@@ -160,27 +182,30 @@ class Expected:
         """Whether an engine may run, and a descriptor is offered."""
         return control & EN and kind not in self.stopped and ring.head != ring.tail
 
-    def no_descriptor(self, ring):
-        """Returns why there is no descriptor at a ring's head, or None if there is one."""
+    @staticmethod
+    def no_ring(ring):
+        """Returns why a ring can't be used, or None if it can."""
         if not ring.count:
-            return "no descriptors"
+            return Reason("ring", "no descriptors")
         if ring.head >= ring.count or ring.tail >= ring.count:
-            return "head outside the ring" if ring.head >= ring.count else "tail outside the ring"
-        lacks = self.lacks(ring.at_head, DESCRIPTOR_BYTES)
-        return lacks and f"descriptor {lacks}"
+            return Reason("ring", "head outside the ring" if ring.head >= ring.count else "tail outside the ring")
+        return None
 
-    def no_buffer(self, address, size):
-        """Returns why a piece or a frame can't be at this address, or None if it can."""
+    def outside(self, word, address, size):
+        """Returns why a descriptor, a piece or a frame can't be at this address, or None if it can."""
         lacks = self.lacks(address, size)
-        return lacks and f"buffer {lacks}"
+        return Reason(word, f"{word} {lacks}") if lacks else None
 
     def of_rxdata(self, ring, _):
         """Returns the outcomes that RxData may have, and why it must be a fault, if it must."""
         if self.piece or not self.waiting or not self.is_ready("rxdata", ring, self.registers[RCTL]):
             return ["nothing"], None
-        reason = "BSEX" if self.registers[RCTL] & BSEX else self.no_descriptor(ring)
         piece, is_last = self.next_piece()
-        reason = reason or self.no_buffer(self.buffer_at(ring.at_head), len(piece))
+        reason = self.no_ring(ring)
+        if not reason and self.registers[RCTL] & BSEX:
+            reason = Reason("bsex", "BSEX")
+        reason = reason or self.outside("descriptor", ring.at_head, DESCRIPTOR_BYTES)
+        reason = reason or self.outside("buffer", self.buffer_at(ring.at_head), len(piece))
         return ["fault" if reason else "moved" if is_last else "part"], reason
 
     def of_rxdone(self, *_):
@@ -190,16 +215,19 @@ class Expected:
         """Returns the outcomes that TxTake may have, and why it must be a fault, if it must."""
         if len(self.taken) == TRANSMIT_ROOM or not self.is_ready("txtake", ring, self.registers[TCTL]):
             return ["nothing"], None
-        reason = self.no_descriptor(ring) or self.no_frame(*self.transmit_descriptor(ring.at_head))
+        reason = self.no_ring(ring) or self.outside("descriptor", ring.at_head, DESCRIPTOR_BYTES)
+        reason = reason or self.no_frame(*self.transmit_descriptor(ring.at_head))
         return ["fault" if reason else "took"], reason
 
     def no_frame(self, address, length, command):
         """Returns why a transmit descriptor has no frame that the adapter takes, or None if it has one."""
+        if command & EXTENDED:
+            return Reason("dext", "DEXT")
+        if not command & PACKET_ENDS:
+            return Reason("eop", "EOP")
         if not 0 < length <= LONGEST:
-            return "length"
-        if command & (PACKET_ENDS | EXTENDED) != PACKET_ENDS:
-            return "command"
-        return self.no_buffer(address, length)
+            return Reason("length", "length")
+        return self.outside("buffer", address, length)
 
     def of_txput(self, *_):
         return ["put" if self.taken else "nothing"], None

@@ -7,10 +7,10 @@ PROGRAM is `nicbench`. Each seed is a run with a new server. In a run, registers
 are written at random, frames arrive, and the adapter takes steps. A seed always makes the same requests. Without
 --seed, the seeds are 1, 2, 3 and so on, until Ctrl-C.
 
-After each request, the script reads all of memory. A run fails if a byte of memory, RDH, TDH, the outcome of a step or
-a frame on the wire isn't as docs/ADAPTER.md defines it, if the server rejects a request, or if an answer takes too
-long. Then the script prints the seed, the error and the log. "Finding a race" in docs/SERVE.md describes how to replay
-a log; start the server with the same --memory.
+After each request, the script reads all of memory. A run fails if a byte of memory, RDH, TDH, the outcome of a step, a
+frame on the wire or the reason of a fault isn't as docs/ADAPTER.md and docs/REQUESTS.md define it, if the server rejects
+a request, or if an answer takes too long. Then the script prints the seed, the error and the log. "Finding a race" in
+docs/SERVE.md describes how to replay a log; start the server with the same --memory.
 
 The exit status is 0 if no run failed, 1 if a run failed, and 2 if an argument is invalid or PROGRAM can't run.
 """
@@ -23,7 +23,7 @@ from collections import Counter
 
 sys.dont_write_bytecode = True
 from adapter import Adapter, Refused  # noqa: E402
-from expected import Expected, Found, shown  # noqa: E402
+from expected import Expected, Found, Told, shown  # noqa: E402
 from random_requests import RandomRequests, Words  # noqa: E402
 
 
@@ -35,14 +35,21 @@ class CheckedAdapter(Adapter):
     """An adapter whose answers are checked one by one, and must come in time."""
 
     def __init__(self, program, size, limit):
-        # In a session of its own, the server doesn't end at Ctrl-C.
-        super().__init__(program, "--memory", str(size), start_new_session=True)
+        super().__init__(program, "--memory", str(size))
         self.limit = limit
         self.awaited = None  # the request whose answer is read next
         self.checks = iter([])
 
+    def start(self, *words):
+        """Starts the server. Ctrl-C is blocked meanwhile, and so for the server, which doesn't end at it."""
+        signal.pthread_sigmask(signal.SIG_BLOCK, {signal.SIGINT})
+        try:
+            return super().start(*words)
+        finally:
+            signal.pthread_sigmask(signal.SIG_UNBLOCK, {signal.SIGINT})
+
     def ask_checked(self, pairs):
-        """Sends requests, and calls the check of each with its answer and the frames that came before the answer."""
+        """Sends requests, and calls the check of each with its answer and the events that came before the answer."""
         self.checks = iter([check for _, check in pairs])
         try:
             self.ask(*(request for request, _ in pairs))
@@ -64,10 +71,12 @@ class CheckedAdapter(Adapter):
         self.wait_for(request)
         try:
             answer = super().answer(request)
-            frames, self.wire = self.wire, []
-            if frames and not request.startswith("step "):
-                raise Found(f"{request:.60}: there is {shown(frames)} on the wire")
-            next(self.checks)(answer, frames)
+            told, self.wire, self.faults = Told(self.wire, self.faults), [], []
+            if told.frames and not request.startswith("step "):
+                raise Found(f"{request:.60}: there is {shown(told.frames)} on the wire")
+            if told.faults and not request.startswith("step "):
+                raise Found(f"{request:.60}: there are the faults {told.faults}")
+            next(self.checks)(answer, told)
         except ValueError as error:
             raise Found(f"{request:.60}: the answer has an invalid form: {error}") from None
         return answer

@@ -1,5 +1,6 @@
 """The requests of a hostile driver. They depend on the seed only, and never on an answer."""
 
+import base64
 import struct
 
 from adapter import REGISTERS
@@ -169,12 +170,12 @@ class RandomValues:
 
 
 class RandomRequests:
-    """Draws requests, each with the check of its answer, and of the frames that came before the answer."""
+    """Draws requests, each with the check of its answer, and of the events that came before the answer."""
 
     def __init__(self, words, expected):
         self.words, self.expected, self.size = words, expected, len(expected.memory)
         self.values = RandomValues(words, self.size)
-        self.asked = [("log on", lambda *_: None)]
+        self.asked = [(request, lambda *_: None) for request in ("events on", "log on")]
         self.before_frames = [self.reading(register) for register in FOR_FRAMES]
         self.before_steps = [self.reading(register) for register in FOR_STEPS]
         self.acts = [act for weight, act in [
@@ -203,16 +204,18 @@ class RandomRequests:
         self.ask(f"writel {REGISTERS + register:#x} {value:#x}", lambda *_: self.expected.written(register, value))
 
     def store(self, address, data):
-        """Stores bytes if memory contains all of them."""
+        """Stores bytes if memory contains all of them. Those at an odd address are sent in base64."""
         if address + len(data) <= self.size:
             request = f"write {address:#x} {len(data)} 0x{data.hex()}"
+            if address % 2 and data:
+                request = f"b64write {address:#x} {len(data)} {base64.b64encode(data).decode()}"
             self.ask(request, lambda *_: self.expected.put(address, data))
 
     def step(self):
         """Plays a step of the adapter. The registers of both rings are read before it, and both heads after it."""
         kind = self.words.choose(STEPS)
         self.asked += self.before_steps
-        self.asked.append((f"step {kind}", lambda outcome, frames: self.expected.step(kind, outcome, frames)))
+        self.asked.append((f"step {kind}", lambda outcome, told: self.expected.step(kind, outcome, told)))
         self.asked.append((f"readl {REGISTERS + RDH:#x}", lambda answer, _: self.expected.head(RDH, int(answer, 16))))
         self.asked.append((f"readl {REGISTERS + TDH:#x}", lambda answer, _: self.expected.head(TDH, int(answer, 16))))
         self.look(f"step {kind}")

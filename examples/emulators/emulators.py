@@ -1,7 +1,7 @@
 """Programs with an adapter that answer requests, one a line: QEMU with its e1000, and `nicbench serve`.
 
 Every emulator here has a memory that begins at address 0, and the adapter's registers at `registers`. A request is a line
-such as `readl 0xFEB00008`; docs/SERVE.md lists the requests and the answers.
+such as `readl 0xFEB00008`; docs/REQUESTS.md lists the requests and the answers.
 """
 
 import fcntl
@@ -13,6 +13,8 @@ import subprocess
 import tempfile
 import termios
 import time
+
+from qemu_clock import ROM, WORDS, VirtualTime
 
 # Bytes of memory that a driver may use from address 0 on. On QEMU's machine the memory of the screen begins there.
 MEMORY = 0xA0000
@@ -30,8 +32,8 @@ class Ended(Exception):
 class Emulator:
     """A program that answers requests.
 
-    `ask` returns the answer to a request and the lines that came before it: `IRQ raise 0`, `IRQ lower 0` and
-    `frame HEX`, in order.
+    `ask` returns the answer to a request and the lines that came before it: `IRQ raise 0`, `IRQ lower 0`, `frame HEX`
+    and those of faults, in order.
     """
 
     # The most times that something is waited for, and the most frames that arrive at once
@@ -68,6 +70,12 @@ class Emulator:
         if not answer.startswith("OK 0x"):
             raise Ended(f"{request!r:.80} was answered by {answer!r:.80}")
         return int(answer[3:], 16), told
+
+    def expect_ok(self, request, *others):
+        """Sends a request whose answer must begin with OK, or with one of the other words."""
+        answer, _ = self.ask(request)
+        if not answer.startswith(("OK", *others)):
+            raise Ended(f"{request!r} was answered by {answer!r:.80}")
 
     def patience(self):
         """Turns of waiting for something that another thread of the emulator does: many at once, and then slower ones."""
@@ -129,6 +137,7 @@ class Serve(Emulator):
                 file.flush()
                 super().__init__(words + ["--image", file.name], registers)
                 self.ask("endianness")  # it has read the image when it answers
+        self.expect_ok("events on")
         if interleave:
             self.ask(f"interleave {interleave}")
 
@@ -155,11 +164,12 @@ class Serve(Emulator):
 class Other(Emulator):
     """A program that answers the requests of `nicbench serve`: `readl`, `writel`, `read`, `write`, `memset` and `arrive`.
 
-    It may not know `settle`, if its adapter does its work at once.
+    It may not know `settle`, if its adapter does its work at once, and not `events`, if it always reports frames.
     """
 
     def __init__(self, command, registers):
         super().__init__(shlex.split(command), registers)
+        self.expect_ok("events on", "FAIL")
 
     def arrive(self, frame):
         answer, told = self.ask(f"arrive {frame.hex()}")
@@ -178,29 +188,25 @@ class Qemu(Emulator):
 
     # The interrupt of the device, on the interrupt controller whose inputs are reported
     INTERRUPT = 11
-    # The clock of the machine (HPET): its control, its counter, the control of its first timer, and when that fires. Its ticks
-    # have 10 ns. `HELD` is a little more than the time for which reception is held back.
-    CLOCK, COUNTER, TIMER, ALARM, HELD = 0xFED00010, 0xFED000F0, 0xFED00100, 0xFED00108, 100_200_000
-    # The control of the clock: it runs, and its first timer is interrupt 0. The control of a timer: it interrupts once.
-    RUNS, INTERRUPTS = 3, 4
+    # The nanoseconds for which reception is held back after a write of RCTL, and some more
+    HELD = 1_002_000_000
 
     def __init__(self, program="qemu-system-x86_64", registers=0xE0000000):
         self.folder = tempfile.TemporaryDirectory()
         rom = os.path.join(self.folder.name, "rom")
         with open(rom, "wb") as file:
-            # The processor begins 16 bytes before the end of the ROM: cli; hlt
-            file.write(b"\xf4" * (0x20000 - 16) + b"\xfa\xf4\xeb\xfd" + b"\xf4" * 12)
+            file.write(ROM)
         self.wire, theirs = socket.socketpair(socket.AF_UNIX, socket.SOCK_DGRAM)
         self.wire.setblocking(False)
         words = shlex.split(program) + [
-            "-nodefaults", "-machine", "pc", "-accel", "tcg", "-icount", "shift=0,sleep=off", "-m", "64M",
-            "-bios", rom, "-display", "none", "-qtest", "stdio", "-qtest-log", "/dev/null",
+            "-nodefaults", "-machine", "pc", *WORDS, "-m", "64M", "-bios", rom, "-display", "none", "-qtest", "stdio", "-qtest-log", "/dev/null",
             "-netdev", f"dgram,id=net,local.type=fd,local.str={theirs.fileno()}",
             "-device", f"e1000,mac={ADDRESS},mitigation=off,netdev=net"]
         # It warns that no timer runs, which is so.
         with open(os.path.join(self.folder.name, "errors"), "wb") as errors:
             super().__init__(words, registers, pass_fds=[theirs.fileno()], stderr=errors)
         theirs.close()
+        self.time = VirtualTime(self.lines)
         self.set_up()
 
     def ask(self, request):
@@ -211,26 +217,13 @@ class Qemu(Emulator):
         if word.startswith("write"):
             told = self.sent() + told
             if int(rest[0], 0) == self.registers + RCTL:
-                told += self.pass_time()
+                told += self.interrupts(self.time.step(self.HELD))
         return answer, told
 
     def interrupts(self, lines):
         """The lines about the device's interrupt."""
         levels = [line.split()[1:] for line in lines if line.startswith("IRQ ")]
         return [f"IRQ {level} 0" for level, number in levels if number == str(self.INTERRUPT)]
-
-    def pass_time(self):
-        """Waits until the adapter receives again after a write of RCTL: until a timer has fired that was set to a later time.
-        The processor's thread runs the timers, and must get the time to do it. Returns the lines about the interrupt."""
-        now = int(self.lines(f"readq {self.COUNTER:#x}")[-1][3:], 16)
-        lines = self.lines(f"writeq {self.ALARM:#x} {now + self.HELD}") + self.lines(f"writeq {self.TIMER:#x} {self.INTERRUPTS}")
-        for _ in self.patience():
-            if "IRQ raise 0" in lines:
-                self.lines(f"writeq {self.TIMER:#x} 0")
-                return self.interrupts(lines)
-            time.sleep(0.0001)
-            lines += self.lines("inb 0x80")
-        raise Ended("time stands still")
 
     def turns(self):
         """Requests that do nothing, so that QEMU's main loop does what it has to do. Returns the lines about the interrupt."""
@@ -259,7 +252,6 @@ class Qemu(Emulator):
         self.configure(1, 0x60, self.INTERRUPT * 0x01010101)  # the four interrupts of the bus
         self.configure(device, 0x10, self.registers)
         self.configure(device, 4, 6)  # memory, bus master
-        self.lines(f"writeq {self.CLOCK:#x} {self.RUNS}")
         self.lines("irq_intercept_in ioapic")
 
     def arrive(self, frame):
