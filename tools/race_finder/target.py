@@ -10,7 +10,7 @@ import time
 from race_finder.forks import Forks, Stopped, script_of
 from race_finder.names import DEFAULT_MEMORY, DEFAULT_REGISTERS, number_of
 from race_finder.play import Play
-from race_finder.run import Run, fault_of
+from race_finder.run import fault_of, run_of
 from race_finder.server import Server
 from race_finder.workers import Workers
 
@@ -120,7 +120,7 @@ class Target:
                 fault = self.run_command(play, errors)
         finally:
             server.end()
-        return Run(fault, play)
+        return run_of(fault, play)
 
     def run_command(self, play, errors):
         try:
@@ -153,18 +153,14 @@ def wait(reads, writes, end, wake):
 
 def serve(test, play, end, wake):
     """Answers the requests of a test until its standard output ends."""
-    source, sink, rest = test.stdout.fileno(), test.stdin.fileno(), b""
+    source, sink = test.stdout.fileno(), test.stdin.fileno()
     os.set_blocking(sink, False)
     while True:
         if time.monotonic() > end:
             raise TooLong
         wait([source], [], end, wake)
         data = os.read(source, 65536)
-        *lines, rest = (rest + data).split(b"\n")
-        if not data and rest:
-            lines, rest = [rest], b""
-        out = play.feed([line.decode(errors="surrogateescape") for line in lines], is_last=not data)
-        if not write(sink, out, end, wake) or not data:
+        if not write(sink, play.feed(data, is_last=not data), end, wake) or not data:
             return
 
 
