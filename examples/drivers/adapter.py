@@ -1,6 +1,5 @@
 """An adapter behind `nicbench serve`, as a driver and a wire see it."""
 
-import subprocess
 from contextlib import contextmanager
 
 # Where the registers begin.
@@ -25,6 +24,7 @@ class Adapter:
         self.told = []  # the lines of the log
         self.arrived = []  # the frames that arrived, each as a pair with its fate
         self.handler = None  # if set, it is called as soon as the line is asserted, between any two requests
+        self.has_events = False  # whether the server was asked for events
         self.takes_interrupts = True  # whether the processor takes interrupts, so that the handler may be called
 
     def __enter__(self):
@@ -36,6 +36,7 @@ class Adapter:
 
     def start(self, program, options, settings):
         """Starts the server, and returns the stream of requests and the stream of answers."""
+        import subprocess  # only here: a test of the finder of races starts no server
         self.process = subprocess.Popen([program, "serve", *options], stdin=subprocess.PIPE, stdout=subprocess.PIPE,
                                         **settings)
         return self.process.stdin, self.process.stdout
@@ -67,11 +68,20 @@ class Adapter:
     def ask_at_once(self, requests):
         """Sends these requests, then reads and returns their answers."""
         try:
+            if not self.has_events:
+                self.ask_for_events()
             self.requests.write(("\n".join(requests) + "\n").encode())
             self.requests.flush()
         except BrokenPipeError:
             raise Refused(f"{requests[0]}: the server has ended") from None
         return [self.answer(request) for request in requests]
+
+    def ask_for_events(self):
+        """Asks for the lines `frame`, `arrived` and `fault`. A server that always sends them rejects this."""
+        self.has_events = True
+        self.requests.write(b"events on\n")
+        self.requests.flush()
+        self.answers.readline()
 
     def answer(self, request):
         """Returns the next answer. Lines before it report what happened."""
@@ -86,7 +96,7 @@ class Adapter:
             if word == "arrived":
                 fate, _, frame = rest.partition(" ")
                 self.arrived.append((fate, bytes.fromhex(frame)))
-            if word in ("IRQ", "frame", "arrived", "#"):
+            if word in ("IRQ", "frame", "arrived", "fault", "#"):
                 self.told.append(f"{word} {rest}")
             else:
                 raise Refused(f"{request}: {word} {rest}")

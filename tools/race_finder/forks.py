@@ -211,7 +211,8 @@ class Forks:
         with self.lock:
             if not self.is_warm and run.rows:
                 self.is_warm = True
-                begin(self.hosts[0][1], WARM, [row.line[2:] for row in run.rows if row.place and row.place.round]).close()
+                requests = [row.line[2:] for row in run.rows if row.place and row.place.round]
+                begin(self.hosts[0][1], WARM, requests).close()
 
     def end(self):
         for _, control in self.hosts:

@@ -68,7 +68,12 @@ class Requests(Stream):
         return True
 
     def write(self, data):
-        return self.host.take(bytes(data))
+        host = self.host
+        host.requests += data
+        is_much = len(host.requests) + len(host.unread) > MOST_UNREAD
+        if is_much or get_ident() != host.thread:
+            host.is_doubtful = True
+        return len(data)
 
 
 class Answers(Stream):
@@ -113,12 +118,6 @@ class Host:
             setattr(sys, name, new)
             setattr(sys, f"__{name}__", new)
 
-    def take(self, data):
-        self.requests += data
-        is_much = len(self.requests) + len(self.unread) > MOST_UNREAD
-        self.is_doubtful |= is_much or get_ident() != self.thread
-        return len(data)
-
     def answers(self, most):
         self.is_watched = False
         if self.play is None:
@@ -128,15 +127,17 @@ class Host:
             self.feed()
         if not self.unread or get_ident() != self.thread:
             self.doubt()  # without an answer, a process of its own waits for ever
-        data, self.unread = self.unread[:most], self.unread[most:]
         self.is_watched = True
-        return data
+        data = self.unread
+        self.unread = data[most:]
+        return data[:most]
 
     def feed(self, is_last=False):
         """Plays the requests that the test has written."""
         data, self.requests = self.requests, b""
         try:
-            self.unread += self.play.feed(data, is_last)
+            told = self.play.feed(data, is_last)
+            self.unread = self.unread + told if self.unread else told
         except Mismatch as error:
             self.end(MISMATCH, str(error))
         except Exception:
@@ -201,7 +202,8 @@ class Host:
         os.dup2(result, 1)
         self.renew()
         schedule = [with_words(*words) for words in schedule]
-        self.begin(self.servers.of(slot, begun), schedule, drawing and draw.with_words(*drawing), is_strict, has_places, has_rows)
+        drawing = drawing and draw.with_words(*drawing)
+        self.begin(self.servers.of(slot, begun), schedule, drawing, is_strict, has_places, has_rows)
 
     def become_host(self, control, begun, place):
         """Goes on until this place, and is forked there."""

@@ -25,12 +25,13 @@ NOTHING, IDLE = b"OK nothing", (b"OK nothing", b"OK wirefull")
 QUIET = ("RDT", "TDT")
 # Requests that only the finder sends: the state that is saved is that of a fork.
 OURS = ["save"], ["restore"]
-LOG, WIRE, EVENTS = (["log", "on"], ["log", "off"]), (["wire", "full"], ["wire", "free"]), (["events", "on"], ["events", "off"])
+LOG, EVENTS = (["log", "on"], ["log", "off"]), (["events", "on"], ["events", "off"])
+WIRE = ["wire", "full"], ["wire", "free"]
 LOG_ON, LOG_OFF = b"log on\n", b"log off\n"
 FATES, STEPS = bits_of_fates(), bits_of_steps()
 # For each step that the finder requests: the request, and the values of STEPS by its answer
 STEP = {kind: f"step {kind}\n".encode() for kind in STEP_KINDS}
-OUTCOMES = {kind: {b"OK " + value[2].encode(): value for value in STEPS.values() if value[1] == kind} for kind in STEP_KINDS}
+OUTCOMES = {kind: {b"OK " + step[2].encode(): step for step in STEPS.values() if step[1] == kind} for kind in STEP_KINDS}
 MOST_KNOWN = 65536  # requests whose accesses are kept
 MOST_TOLD = 1024  # answers that are kept until they are hashed
 
@@ -99,8 +100,8 @@ class Play:
     # Python finds attributes faster in slots, if there are many.
     __slots__ = ("shadow", "memory", "known", "waiting", "size", "untold", "round", "access_number", "is_logged", "stop",
                  "at_stop", "begun", "out", "offered", "offers", "met", "idle", "places", "rows", "reached", "others",
-                 "accesses", "answers", "counts", "rest", "told", "is_direct", "tells_events", "server", "draw", "is_strict", "has_places", "has_rows", "has_log",
-                 "schedule", "left", "named")
+                 "accesses", "told", "answers", "counts", "rest", "is_direct", "tells_events", "server", "draw",
+                 "is_strict", "has_places", "has_rows", "has_log", "schedule", "left", "named")
 
     def __init__(self, base=DEFAULT_REGISTERS, memory=0):
         self.shadow, self.memory = Shadow(base), memory  # of `memory` bytes, the finder knows that they are there
@@ -238,11 +239,12 @@ class Play:
         """A line of the log for a step."""
         step = STEPS[line]
         slot = self.take_step(*step)
-        if step[2] != "nothing" or owner is TEST:
-            if self.has_rows:
-                self.rows.append(Row(text_of(line), owner, None, slot))
-            if self.is_logged:
-                self.out.append(line)
+        if not (self.has_rows or self.is_logged) or step[2] == "nothing" and owner is not TEST:
+            return
+        if self.has_rows:
+            self.rows.append(Row(text_of(line), owner, None, slot))
+        if self.is_logged:
+            self.out.append(line)
 
     def hear(self, line, owner, met):
         """Another line before the answer to a request. Returns the row of an access or an arrival."""
