@@ -10,6 +10,7 @@ import socket
 import subprocess
 import threading
 import time
+from contextlib import suppress
 from pickle import UnpicklingError
 
 from race_finder.host import DOUBT, HOST, MARK, MISMATCH, RAN, READY, RUN, WARM
@@ -212,7 +213,8 @@ class Forks:
             if not self.is_warm and run.rows:
                 self.is_warm = True
                 requests = [row.line[2:] for row in run.rows if row.place and row.place.round]
-                begin(self.hosts[0][1], WARM, requests).close()
+                with suppress(OSError):  # the host has ended, which the next run shows
+                    begin(self.hosts[0][1], WARM, requests).close()
 
     def end(self):
         for _, control in self.hosts:
@@ -228,9 +230,13 @@ class Forks:
 def begin(host, kind, message, slot=0, is_lost=False):
     """Sends a message to a host. Returns the socket to the process that answers."""
     ours, theirs = socket.socketpair()
-    with theirs:
-        socket.send_fds(host, [bytes([kind, slot, is_lost])], [theirs.fileno()])
-    send(ours.fileno(), message)
+    try:
+        with theirs:
+            socket.send_fds(host, [bytes([kind, slot, is_lost])], [theirs.fileno()])
+        send(ours.fileno(), message)
+    except OSError:
+        ours.close()
+        raise
     return ours
 
 

@@ -167,7 +167,7 @@ class Host:
             if child:
                 children.add(child)
             else:
-                self.warm(receive(file))
+                self.warm(receive(file) or ())
             os.close(file)
         self.become(kind, slot, file, begun)
 
@@ -281,7 +281,7 @@ class Host:
         self.feed(is_last=True)
         if self.is_doubtful or self.was_read():
             self.doubt()
-        run = run_of(fault_of(status, written(2)), self.play)
+        run = run_of(fault_of(status, written(2)) if status else None, self.play)
         self.end(RAN, run.reduced(self.has_places, self.has_rows).packed())
 
     def warm(self, requests):

@@ -95,7 +95,7 @@ class Play:
     A request on its way to the server is a tuple: its text, who made it, its access if it is one (`Known`), what is
     recorded of the access (`Met`), the deviation that it was drawn for, the digits of a frame that was offered, and the
     outcomes of a step by its answer if the server doesn't log it. Rows need the log. Without them, the server logs only
-    what happens at the test's own `step` and `settle`.
+    the steps of `settle`.
     """
     # Python finds attributes faster in slots, if there are many.
     __slots__ = ("shadow", "memory", "known", "waiting", "size", "untold", "round", "access_number", "is_logged", "stop",
@@ -195,7 +195,7 @@ class Play:
                     self.places.append(met)
                 if known.has_effect:
                     self.hear_access(known, owner, line)
-        elif outcomes:
+        elif outcomes and line in outcomes:
             self.take_step(*outcomes[line])
         elif line in FATES:
             self.reached |= FATES[line]
@@ -362,10 +362,16 @@ class Play:
             self.flush()
             while self.offered:
                 self.arrive(DEFAULT)
-        self.set_log(True)
-        self.queue(request, TEST)
-        self.set_log(self.has_rows or self.is_logged)
+        self.queue_round(request, words)
         self.flush()  # so the same steps follow, however many requests are sent at once
+
+    def queue_round(self, request, words):
+        """The request at the begin of a round. The log has the steps of `settle`; the answer has the outcome of `step`."""
+        kind = words[1] if words[0] == "step" and len(words) == 2 else None
+        has_log = self.has_log
+        self.set_log(has_log or words == ["settle"])
+        self.queue(request, TEST, outcomes=None if has_log else OUTCOMES.get(kind))
+        self.set_log(has_log)
 
     def access(self, request, known):
         """An access of the test, after what the schedule plays before it."""
