@@ -82,7 +82,7 @@ class Child:
             raise Stopped
         if not ready:
             raise Late
-        more = os.read(self.file, 1 << 20)
+        more = os.read(self.file, 1 << 16)
         if not more:
             raise Lost
         self.data += more

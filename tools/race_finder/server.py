@@ -145,10 +145,13 @@ class Servers:
             server.end()
 
     def of(self, slot, begun):
-        """In a run: its server."""
+        """In a run: its server, which stays on the same processor. Only one of the two works at a time."""
+        processors = {processor_of_this()}
+        os.sched_setaffinity(0, processors)
         server = self.saved.get(slot)
         if not server:
             return self.new(begun)
+        os.sched_setaffinity(server.number, processors)
         server.restore()
         return server
 
@@ -171,3 +174,12 @@ class Servers:
         """At the end of a run: ends its server if no other run uses it."""
         if server and server not in self.saved.values():
             server.end()
+
+
+def processor_of_this():
+    """The number of the processor on which this process runs: field 39 of its status, in which a name in () is field 2."""
+    file = os.open("/proc/self/stat", os.O_RDONLY)
+    try:
+        return int(os.read(file, 4096).rpartition(b")")[2].split()[39 - 3])
+    finally:
+        os.close(file)
