@@ -165,7 +165,7 @@ class Forks:
             FIRST if draw and draw.draws_holds else ROUND_1
         return next(control for place, control in self.hosts if place <= first)
 
-    def play(self, schedule, draw, is_strict, has_places, has_rows, wake):
+    def play(self, schedule, draw, is_strict, has_places, has_rows, has_script, wake):
         """A run, or None if only a process of its own can show it. Raises Mismatch or Stopped."""
         with self.lock:
             if self.is_usable and self.process is None:
@@ -174,7 +174,8 @@ class Forks:
             return None
         slot = self.slots.get()
         try:
-            kind, value = self.result(slot, wake, schedule, draw, is_strict, has_places, has_rows or not self.is_warm)
+            asked = has_places, has_rows or not self.is_warm, has_script
+            kind, value = self.result(slot, wake, schedule, draw, is_strict, *asked)
         except Late:
             return None
         except (Lost, OSError):

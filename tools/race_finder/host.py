@@ -92,6 +92,8 @@ class Host:
     def __init__(self, control, settings):
         self.control, self.settings = control, settings
         self.result = self.play = None  # in a child: where its result goes, and its run
+        self.asked = ()  # whether places, rows and the script of the run are wanted
+        self.shared = 0  # how much of the script is that of the run without deviations
         self.requests = self.unread = b""
         self.is_doubtful = self.is_watched = False
         self.number, self.thread = None, get_ident()
@@ -196,14 +198,15 @@ class Host:
         except Exception:
             os._exit(1)  # the test must not see this
 
-    def become_run(self, result, begun, slot, schedule, drawing, is_strict, has_places, has_rows):
-        self.result, self.has_places, self.has_rows = result, has_places, has_rows
+    def become_run(self, result, begun, slot, schedule, drawing, is_strict, *asked):
+        self.result, self.asked = result, asked
         os.write(result, MARK + self.number.to_bytes(SIZE, "little"))
         os.dup2(result, 1)
         self.renew()
         schedule = [with_words(*words) for words in schedule]
         drawing = drawing and draw.with_words(*drawing)
-        self.begin(self.servers.of(slot, begun), schedule, drawing, is_strict, has_places, has_rows)
+        self.shared = len(self.play.script) if schedule and self.play else 0
+        self.begin(self.servers.of(slot, begun), schedule, drawing, is_strict, *asked[:2])
 
     def become_host(self, control, begun, place):
         """Goes on until this place, and is forked there."""
@@ -281,8 +284,8 @@ class Host:
         self.feed(is_last=True)
         if self.is_doubtful or self.was_read():
             self.doubt()
-        run = run_of(fault_of(status, written(2)) if status else None, self.play)
-        self.end(RAN, run.reduced(self.has_places, self.has_rows).packed())
+        run = run_of(fault_of(status, written(2)) if status else None, self.play, self.shared)
+        self.end(RAN, run.reduced(*self.asked).packed())
 
     def warm(self, requests):
         """Lets children find the accesses of these requests."""

@@ -3,6 +3,7 @@
 import hashlib
 import re
 from collections import Counter
+from copy import copy
 from typing import NamedTuple
 
 from race_finder.names import DEFAULT_REGISTERS, access_of, causes_of, number_in, number_of, words_of
@@ -33,7 +34,6 @@ FATES, STEPS = bits_of_fates(), bits_of_steps()
 STEP = {kind: f"step {kind}\n".encode() for kind in STEP_KINDS}
 OUTCOMES = {kind: {b"OK " + step[2].encode(): step for step in STEPS.values() if step[1] == kind} for kind in STEP_KINDS}
 MOST_KNOWN = 65536  # requests whose accesses are kept
-MOST_TOLD = 1024  # answers that are kept until they are hashed
 
 
 class Mismatch(Exception):
@@ -100,7 +100,7 @@ class Play:
     # Python finds attributes faster in slots, if there are many.
     __slots__ = ("shadow", "memory", "known", "waiting", "size", "untold", "round", "access_number", "is_logged", "stop",
                  "at_stop", "begun", "out", "offered", "offers", "met", "idle", "places", "rows", "reached", "others",
-                 "accesses", "told", "answers", "counts", "rest", "is_direct", "tells_events", "server", "draw",
+                 "accesses", "script", "hashed", "answers", "counts", "rest", "is_direct", "tells_events", "server", "draw",
                  "is_strict", "has_places", "has_rows", "has_log", "schedule", "left", "named")
 
     def __init__(self, base=DEFAULT_REGISTERS, memory=0):
@@ -120,9 +120,19 @@ class Play:
         self.reached = 0  # a bit for each item of reached.py
         self.others = 0  # steps of engines that did something, and arrivals of offered frames, from round 1 on
         self.accesses = 0  # from round 1 on, in rounds before this one
-        self.told, self.answers = [], hashlib.sha1()  # what the test was told, and its hash up to there
+        # For all requests that the test made at once: these, what it was told then, and the round and the access after that
+        self.script = []
+        self.hashed, self.answers = 0, hashlib.sha1()  # the hash of what the test was told, in these first items of `script`
         self.tells_events = None  # whether the test gets lines `frame`, `arrived` and `fault`
         self.counts = Counter()  # of accesses, by their names, if the schedule needs them
+
+    def copy(self):
+        """Another run in the same state."""
+        other = copy(self)
+        other.shadow, other.answers, other.counts = self.shadow.copy(), self.answers.copy(), self.counts.copy()
+        for name in ("waiting", "begun", "out", "offered", "met", "idle", "places", "rows", "script"):
+            setattr(other, name, [*getattr(self, name)])
+        return other
 
     def begin(self, server, schedule=(), draw=None, is_strict=True, has_places=True, has_rows=True):
         """Plays this schedule. Nothing that it does is before the next request. The log of the server is off.
@@ -259,7 +269,7 @@ class Play:
     def write(self, known):
         """A register was written. If a ring has moved, names of accesses are other ones."""
         if self.shadow.write(known.register, known.access.value):
-            self.known.clear()
+            self.known = {}
 
     # The test
 
@@ -272,20 +282,17 @@ class Play:
             self.take_all(data, is_last)
         if self.untold or is_last:
             self.flush()
-        out = self.out
-        if not out:
-            return b""
-        out.append(b"")
-        told, self.out = b"\n".join(out), []
-        self.told.append(told)
-        if len(self.told) >= MOST_TOLD:
-            self.digest()
+        told = b""
+        if self.out:
+            self.out.append(b"")
+            told, self.out = b"\n".join(self.out), []
+        self.script.append((data, told, (self.round, self.access_number)))
         return told
 
     def digest(self):
         """The hash of all that the test was told."""
-        self.answers.update(b"".join(self.told))
-        self.told = []
+        self.answers.update(b"".join([told for _, told, _ in self.script[self.hashed:]]))
+        self.hashed = len(self.script)
         return self.answers.digest()
 
     def take_all(self, data, is_last):

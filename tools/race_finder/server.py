@@ -145,13 +145,11 @@ class Servers:
             server.end()
 
     def of(self, slot, begun):
-        """In a run: its server, which stays on the same processor. Only one of the two works at a time."""
-        processors = {processor_of_this()}
-        os.sched_setaffinity(0, processors)
+        """In a run: its server."""
         server = self.saved.get(slot)
         if not server:
             return self.new(begun)
-        os.sched_setaffinity(server.number, processors)
+        stay_together(server)
         server.restore()
         return server
 
@@ -174,6 +172,13 @@ class Servers:
         """At the end of a run: ends its server if no other run uses it."""
         if server and server not in self.saved.values():
             server.end()
+
+
+def stay_together(server):
+    """Keeps this process and its server on one processor, as only one of the two works at a time."""
+    processors = {processor_of_this()}
+    os.sched_setaffinity(0, processors)
+    os.sched_setaffinity(server.number, processors)
 
 
 def processor_of_this():
