@@ -66,13 +66,13 @@ def told(server):
     for knows, (name, (before, *wanted)) in ((knows, case) for knows in (True, False) for case in CASES.items()):
         server.put("requests", lines([*before, *SENDS]))
         command = ["sh", "-c", "exec 3<&0; cat requests & exec cat <&3 >answers"]
-        status, out, errors = replay(server, "", "--server", between(server, knows), "--out", "found/", command=command)
+        status, out, errors = replay(server, "", "--server", between(server, knows), "--out", "events/", command=command)
         got = (server.get("answers") or b"").decode().splitlines()
         title = f"events: {name}, with a server that {'knows' if knows else 'rejects'} the requests for events"
         server.check(f"{title}: the test passes", (status, errors), (PASSES, ""))
         server.check(f"{title}: the events", [line for line in got if line.split(" ")[0] not in ("OK", "IRQ")], wanted[not knows])
         server.check(f"{title}: the answers", sum(line.startswith("OK") for line in got), len(before) + len(SENDS))
-        log = (server.get("found/log.txt") or b"").decode().splitlines()
+        log = (server.get("events/log.txt") or b"").decode().splitlines()
         server.check(f"{title}: the log", [line for line in EVENTS[:2] if line not in log], [])
         server.check(f"{title}: the chart", ROW.search(out) is not None, True)
 

@@ -154,22 +154,19 @@ class Host:
         children = set()
         while True:
             head, file = self.next_message()
-            for child in [*children]:
-                if os.waitpid(child, os.WNOHANG if head else 0)[0]:
-                    children.remove(child)
+            reap(children, os.WNOHANG if head else 0)
             if not head:
                 self.servers.end()
                 os._exit(0)
             kind, slot, is_lost = head
             if kind == RUN and (is_lost or slot not in self.servers.saved):
                 self.prepare(slot, is_lost, begun)
-            child = os.fork() if kind != WARM else None
-            if child == 0:
-                break
-            if child:
+            if kind == WARM:
+                self.warm(receive(file) or ())
+            elif child := os.fork():
                 children.add(child)
             else:
-                self.warm(receive(file) or ())
+                break
             os.close(file)
         self.become(kind, slot, file, begun)
 
@@ -298,6 +295,13 @@ class Host:
         writes = event == "open" and self.result is not None and arguments[2] & WRITES and ".pyc." not in str(arguments[0])
         if self.is_watched and (event in DOUBTFUL or writes):
             self.is_doubtful = True
+
+
+def reap(children, options):
+    """Removes the children that have ended."""
+    for child in [*children]:
+        if os.waitpid(child, options)[0]:
+            children.remove(child)
 
 
 def join_threads(threading):
