@@ -203,7 +203,7 @@ class Host:
         schedule = [with_words(*words) for words in schedule]
         drawing = drawing and draw.with_words(*drawing)
         self.shared = len(self.play.script) if schedule and self.play else 0
-        self.begin(self.servers.of(slot, begun), schedule, drawing, is_strict, *asked[:2])
+        self.begin(self.servers.of(slot, begun), schedule, drawing, is_strict, *asked)
 
     def become_host(self, control, begun, place):
         """Goes on until this place, and is forked there."""
@@ -215,10 +215,10 @@ class Host:
         self.play.stop, self.play.at_stop, self.play.begun = place, self.at_stop, [*begun]
         self.play.look_ahead()
 
-    def begin(self, server, schedule, draw, is_strict, has_places=True, has_rows=True):
+    def begin(self, server, schedule, draw, is_strict, *asked):
         """Starts a run, or lets it go on, with a server in the state after the requests so far."""
         self.play = self.play or Play(*self.settings[2:])
-        self.play.begin(server, schedule, draw, is_strict, has_places, has_rows)
+        self.play.begin(server, schedule, draw, is_strict, *asked)
 
     def at_stop(self):
         self.check_host()

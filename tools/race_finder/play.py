@@ -100,8 +100,8 @@ class Play:
     # Python finds attributes faster in slots, if there are many.
     __slots__ = ("shadow", "memory", "known", "waiting", "size", "untold", "round", "access_number", "is_logged", "stop",
                  "at_stop", "begun", "out", "offered", "offers", "met", "idle", "places", "rows", "reached", "others",
-                 "accesses", "script", "hashed", "answers", "counts", "rest", "is_direct", "tells_events", "server", "draw",
-                 "is_strict", "has_places", "has_rows", "has_log", "schedule", "left", "named")
+                 "accesses", "script", "told", "answers", "counts", "rest", "is_direct", "tells_events", "server", "draw",
+                 "is_strict", "has_places", "has_rows", "has_script", "has_log", "schedule", "left", "named")
 
     def __init__(self, base=DEFAULT_REGISTERS, memory=0):
         self.shadow, self.memory = Shadow(base), memory  # of `memory` bytes, the finder knows that they are there
@@ -120,9 +120,9 @@ class Play:
         self.reached = 0  # a bit for each item of reached.py
         self.others = 0  # steps of engines that did something, and arrivals of offered frames, from round 1 on
         self.accesses = 0  # from round 1 on, in rounds before this one
+        self.told, self.answers = [], hashlib.sha1()  # what the test was told, and the hash of what it was told before that
         # For all requests that the test made at once: these, what it was told then, and the round and the access after that
         self.script = []
-        self.hashed, self.answers = 0, hashlib.sha1()  # the hash of what the test was told, in these first items of `script`
         self.tells_events = None  # whether the test gets lines `frame`, `arrived` and `fault`
         self.counts = Counter()  # of accesses, by their names, if the schedule needs them
 
@@ -130,17 +130,17 @@ class Play:
         """Another run in the same state."""
         other = copy(self)
         other.shadow, other.answers, other.counts = self.shadow.copy(), self.answers.copy(), self.counts.copy()
-        for name in ("waiting", "begun", "out", "offered", "met", "idle", "places", "rows", "script"):
+        for name in ("waiting", "begun", "out", "offered", "met", "idle", "places", "rows", "told", "script"):
             setattr(other, name, [*getattr(self, name)])
         return other
 
-    def begin(self, server, schedule=(), draw=None, is_strict=True, has_places=True, has_rows=True):
+    def begin(self, server, schedule=(), draw=None, is_strict=True, has_places=True, has_rows=True, has_script=True):
         """Plays this schedule. Nothing that it does is before the next request. The log of the server is off.
 
-        Places and rows are recorded from now on if this is wanted.
+        Places, rows and the script are recorded from now on if this is wanted.
         """
         self.server, self.draw, self.is_strict = server, draw, is_strict
-        self.has_places, self.has_rows = has_places or has_rows, has_rows
+        self.has_places, self.has_rows, self.has_script = has_places or has_rows, has_rows, has_script
         self.has_log = False
         self.set_log(has_rows or self.is_logged)
         if self.tells_events is None:
@@ -286,13 +286,15 @@ class Play:
         if self.out:
             self.out.append(b"")
             told, self.out = b"\n".join(self.out), []
-        self.script.append((data, told, (self.round, self.access_number)))
+        self.told.append(told)
+        if self.has_script:
+            self.script.append((data, told, (self.round, self.access_number)))
         return told
 
     def digest(self):
         """The hash of all that the test was told."""
-        self.answers.update(b"".join([told for _, told, _ in self.script[self.hashed:]]))
-        self.hashed = len(self.script)
+        self.answers.update(b"".join(self.told))
+        self.told = []
         return self.answers.digest()
 
     def take_all(self, data, is_last):
