@@ -69,11 +69,11 @@ class Checked(Play):
     seen = set()
 
     def hear_step(self, line, owner):
-        _, _, kind, _, outcome = line.split(" ")
+        _, _, kind, _, outcome = line.decode().split(" ")
         does = outcome != "nothing"
         is_right = does == (kind in self.shadow.enabled()) if kind in ENGINES else getattr(self.shadow, kind) or not does
         Checked.right, Checked.wrong = Checked.right + is_right, Checked.wrong + (not is_right)
-        Checked.seen.add(line[7:])
+        Checked.seen.add(line)
         super().hear_step(line, owner)
 
 def requests(draw):
@@ -91,7 +91,8 @@ def played(asked, size, draw=None):
     server = Server(sys.argv[1], [])
     play = Checked()
     play.begin(server, draw=draw)
-    lines = [line for at in range(0, len(asked), size) for line in play.feed(asked[at:at + size]).splitlines()]
+    parts = ["".join(f"{request}\\n" for request in asked[at:at + size]) for at in range(0, len(asked), size)]
+    lines = [line for part in parts for line in play.feed(part.encode()).splitlines()]
     server.end()
     return lines, play.met, play.places, [(row.line, row.owner, row.place, row.name, row.answer) for row in play.rows]
 

@@ -58,6 +58,35 @@ for command in COMMANDS:
     print(target.forks.is_usable, len(target.forks.hosts) > 10, len(faults) > 1)
     target.close()
 """
+# Plays schedules twice: at the second time, the requests of the test are known, so only a run that fails is forked. Then
+# sends all runs of the second time to processes of their own. Prints what differs, how many runs were forked at the second
+# time, and how many failed. Then shows that a test isn't recalled whose requests differ after the same answers.
+RECALLED = BEGIN + """
+from race_finder.recall import Requests
+
+def shown(run):
+    return [run.fault, run.met, run.idle, run.unreached, run.answers, run.events, run.reached, [tuple(met) for met in run.places]]
+
+for command in COMMANDS:
+    target, forked = Target(sys.argv[1], command, seconds=60), []
+    run = target.play()
+    target.prepare(run)
+    schedules = [[Deviation(met.place, action, met.name)] for met in run.places[::-8] if met.place.round for action in met.enabled]
+    schedules += [[*one, Deviation(run.places[-1].place, "tx", run.places[-1].name)] for one in schedules[::3]]
+    first, play_forked = [shown(target.play(one)) for one in schedules], target.play_forked
+    target.play_forked = lambda *words: forked.append(words) or play_forked(*words)
+    second = [shown(target.play(one)) for one in schedules]
+    apart = [shown(target.play_apart(one, None, False)) for one in schedules]
+    failed = sum(one[0] is not None for one in first)
+    print(len(schedules) > 10, first == second == apart, target.recall.is_usable, len(forked) == failed, failed > 0)
+    target.close()
+for scripts in [[(b"a", b"1", (1, 0)), (b"b", b"2", (1, 1))], [(b"a", b"1", (1, 0)), (b"c", b"2", (1, 1))]], \\
+               [[(b"a", b"1", (1, 0)), (b"b", b"2", (1, 1))], [(b"a", b"3", (1, 0)), (b"c", b"2", (1, 1))]]:
+    requests = Requests()
+    for one in scripts:
+        requests.learn(one)
+    print(requests.is_certain)
+"""
 MISMATCH = "4.1 rx before read RDH: at this place, the test makes another access: read {}\n"
 # Tests in Python: what each does, whether its runs are forked, and its fault
 ASKS = """
@@ -117,6 +146,12 @@ def same(server):
     got = script(server, f"COMMANDS = {commands!r}\n{SAME}")
     wanted = "".join(MISMATCH.format(name) * 2 + "True True True\n" for name in ("rx[1]+8", "ICR"))
     server.check("same: forked runs", got, (0, wanted, ""))
+
+
+def recalled(server):
+    """A schedule that is played without the test shows what a process of the test shows."""
+    got = script(server, f"COMMANDS = {[[*STAGED, 'stages', 'right'], [*STAGED, 'stages', 'freed']]!r}\n{RECALLED}")
+    server.check("recalled: runs without the test", got, (0, "True True True True False\nTrue True True True True\nFalse\nTrue\n", ""))
 
 
 def ends(server):
@@ -258,5 +293,5 @@ def pct(server):
 
 
 def all_cases(server):
-    for part in [same, ends, jobs, saved, pct]:
+    for part in [same, recalled, ends, jobs, saved, pct]:
         part(server)

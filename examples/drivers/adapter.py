@@ -1,6 +1,5 @@
 """An adapter behind `nicbench serve`, as a driver and a wire see it."""
 
-import subprocess
 from contextlib import contextmanager
 
 # Where the registers begin.
@@ -26,6 +25,7 @@ class Adapter:
         self.arrived = []  # the frames that arrived, each as a pair with its fate
         self.faults = []  # the faults of engines, each as the words after `fault`
         self.handler = None  # if set, it is called as soon as the line is asserted, between any two requests
+        self.has_events = False  # whether the server was asked for events
         self.takes_interrupts = True  # whether the processor takes interrupts, so that the handler may be called
 
     def __enter__(self):
@@ -37,6 +37,7 @@ class Adapter:
 
     def start(self, program, options):
         """Starts the server, and returns the stream of requests and the stream of answers."""
+        import subprocess  # only here: a test of the finder of races starts no server
         self.process = subprocess.Popen([program, "serve", *options], stdin=subprocess.PIPE, stdout=subprocess.PIPE)
         return self.process.stdin, self.process.stdout
 
@@ -67,11 +68,20 @@ class Adapter:
     def ask_at_once(self, requests):
         """Sends these requests, then reads and returns their answers."""
         try:
+            if not self.has_events:
+                self.ask_for_events()
             self.requests.write(("\n".join(requests) + "\n").encode())
             self.requests.flush()
         except BrokenPipeError:
             raise Refused(f"{requests[0]}: the server has ended") from None
         return [self.answer(request) for request in requests]
+
+    def ask_for_events(self):
+        """Asks for the lines `frame`, `arrived` and `fault`."""
+        self.has_events = True
+        self.requests.write(b"events on\n")
+        self.requests.flush()
+        self.answers.readline()
 
     def answer(self, request):
         """Returns the next answer. Lines before it report what happened."""

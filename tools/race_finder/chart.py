@@ -77,6 +77,8 @@ def chart_row_of(row, head):
         return of_access(row)
     if words[0] == "IRQ":
         return ChartRow({"adapter": "raises the line" if words[1] == "raise" else "lowers the line"})
+    if words[0] == "fault":
+        return ChartRow({"adapter": f"fault {words[1]}[{words[2]}] {' '.join(words[3:])}"})
     if words[0] == "frame":
         return ChartRow({"wire": frame_text(words[1])}, ("adapter", "wire"))
     if words[1] == "step":
@@ -111,7 +113,7 @@ def rows_of(run):
             continue
         if row.line.startswith("IRQ"):
             is_up = row.line.startswith("IRQ raise")
-        is_deviation = row.owner == DEVIATION and not row.line.startswith(("IRQ", "frame"))
+        is_deviation = row.owner == DEVIATION and not row.line.startswith(("IRQ", "frame", "fault"))
         marks = {"": STAR if is_deviation else "", "line": BAR if is_up else ""}
         rows.append(shown._replace(cells={**shown.cells, **marks}))
     return rows

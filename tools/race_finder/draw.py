@@ -5,7 +5,7 @@ frames that the test has offered, one by one. `enabled` returns those that would
 that were returned before. With `has_frames`, an offered frame waits.
 """
 
-import random
+from _random import Random  # the generator of the module `random`, which draws a new seed after each fork
 from functools import cached_property
 
 from race_finder.schedule import ARRIVE, ENGINES, PAIRS
@@ -38,17 +38,21 @@ class Uniform:
     @cached_property
     def random(self):
         """Of this generator, only the numbers of `random` are the same in all versions of Python."""
-        return random.Random(self.seed).random
+        return Random(self.seed).random
+
+    def words(self):
+        """This drawing as a built-in value, for `with_words`."""
+        return "uniform", self.seed, self.chance, self.draws_holds
 
     def actions(self, _, enabled, has_frames):
         draw, actions, possible = self.random, OFFERED if has_frames else ENGINES, enabled()
+        order, chance = [(draw(), action) for action in actions], self.chance
         if not possible:
             for _ in actions:  # as many numbers as if an action is possible
-                draw(), draw()
+                draw()
             return ()
-        order = sorted([(draw(), action) for action in actions])
-        drawn = [action for _, action in order if draw() < self.chance]
-        return self.those_possible(drawn, possible)
+        order.sort()
+        return self.those_possible([action for _, action in order if draw() < chance], possible)
 
     @staticmethod
     def those_possible(drawn, possible):
@@ -76,11 +80,16 @@ class Pct:
     draws_holds = False
 
     def __init__(self, seed, depth, events, offers_frames=False):
-        draw = random.Random(seed).random
+        draw = Random(seed).random
+        self.given = seed, depth, events, offers_frames
         self.actors = actors_of(offers_frames)
         self.priorities = {actor: depth + at for at, actor in enumerate(sorted(self.actors, key=lambda _: draw()))}
         self.changes = {1 + int(draw() * events): priority for priority in range(depth - 1, 0, -1)}
         self.events, self.last, self.reads = 0, None, 0
+
+    def words(self):
+        """This drawing at its start as a built-in value, for `with_words`."""
+        return "pct", *self.given
 
     def count(self, actor):
         """An event of an actor. At a change point, its priority becomes lower."""
@@ -111,6 +120,11 @@ class Pct:
 
     def holds(self):
         return False
+
+
+def with_words(kind, *words):
+    """The drawing whose `words` are these."""
+    return {"uniform": Uniform, "pct": Pct}[kind](*words)
 
 
 def bound_of(depth, events, offers_frames=False):

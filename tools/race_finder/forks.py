@@ -1,7 +1,7 @@
 """Runs of a test in Python that is loaded once, and forked for each run."""
 
+import marshal
 import os
-import pickle
 import queue
 import re
 import select
@@ -10,9 +10,13 @@ import socket
 import subprocess
 import threading
 import time
+from contextlib import suppress
+from pickle import UnpicklingError
 
-from race_finder.host import DOUBT, HOST, MARK, MISMATCH, RAN, READY, RUN, SIZE, WARM, receive, send
+from race_finder.host import DOUBT, HOST, MARK, MISMATCH, RAN, READY, RUN, WARM
+from race_finder.messages import SIZE, receive, send
 from race_finder.play import Mismatch
+from race_finder.run import unpacked
 from race_finder.schedule import Place
 
 TOOLS = os.path.dirname(os.path.dirname(os.path.abspath(__file__)))
@@ -53,41 +57,43 @@ class Late(Lost):
 
 
 class Child:
-    """A child's end of a pipe, from which its result is read."""
+    """A child that plays a run, and the socket from which its result is read."""
 
-    def __init__(self, file, end, wake=None):
-        self.file, self.end, self.wake = file, end, wake
+    def __init__(self, file, end, wake):
+        self.file, self.end, self.wake, self.data = file, end, wake, b""
         try:
-            mark = self.read(len(MARK) + SIZE.size)
+            mark = self.take(len(MARK) + SIZE)
         except Late:
             raise Lost from None  # it is the host that does nothing
         if not mark.startswith(MARK):
             raise Lost
-        self.number, = SIZE.unpack(mark[len(MARK):])
+        self.number = int.from_bytes(mark[len(MARK):], "little")
 
-    def read(self, size):
-        data = b""
-        while len(data) < size:
-            files = [self.file] if self.wake is None else [self.file, self.wake]
-            ready = select.select(files, [], [], max(0, self.end - time.monotonic()))[0]
-            if self.wake in ready:
-                raise Stopped
-            if not ready:
-                raise Late
-            more = os.read(self.file, size - len(data))
-            if not more:
-                raise Lost
-            data += more
-        return data
+    def take(self, size):
+        """The next bytes that the child writes."""
+        while len(self.data) < size:
+            self.read()
+        taken, self.data = self.data[:size], self.data[size:]
+        return taken
 
-    def result(self, wake):
+    def read(self):
+        ready = select.select([self.file, self.wake], [], [], max(0, self.end - time.monotonic()))[0]
+        if self.wake in ready:
+            raise Stopped
+        if not ready:
+            raise Late
+        more = os.read(self.file, 1 << 16)
+        if not more:
+            raise Lost
+        self.data += more
+
+    def result(self):
         """The kind and the value of the result. Ends the child if it has none in time."""
-        self.wake, is_ended = wake, False
+        is_ended = False
         try:
-            size, = SIZE.unpack(self.read(SIZE.size))
-            kind, value = pickle.loads(self.read(size))
-            is_ended = True
-        except pickle.UnpicklingError:
+            kind, value = marshal.loads(self.take(int.from_bytes(self.take(SIZE), "little")))
+            value, is_ended = unpacked(value) if kind == RAN else value, True
+        except (ValueError, TypeError, EOFError, UnpicklingError):
             raise Lost from None  # the test has written there by other means
         finally:
             if not is_ended:
@@ -125,7 +131,7 @@ class Forks:
         try:
             self.process = subprocess.Popen(words, stdin=null, stdout=null, stderr=null, pass_fds=[theirs.fileno()],
                                             start_new_session=True)
-            send(ours, self.settings)
+            send(ours.fileno(), self.settings)
         except OSError:
             self.is_usable = False  # a process of its own shows why
         else:
@@ -138,14 +144,10 @@ class Forks:
         hosts, (_, parent) = [], self.hosts[0]
         try:
             for place in places:
-                ours, theirs = socket.socketpair()
-                ours.settimeout(self.seconds)
-                hosts.append((place, ours))
-                send(parent, (HOST, place), [theirs.fileno()])
-                theirs.close()
+                hosts.append((place, begin(parent, HOST, tuple(place))))
         except OSError:
             pass  # the parent has ended: so have these
-        self.hosts += filter(is_ready, hosts)
+        self.hosts += [host for host in hosts if is_ready(host[1], self.seconds)]
         self.hosts.sort(key=lambda host: host[0], reverse=True)
 
     def prepare(self, run):
@@ -163,7 +165,7 @@ class Forks:
             FIRST if draw and draw.draws_holds else ROUND_1
         return next(control for place, control in self.hosts if place <= first)
 
-    def play(self, schedule, draw, is_strict, has_places, has_rows, wake):
+    def play(self, schedule, draw, is_strict, has_places, has_rows, has_script, wake):
         """A run, or None if only a process of its own can show it. Raises Mismatch or Stopped."""
         with self.lock:
             if self.is_usable and self.process is None:
@@ -172,7 +174,8 @@ class Forks:
             return None
         slot = self.slots.get()
         try:
-            kind, value = self.result(slot, wake, schedule, draw, is_strict, has_places, has_rows or not self.is_warm)
+            asked = has_places, has_rows or not self.is_warm, has_script
+            kind, value = self.result(slot, wake, schedule, draw, is_strict, *asked)
         except Late:
             return None
         except (Lost, OSError):
@@ -191,20 +194,17 @@ class Forks:
 
     def result(self, slot, wake, schedule, draw, *words):
         """The kind and the value of the result of a run that uses the server in this slot."""
-        (source, sink), is_ended = os.pipe(), False
-        host = self.host_of(schedule, draw)
+        host, is_ended = self.host_of(schedule, draw), False
+        message = [deviation.words() for deviation in schedule], draw and draw.words(), *words
+        with self.lock:
+            control = begin(host, RUN, message, slot, (host, slot) in self.lost)
+            self.lost.discard((host, slot))
         try:
-            with self.lock:
-                try:
-                    send(host, (RUN, (slot, (host, slot) in self.lost), schedule, draw, *words), [sink])
-                finally:
-                    os.close(sink)
-                self.lost.discard((host, slot))
-            result = Child(source, time.monotonic() + self.seconds).result(wake)
+            result = Child(control.fileno(), time.monotonic() + self.seconds, wake).result()
             is_ended = True
             return result
         finally:
-            os.close(source)
+            control.close()
             if not is_ended:
                 self.lost.add((host, slot))
 
@@ -213,7 +213,9 @@ class Forks:
         with self.lock:
             if not self.is_warm and run.rows:
                 self.is_warm = True
-                send(self.hosts[0][1], (WARM, [row.line[2:] for row in run.rows if row.place and row.place.round]))
+                requests = [row.line[2:] for row in run.rows if row.place and row.place.round]
+                with suppress(OSError):  # the host has ended, which the next run shows
+                    begin(self.hosts[0][1], WARM, requests).close()
 
     def end(self):
         for _, control in self.hosts:
@@ -226,15 +228,31 @@ class Forks:
                 self.process.wait()
 
 
-def is_ready(host):
-    """Waits until a host has reached its place. Ends it if it doesn't."""
-    number, control = None, host[1]
+def begin(host, kind, message, slot=0, is_lost=False):
+    """Sends a message to a host. Returns the socket to the process that answers."""
+    ours, theirs = socket.socketpair()
     try:
-        number = receive(control)[0]
-        if number and receive(control)[0] == READY:
-            control.settimeout(None)
-            return True
-    except (OSError, EOFError, pickle.UnpicklingError):
+        with theirs:
+            socket.send_fds(host, [bytes([kind, slot, is_lost])], [theirs.fileno()])
+        send(ours.fileno(), message)
+    except OSError:
+        ours.close()
+        raise
+    return ours
+
+
+def is_ready(control, seconds):
+    """Waits until a host has reached its place. Ends it if it doesn't."""
+    number, end = None, time.monotonic() + seconds
+    try:
+        while select.select([control], [], [], max(0, end - time.monotonic()))[0]:
+            message = receive(control.fileno())
+            if message == READY:
+                return True
+            if message is None:
+                break
+            number = message
+    except (OSError, ValueError, TypeError, EOFError):
         pass
     if number:
         kill(number)

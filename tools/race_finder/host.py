@@ -12,58 +12,39 @@ result is DOUBT, or none.
 
 import atexit
 import builtins
-import contextlib
 import fcntl
 import gc
 import io
 import os
-import pickle
 import socket
-import struct
 import sys
 import termios
-import threading
 import types
+from _thread import get_ident  # the module `threading` does more after each fork, so only a test imports it
 from importlib.machinery import SourceFileLoader
 
-from race_finder.draw import Pct, Uniform
+from race_finder import draw
+from race_finder.messages import SIZE, receive, send
 from race_finder.play import Mismatch, Play
-from race_finder.run import Run, fault_of
+from race_finder.run import fault_of, run_of
+from race_finder.schedule import Place, with_words
 from race_finder.server import Server, Servers
 
-SIZE = struct.Struct("<I")
 # A child writes this and its number first. Anything else in its place was written by the test itself.
 MARK = b"\0race"
+# A message to a host begins with its kind, a slot, and whether the server in this slot is lost. A socket comes with it,
+# which has the rest of the message, and takes the answers.
+HEAD, WITH_SOCKET = 3, socket.CMSG_SPACE(4)
+RUN, HOST, WARM = range(3)
 # The kinds of results
 RAN, MISMATCH, DOUBT = "ran", "mismatch", "doubt"
-RUN, HOST, WARM = "run", "host", "warm"
 READY = "ready"  # a host has reached its place
-# Classes in messages. If they were imported later, Python could write files into this folder.
-IN_MESSAGES = Pct, Uniform
 # The most bytes of requests and answers that a test hasn't read. With more, it could wait for its pipes for ever.
 MOST_UNREAD = 60_000
 # What a test that is forked doesn't do. A file that is opened for writing is seen apart.
 DOUBTFUL = ("os.fork", "os.forkpty", "os.posix_spawn", "os.exec", "os.spawn", "os.system", "pty.spawn",
             "subprocess.Popen", "socket.__new__")
 WRITES = os.O_WRONLY | os.O_RDWR
-
-
-def send(control, message, files=()):
-    """Sends a message, perhaps with open files."""
-    data = pickle.dumps(message, 4)
-    socket.send_fds(control, [SIZE.pack(len(data))], files)
-    control.sendall(data)
-
-
-def receive(control):
-    """The next message and its files, or None at the end."""
-    data, files, _, _ = socket.recv_fds(control, SIZE.size, 1)
-    if not data:
-        return None, []
-    size, data = SIZE.unpack(data)[0], b""
-    while len(data) < size:
-        data += control.recv(size - len(data))
-    return pickle.loads(data), files
 
 
 class Stream(io.RawIOBase):
@@ -87,7 +68,12 @@ class Requests(Stream):
         return True
 
     def write(self, data):
-        return self.host.take(bytes(data))
+        host = self.host
+        host.requests += data
+        is_much = len(host.requests) + len(host.unread) > MOST_UNREAD
+        if is_much or get_ident() != host.thread:
+            host.is_doubtful = True
+        return len(data)
 
 
 class Answers(Stream):
@@ -106,9 +92,11 @@ class Host:
     def __init__(self, control, settings):
         self.control, self.settings = control, settings
         self.result = self.play = None  # in a child: where its result goes, and its run
-        self.requests, self.rest, self.unread = b"", b"", b""
+        self.asked = ()  # whether places, rows and the script of the run are wanted
+        self.shared = 0  # how much of the script is that of the run without deviations
+        self.requests = self.unread = b""
         self.is_doubtful = self.is_watched = False
-        self.number, self.thread = None, threading.get_ident()
+        self.number, self.thread = None, get_ident()
         self.servers = Servers(settings)
 
     # Streams
@@ -132,12 +120,6 @@ class Host:
             setattr(sys, name, new)
             setattr(sys, f"__{name}__", new)
 
-    def take(self, data):
-        self.requests += data
-        is_much = len(self.requests) + len(self.unread) > MOST_UNREAD
-        self.is_doubtful |= is_much or threading.get_ident() != self.thread
-        return len(data)
-
     def answers(self, most):
         self.is_watched = False
         if self.play is None:
@@ -145,21 +127,19 @@ class Host:
             self.serve()
         if not self.unread:
             self.feed()
-        if not self.unread or threading.get_ident() != self.thread:
+        if not self.unread or get_ident() != self.thread:
             self.doubt()  # without an answer, a process of its own waits for ever
-        data, self.unread = self.unread[:most], self.unread[most:]
         self.is_watched = True
-        return data
+        data = self.unread
+        self.unread = data[most:]
+        return data[:most]
 
     def feed(self, is_last=False):
         """Plays the requests that the test has written."""
-        data, self.requests = (self.rest + self.requests).decode(errors="surrogateescape"), b""
-        *lines, rest = data.split("\n")
-        if is_last and rest:
-            lines.append(rest)
-        self.rest = rest.encode(errors="surrogateescape") if rest else b""
+        data, self.requests = self.requests, b""
         try:
-            self.unread += self.play.feed(lines, is_last)
+            told = self.play.feed(data, is_last)
+            self.unread = self.unread + told if self.unread else told
         except Mismatch as error:
             self.end(MISMATCH, str(error))
         except Exception:
@@ -168,32 +148,43 @@ class Host:
     # Runs
 
     def serve(self, begun=()):
-        """Forks a child for each message, and returns in the child alone. `begun` has all requests so far."""
+        """Forks a child for each run and each host, and returns in the child alone. `begun` has all requests so far."""
         gc.collect()
         gc.freeze()
         children = set()
         while True:
-            message, files = receive(self.control)
-            children -= ended(children, 0 if message is None else os.WNOHANG)
-            if message is None:
+            head, file = self.next_message()
+            reap(children, os.WNOHANG if head else 0)
+            if not head:
                 self.servers.end()
                 os._exit(0)
-            if message[0] == WARM:
-                self.warm(message[1])
-                continue
-            if message[0] == RUN:
-                self.prepare(*message[1], begun)
-            child = os.fork()
-            if child == 0:
+            kind, slot, is_lost = head
+            if kind == RUN and (is_lost or slot not in self.servers.saved):
+                self.prepare(slot, is_lost, begun)
+            if kind == WARM:
+                self.warm(receive(file) or ())
+            elif child := os.fork():
+                children.add(child)
+            else:
                 break
-            children.add(child)
-            os.close(files[0])
+            os.close(file)
+        self.become(kind, slot, file, begun)
+
+    def next_message(self):
+        """The head of the next message, and its socket. The head is empty at the end."""
+        head, files, _, _ = self.control.recvmsg(HEAD, WITH_SOCKET)
+        return head, int.from_bytes(files[0][2], sys.byteorder) if files else None
+
+    def become(self, kind, slot, file, begun):
+        """In a child: begins a run, or goes on as another host."""
         self.control.close()
         os.setsid()
         self.number = os.getpid()
-        kind, *request = message
         try:
-            (self.become_run if kind == RUN else self.become_host)(files[0], begun, *request)
+            if kind == RUN:
+                self.become_run(file, begun, slot, *receive(file))
+            else:
+                self.become_host(file, begun, Place(*receive(file)))
         except Exception:
             self.doubt()
 
@@ -204,42 +195,44 @@ class Host:
         except Exception:
             os._exit(1)  # the test must not see this
 
-    def become_run(self, result, begun, slot, schedule, draw, is_strict, has_places, has_rows):
-        self.result, self.has_places, self.has_rows = result, has_places, has_rows
-        os.write(result, MARK + SIZE.pack(os.getpid()))
+    def become_run(self, result, begun, slot, schedule, drawing, is_strict, *asked):
+        self.result, self.asked = result, asked
+        os.write(result, MARK + self.number.to_bytes(SIZE, "little"))
         os.dup2(result, 1)
         self.renew()
-        self.begin(self.servers.of(slot[0], begun), schedule, draw, is_strict, has_places, has_rows)
+        schedule = [with_words(*words) for words in schedule]
+        drawing = drawing and draw.with_words(*drawing)
+        self.shared = len(self.play.script) if schedule and self.play else 0
+        self.begin(self.servers.of(slot, begun), schedule, drawing, is_strict, *asked)
 
     def become_host(self, control, begun, place):
         """Goes on until this place, and is forked there."""
         self.control = socket.socket(fileno=control)
         self.servers.leave()
         self.renew()
-        send(self.control, os.getpid())
+        send(control, self.number)
         self.begin(self.servers.new(begun), (), None, False)
         self.play.stop, self.play.at_stop, self.play.begun = place, self.at_stop, [*begun]
+        self.play.look_ahead()
 
-    def begin(self, server, schedule, draw, is_strict, has_places=True, has_rows=True):
+    def begin(self, server, schedule, draw, is_strict, *asked):
         """Starts a run, or lets it go on, with a server in the state after the requests so far."""
         self.play = self.play or Play(*self.settings[2:])
-        self.play.begin(server, schedule, draw, is_strict, has_places, has_rows)
+        self.play.begin(server, schedule, draw, is_strict, *asked)
 
     def at_stop(self):
         self.check_host()
         self.servers.keep(self.play.server)
-        send(self.control, READY)
+        self.play.digest()  # or each run would do this
+        send(self.control.fileno(), READY)
         self.serve(self.play.begun)
 
     def renew(self):
-        """Gives a child files of its own: the byte that isn't read, and standard error with what was written so far."""
-        pipe, errors = os.pipe(), os.memfd_create("errors")
-        os.write(pipe[1], b"\n")
+        """Gives a child a file of its own for standard error, with what was written so far."""
+        errors = os.memfd_create("errors")
         os.write(errors, written(2))
-        os.dup2(pipe[0], 0)
         os.dup2(errors, 2)
-        for file in (*pipe, errors):
-            os.close(file)
+        os.close(errors)
 
     # Ends
 
@@ -264,11 +257,10 @@ class Host:
     def end(self, kind, value):
         """Ends this process with a result."""
         if self.result is not None and os.getpid() == self.number:
-            data = pickle.dumps((kind, value), 4)
-            data = SIZE.pack(len(data)) + data
-            with contextlib.suppress(OSError):  # nobody reads it
-                while data:
-                    data = data[os.write(self.result, data):]
+            try:
+                send(self.result, (kind, value))
+            except OSError:
+                pass  # nobody reads it
             self.servers.leave_alone(self.play and self.play.server)
         os._exit(1)
 
@@ -277,9 +269,8 @@ class Host:
         self.is_watched = False
         if self.result is None:
             os._exit(1)  # the test never read an answer, or never began a round
-        for thread in threading.enumerate():
-            if thread is not threading.current_thread() and not thread.daemon:
-                thread.join()
+        if "threading" in sys.modules:
+            join_threads(sys.modules["threading"])
         atexit._run_exitfuncs()
         for stream in (sys.stdout, sys.stderr):
             try:
@@ -290,13 +281,13 @@ class Host:
         self.feed(is_last=True)
         if self.is_doubtful or self.was_read():
             self.doubt()
-        run = Run(fault_of(status, written(2)), self.play)
-        self.end(RAN, run.reduced(self.has_places, self.has_rows))
+        run = run_of(fault_of(status, written(2)) if status else None, self.play, self.shared)
+        self.end(RAN, run.reduced(*self.asked).packed())
 
     def warm(self, requests):
         """Lets children find the accesses of these requests."""
         for request in requests:
-            self.play.learn(request)
+            self.play.learn(request.encode(errors="surrogateescape") + b"\n")
         gc.freeze()
 
     def audit(self, event, arguments):
@@ -306,9 +297,18 @@ class Host:
             self.is_doubtful = True
 
 
-def ended(children, options):
-    """Those of these children that have ended."""
-    return {child for child in children if os.waitpid(child, options)[0]}
+def reap(children, options):
+    """Removes the children that have ended."""
+    for child in [*children]:
+        if os.waitpid(child, options)[0]:
+            children.remove(child)
+
+
+def join_threads(threading):
+    """Waits for the threads of the test, as the interpreter does at its end."""
+    for thread in threading.enumerate():
+        if thread is not threading.current_thread() and not thread.daemon:
+            thread.join()
 
 
 def written(file):
@@ -318,7 +318,7 @@ def written(file):
 
 def has_bytes(file):
     """Whether a pipe has bytes."""
-    return struct.unpack("i", fcntl.ioctl(file, termios.FIONREAD, b"\0" * 4))[0] > 0
+    return any(fcntl.ioctl(file, termios.FIONREAD, b"\0" * 4))
 
 
 def run_script(path):
@@ -358,7 +358,7 @@ def main(control, script, *arguments):
     sys.argv = [script, *arguments]
     if sys.path[:1] == [""]:
         sys.path[0] = os.path.dirname(os.path.realpath(script))
-    host = Host(control, receive(control)[0])
+    host = Host(control, receive(control.fileno()))
     host.open_streams()
     host.files = len(os.listdir("/proc/self/fd"))
     sys.addaudithook(host.audit)

@@ -3,6 +3,7 @@
 import hashlib
 import re
 from collections import Counter
+from copy import copy
 from typing import NamedTuple
 
 from race_finder.names import DEFAULT_REGISTERS, access_of, causes_of, number_in, number_of, words_of
@@ -17,17 +18,21 @@ FRAME = re.compile("(?:[0-9a-fA-F]{2})+")
 LONGEST = 131_200  # bytes of a request
 # Who made a request. The test was told the answer to a request that is TOLD before it was sent.
 TEST, TOLD, DEFAULT, DEVIATION = "test", "told", "default", "deviation"
-# A step with one of these outcomes changed nothing.
-IDLE = ("nothing", "wirefull")
-IDLE_ANSWERS = tuple(f"OK {outcome}" for outcome in IDLE)
+# How the answers OK, ERR and FAIL begin, and the first one of these
+ANSWERS, OK = b"OEF", b"O"[0]
+# Answers to steps that changed nothing
+NOTHING, IDLE = b"OK nothing", (b"OK nothing", b"OK wirefull")
 # Each write of one of these registers is valid, and never changes the interrupt line.
 QUIET = ("RDT", "TDT")
 # Requests that only the finder sends: the state that is saved is that of a fork.
 OURS = ["save"], ["restore"]
-LOG, WIRE = (["log", "on"], ["log", "off"]), (["wire", "full"], ["wire", "free"])
+LOG, EVENTS = (["log", "on"], ["log", "off"]), (["events", "on"], ["events", "off"])
+WIRE = ["wire", "full"], ["wire", "free"]
+LOG_ON, LOG_OFF = b"log on\n", b"log off\n"
 FATES, STEPS = bits_of_fates(), bits_of_steps()
-# For each step that the finder requests, the same by its answer
-OUTCOMES = {kind: {f"OK {value[2]}": value for value in STEPS.values() if value[1] == kind} for kind in STEP_KINDS}
+# For each step that the finder requests: the request, and the values of STEPS by its answer
+STEP = {kind: f"step {kind}\n".encode() for kind in STEP_KINDS}
+OUTCOMES = {kind: {b"OK " + step[2].encode(): step for step in STEPS.values() if step[1] == kind} for kind in STEP_KINDS}
 MOST_KNOWN = 65536  # requests whose accesses are kept
 
 
@@ -75,32 +80,39 @@ def is_interleave(words):
 def frame_of(request, words):
     """The digits of the frame that a request offers, or None if it isn't a valid one that offers a frame."""
     is_offer = len(words) == 2 and words[0] == "offer" and len(request) <= LONGEST
-    return words[1].lower() if is_offer and FRAME.fullmatch(words[1]) else None
+    return words[1].lower().encode() if is_offer and FRAME.fullmatch(words[1]) else None
+
+
+def text_of(line):
+    """The text of a request or a line."""
+    return line.decode(errors="surrogateescape")
 
 
 class Play:
     """Takes requests of the test, and returns what answers them.
 
+    Requests and answers are bytes, as they come from the test and from the server. A request ends with its newline.
     A request on its way to the server is a tuple: its text, who made it, its access if it is one (`Known`), what is
     recorded of the access (`Met`), the deviation that it was drawn for, the digits of a frame that was offered, and the
     outcomes of a step by its answer if the server doesn't log it. Rows need the log. Without them, the server logs only
-    what happens at the test's own `step` and `settle`.
+    the steps of `settle`.
     """
     # Python finds attributes faster in slots, if there are many.
     __slots__ = ("shadow", "memory", "known", "waiting", "size", "untold", "round", "access_number", "is_logged", "stop",
                  "at_stop", "begun", "out", "offered", "offers", "met", "idle", "places", "rows", "reached", "others",
-                 "accesses", "answers", "counts", "server", "draw", "is_strict", "has_places", "has_rows", "has_log",
-                 "schedule", "left", "named")
+                 "accesses", "script", "told", "answers", "counts", "rest", "is_direct", "tells_events", "server", "draw",
+                 "is_strict", "has_places", "has_rows", "has_script", "has_log", "schedule", "left", "named")
 
     def __init__(self, base=DEFAULT_REGISTERS, memory=0):
         self.shadow, self.memory = Shadow(base), memory  # of `memory` bytes, the finder knows that they are there
         self.known = {}  # accesses by requests
+        self.rest = b""  # of the test's output, a line that isn't complete
         self.waiting, self.size = [], 0  # requests that aren't sent yet, and their bytes
         self.untold = 0  # how many of these the test must be told the answers to
         self.round = self.access_number = 0
         self.is_logged = False  # whether the test wants the log
         self.stop, self.at_stop = None, None  # a place, and what is called when the run reaches it
-        self.begun = []  # the texts of the requests before this place
+        self.begun = []  # the requests before this place
         self.out = []  # lines for the test
         self.offered, self.offers = [], 0  # frames that wait for their arrival, the oldest one first; how many there were
         self.met, self.idle = [], []  # the deviations that did something, and those that did nothing
@@ -108,24 +120,42 @@ class Play:
         self.reached = 0  # a bit for each item of reached.py
         self.others = 0  # steps of engines that did something, and arrivals of offered frames, from round 1 on
         self.accesses = 0  # from round 1 on, in rounds before this one
-        self.answers = hashlib.sha1()
+        self.told, self.answers = [], hashlib.sha1()  # what the test was told, and the hash of what it was told before that
+        # For all requests that the test made at once: these, what it was told then, and the round and the access after that
+        self.script = []
+        self.tells_events = None  # whether the test gets lines `frame`, `arrived` and `fault`
         self.counts = Counter()  # of accesses, by their names, if the schedule needs them
 
-    def begin(self, server, schedule=(), draw=None, is_strict=True, has_places=True, has_rows=True):
+    def copy(self):
+        """Another run in the same state."""
+        other = copy(self)
+        other.shadow, other.answers, other.counts = self.shadow.copy(), self.answers.copy(), self.counts.copy()
+        for name in ("waiting", "begun", "out", "offered", "met", "idle", "places", "rows", "told", "script"):
+            setattr(other, name, [*getattr(self, name)])
+        return other
+
+    def begin(self, server, schedule=(), draw=None, is_strict=True, has_places=True, has_rows=True, has_script=True):
         """Plays this schedule. Nothing that it does is before the next request. The log of the server is off.
 
-        Places and rows are recorded from now on if this is wanted.
+        Places, rows and the script are recorded from now on if this is wanted.
         """
         self.server, self.draw, self.is_strict = server, draw, is_strict
-        self.has_places, self.has_rows = has_places or has_rows, has_rows
+        self.has_places, self.has_rows, self.has_script = has_places or has_rows, has_rows, has_script
         self.has_log = False
         self.set_log(has_rows or self.is_logged)
+        if self.tells_events is None:
+            self.tells_events = server.tells_events
         self.schedule = list(schedule)
         self.left, self.named = {}, {}  # deviations whose access isn't reached yet: by places, and by names and numbers
         for deviation in schedule:
             by_place, name = (self.left, deviation.place), (deviation.before, deviation.number)
             some, key = (self.named, name) if deviation.number else by_place
             some.setdefault(key, []).append(deviation)
+        self.look_ahead()
+
+    def look_ahead(self):
+        """Notes whether from now on nothing but default steps is played, and nothing is recorded but what is reached."""
+        self.is_direct = not (self.left or self.named or self.draw or self.has_places or self.is_logged or self.stop)
 
     def events(self):
         """The number of accesses, of steps of engines that did something, and of arrivals of offered frames, from round 1 on."""
@@ -136,69 +166,75 @@ class Play:
     def set_log(self, has_log):
         """Turns the log of the server on or off."""
         if self.has_log != has_log:
-            self.queue("log on" if has_log else "log off", DEFAULT)
+            self.queue(LOG_ON if has_log else LOG_OFF, DEFAULT)
             self.has_log = has_log
 
-    def queue(self, text, owner, known=None, met=None, drawn=None, frame=None, outcomes=None):
-        self.size += len(text) + 1
+    def queue(self, request, owner, known=None, met=None, drawn=None, frame=None, outcomes=None):
+        self.size += len(request)
         if self.size > MOST_AT_ONCE and self.waiting:
             self.flush()
-            self.size = len(text) + 1
-        self.waiting.append((text, owner, known, met, drawn, frame, outcomes))
+            self.size = len(request)
+        self.waiting.append((request, owner, known, met, drawn, frame, outcomes))
         if owner is not TOLD:
             self.untold += 1
 
     def flush(self):
         """Sends all requests that wait, and returns their answers."""
-        requests = self.waiting
-        if not requests:
-            return requests
+        waiting = self.waiting
+        if not waiting:
+            return waiting
         self.waiting, self.size, self.untold = [], 0, 0
-        texts = [request[0] for request in requests]
+        requests = [one[0] for one in waiting]
         if self.stop:
-            self.begun += [text for text in texts if text not in ("log on", "log off")]
-        self.server.send(texts)
+            self.begun += [request for request in requests if request not in (LOG_ON, LOG_OFF)]
+        self.server.send(b"".join(requests))
         answer = self.answer
-        return [answer(*request) for request in requests]
+        return [answer(*one) for one in waiting]
 
     def answer(self, _, owner, known, met, drawn, frame, outcomes):
         """Returns the answer to a request, after the lines before it."""
-        next_line, row, at = self.server.line, None, len(self.out) + self.is_logged
-        line = next_line()
-        while line[0] not in "OEF":  # OK, ERR or FAIL
-            if line in STEPS:
-                self.hear_step(line, owner)
-            else:
-                row = self.hear(line, owner, met) or row
-            line = next_line()
-        text = line[3:]
-        if row:
-            row.answer = text
+        line, at = self.server.line(), len(self.out) + self.is_logged
+        if line[0] not in ANSWERS:
+            line = self.hear_all(line, owner, met)
         if owner is TEST:
             self.out.append(line)
         if known:
-            if line[0] == "O":
+            if line[0] == OK:
                 self.reached |= known.bit
                 if met:
                     self.places.append(met)
                 if known.has_effect:
-                    self.hear_access(known, owner, text)
-        elif outcomes:
+                    self.hear_access(known, owner, line)
+        elif outcomes and line in outcomes:
             self.take_step(*outcomes[line])
         elif line in FATES:
             self.reached |= FATES[line]
-            self.shadow.arrive(line == "OK stored")
+            self.shadow.arrive(line == b"OK stored")
             if frame:
                 self.others += 1
-                self.out.insert(at, f"arrived {text} {frame}")  # after the line of the log, before the interrupt line
-        if drawn and line not in IDLE_ANSWERS:
+                if self.tells_events:  # after the line of the log, before the interrupt line
+                    self.out.insert(at, b"arrived %b %b" % (line[3:], frame))
+        if drawn and line not in IDLE:
             self.met.append(drawn)
-        return text
+        return line
 
-    def hear_access(self, known, owner, text):
+    def hear_all(self, line, owner, met):
+        """Hears this line and those after it, up to an answer, which is returned."""
+        row = None
+        while line[0] not in ANSWERS:
+            if line in STEPS:
+                self.hear_step(line, owner)
+            else:
+                row = self.hear(line, owner, met) or row
+            line = self.server.line()
+        if row:
+            row.answer = text_of(line[3:])
+        return line
+
+    def hear_access(self, known, owner, line):
         """A valid access of a register after which something is known."""
         if known.is_causes:
-            self.reached |= bits_of_causes(causes_of(number_in(known.access, text) or 0))
+            self.reached |= bits_of_causes(causes_of(number_in(known.access, text_of(line[3:])) or 0))
         elif known.matters and owner is not TOLD:
             self.write(known)
 
@@ -213,72 +249,96 @@ class Play:
         """A line of the log for a step."""
         step = STEPS[line]
         slot = self.take_step(*step)
-        if step[2] != "nothing" or owner is TEST:
-            if self.has_rows:
-                self.rows.append(Row(line, owner, None, slot))
-            if self.is_logged:
-                self.out.append(line)
+        if not (self.has_rows or self.is_logged) or step[2] == "nothing" and owner is not TEST:
+            return
+        if self.has_rows:
+            self.rows.append(Row(text_of(line), owner, None, slot))
+        if self.is_logged:
+            self.out.append(line)
 
     def hear(self, line, owner, met):
         """Another line before the answer to a request. Returns the row of an access or an arrival."""
-        is_request = line[0] == "#"
-        if self.is_logged or not is_request:
+        is_request = line.startswith(b"#")
+        if self.is_logged if is_request else self.tells_events or line.startswith(b"IRQ"):
             self.out.append(line)
         if not self.has_rows:
             return None
-        self.rows.append(Row(line, owner, *(met[:2] if is_request and met else ())))
+        self.rows.append(Row(text_of(line), owner, *(met[:2] if is_request and met else ())))
         return self.rows[-1] if is_request else None
 
     def write(self, known):
         """A register was written. If a ring has moved, names of accesses are other ones."""
         if self.shadow.write(known.register, known.access.value):
-            self.known.clear()
+            self.known = {}
 
     # The test
 
-    def feed(self, requests, is_last=False):
-        """Returns the lines that answer these requests of the test, as bytes."""
-        for request in requests:
+    def feed(self, data, is_last=False):
+        """Returns the lines that answer these requests of the test. A line that isn't complete waits for its end."""
+        known = self.known.get(data)
+        if known and not self.rest:
+            self.access(data, known)  # a single request, which was made before
+        else:
+            self.take_all(data, is_last)
+        if self.untold or is_last:
+            self.flush()
+        told = b""
+        if self.out:
+            self.out.append(b"")
+            told, self.out = b"\n".join(self.out), []
+        self.told.append(told)
+        if self.has_script:
+            self.script.append((data, told, (self.round, self.access_number)))
+        return told
+
+    def digest(self):
+        """The hash of all that the test was told."""
+        self.answers.update(b"".join(self.told))
+        self.told = []
+        return self.answers.digest()
+
+    def take_all(self, data, is_last):
+        *lines, self.rest = (self.rest + data).split(b"\n")
+        if is_last and self.rest:
+            lines.append(self.rest)
+        for request in [line + b"\n" for line in lines]:
             known = self.known.get(request) or self.learn(request)
             if known:
                 self.access(request, known)
             else:
                 self.take(request)
-        if self.untold or is_last:
-            self.flush()
-        if not self.out:
-            return b""
-        data = ("\n".join(self.out) + "\n").encode(errors="surrogateescape")
-        self.out = []
-        self.answers.update(data)
-        return data
 
     def take(self, request):
         """A request of the test that isn't an access."""
-        words = words_of(request)
+        words = words_of(text_of(request[:-1]))
         if words in LOG:
             self.flush()
             self.is_logged = words == ["log", "on"]
             self.set_log(self.has_rows or self.is_logged)
-            self.out.append("OK")
+            self.look_ahead()
+            self.out.append(b"OK")
+        elif words in EVENTS:
+            self.flush()
+            self.tells_events = words == ["events", "on"]
+            self.out.append(b"OK")
         elif is_interleave(words):
             self.flush()
-            self.out.append("OK")  # the schedule takes the place of random steps
+            self.out.append(b"OK")  # the schedule takes the place of random steps
         elif words[:1] in OURS:
             self.flush()
-            self.out.append("FAIL unknown")
+            self.out.append(b"FAIL unknown")
         elif words[:1] and words[0] in ROUNDS:
             self.begin_round(request, words)
         elif words in WIRE:
             self.queue(request, TEST)
-            if self.flush()[-1] == "":
+            if self.flush()[-1] == b"OK":
                 self.shadow.set_wire(words == ["wire", "free"])
         else:
             self.queue(request, TEST)
 
     def learn(self, request):
         """The access of a request, or None if it is none."""
-        access = access_of(request)
+        access = access_of(text_of(request[:-1]))
         if not access:
             return None
         register = self.shadow.register(access)
@@ -292,6 +352,7 @@ class Play:
         if place == self.stop:
             self.flush()
             self.stop = None
+            self.look_ahead()
             self.at_stop()
 
     def begin_round(self, request, words):
@@ -304,46 +365,55 @@ class Play:
             self.flush()
             self.offered.append(frame)
             self.offers += 1
-            self.out.append("OK")
+            self.out.append(b"OK")
             return
         if self.offered and words == ["settle"]:
             self.flush()
             while self.offered:
                 self.arrive(DEFAULT)
-        self.set_log(True)
-        self.queue(request, TEST)
-        self.set_log(self.has_rows or self.is_logged)
+        self.queue_round(request, words)
         self.flush()  # so the same steps follow, however many requests are sent at once
+
+    def queue_round(self, request, words):
+        """The request at the begin of a round. The log has the steps of `settle`; the answer has the outcome of `step`."""
+        kind = words[1] if words[0] == "step" and len(words) == 2 else None
+        has_log = self.has_log
+        self.set_log(has_log or words == ["settle"])
+        self.queue(request, TEST, outcomes=None if has_log else OUTCOMES.get(kind))
+        self.set_log(has_log)
 
     def access(self, request, known):
         """An access of the test, after what the schedule plays before it."""
         self.access_number += 1
-        if self.stop:
-            self.reach((self.round, self.access_number))
-        due = self.due(known.name) if self.left or self.named else ()
-        shadow, holds = self.shadow, ()
-        if due or shadow.eeprom or shadow.phy:
-            holds = self.tick(known.name, due)
-            for deviation in due:
-                if deviation.action not in HOLDS:
-                    self.play(deviation, known.name)
-        if self.draw and self.round:
-            for action in self.draw.actions(known.name, self.enabled, bool(self.offered)):
-                self.play_drawn(action, known.name)
-        met = None
-        if self.has_places:
-            # No schedule gets longer than a drawn one.
-            enabled = () if self.draw else self.possible()
-            met = Met(Place(self.round, self.access_number), known.name, enabled, holds)
+        shadow = self.shadow
+        met = None if self.is_direct and not (shadow.eeprom or shadow.phy) else self.before(known.name)
         if known.is_quiet and not (self.untold or self.is_logged or self.has_rows):
             self.queue(request, TOLD, known, met)
-            self.out.append("OK")
+            self.out.append(b"OK")
             if known.matters:
                 self.write(known)
             return
         self.queue(request, TEST, known, met)
         if known.matters:
             self.flush()
+
+    def before(self, name):
+        """Plays what is due before an access with this name. Returns what is recorded of the access, or None."""
+        if self.stop:
+            self.reach((self.round, self.access_number))
+        due, holds = self.due(name) if self.left or self.named else (), ()
+        if due or self.shadow.eeprom or self.shadow.phy:
+            holds = self.tick(name, due)
+            for deviation in due:
+                if deviation.action not in HOLDS:
+                    self.play(deviation, name)
+        if self.draw and self.round:
+            for action in self.draw.actions(name, self.enabled, self.offered):
+                self.play_drawn(action, name)
+        if not self.has_places:
+            return None
+        # No schedule gets longer than a drawn one.
+        return Met(Place(self.round, self.access_number), name, () if self.draw else self.possible(), holds)
 
     def due(self, name):
         """The deviations before this access, in the order in which the schedule has them."""
@@ -355,6 +425,7 @@ class Play:
             self.counts[name] += 1
             due += self.named.pop((name, self.counts[name]), ())
             due.sort(key=self.schedule.index)
+        self.look_ahead()
         return due
 
     def possible(self):
@@ -371,11 +442,11 @@ class Play:
     def arrive(self, owner, drawn=None):
         """The oldest frame that the test has offered arrives."""
         frame = self.offered.pop(0)
-        self.queue(f"arrive {frame}", owner, drawn=drawn, frame=frame)
+        self.queue(b"arrive %b\n" % frame, owner, drawn=drawn, frame=frame)
 
     def step(self, kind, owner, drawn=None):
         """The adapter takes a step."""
-        self.queue(f"step {kind}", owner, drawn=drawn, outcomes=None if self.has_log else OUTCOMES[kind])
+        self.queue(STEP[kind], owner, None, None, drawn, None, None if self.has_log else OUTCOMES[kind])
 
     def tick(self, name, due):
         """Plays the default steps. Returns the holds that would leave out one that does something."""
@@ -391,7 +462,7 @@ class Play:
                     self.rows.append(Row(f"# {hold}", DEVIATION))
             else:
                 self.step(kind, DEFAULT)
-                if self.flush()[-1] != "nothing":
+                if self.flush()[-1] != NOTHING:
                     found.append(hold)
         return tuple(found)
 

@@ -42,12 +42,12 @@ def bits_of_causes(names):
 
 def bits_of_fates():
     """The bits of the fates, by the answers to arrivals."""
-    return {f"OK {fate}": BITS["fates", fate] for fate in ALL["fates"]}
+    return {b"OK " + fate.encode(): BITS["fates", fate] for fate in ALL["fates"]}
 
 
 def bits_of_steps():
     """For each line of the log for a step: the bit, the kind, the outcome, and whether it changed nothing."""
-    return {f"# step {kind} -> {outcome}":
+    return {f"# step {kind} -> {outcome}".encode():
             (BITS.get(("steps", f"{kind} {outcome}"), 0), kind, outcome, outcome in ("nothing", "wirefull"))
             for kind in STEP_KINDS for outcome in OUTCOMES}
 

@@ -1,24 +1,46 @@
 """What a run shows."""
 
+import pickle
 import signal
 
 
 class Run:
     """What a run showed: its fault (None if the test passed), and what was played."""
 
-    def __init__(self, fault, play):
-        self.fault, self.met, self.idle, self.unreached = fault, play.met, play.idle, play.unreached()
-        self.places, self.rows = play.places if play.has_places else (), play.rows if play.has_rows else ()
-        self.answers, self.events = play.answers.digest(), play.events()
-        self.offers, self.reached = play.offers, play.reached
+    fault, met, idle, unreached, places, rows, script = None, (), (), (), (), (), ()
 
-    def reduced(self, has_places, has_rows):
-        """Drops what this run isn't asked for. It is needed if the run failed."""
+    def __init__(self, answers, events, offers, reached):
+        """A run that passes, and of which nothing else is known."""
+        self.answers, self.events, self.offers, self.reached = answers, events, offers, reached
+
+    def reduced(self, has_places, has_rows, has_script=False):
+        """Drops what this run isn't asked for. It is needed if the run failed, except for the script."""
+        if not has_script:
+            self.script = ()
         if not (has_rows or self.fault):
             self.rows = ()
         if not (has_places or self.fault):
             self.places = self.met = self.idle = self.unreached = ()
         return self
+
+    def packed(self):
+        """This run as a built-in value, for `unpacked`."""
+        if self.fault or self.met or self.idle or self.unreached or self.places or self.rows or self.script:
+            return pickle.dumps(self, 4)
+        return self.answers, self.events, self.offers, self.reached
+
+
+def run_of(fault, play, shared=0):
+    """The run that was played. This part of its script is shared with the run without deviations, and left out."""
+    run = Run(play.digest(), play.events(), play.offers, play.reached)
+    run.fault, run.met, run.idle, run.unreached = fault, play.met, play.idle, play.unreached()
+    run.script = shared, play.script[shared:]
+    run.places, run.rows = play.places if play.has_places else (), play.rows if play.has_rows else ()
+    return run
+
+
+def unpacked(value):
+    return pickle.loads(value) if isinstance(value, bytes) else Run(*value)
 
 
 def fault_of(status, errors):

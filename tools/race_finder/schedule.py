@@ -50,6 +50,15 @@ class Deviation(NamedTuple):
     def key(self):
         return self.place, self.action
 
+    def words(self):
+        """This deviation as a built-in value, for `with_words`."""
+        return (tuple(self.place), *self[1:]) if self.place else tuple(self)
+
+
+def with_words(place, *words):
+    """The deviation whose `words` are these."""
+    return Deviation(place and Place(*place), *words)
+
 
 def keys_of(schedule):
     """What decides a run: places and actions. The names of accesses don't."""

@@ -2,7 +2,7 @@
 
 import os
 import select
-import subprocess
+import signal
 
 # The answer to `endianness`, which no other request has.
 LAST = b"OK little\n"
@@ -16,18 +16,26 @@ class Server:
     """`nicbench serve`, which is asked many requests at once."""
 
     def __init__(self, program, options):
+        self.status = None  # after it has ended: its exit status, or minus a signal
+        requests, answers = os.pipe(), os.pipe()
+        self.sink, self.source = requests[1], answers[0]
+        actions = [(os.POSIX_SPAWN_DUP2, requests[0], 0), (os.POSIX_SPAWN_DUP2, answers[1], 1)]
         try:
-            self.process = subprocess.Popen([program, "serve", *options], stdin=subprocess.PIPE, stdout=subprocess.PIPE,
-                                            bufsize=0)
+            self.number = os.posix_spawnp(program, [program, "serve", *options], os.environ, file_actions=actions,
+                                          setsigdef=[signal.SIGPIPE])
         except OSError as error:
+            self.leave()
             raise ServerEnded(f"{program}: {error.strerror}") from None
-        self.sink, self.source = self.process.stdin.fileno(), self.process.stdout.fileno()
+        finally:
+            os.close(requests[0])
+            os.close(answers[1])
         self.lines = []  # that were read and aren't taken yet, the next one last
         self.rest = b""
+        # Until it is asked for events, the server prints none. One that doesn't know the request always prints them.
+        self.tells_events = self.ask(b"events on\n") != b"OK"
 
-    def send(self, requests):
-        """Sends requests, of which there is at least one."""
-        data = ("\n".join(requests) + "\n").encode(errors="surrogateescape")
+    def send(self, data):
+        """Sends requests, of which each ends with a newline."""
         try:
             while size := os.write(self.sink, data) - len(data):
                 data = data[size:]  # what wasn't written: the size is below 0
@@ -42,14 +50,13 @@ class Server:
             if self.rest:
                 more = self.rest + more
             whole, _, self.rest = more.rpartition(b"\n")
-            self.lines = whole.decode(errors="surrogateescape").split("\n") if whole else []
+            self.lines = whole.split(b"\n") if whole else []
             self.lines.reverse()
         return self.lines.pop()
 
     def repeat(self, requests):
         """Brings a new server to the state after these requests, which were answered before; drops their answers."""
-        text, end = "".join([f"{request}\n" for request in [*requests, "endianness"]]), b""
-        data = text.encode(errors="surrogateescape")
+        data, end = b"".join([*requests, b"endianness\n"]), b""
         os.set_blocking(self.sink, False)
         while not end.endswith(LAST):
             readable, writable, _ = select.select([self.source], [self.sink] if data else [], [])
@@ -64,33 +71,40 @@ class Server:
 
     def ask(self, request):
         """The answer to a request; lines before it are dropped."""
-        self.send([request])
-        while not (line := self.line()).startswith(("OK", "ERR", "FAIL")):
+        self.send(request)
+        while not (line := self.line()).startswith((b"OK", b"ERR", b"FAIL")):
             pass
         return line
 
     def save(self):
         """Keeps the state. Returns whether the server can do this."""
-        return self.ask("save") == "OK"
+        return self.ask(b"save\n") == b"OK"
 
     def restore(self):
         """Brings the server to the state that was saved. The interrupt line of a test doesn't change."""
-        if self.ask("restore") != "OK":
+        if self.ask(b"restore\n") != b"OK":
             raise ServerEnded("the server can't restore its state")
 
     def leave(self):
         """Closes the pipes of a server, which another process may use."""
-        self.process.stdin.close()
-        self.process.stdout.close()
+        os.close(self.sink)
+        os.close(self.source)
+
+    def wait(self):
+        """Waits until the server has ended, and returns its status."""
+        if self.status is None:
+            self.status = os.waitstatus_to_exitcode(os.waitpid(self.number, 0)[1])
+        return self.status
 
     def fail(self):
-        raise ServerEnded(f"the server has ended with exit status {self.process.wait()}")
+        raise ServerEnded(f"the server has ended with exit status {self.wait()}")
 
     def end(self):
         """Ends the server. Nothing that it stores is needed later, so it needn't notice the end of its input."""
-        self.process.kill()
         self.leave()
-        self.process.wait()
+        if self.status is None:
+            os.kill(self.number, signal.SIGKILL)
+            self.wait()
 
 
 class Servers:
@@ -123,7 +137,7 @@ class Servers:
         if slot in self.saved or not self.can_save:
             return
         server, self.spare = self.spare or self.new(begun), None
-        server.ask("log off")
+        server.ask(b"log off\n")
         self.can_save = server.save()
         if self.can_save:
             self.saved[slot] = server
@@ -135,6 +149,7 @@ class Servers:
         server = self.saved.get(slot)
         if not server:
             return self.new(begun)
+        stay_together(server)
         server.restore()
         return server
 
@@ -157,3 +172,19 @@ class Servers:
         """At the end of a run: ends its server if no other run uses it."""
         if server and server not in self.saved.values():
             server.end()
+
+
+def stay_together(server):
+    """Keeps this process and its server on one processor, as only one of the two works at a time."""
+    processors = {processor_of_this()}
+    os.sched_setaffinity(0, processors)
+    os.sched_setaffinity(server.number, processors)
+
+
+def processor_of_this():
+    """The number of the processor on which this process runs: field 39 of its status, in which a name in () is field 2."""
+    file = os.open("/proc/self/stat", os.O_RDONLY)
+    try:
+        return int(os.read(file, 4096).rpartition(b")")[2].split()[39 - 3])
+    finally:
+        os.close(file)

@@ -1,5 +1,7 @@
 """What the log of the server shows of the adapter: names of accesses, and steps that would do something."""
 
+from copy import copy
+
 from race_finder.names import DEFAULT_REGISTERS, REGISTERS, REGISTERS_SIZE
 
 RESET, START, ENABLE = 1 << 26, 1, 1 << 1  # CTRL.RST; the start bit of EERD; RCTL.EN and TCTL.EN
@@ -31,6 +33,12 @@ class Shadow:
         self.piece = None  # the slot of the piece in progress
         self.stopped = set()  # engines that a fault has stopped
         self.found = None  # what `enabled` returned, if nothing has changed since then
+
+    def copy(self):
+        other = copy(self)
+        other.registers, other.names = dict(self.registers), dict(self.names)
+        other.taken, other.stopped = [*self.taken], {*self.stopped}
+        return other
 
     def register(self, access):
         """The name of the register that an access goes to, or None if it goes to memory."""

@@ -10,7 +10,8 @@ import time
 from race_finder.forks import Forks, Stopped, script_of
 from race_finder.names import DEFAULT_MEMORY, DEFAULT_REGISTERS, number_of
 from race_finder.play import Play
-from race_finder.run import Run, fault_of
+from race_finder.recall import Recall
+from race_finder.run import fault_of, run_of
 from race_finder.server import Server
 from race_finder.workers import Workers
 
@@ -45,7 +46,7 @@ class Target:
         self.wake = os.pipe()  # holds a byte while runs must end
         script = script_of(command) if is_forked else None
         self.forks = Forks(script, (server, self.options, *addresses_of(self.options)), seconds, jobs) if script else None
-        self.workers = None
+        self.workers = self.recall = None
 
     def start(self):
         """Before several runs at once, and before there are threads: starts workers if runs aren't forked."""
@@ -54,13 +55,16 @@ class Target:
 
     def close(self):
         """Ends what was started for the runs."""
-        for runs in filter(None, (self.workers, self.forks)):  # workers have files of the other one, too
+        for runs in filter(None, (self.workers, self.recall, self.forks)):  # workers have files of the others, too
             runs.end()
 
     def prepare(self, run):
         """Before many schedules are played, by the run without deviations."""
         if self.forks:
             self.forks.prepare(run)
+            if run.script and not run.fault and not self.recall:
+                self.recall = Recall(self.forks.settings, self.jobs, self.seconds)
+                self.recall.learn(run.script)
 
     def run(self, schedule=(), draw=None, is_strict=False):
         """Runs the command once, and counts the run. Raises CannotRun, ServerEnded or Mismatch."""
@@ -84,7 +88,11 @@ class Target:
 
         A run that passes may have no rows without `has_rows`, and without `has_places` nothing of its schedule.
         """
-        run = self.forks and self.play_forked(schedule, draw, is_strict, has_places, has_rows)
+        run = None
+        if self.recalls(schedule, draw, is_strict, has_rows):
+            run = self.recall.play(schedule, has_places)
+        if not run and self.forks:
+            run = self.play_forked(schedule, draw, is_strict, has_places, has_rows)
         if not run:
             if self.workers:
                 run = self.workers.play(schedule, draw, is_strict, has_places)
@@ -94,13 +102,21 @@ class Target:
                 self.forks.is_usable = False  # it had no result in time
         return run
 
+    def recalls(self, schedule, draw, is_strict, has_rows):
+        """Whether a run may be played without the test, by what earlier runs have shown."""
+        is_usable = self.recall and self.recall.is_usable and not (draw or is_strict or has_rows)
+        return is_usable and all(one.place and one.place.round for one in schedule) and len(schedule) > 0
+
     def play_forked(self, schedule, draw, is_strict, has_places, has_rows):
         """A forked run, or None. If it fails, the same is played again and recorded."""
-        run = self.forks.play(schedule, draw, is_strict, has_places, has_rows, self.wake[0])
+        has_script = not draw and (not schedule or self.recalls(schedule, draw, is_strict, has_rows))
+        run = self.forks.play(schedule, draw, is_strict, has_places, has_rows, has_script, self.wake[0])
         if run and run.fault and not run.rows:
             same = schedule if draw is None else run.met
-            again = self.forks.play(same, None, False, True, True, self.wake[0])
+            again = self.forks.play(same, None, False, True, True, False, self.wake[0])
             return again if again and again.fault == run.fault else run
+        if run and run.script and not run.fault and self.recall:
+            self.recall.learn(run.script)
         return run
 
     def late(self):
@@ -120,7 +136,7 @@ class Target:
                 fault = self.run_command(play, errors)
         finally:
             server.end()
-        return Run(fault, play)
+        return run_of(fault, play)
 
     def run_command(self, play, errors):
         try:
@@ -153,18 +169,14 @@ def wait(reads, writes, end, wake):
 
 def serve(test, play, end, wake):
     """Answers the requests of a test until its standard output ends."""
-    source, sink, rest = test.stdout.fileno(), test.stdin.fileno(), b""
+    source, sink = test.stdout.fileno(), test.stdin.fileno()
     os.set_blocking(sink, False)
     while True:
         if time.monotonic() > end:
             raise TooLong
         wait([source], [], end, wake)
         data = os.read(source, 65536)
-        *lines, rest = (rest + data).split(b"\n")
-        if not data and rest:
-            lines, rest = [rest], b""
-        out = play.feed([line.decode(errors="surrogateescape") for line in lines], is_last=not data)
-        if not write(sink, out, end, wake) or not data:
+        if not write(sink, play.feed(data, is_last=not data), end, wake) or not data:
             return
 
 

@@ -1,10 +1,11 @@
 """Processes that play runs of a command that isn't forked, so that several runs use several processors."""
 
 import os
+import pickle
 import queue
 import socket
 
-from race_finder.host import receive, send
+from race_finder.messages import receive, send
 from race_finder.server import ServerEnded
 
 
@@ -28,14 +29,15 @@ class Workers:
         """What `play` returns in a worker that is free. Raises what it raises."""
         control = self.free.get()
         try:
-            send(control, words)
-            result, _ = receive(control)
+            send(control.fileno(), pickle.dumps(words))
+            result = receive(control.fileno())
         except OSError:
             result = None
         finally:
             self.free.put(control)
         if result is None:
             raise ServerEnded("a process of the finder has ended")
+        result = pickle.loads(result)
         if isinstance(result, Exception):
             raise result
         return result
@@ -52,11 +54,11 @@ def work(play, control, others):
     try:
         for other in others:
             other.close()  # or this process would keep the finder's end open
-        while (words := receive(control)[0]) is not None:
+        while (words := receive(control.fileno())) is not None:
             try:
-                result = play(*words)
+                result = play(*pickle.loads(words))
             except Exception as error:
                 result = error
-            send(control, result)
+            send(control.fileno(), pickle.dumps(result))
     finally:
         os._exit(0)

@@ -1,0 +1,189 @@
+"""Plays schedules without the test, as long as the adapter answers as in runs that were played before.
+
+The same answers lead to the same requests of the test. So the requests of a run are known as long as its answers are
+those of earlier runs. If they are known up to the end, no process of the test is needed. Otherwise, the run is forked,
+and then its requests are known, too.
+
+Players are processes of the finder. Each has a server, whose state it saves shortly before the first deviation of a
+schedule: later schedules often begin there, too.
+"""
+
+import os
+import queue
+import select
+import socket
+import subprocess
+import sys
+
+from race_finder.forks import END, kill
+from race_finder.messages import receive, send
+from race_finder.play import Play
+from race_finder.run import run_of, unpacked
+from race_finder.schedule import with_words
+from race_finder.server import Server, ServerEnded
+
+TOOLS = os.path.dirname(os.path.dirname(os.path.abspath(__file__)))
+BEGIN = """
+import sys
+sys.dont_write_bytecode = True
+sys.path.insert(0, sys.argv[1])
+from race_finder.recall import main
+main(int(sys.argv[2]))
+"""
+FAR = 16  # requests up to the next schedule that are worth that the state is saved again
+MOST = 100_000  # answers for which the requests are kept
+
+
+class Requests:
+    """The requests that a test makes after which answers, by the scripts of its runs (`Play.script`)."""
+
+    def __init__(self):
+        # By a state, and what the test is told there: the next state, the next requests, and whether the test ends then
+        self.known = {}
+        self.is_certain = True  # whether the same answers always lead to the same requests
+
+    def learn(self, script):
+        state, told = 0, b""
+        for at, (requests, answers, _) in enumerate(script, 1):
+            found = self.known.get((state, told))
+            if found is None and len(self.known) < MOST:
+                found = self.known[state, told] = len(self.known) + 1, requests, at == len(script)
+            if found is None or found[1:] != (requests, at == len(script)):
+                self.is_certain &= found is None
+                return
+            state, told = found[0], answers
+
+
+class Player:
+    """Plays schedules whose deviations have places, from round 1 on, with a server of its own."""
+
+    def __init__(self, program, options, *addresses):
+        self.program, self.options, self.addresses = program, options, addresses
+        self.requests = Requests()
+        self.base = None  # the script of the run without deviations
+        self.server = self.run = None  # the server, and the run without deviations up to where its state is saved
+
+    def learn(self, shared, script):
+        """A run whose script begins with this part of that of the run without deviations. The first one is that run."""
+        self.base = self.base or script
+        self.requests.learn([*self.base[:shared], *script])
+
+    def play(self, schedule, has_places):
+        """The run of a schedule, or None if the requests of the test aren't known."""
+        if not self.requests.is_certain:
+            return None
+        self.move(min(deviation.place for deviation in schedule))
+        if not self.is_saved:
+            raise ServerEnded("the server can't save its state")
+        self.server.restore()
+        play, state, told = self.run.copy(), self.state, self.told
+        play.begin(self.server, schedule, None, False, has_places, False)
+        while found := self.requests.known.get((state, told)):
+            state, requests, is_last = found
+            told = play.feed(requests, is_last)
+            if is_last:
+                return run_of(None, play).reduced(has_places, False)
+        return None
+
+    def end(self):
+        if self.server:
+            self.server.end()
+
+    # The run without deviations
+
+    def move(self, place):
+        """Saves a state shortly before this place, if that which is saved is another one."""
+        if not self.run or (self.run.round, self.run.access_number) >= place:
+            self.start()
+        before = at = len(self.run.script)
+        while self.base[at][2] < place and at < len(self.base) - 1:
+            at += 1
+        if at - before >= FAR or not self.is_saved:
+            self.advance(self.base[before:at])
+
+    def start(self):
+        """A new server, and the run from its start."""
+        self.end()
+        self.server = Server(self.program, self.options)
+        self.run, self.state, self.told, self.is_saved = Play(*self.addresses), 0, b"", False
+
+    def advance(self, script):
+        """Plays this part of the script of the run, and saves its state."""
+        if self.is_saved:
+            self.server.restore()
+        self.run.begin(self.server, (), None, False, True, False)
+        for requests, _, _ in script:
+            self.state = self.requests.known[self.state, self.told][0]
+            self.told = self.run.feed(requests)
+        self.server.ask(b"log off\n")
+        self.is_saved = self.server.save()
+
+
+class Recall:
+    """The players of the finder."""
+
+    def __init__(self, settings, count, seconds):
+        self.free, self.seconds = queue.LifoQueue(), seconds
+        self.processes, self.scripts = [], {}  # by players, the scripts that they don't know yet
+        self.is_usable = True
+        for _ in range(count):
+            self.start(settings)
+
+    def start(self, settings):
+        """Starts a player."""
+        ours, theirs = socket.socketpair()
+        with theirs:
+            words, null = [sys.executable, "-S", "-E", "-c", BEGIN, TOOLS, str(theirs.fileno())], subprocess.DEVNULL
+            self.processes.append(subprocess.Popen(words, stdin=null, stdout=null, stderr=null, start_new_session=True,
+                                                   pass_fds=[theirs.fileno()]))
+        send(ours.fileno(), settings)
+        self.scripts[ours] = []
+        self.free.put(ours)
+
+    def learn(self, script):
+        """Lets all players know a run."""
+        for scripts in self.scripts.values():
+            scripts.append(script)
+
+    def play(self, schedule, has_places):
+        """The run of a schedule, or None if a process of the test is needed."""
+        control = self.free.get()
+        try:
+            scripts, self.scripts[control] = self.scripts[control], []
+            send(control.fileno(), (scripts, [deviation.words() for deviation in schedule], has_places))
+            is_ready = select.select([control], [], [], self.seconds)[0]
+            found = is_ready and receive(control.fileno())
+        except OSError:
+            found = None
+        finally:
+            self.free.put(control)
+        if not found:
+            self.is_usable = False  # a process of the test shows what it is
+            return None
+        return found[0] and unpacked(found[0])
+
+    def end(self):
+        for control in self.scripts:
+            control.close()
+        for process in self.processes:
+            try:
+                process.wait(END)
+            except subprocess.TimeoutExpired:
+                kill(process.pid)
+                process.wait()
+
+
+def main(control):
+    """Plays what is asked for until the finder ends. The answer is a list with the run, or None instead of it."""
+    player = Player(*receive(control))
+    try:
+        while message := receive(control):
+            scripts, schedule, has_places = message
+            for script in scripts:
+                player.learn(*script)
+            run = player.play([with_words(*words) for words in schedule], has_places)
+            send(control, [run and run.packed()])
+    except (ServerEnded, OSError):
+        pass  # the finder goes on without this player
+    finally:
+        player.end()
