@@ -28,7 +28,7 @@ class Machine:
     def qemu(self, words, socket, plugin):
         """The words of QEMU. With a plugin, the run is repeatable."""
         extra = REPEATABLE + ["-plugin", f"{plugin},socket=5,log=6,memory=4"] if plugin else []
-        kernel_words = f"console=ttyS0 panic=-1 quiet loglevel=1 nokaslr {REPEATABLE_WORDS if plugin else ''} {words}"
+        kernel_words = f"console=ttyS0 panic=-1 quiet loglevel=1 nokaslr iomem=relaxed {REPEATABLE_WORDS if plugin else ''} {words}"
         return ["qemu-system-x86_64", "-accel", "tcg", "-cpu", "qemu64", "-machine", "pc,memory-backend=ram", "-m", str(MEGABYTES),
                 "-object", f"memory-backend-file,id=ram,size={MEGABYTES}M,mem-path=/proc/self/fd/4,share=on", "-nodefaults",
                 "-display", "none", "-serial", "file:/dev/stdout", "-no-reboot", "-kernel", self.kernel, "-initrd", self.image,
