@@ -1,6 +1,132 @@
+"""What a sweep prints: its progress, the first round that failed, and what the rounds reached."""
+
+import os
+import sys
+import time
+from collections import Counter
+
+from needs import TOP
+from round_trace import Symbols, Trace, chart_rows
+
+sys.path.append(os.path.join(TOP, "tools"))
+from race_finder.chart import COLUMNS, ChartRow, cut, layout, line_of  # noqa: E402
+from race_finder.names import REGISTERS  # noqa: E402
+
+LAST = 8  # drawn steps that are marked if no reply is lost
+WRITE = 1 << 32  # in a site: a register is written (board/reached.h)
+MODULES = 1 << 63
+
+
+def tell(text):
+    print(text, flush=True)
+
+
+def first_line(text):
+    """The first line of a message of the kernel, which has its other lines in the form \\x0a."""
+    return text.split("\\x0a")[0]
+
+
+def steps_of_reply(rows, number):
+    """The rows that moved a reply: its arrival, and the steps that wrote it to memory and wrote its descriptor back."""
+    arrival = next((at for at, row in enumerate(rows) if row.name == f"reply {number}" and row.answer.startswith("stored")), None)
+    if arrival is None:
+        return []
+    before = sum(row.line == "# arrive" and row.answer.startswith("stored") for row in rows[:arrival])
+    moved = [at for at, row in enumerate(rows) if row.line == "# step rxdata -> moved"][before:before + 1]
+    done = [at for at, row in enumerate(rows) if row.line.startswith("# step rxdone") and moved and at > moved[0]][:1]
+    return [arrival, *moved, *done]
+
+
+def stars_of(trace):
+    """The rows that a chart is about: those of the reply that was lost, or the last steps that were drawn."""
+    drawn = [at for at, row in enumerate(trace.rows) if row.drawn]
+    return set(steps_of_reply(trace.rows, trace.lost) or drawn[-LAST:])
+
+
+def chart_of(trace):
+    """The chart of a round."""
+    rows = cut(chart_rows(trace, stars_of(trace)))
+    heading = ChartRow(dict(zip(COLUMNS, COLUMNS)))
+    starts, _ = layout([heading, *rows])
+    return "".join(f"{line_of(row, starts)}\n" for row in [heading, *rows])
+
+
 class Report:
-    def __init__(self, words): self.failed=0
+    """Takes the guest's lines of a sweep. `words` are those of the command line."""
+
+    def __init__(self, words):
+        self.words, self.symbols = words, Symbols()
+        self.fault = None  # of the first round that failed
+        self.begun, self.played = time.monotonic(), None
+
     def line(self, line):
-        if line.startswith("fails"): self.failed+=1
-        if not line.startswith("symbol"): print(line, flush=True)
-    def end(self): return self.failed
+        """Takes a line of the guest."""
+        word, _, rest = line.partition(" ")
+        if word == "symbol":
+            self.symbols.add(*rest.split())
+        elif word == "begins":
+            self.begun = time.monotonic()
+        elif word == "fails:" and self.fault is None:
+            self.fault = rest
+            tell(rest)
+        elif word == "alone:":
+            tell(f"by itself, {rest}")
+        elif word == "rounds":
+            self.played = int(rest.split()[0])
+            tell(f"{line}; {self.played / (time.monotonic() - self.begun):.1f} rounds a second")
+        else:
+            tell(first_line(line))
+
+    def path(self, name):
+        return os.path.join(self.words.out, name)
+
+    def show_failed(self):
+        """Stores the schedule and the chart of the round that failed, and prints the chart."""
+        with open(self.path("failed.trace")) as file:
+            trace = Trace(file, self.symbols)
+        chart = chart_of(trace)
+        for name, text in (("schedule.txt", trace.schedule([self.fault])), ("chart.txt", chart)):
+            with open(self.path(name), "w") as file:
+                file.write(text)
+        tell(f"{len(trace.deviations)} steps and arrivals were drawn; their schedule is schedule.txt" if self.words.keeps else
+             f"{len(trace.deviations)} steps and arrivals were drawn; --out FOLDER stores their schedule")
+        tell(f"\n{chart}")
+
+    def site_name(self, site):
+        """The place of an access in the driver, by the name of the function or of the register."""
+        if site >= MODULES:
+            return self.symbols.name_of(site)
+        return f"{'write' if site & WRITE else 'read'} {REGISTERS.get(site % WRITE, hex(site % WRITE))}"
+
+    def function_of(self, site):
+        return self.site_name(site).partition("+")[0]
+
+    def show_reached(self):
+        """Prints between which accesses steps were played, by functions of the driver."""
+        with open(self.path("reached")) as file:
+            pairs = [[int(one, 16), int(other, 16), int(made), int(with_step)] for one, other, made, with_step in map(str.split, file)]
+        seen, cut_in = Counter(), Counter()
+        for one, _, _, with_step in pairs:
+            seen[self.function_of(one)] += 1
+            cut_in[self.function_of(one)] += with_step > 0
+        with open(self.path("reached.txt"), "w") as file:
+            file.writelines(f"{made:8} {with_step:8}  {self.site_name(one)} -> {self.site_name(other)}\n"
+                            for one, other, made, with_step in sorted(pairs))
+        tell(f"steps fell between {sum(pair[3] > 0 for pair in pairs)} of {len(pairs)} pairs of accesses that the driver made one after"
+             " the other:")
+        shown = [f"{name} {cut_in[name]}/{seen[name]}" for name in sorted(seen, key=lambda name: (-seen[name], name))]
+        tell(f"  after {', '.join(shown[:12])}{', ..' if len(shown) > 12 else ''}")
+
+    def end(self):
+        """Prints the rest. Returns whether a round failed, or the rounds didn't end."""
+        if self.played is None:
+            tell("the rounds have not ended")
+            return True
+        if self.words.at_once:
+            return self.fault is not None
+        if self.fault:
+            self.show_failed()
+        self.show_reached()
+        return self.fault is not None
+
+
