@@ -37,12 +37,12 @@ def compile_program(target, sources, *words):
     return target
 
 
-def board(cache, library):
+def board(cache, library, *flags):
     """The board with the adapter of a library (the folder that `tools/library` wrote), or of `nicbench serve` (None)."""
     wanted, other = ("adapter_library.c", "adapter_serve.c") if library else ("adapter_serve.c", "adapter_library.c")
     sources = [source for source in sources_in("board") if os.path.basename(source) != other]
     words = ["-I", os.path.join(library, "include"), os.path.join(library, "lib", LIBRARY)] if library else []
-    return compile_program(os.path.join(cache, "bin", f"board_{wanted[8:-2]}"), sources, *words)
+    return compile_program(os.path.join(cache, "bin", f"board_{wanted[8:-2]}"), sources, *words, *flags)
 
 
 def plugin(cache):
