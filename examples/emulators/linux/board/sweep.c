@@ -122,9 +122,7 @@ static enum action drawn_action(void)
 
 static void play_drawn(void)
 {
-    uint32_t left = 1 + draw(settings.most);
-
-    for (; left > 0; left--) {
+    for (uint32_t left = 1 + draw(settings.most); left > 0; left--) {
         bool did = steps_play(drawn_action());
 
         counts.drawn++;

@@ -23,6 +23,12 @@ enum {
 };
 
 static int kernel_log = -1;
+static char first_warning[200];
+
+const char *kernel_log_first(void)
+{
+    return first_warning;
+}
 
 volatile uint32_t *board_registers(const char *interface)
 {
@@ -66,7 +72,13 @@ void restart_interface(const char *interface)
 void kernel_log_start(void)
 {
     kernel_log = open("/dev/kmsg", O_RDONLY | O_NONBLOCK);
+    kernel_log_skip();
+}
+
+void kernel_log_skip(void)
+{
     lseek(kernel_log, 0, SEEK_END);
+    first_warning[0] = 0;
 }
 
 /* A line is `LEVEL,NUMBER,TIME,..;TEXT`. */
@@ -83,9 +95,9 @@ unsigned kernel_log_warnings(void)
 
     while ((count = read(kernel_log, line, sizeof line - 1)) > 0 || (count < 0 && errno == EPIPE)) {
         line[count > 0 ? count : 0] = 0;
-        line[strcspn(line, "\n")] = 0;
+        line[strcspn(line, "\n\\")] = 0;
         if (count > 0 && is_warning(line) && warnings++ == 0)
-            printf(TO_USER "kernel %s\n", strchr(line, ';') ? strchr(line, ';') + 1 : line);
+            snprintf(first_warning, sizeof first_warning, "%s", strchr(line, ';') ? strchr(line, ';') + 1 : line);
     }
     return warnings;
 }

@@ -10,10 +10,14 @@ volatile uint32_t *board_registers(const char *interface);
 /* Takes the interface down and up, and waits for the link. */
 void restart_interface(const char *interface);
 
-/* Skips what is in the kernel's log. */
+/* Opens the kernel's log, and skips what is in it. */
 void kernel_log_start(void);
+void kernel_log_skip(void);
 
-/* The number of warnings and errors in the kernel's log since the last call. Prints the first one. */
+/* The number of warnings and errors in the kernel's log since the last call. */
 unsigned kernel_log_warnings(void);
+
+/* The first of these that was found since `kernel_log_skip`. */
+const char *kernel_log_first(void);
 
 #endif

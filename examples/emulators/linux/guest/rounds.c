@@ -210,6 +210,8 @@ static void explain(uint32_t found)
            reg(BOARD_MISSED));
     if (found & VERDICT_LOST)
         printf("; the first lost reply is %u", first_lost() + 1);
+    if (found & VERDICT_KERNEL)
+        printf("; the kernel: %s", kernel_log_first());
     printf("\n");
 }
 
@@ -234,13 +236,11 @@ static void play_alone(const char *interface, uint32_t number)
     uint32_t found;
 
     restart_interface(interface);
-    kernel_log_warnings();
+    kernel_log_skip();
     found = play(number);
     printf(TO_USER "alone: round %u %s", number, found ? "fails: " : "passes\n");
     if (found)
         explain(found);
-    restart_interface(interface);
-    kernel_log_warnings();
 }
 
 static void open_round_socket(const char *host)
@@ -271,7 +271,10 @@ static void play_next(const char *interface, uint32_t number, bool apart)
     if (found) {
         printf(TO_USER "fails: round %u: ", number);
         explain(found);
-        play_alone(interface, number);
+        if (!apart)
+            play_alone(interface, number);
+        restart_interface(interface);
+        kernel_log_skip();
     }
     if (number % REPORT_EVERY == 0)
         printf(TO_USER "progress round %u\n", number);

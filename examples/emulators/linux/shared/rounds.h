@@ -16,8 +16,7 @@ enum {
     BOARD_STOPPED = 0x10, /* read: engines that a fault has stopped: bit 0 receive, bit 1 transmit */
     BOARD_LOST = 0x14,    /* write: the number of the first reply that is missing */
     BOARD_VERDICT = 0x18, /* write: what was wrong in the round, 0 if nothing was */
-    BOARD_AGAIN = 0x1C,   /* read: 1 if the round that failed is to be played again */
-    BOARD_DRAWS = 0x20    /* read: 1 if steps are drawn, 0 if each step is played at once */
+    BOARD_DRAWS = 0x1C    /* read: 1 if steps are drawn, 0 if each step is played at once */
 };
 
 /* What can be wrong in a round. */
