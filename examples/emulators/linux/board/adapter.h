@@ -1,5 +1,6 @@
-/* The adapter that the board carries, with memory of its own. There are two implementations, and a board is linked with
- * one of them: adapter_library.c calls the library in this process, and adapter_serve.c asks `nicbench serve`. */
+/* The adapter that the board carries, with memory of its own. There are two implementations, and a board is linked
+ * with one of them: adapter_library.c calls the library in this process, and adapter_serve.c asks `nicbench serve`.
+ */
 #ifndef ADAPTER_H
 #define ADAPTER_H
 

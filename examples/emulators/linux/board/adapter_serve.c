@@ -29,7 +29,10 @@ static size_t requests_used;
 static unsigned owed;
 static uint64_t asked, memory_size;
 static bool is_asserted;
-static struct { uint32_t size; uint8_t bytes[FRAME_BYTES]; } sent[SENT_ROOM];
+static struct {
+    uint32_t size;
+    uint8_t bytes[FRAME_BYTES];
+} sent[SENT_ROOM];
 static unsigned sent_first, sent_count;
 
 static void flush_requests(void)

@@ -153,12 +153,12 @@ static void print_counts(void)
 
     report("registers: %" PRIu64 " reads, %" PRIu64 " writes; requests to the adapter's process: %" PRIu64,
            register_counts.reads, register_counts.writes, adapter_requests());
-    report("sent: %" PRIu64 " frames, %" PRIu64 " bytes, %" PRIu64 " faults", wire_counts.sent, dma_counts.transmit_bytes,
-           dma_counts.faults[1]);
-    report("arrived: %" PRIu64 " frames, %" PRIu64 " stored, %" PRIu64 " missed, %" PRIu64 " filtered, %" PRIu64 " illegal, %" PRIu64
-           " while off; %" PRIu64 " faults; %" PRIu64 " dropped before they arrived",
-           wire_counts.arrived, fates[STORED], fates[MISSED], fates[FILTERED], fates[ILLEGAL], fates[OFF], dma_counts.faults[0],
-           wire_counts.dropped);
+    report("sent: %" PRIu64 " frames, %" PRIu64 " bytes, %" PRIu64 " faults", wire_counts.sent,
+           dma_counts.transmit_bytes, dma_counts.faults[1]);
+    report("arrived: %" PRIu64 " frames, %" PRIu64 " stored, %" PRIu64 " missed, %" PRIu64 " filtered, %" PRIu64
+           " illegal, %" PRIu64 " while off; %" PRIu64 " faults; %" PRIu64 " dropped before they arrived",
+           wire_counts.arrived, fates[STORED], fates[MISSED], fates[FILTERED], fates[ILLEGAL], fates[OFF],
+           dma_counts.faults[0], wire_counts.dropped);
 }
 
 static FILE *opened(const char *path)

@@ -7,8 +7,8 @@
 #include "rings.h"
 
 enum {
-    TAKEN_ROOM = 4,     /* frames in the transmit packet buffer */
-    STORED_ROOM = 32,   /* frames in the receive packet buffer: at most 24 */
+    TAKEN_ROOM = 4,      /* frames in the transmit packet buffer */
+    STORED_ROOM = 32,    /* frames in the receive packet buffer: at most 24 */
     COMMAND_RS = 1 << 3, /* of a transmit descriptor */
     COMMAND_DEXT = 1 << 5,
     COMMAND = 11,
@@ -50,8 +50,8 @@ static uint64_t address_in(const uint8_t *descriptor)
     return number_at(descriptor, 4) | (uint64_t)number_at(descriptor + 4, 4) << 32;
 }
 
-/* Copies bytes of the guest to the adapter's memory, through a copy that the guest can't change. Bytes that one of them
- * doesn't have aren't copied: the adapter's step decides what follows. */
+/* Copies bytes of the guest to the adapter's memory, through a copy that the guest can't change. Bytes that one of
+ * them doesn't have aren't copied: the adapter's step decides what follows. */
 static void copy_in(uint64_t address, uint32_t size, uint8_t *copy)
 {
     const uint8_t *bytes = guest_at(address, size);
@@ -83,8 +83,8 @@ static void report_fault(const char *engine, const struct ring *ring, const uint
 
 static void note_taken(uint64_t address, const uint8_t *descriptor)
 {
-    taken[(taken_first + taken_count++) % TAKEN_ROOM] =
-        (struct taken) { address, transmit_ring.head, descriptor[COMMAND] & COMMAND_RS };
+    taken[(taken_first + taken_count++) % TAKEN_ROOM] = (struct taken){ address, transmit_ring.head,
+                                                                        descriptor[COMMAND] & COMMAND_RS };
     last_slot = transmit_ring.head;
     rings_advance(&transmit_ring);
     dma_counts.taken++;

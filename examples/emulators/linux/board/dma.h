@@ -1,5 +1,5 @@
-/* The adapter's accesses to the guest's memory. The adapter works on memory of its own: what a step reads is copied there
- * before the step, and what it wrote is copied to the guest after the step. */
+/* The adapter's accesses to the guest's memory. The adapter works on memory of its own: what a step reads is copied
+ * there before the step, and what it wrote is copied to the guest after the step. */
 #ifndef DMA_H
 #define DMA_H
 

@@ -22,8 +22,8 @@ enum {
 };
 
 static uint16_t words[WORDS];
-static uint32_t written;         /* the bits of EECD that are kept */
-static unsigned command, bits;   /* what was shifted in */
+static uint32_t written;       /* the bits of EECD that are kept */
+static unsigned command, bits; /* what was shifted in */
 static bool is_reading, output;
 static uint16_t shifted_out;
 

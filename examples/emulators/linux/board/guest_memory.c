@@ -31,7 +31,7 @@ void guest_memory_add(uint64_t address, uint64_t size, int file, uint64_t offset
     bytes = mmap(NULL, size, PROT_READ | PROT_WRITE, MAP_SHARED, file, (off_t)offset);
     if (bytes == MAP_FAILED)
         fail("the guest's memory at 0x%llx: %s", (unsigned long long)address, strerror(errno));
-    areas[area_count++] = (struct area) { address, size, bytes };
+    areas[area_count++] = (struct area){ address, size, bytes };
 }
 
 bool guest_memory_is_known(void)

@@ -18,7 +18,7 @@ enum { PATIENCE = 5000 }; /* milliseconds */
 
 static const char *path;
 static int connection = -1;
-static bool level; /* of the pin */
+static bool level;    /* of the pin */
 static unsigned owed; /* answers that QEMU hasn't sent yet */
 
 void interrupts_start(const char *socket_path)

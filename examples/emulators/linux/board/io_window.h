@@ -1,4 +1,5 @@
-/* The I/O window (13.4.1 names it for CTRL.RST): IOADDR at 0 has the offset of a register, and IODATA at 4 is the register. */
+/* The I/O window (13.4.1 names it for CTRL.RST): IOADDR at 0 has the offset of a register, and IODATA at 4 is the
+ * register. */
 #ifndef IO_WINDOW_H
 #define IO_WINDOW_H
 

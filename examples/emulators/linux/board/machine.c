@@ -12,14 +12,19 @@
 
 static pid_t process;
 
+/* Gives files their descriptors. Copies come first, since a file may have the descriptor of another one. */
+static void place(const int *files, int number)
+{
+    int copy = fcntl(files[number], F_DUPFD_CLOEXEC, MACHINE_CONNECTION + MACHINE_FILES);
+
+    if (number + 1 < MACHINE_FILES)
+        place(files, number + 1);
+    dup2(copy, MACHINE_CONNECTION + number);
+}
+
 static void run(char **words, const int *files)
 {
-    int copies[MACHINE_FILES];
-
-    for (int number = 0; number < MACHINE_FILES; number++)
-        copies[number] = fcntl(files[number], F_DUPFD_CLOEXEC, MACHINE_CONNECTION + MACHINE_FILES);
-    for (int number = 0; number < MACHINE_FILES; number++)
-        dup2(copies[number], MACHINE_CONNECTION + number);
+    place(files, 0);
     prctl(PR_SET_PDEATHSIG, SIGTERM);
     execvp(words[0], words);
     report("%s: %s", words[0], strerror(errno));

@@ -83,7 +83,9 @@ static bool read_message(int connection, struct header *header)
         struct cmsghdr alignment;
     } control;
     struct iovec place = { header, sizeof *header };
-    struct msghdr from = { .msg_iov = &place, .msg_iovlen = 1, .msg_control = &control, .msg_controllen = sizeof control };
+    struct msghdr from = {
+        .msg_iov = &place, .msg_iovlen = 1, .msg_control = &control, .msg_controllen = sizeof control
+    };
     ssize_t count = recvmsg(connection, &from, MSG_CMSG_CLOEXEC);
 
     if (count <= 0)
@@ -115,7 +117,8 @@ static void share_memory(void)
 
     guest_memory_clear();
     for (unsigned number = 0; number < file_count; number++)
-        guest_memory_add(shared->addresses[number], shared->sizes[number], files[number], (uint64_t)shared->offsets[number]);
+        guest_memory_add(shared->addresses[number], shared->sizes[number], files[number],
+                         (uint64_t)shared->offsets[number]);
 }
 
 static void close_files(void)
@@ -124,7 +127,8 @@ static void close_files(void)
         close(files[--file_count]);
 }
 
-/* The registers take accesses of four aligned bytes, and so do IOADDR and IODATA. Others read as 0 and change nothing. */
+/* The registers take accesses of four aligned bytes, and so do IOADDR and IODATA. Others read as 0 and change
+ * nothing. */
 static bool is_register(const struct bar_message *access, uint32_t begin, uint32_t size, uint32_t *offset)
 {
     *offset = (uint32_t)access->address - begin;

@@ -35,7 +35,16 @@ enum {
     DATA = 42
 };
 
-enum { TYPE_IP = 0x0800, TYPE_ARP = 0x0806, ICMP = 1, UDP = 17, REQUEST = 1, REPLY = 2, ECHO = 8, FRAGMENT_OFFSET = 0x1FFF };
+enum {
+    TYPE_IP = 0x0800,
+    TYPE_ARP = 0x0806,
+    ICMP = 1,
+    UDP = 17,
+    REQUEST = 1,
+    REPLY = 2,
+    ECHO = 8,
+    FRAGMENT_OFFSET = 0x1FFF
+};
 
 static const uint8_t own_address[6] = { 2, 0, 0, 0, 0, 2 }, own_ip[4] = { 10, 0, 0, 2 };
 

@@ -19,8 +19,8 @@ void steps_written(uint32_t offset);
 /* Plays the steps of the EEPROM and the PHY, if they have work. */
 void steps_tick(void);
 
-/* Plays all steps that do something, and lets all frames arrive for which there is room; at most `rounds` times. Returns
- * whether there may be more to do. */
+/* Plays all steps that do something, and lets all frames arrive for which there is room; at most `rounds` times.
+ * Returns whether there may be more to do. */
 bool steps_settle(unsigned rounds);
 
 #endif

@@ -22,8 +22,8 @@ static uint32_t seed, round_number, lost;
 static uint64_t generator;
 static const char *folder;
 
-/* What a round draws first: how often each action is played, the most at a point, at one point in how many, and the most
- * accesses of memory from one point to the next. */
+/* What a round draws first: how often each action is played, the most at a point, at one point in how many, and the
+ * most accesses of memory from one point to the next. */
 static struct {
     uint32_t weights[ACTIONS], sum, most, often, gap;
 } settings;
@@ -92,8 +92,8 @@ static void begin_round(uint32_t number)
     counts.rounds++;
     generator = ((uint64_t)seed << 32) + number;
     draw_settings();
-    snprintf(text, sizeof text, "seed %u weights %u %u %u %u %u most %u often %u gap %u", seed, weight[0], weight[1], weight[2],
-             weight[3], weight[4], settings.most, settings.often, settings.gap);
+    snprintf(text, sizeof text, "seed %u weights %u %u %u %u %u most %u often %u gap %u", seed, weight[0], weight[1],
+             weight[2], weight[3], weight[4], settings.most, settings.often, settings.gap);
     trace_begin(number, text);
     trace_drawn(true);
     reached_begin();
@@ -219,8 +219,9 @@ void sweep_end(void)
 
     if (!draws || folder == NULL)
         return;
-    report("%" PRIu64 " rounds; steps drawn at %" PRIu64 " register accesses, %" PRIu64 " memory accesses and %" PRIu64
-           " calls of the test program; %" PRIu64 " steps drawn, %" PRIu64 " did something",
+    report("%" PRIu64 " rounds; steps drawn at %" PRIu64 " register accesses, %" PRIu64
+           " memory accesses and %" PRIu64 " calls of the test program; %" PRIu64 " steps drawn, %" PRIu64
+           " did something",
            counts.rounds, counts.points[AT_REGISTER], counts.points[AT_MEMORY], counts.points[AT_POKE], counts.drawn,
            counts.played);
     snprintf(path, sizeof path, "%s/reached", folder);

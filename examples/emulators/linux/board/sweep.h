@@ -1,6 +1,6 @@
-/* The sweep. In a round, steps of the adapter and arrivals are drawn, from the seed and the number of the round, and played
- * between the driver's accesses. Outside of rounds, all steps are played at once. All happens while the guest waits for an
- * answer of the board, so that the guest's run depends only on the seed. */
+/* The sweep. In a round, steps of the adapter and arrivals are drawn, from the seed and the number of the round, and
+ * played between the driver's accesses. Outside of rounds, all steps are played at once. All happens while the guest
+ * waits for an answer of the board, so that the guest's run depends only on the seed. */
 #ifndef SWEEP_H
 #define SWEEP_H
 

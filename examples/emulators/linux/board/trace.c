@@ -35,7 +35,19 @@ static void record(enum event_kind kind, uint64_t first, uint64_t second, uint64
         if (events == NULL)
             fail("out of memory");
     }
-    events[used++] = (struct event) { kind, is_drawn, { first, second, third, fourth } };
+    events[used++] = (struct event){ kind, is_drawn, { first, second, third, fourth } };
+}
+
+static void print_access(FILE *file, const struct event *event)
+{
+    static const char *const names[] = { "read", "write", "load", "store" };
+    const uint64_t *word = event->words;
+
+    fprintf(file, "%s %" PRIx64, names[event->kind], word[0]);
+    if (event->kind == READ || event->kind == WRITE)
+        fprintf(file, " %08" PRIx64 "\n", word[1]);
+    else
+        fprintf(file, " %" PRIx64 " %" PRIu64 " %" PRIx64 "\n", word[1], word[2], word[3]);
 }
 
 static void print_event(FILE *file, const struct event *event)
@@ -44,15 +56,6 @@ static void print_event(FILE *file, const struct event *event)
     const char *mark = event->drawn ? " *" : "";
 
     switch (event->kind) {
-    case READ:
-    case WRITE:
-        fprintf(file, "%s %" PRIx64 " %08" PRIx64 "\n", event->kind == READ ? "read" : "write", word[0], word[1]);
-        break;
-    case LOAD:
-    case STORE:
-        fprintf(file, "%s %" PRIx64 " %" PRIx64 " %" PRIu64 " %" PRIx64 "\n", event->kind == LOAD ? "load" : "store", word[0],
-                word[1], word[2], word[3]);
-        break;
     case POKE:
         fputs("poke\n", file);
         break;
@@ -60,7 +63,8 @@ static void print_event(FILE *file, const struct event *event)
         fprintf(file, "step %s %s %" PRIu64 "%s\n", kind_names[word[0]], outcome_names[word[1]], word[2], mark);
         break;
     case ARRIVAL:
-        fprintf(file, "arrive %s %" PRIu64 " %" PRIu64 " %08" PRIx64 "%s\n", fate_names[word[0]], word[1], word[2], word[3], mark);
+        fprintf(file, "arrive %s %" PRIu64 " %" PRIu64, fate_names[word[0]], word[1], word[2]);
+        fprintf(file, " %08" PRIx64 "%s\n", word[3], mark);
         break;
     case SENT:
         fprintf(file, "sent %" PRIu64 " %" PRIu64 " %08" PRIx64 "\n", word[0], word[1], word[2]);
@@ -77,6 +81,8 @@ static void print_event(FILE *file, const struct event *event)
     case RING:
         fprintf(file, "ring %" PRIx64 " %" PRIu64 " %" PRIu64 " %" PRIu64 "\n", word[0], word[1], word[2], word[3]);
         break;
+    default:
+        print_access(file, event);
     }
 }
 

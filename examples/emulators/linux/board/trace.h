@@ -1,5 +1,5 @@
-/* The record of a round: accesses, steps, frames and the interrupt line, in order. Times aren't in it, so two runs that do
- * the same have the same trace. */
+/* The record of a round: accesses, steps, frames and the interrupt line, in order. Times aren't in it, so two runs
+ * that do the same have the same trace. */
 #ifndef TRACE_H
 #define TRACE_H
 

@@ -7,12 +7,7 @@
 #include "dma.h"
 #include "trace.h"
 
-enum {
-    QUEUE = 512,
-    SHORTEST = 60,
-    FCS_BYTES = 4,
-    LONGEST = FRAME_BYTES - FCS_BYTES
-};
+enum { QUEUE = 512, SHORTEST = 60, FCS_BYTES = 4, LONGEST = FRAME_BYTES - FCS_BYTES };
 
 struct wire_counts wire_counts;
 
@@ -28,8 +23,8 @@ void wire_start(wire_end *end)
     other_end = end;
 }
 
-/* Where RCTL.SECRC is clear, the adapter passes the FCS on to memory; the model has no FCS, so the frame gets four bytes
- * more before it arrives. */
+/* Where RCTL.SECRC is clear, the adapter passes the FCS on to memory; the model has no FCS, so the frame gets four
+ * bytes more before it arrives. */
 static void add_frame_check(struct waiting *frame)
 {
     uint32_t check = frame_check(frame->bytes, frame->size);

@@ -15,7 +15,8 @@ extern struct wire_counts wire_counts;
 typedef void wire_end(const uint8_t *frame, uint32_t size);
 void wire_start(wire_end *end);
 
-/* A frame comes from the other end, without FCS. It waits until it arrives at the adapter. `number` is shown in traces. */
+/* A frame comes from the other end, without FCS. It waits until it arrives at the adapter. `number` is shown in
+ * traces. */
 void wire_receive(const uint8_t *frame, uint32_t size, uint32_t number);
 
 /* The number of frames that wait. */

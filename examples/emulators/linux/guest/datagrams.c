@@ -43,7 +43,7 @@ int datagrams(const char *host, unsigned count)
     }
     for (unsigned place = 0; place < SIZES; place++)
         right += exchanged(socket, sizes[place], count);
-    printf("%u of %u datagrams of %u to %u bytes came back, %.0f a second", right, SIZES * count, sizes[0], sizes[SIZES - 1],
-           right / (now() - begun));
+    printf("%u of %u datagrams of %u to %u bytes came back, %.0f a second", right, SIZES * count, sizes[0],
+           sizes[SIZES - 1], right / (now() - begun));
     return right != SIZES * count;
 }

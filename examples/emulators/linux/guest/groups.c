@@ -9,17 +9,24 @@
 
 enum { COUNT = 20, SECONDS = 1 };
 
-/* Asks the other end for datagrams to a group. Returns how many of them come. */
-static unsigned received(int listener, int asker, const char *host, uint16_t port)
+/* Asks the other end for datagrams to a group. */
+static void ask(int asker, const char *host, uint16_t port)
 {
     struct sockaddr_in address = address_of(host, port);
-    uint8_t number, data[64];
-    unsigned count = 0;
 
-    for (number = 0; number < COUNT; number++) {
+    for (uint8_t number = 0; number < COUNT; number++) {
         sendto(asker, &number, 1, 0, (struct sockaddr *)&address, sizeof address);
         pause_for(1000);
     }
+}
+
+/* Asks for datagrams, and returns how many of them come. */
+static unsigned received(int listener, int asker, const char *host, uint16_t port)
+{
+    uint8_t data[64];
+    unsigned count = 0;
+
+    ask(asker, host, port);
     while (count < COUNT && read(listener, data, sizeof data) == 1)
         count++;
     return count;
@@ -51,6 +58,7 @@ int groups(const char *host)
     other = received(listener, asker, host, GROUP_PORT + 1);
     change_membership(listener, IP_DROP_MEMBERSHIP);
     after = received(listener, asker, host, GROUP_PORT);
-    printf("%u of %u datagrams to a joined group came, %u of %u others", joined, COUNT, before + other + after, 3 * COUNT);
+    printf("%u of %u datagrams to a joined group came, %u of %u others", joined, COUNT, before + other + after,
+           3 * COUNT);
     return joined != COUNT || before + other + after != 0;
 }

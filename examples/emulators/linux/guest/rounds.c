@@ -1,5 +1,5 @@
-/* Rounds of a sweep. A round sends requests by UDP; the wire's other end checks their bytes, and sends the replies that
- * they ask for. Meanwhile the board plays drawn steps. Then the round is judged. */
+/* Rounds of a sweep. A round sends requests by UDP; the wire's other end checks their bytes, and sends the replies
+ * that they ask for. Meanwhile the board plays drawn steps. Then the round is judged. */
 #include <stdio.h>
 #include <stdlib.h>
 #include <string.h>
@@ -15,8 +15,8 @@ enum {
     ROOM = 4 << 20, /* of the socket */
     SECONDS = 1,
     REPORT_EVERY = 100, /* rounds */
-    /* How long to wait, in milliseconds, if no further reply comes: while steps are drawn, at the end of the round, and
-     * for the driver's watchdog, which looks after the rings every 2 seconds. */
+    /* How long to wait, in milliseconds, if no further reply comes: while steps are drawn, at the end of the round,
+     * and for the driver's watchdog, which looks after the rings every 2 seconds. */
     WAIT_DRAWN = 5,
     WAIT_AT_ONCE = 60,
     WAIT_LEFT = 20,
@@ -122,16 +122,23 @@ static uint32_t replies_of_request(enum style style)
     return style == SOME_OF_EACH ? 1 + draw(8) : 8 + draw(40);
 }
 
+static uint32_t fill(uint8_t *data, const struct round_header *header)
+{
+    uint32_t size = data_size(header->round, header->number);
+
+    memcpy(data, header, sizeof *header);
+    for (uint32_t place = sizeof *header; place < size; place++)
+        data[place] = data_byte(header->round, header->number, place);
+    return size;
+}
+
 static void send_request(uint32_t number, uint32_t replies)
 {
     struct round_header header = { current.number, FIRST_REQUEST + number, current.replies, replies };
-    uint32_t size = data_size(header.round, header.number);
     uint8_t data[MOST_DATA];
+    uint32_t size = fill(data, &header);
     int tries = 0;
 
-    memcpy(data, &header, sizeof header);
-    for (uint32_t place = sizeof header; place < size; place++)
-        data[place] = data_byte(header.round, header.number, place);
     while (send(datagram_socket, data, size, MSG_DONTWAIT) != (ssize_t)size && tries++ < TRIES) {
         reg(BOARD_POKE);
         receive_all();
@@ -199,15 +206,19 @@ static uint32_t verdict(void)
 /* Prints what was wrong. */
 static void explain(uint32_t found)
 {
-    static const char *const texts[] = { "replies came only after the watchdog", "replies were lost", "replies have wrong bytes",
-                                         "replies came twice", "requests have wrong bytes on the wire",
-                                         "an engine of the adapter has stopped", "the kernel warned" };
+    static const char *const texts[] = { "replies came only after the watchdog",
+                                         "replies were lost",
+                                         "replies have wrong bytes",
+                                         "replies came twice",
+                                         "requests have wrong bytes on the wire",
+                                         "an engine of the adapter has stopped",
+                                         "the kernel warned" };
 
     for (unsigned bit = 0; bit < sizeof texts / sizeof *texts; bit++)
         if (found >> bit & 1)
             printf("%s; ", texts[bit]);
-    printf("%u requests, %u replies, %u right, %u late, %u missed", current.requests, current.replies, current.right, current.late,
-           reg(BOARD_MISSED));
+    printf("%u requests, %u replies, %u right, %u late, %u missed", current.requests, current.replies, current.right,
+           current.late, reg(BOARD_MISSED));
     if (found & VERDICT_LOST)
         printf("; the first lost reply is %u", first_lost() + 1);
     if (found & VERDICT_KERNEL)
@@ -245,7 +256,8 @@ static void play_alone(const char *interface, uint32_t number)
 
 static void open_round_socket(const char *host)
 {
-    struct sockaddr_in source = { .sin_family = AF_INET, .sin_port = htons(SOURCE_PORT) }, to = address_of(host, ROUND_PORT);
+    struct sockaddr_in source = { .sin_family = AF_INET, .sin_port = htons(SOURCE_PORT) },
+                       to = address_of(host, ROUND_PORT);
     int room = ROOM;
 
     datagram_socket = open_socket(SOCK_DGRAM, SECONDS);
@@ -283,7 +295,8 @@ static void play_next(const char *interface, uint32_t number, bool apart)
 
 int rounds(const char *host, const char *interface, char **numbers)
 {
-    uint32_t number = (uint32_t)atoi(numbers[0]), last = (uint32_t)atoi(numbers[1]), stop = (uint32_t)atoi(numbers[2]);
+    uint32_t number = (uint32_t)atoi(numbers[0]), last = (uint32_t)atoi(numbers[1]),
+             stop = (uint32_t)atoi(numbers[2]);
     bool apart = atoi(numbers[3]);
 
     board = board_registers(interface);
@@ -293,7 +306,8 @@ int rounds(const char *host, const char *interface, char **numbers)
     fflush(stdout);
     for (; number <= last && totals.failed < stop; number++)
         play_next(interface, number, apart);
-    printf(TO_USER "rounds %llu played, %llu failed, %llu replies right, %llu missed and counted\n", (unsigned long long)totals.rounds,
-           (unsigned long long)totals.failed, (unsigned long long)totals.right, (unsigned long long)totals.missed);
+    printf(TO_USER "rounds %llu played, %llu failed, %llu replies right, %llu missed and counted\n",
+           (unsigned long long)totals.rounds, (unsigned long long)totals.failed, (unsigned long long)totals.right,
+           (unsigned long long)totals.missed);
     return totals.failed != 0;
 }

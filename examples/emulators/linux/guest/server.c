@@ -55,7 +55,8 @@ static void take(int listener)
         perror("serve");
     else if (!asked.takes)
         send_pattern(connection, asked.bytes, false);
-    else if (receive_pattern(connection, asked.bytes, &right, false) != asked.bytes || write(connection, &right, sizeof right) < 0)
+    else if (receive_pattern(connection, asked.bytes, &right, false) != asked.bytes ||
+             write(connection, &right, sizeof right) < 0)
         perror("serve");
     close(connection);
 }

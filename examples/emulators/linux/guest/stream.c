@@ -15,7 +15,8 @@ static void report_progress(uint64_t before, uint64_t after, uint64_t all)
     enum { STEP = 5 * MEGABYTE };
 
     if (before / STEP != after / STEP)
-        fprintf(stderr, TO_USER "progress %llu of %llu MB\n", (unsigned long long)after / MEGABYTE, (unsigned long long)all / MEGABYTE);
+        fprintf(stderr, TO_USER "progress %llu of %llu MB\n", (unsigned long long)after / MEGABYTE,
+                (unsigned long long)all / MEGABYTE);
 }
 
 static size_t fill(uint64_t from, uint64_t left)

@@ -1,5 +1,5 @@
-/* UDP and TCP traffic with each byte compared, and rounds of a sweep. One program for the guest and for the wire's other
- * end.
+/* UDP and TCP traffic with each byte compared, and rounds of a sweep. One program for the guest and for the wire's
+ * other end.
  *
  *   traffic serve                      at the other end: echoes UDP, takes and sends bytes by TCP, sends to groups
  *   traffic udp HOST COUNT             COUNT datagrams of each size, each of which must come back
@@ -75,6 +75,7 @@ int main(int count, char **words)
     if (is(word, "rounds", count, 8))
         return rounds(words[2], words[3], words + 4);
     fputs("usage: traffic serve | udp HOST COUNT | put|get HOST BYTES | groups HOST |"
-          " rounds HOST INTERFACE FIRST LAST STOP APART\n", stderr);
+          " rounds HOST INTERFACE FIRST LAST STOP APART\n",
+          stderr);
     return 2;
 }

@@ -35,7 +35,8 @@ int open_socket(int type, unsigned seconds);
 double now(void);
 void pause_for(unsigned microseconds);
 
-/* Writes and reads bytes of the pattern over TCP. Both return the number of bytes; the second one counts the right ones. */
+/* Writes and reads bytes of the pattern over TCP. Both return the number of bytes; the second one counts the right
+ * ones. */
 uint64_t send_pattern(int socket, uint64_t bytes, bool reports);
 uint64_t receive_pattern(int socket, uint64_t bytes, uint64_t *right, bool reports);
 

@@ -1,8 +1,9 @@
-/* A plugin for QEMU's TCG: reports the memory accesses of the guest's modules, of which the driver is the only one, to the
- * board. After the number of accesses that the board has set, the guest waits until the board has answered, so that the
- * board can play steps between two accesses.
+/* A plugin for QEMU's TCG: reports the memory accesses of the guest's modules, of which the driver is the only one,
+ * to the board. After the number of accesses that the board has set, the guest waits until the board has answered, so
+ * that the board can play steps between two accesses.
  *
- *   -plugin accesses.so,socket=N,log=N,memory=N     descriptors of the board's socket, of the shared log, and of memory
+ *   -plugin accesses.so,socket=N,log=N,memory=N     descriptors of the board's socket, of the shared log, and of
+ * memory
  *
  * Debian 12 has no package with qemu-plugin.h, so the functions that are used here are declared here.
  */
@@ -34,8 +35,8 @@ _Bool qemu_plugin_mem_is_store(qemu_plugin_meminfo_t);
 #define EXPORT __attribute__((visibility("default")))
 EXPORT int qemu_plugin_version = 1;
 
-/* Linux without address randomization: modules, and the map of all memory, in which rings and buffers are. Other accesses,
- * such as those of registers, aren't reported. */
+/* Linux without address randomization: modules, and the map of all memory, in which rings and buffers are. Other
+ * accesses, such as those of registers, aren't reported. */
 #define MODULES 0xFFFFFFFFC0000000ull
 #define DIRECT_MAP 0xFFFF888000000000ull
 
@@ -50,7 +51,7 @@ static void record(uint64_t instruction, uint64_t address, uint32_t size, uint32
 {
     struct access_record *next = &shared->records[shared->written % ACCESS_ROOM];
 
-    *next = (struct access_record) { instruction, address, 0, size, is_store };
+    *next = (struct access_record){ instruction, address, 0, size, is_store };
     if (size <= sizeof next->value && address + size <= memory_size)
         memcpy(&next->value, memory + address, size);
     shared->written++;
@@ -69,7 +70,8 @@ static void accessed(unsigned processor, qemu_plugin_meminfo_t info, uint64_t ad
     (void)processor;
     if (address - DIRECT_MAP >= memory_size || !shared->is_on)
         return;
-    record((uintptr_t)instruction, address - DIRECT_MAP, 1u << qemu_plugin_mem_size_shift(info), qemu_plugin_mem_is_store(info));
+    record((uintptr_t)instruction, address - DIRECT_MAP, 1u << qemu_plugin_mem_size_shift(info),
+           qemu_plugin_mem_is_store(info));
     if (shared->countdown > 0 && --shared->countdown == 0)
         ask_board();
 }
@@ -84,7 +86,8 @@ static void translated(qemu_plugin_id_t id, struct qemu_plugin_tb *block)
         uint64_t address = qemu_plugin_insn_vaddr(instruction);
 
         if (address >= MODULES)
-            qemu_plugin_register_vcpu_mem_cb(instruction, accessed, NO_REGISTERS, LOADS_AND_STORES, (void *)(uintptr_t)address);
+            qemu_plugin_register_vcpu_mem_cb(instruction, accessed, NO_REGISTERS, LOADS_AND_STORES,
+                                             (void *)(uintptr_t)address);
     }
 }
 

@@ -1,5 +1,5 @@
-/* What the board and the guest's test program share in rounds of a sweep: the board's own registers, and the contents of
- * requests and replies, which round and number determine. */
+/* What the board and the guest's test program share in rounds of a sweep: the board's own registers, and the contents
+ * of requests and replies, which round and number determine. */
 #ifndef ROUNDS_H
 #define ROUNDS_H
 
