@@ -6,8 +6,10 @@
  *   --memory BYTES      the size of the guest's memory
  *   --nicbench PROGRAM  the program of the adapter, for a board that is linked with adapter_serve.c
  *   --tap NAME          the wire's other end is a TAP device; otherwise it is the responder
- *   --seed N            steps are drawn in rounds
- *   --out FOLDER        the trace of the first round that fails, and what rounds reached, are written there
+ *   --out FOLDER        steps are drawn in rounds; the trace of the first one that fails, and what rounds reached,
+ * are written there
+ *   --seed N            determines the steps
+ *   --at-once           nothing is drawn
  *   --trace FILE        writes all that happens to this file
  */
 #include <errno.h>
@@ -87,8 +89,8 @@ static void start(const struct options *options)
     wire_start(options->tap ? tap_write : responder_answer);
     if (options->tap)
         tap_start(options->tap);
-    if (options->draws)
-        sweep_start(options->seed, options->folder);
+    if (options->folder)
+        sweep_start(options->seed, options->folder, !options->at_once);
     connection = connected(&files[0]);
     files[1] = shared_file(options->memory);
     plugin = connected(&files[2]);

@@ -5,12 +5,15 @@
 
 #include "report.h"
 
-static const struct option all[] = {
-    { "nicbench", required_argument, NULL, 'n' }, { "memory", required_argument, NULL, 'm' },
-    { "socket", required_argument, NULL, 'q' },   { "tap", required_argument, NULL, 'p' },
-    { "seed", required_argument, NULL, 's' },     { "out", required_argument, NULL, 'o' },
-    { "trace", required_argument, NULL, 't' },    { NULL, 0, NULL, 0 }
-};
+static const struct option all[] = { { "nicbench", required_argument, NULL, 'n' },
+                                     { "memory", required_argument, NULL, 'm' },
+                                     { "socket", required_argument, NULL, 'q' },
+                                     { "tap", required_argument, NULL, 'p' },
+                                     { "seed", required_argument, NULL, 's' },
+                                     { "out", required_argument, NULL, 'o' },
+                                     { "trace", required_argument, NULL, 't' },
+                                     { "at-once", no_argument, NULL, 'a' },
+                                     { NULL, 0, NULL, 0 } };
 
 static uint64_t number_in(const char *word)
 {
@@ -39,7 +42,9 @@ static void read_option(struct options *options, int option, char *word)
         break;
     case 's':
         options->seed = (uint32_t)number_in(word);
-        options->draws = true;
+        break;
+    case 'a':
+        options->at_once = true;
         break;
     case 'o':
         options->folder = word;

@@ -10,7 +10,7 @@ struct options {
     char **qemu;
     uint64_t memory;
     uint32_t seed;
-    bool draws;
+    bool at_once;
 };
 
 /* Reads the words. Ends the program if they are wrong. */

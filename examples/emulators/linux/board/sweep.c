@@ -37,9 +37,9 @@ static struct {
     uint64_t rounds, points[3], drawn, played;
 } counts;
 
-void sweep_start(uint32_t number, const char *path)
+void sweep_start(uint32_t number, const char *path, bool drawn)
 {
-    draws = true;
+    draws = drawn;
     seed = number;
     folder = path;
 }

@@ -7,8 +7,9 @@
 #include <stdbool.h>
 #include <stdint.h>
 
-/* Steps are drawn in rounds from now on. `folder` gets the trace of the first round that fails. */
-void sweep_start(uint32_t seed, const char *folder);
+/* Rounds may be played. If `drawn`, steps are drawn in them; otherwise each step is played at once. `folder` gets the
+ * trace of the first round that fails. */
+void sweep_start(uint32_t seed, const char *folder, bool drawn);
 
 /* Whether steps are drawn in rounds. */
 bool sweep_draws(void);

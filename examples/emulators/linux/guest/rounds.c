@@ -30,6 +30,7 @@ enum style { MANY_REQUESTS, SOME_OF_EACH, MANY_REPLIES, STYLES };
 
 static volatile uint32_t *board;
 static int datagram_socket;
+static uint32_t seed;
 
 /* The round: its number, what it draws, and what came. */
 static struct {
@@ -54,7 +55,7 @@ static void set(uint32_t at, uint32_t value)
 
 static uint32_t draw(uint32_t below)
 {
-    return mixed(current.number * 7919 + 1, current.drawn++) % below;
+    return mixed(current.number * 7919 + seed, current.drawn++) % below;
 }
 
 static bool is_right(const uint8_t *data, uint32_t size, const struct round_header *header)
@@ -300,6 +301,7 @@ int rounds(const char *host, const char *interface, char **numbers)
     bool apart = atoi(numbers[3]);
 
     board = board_registers(interface);
+    seed = reg(BOARD_ROUND);
     open_round_socket(host);
     kernel_log_start();
     printf(TO_USER "begins\n");
