@@ -2,9 +2,10 @@
 
 import os
 import select
-import shutil
 import subprocess
 import tempfile
+
+from needs import NAMESPACE
 
 MEGABYTES = 128
 QUIET = 120  # seconds without a line after which a run is ended
@@ -45,8 +46,7 @@ class Machine:
             tap = ["--tap", "nic0"] if server else []
             command = [*self.board, "--socket", socket, "--memory", str(MEGABYTES << 20), *tap, "--", *self.qemu(words, socket, plugin)]
             if server:
-                own = [] if os.geteuid() == 0 else ["--map-root-user"]
-                command = [shutil.which("unshare"), *own, "--net", "sh", "-c", '"$0" serve & exec "$@"', server, *command]
+                command = [*NAMESPACE, "sh", "-c", '"$0" serve & exec "$@"', server, *command]
             process = subprocess.Popen(command, stdin=subprocess.DEVNULL, stdout=subprocess.PIPE, bufsize=0)
             try:
                 yield from self.read(process, log)

@@ -13,6 +13,8 @@ CACHE = os.path.join(TOP, ".build", "linux")
 PROGRAMS = {"qemu-system-x86_64": "qemu-system-x86", "ethtool": "ethtool", "gcc": "gcc", "ldd": "libc-bin"}
 BUSYBOX, HEADER = "/bin/busybox", "/usr/include/stdio.h"
 TUN = "/dev/net/tun"
+# Runs a command in a network namespace of its own
+NAMESPACE = ["unshare", *([] if os.geteuid() == 0 else ["--map-root-user"]), "--net"]
 # The files of a kernel package that are kept, by the names that they get
 KERNEL = {"vmlinuz": "boot/vmlinuz-", "e1000.ko": "e1000.ko"}
 
@@ -40,8 +42,8 @@ def check_programs():
 
 def check_tap():
     """Whether a TAP device in a network namespace can be made."""
-    if not shutil.which("unshare"):
-        raise Missing("`unshare` is missing: apt-get install util-linux")
+    if subprocess.run([*NAMESPACE, "true"], capture_output=True).returncode != 0:
+        raise Missing(f"`{' '.join(NAMESPACE)}` fails, so the stages tcp and groups can't run: run boot as root")
     if not os.access(TUN, os.R_OK | os.W_OK):
         raise Missing(f"{TUN} can't be opened, so the stages tcp and groups can't run: load the module `tun`")
 
