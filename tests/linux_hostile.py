@@ -2,10 +2,10 @@
 
 usage: board .. -- python3 tests/linux_hostile.py SOCKET SEED MESSAGES
 
-The board starts this script with descriptor 3, the connection of QEMU's x-pci-proxy-dev, and descriptor 4, the guest's memory.
-SOCKET is where QEMU would answer qtest. The script sends drawn accesses, each of which the board must answer within ten
-seconds. Rings and descriptors are in memory, wild, or halfway outside; sizes and addresses of accesses are arbitrary. It
-prints 'N messages were answered'.
+The board starts this script with descriptor 3, the connection of QEMU's x-pci-proxy-dev, and descriptor 4, the guest's
+memory. SOCKET is where QEMU would answer qtest. The script sends drawn accesses, each of which the board must answer
+within ten seconds. Rings and descriptors are in memory, wild, or halfway outside; sizes and addresses of accesses are
+arbitrary. It prints 'N messages were answered'.
 """
 
 import os
@@ -78,7 +78,8 @@ class Guest:
         data = bytearray(self.draw.randbytes(16 * count))
         for at in range(0, len(data), 16):
             if self.draw.randrange(8):
-                struct.pack_into("<QHBBI", data, at, self.draw.randrange(self.size), self.draw.randrange(1600), 0, 0x9, 0)
+                address, size = self.draw.randrange(self.size), self.draw.randrange(1600)
+                struct.pack_into("<QHBBI", data, at, address, size, 0, 0x9, 0)
         return bytes(data)
 
     def offer(self, ring):
@@ -123,13 +124,15 @@ class Guest:
         if kind < 4:
             is_memory = self.draw.randrange(2)
             begin, area = (REGISTERS, 0x20000) if is_memory else (WINDOW, 64)
-            address = self.draw.choice((begin + self.draw.randrange(0, area, 4), begin + self.draw.randrange(area), self.number()))
-            self.ask(BAR_WRITE if kind & 1 else BAR_READ, struct.pack("<QQIB7x", address, self.number(), size, is_memory))
+            place = self.draw.choice((self.draw.randrange(0, area, 4), self.draw.randrange(area), self.number()))
+            data = struct.pack("<QQIB7x", begin + place, self.number(), size, is_memory)
+            self.ask(BAR_WRITE if kind & 1 else BAR_READ, data)
         elif kind == 4:
             self.ask(CONFIGURATION_READ, struct.pack("<IIi", self.number(), 0, self.draw.choice((-1, 0, 1, 2, 4, 9))))
         else:  # not the addresses of the windows
             offset = self.draw.choice((0, 4, 0xC, 0x2C, 0x3D, 0x40, 0xFC, 0xFF, 0x100, 0xFFFFFFFE))
-            self.ask(CONFIGURATION_WRITE, struct.pack("<IIi", offset, self.number(), self.draw.choice((-1, 0, 1, 2, 4, 9))))
+            size = self.draw.choice((-1, 0, 1, 2, 4, 9))
+            self.ask(CONFIGURATION_WRITE, struct.pack("<IIi", offset, self.number(), size))
 
     def act(self):
         kind = self.draw.randrange(12)

@@ -12,6 +12,7 @@ QUIET = 120  # seconds without a line after which a run is ended
 MARK = "> "
 # The guest of a sweep counts time by instructions, so that its run depends only on the seed.
 REPEATABLE = ["-icount", "shift=2,sleep=off", "-rtc", "base=2026-01-01,clock=vm", "-seed", "1"]
+KERNEL_WORDS = "console=ttyS0 panic=-1 quiet loglevel=1 nokaslr iomem=relaxed"
 REPEATABLE_WORDS = "init_on_free=1 tsc=reliable"
 
 
@@ -28,25 +29,29 @@ class Machine:
 
     def qemu(self, words, socket, plugin):
         """The words of QEMU. With a plugin, the run is repeatable."""
-        extra = REPEATABLE + ["-plugin", f"{plugin},socket=5,log=6,memory=4"] if plugin else []
-        kernel_words = f"console=ttyS0 panic=-1 quiet loglevel=1 nokaslr iomem=relaxed {REPEATABLE_WORDS if plugin else ''} {words}"
-        return ["qemu-system-x86_64", "-accel", "tcg", "-cpu", "qemu64", "-machine", "pc,memory-backend=ram", "-m", str(MEGABYTES),
-                "-object", f"memory-backend-file,id=ram,size={MEGABYTES}M,mem-path=/proc/self/fd/4,share=on", "-nodefaults",
-                "-display", "none", "-serial", "file:/dev/stdout", "-no-reboot", "-kernel", self.kernel, "-initrd", self.image,
-                "-append", kernel_words, "-device", "x-pci-proxy-dev,id=nic,fd=3", "-qtest", f"unix:{socket},server=on,wait=off",
-                "-qtest-log", "none", *extra]
+        memory = f"memory-backend-file,id=ram,size={MEGABYTES}M,mem-path=/proc/self/fd/4,share=on"
+        extra = [*REPEATABLE, "-plugin", f"{plugin},socket=5,log=6,memory=4"] if plugin else []
+        append = f"{KERNEL_WORDS} {REPEATABLE_WORDS if plugin else ''} {words}"
+        return [
+            "qemu-system-x86_64", "-accel", "tcg", "-cpu", "qemu64", "-machine", "pc,memory-backend=ram",
+            "-m", str(MEGABYTES), "-object", memory, "-nodefaults", "-display", "none", "-serial", "file:/dev/stdout", "-no-reboot",
+            "-kernel", self.kernel, "-initrd", self.image, "-append", append, "-device", "x-pci-proxy-dev,id=nic,fd=3",
+            "-qtest", f"unix:{socket},server=on,wait=off", "-qtest-log", "none", *extra]
+
+    def command(self, words, socket, plugin, server):
+        """The words of the board, which starts QEMU."""
+        tap = ["--tap", "nic0"] if server else []
+        board = [*self.board, "--socket", socket, "--memory", str(MEGABYTES << 20), *tap]
+        command = [*board, "--", *self.qemu(words, socket, plugin)]
+        return [*NAMESPACE, "sh", "-c", '"$0" serve & exec "$@"', server, *command] if server else command
 
     def lines(self, words, plugin=None, server=None):
-        """Runs the guest with these words of the kernel's command line. Yields the guest's lines that are for the user.
+        """Runs the guest with these words of the kernel's command line. Yields the guest's lines for the user.
 
-        `server` is the program of the wire's other end, which runs in a network namespace of its own with a TAP device.
+        `server` is the program of the wire's other end. It runs in a network namespace of its own with a TAP device.
         """
         with tempfile.TemporaryDirectory() as folder, open(self.log, "w") as log:
-            socket = os.path.join(folder, "qtest")
-            tap = ["--tap", "nic0"] if server else []
-            command = [*self.board, "--socket", socket, "--memory", str(MEGABYTES << 20), *tap, "--", *self.qemu(words, socket, plugin)]
-            if server:
-                command = [*NAMESPACE, "sh", "-c", '"$0" serve & exec "$@"', server, *command]
+            command = self.command(words, os.path.join(folder, "qtest"), plugin, server)
             process = subprocess.Popen(command, stdin=subprocess.DEVNULL, stdout=subprocess.PIPE, bufsize=0)
             try:
                 yield from self.read(process, log)

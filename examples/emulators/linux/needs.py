@@ -1,4 +1,4 @@
-"""What a run needs besides this repository: programs, and a kernel package of Debian that is unpacked into a folder."""
+"""What a run needs besides this repository: programs, and the unpacked kernel package of Debian."""
 
 import glob
 import os
@@ -25,7 +25,8 @@ class Missing(Exception):
 
 def is_static(path):
     """Whether a program needs no library at run time."""
-    return os.path.exists(path) and "not a dynamic" in subprocess.run(["ldd", path], capture_output=True, text=True).stderr
+    listed = subprocess.run(["ldd", path], capture_output=True, text=True) if os.path.exists(path) else None
+    return listed is not None and "not a dynamic" in listed.stderr
 
 
 def missing_packages():
@@ -52,7 +53,7 @@ def kernel_of(cache):
     """The folder with the kernel and its driver."""
     folder = os.path.join(cache, "kernel")
     if not all(os.path.exists(os.path.join(folder, name)) for name in (*KERNEL, "release")):
-        raise Missing("there is no kernel: run `examples/emulators/linux/boot --get-kernel`, which downloads Debian's package")
+        raise Missing("there is no kernel: run `examples/emulators/linux/boot --get-kernel`, which downloads it")
     return folder
 
 

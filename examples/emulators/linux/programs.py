@@ -27,7 +27,8 @@ def is_newer(target, sources):
 
 
 def compile_program(target, sources, *words):
-    if is_newer(target, [*sources, *headers(), *(word for word in words if word.endswith(".a")), os.path.abspath(__file__)]):
+    archives = [word for word in words if word.endswith(".a")]
+    if is_newer(target, [*sources, *headers(), *archives, os.path.abspath(__file__)]):
         return target
     os.makedirs(os.path.dirname(target), exist_ok=True)
     ran = subprocess.run(["gcc", *FLAGS, "-o", f"{target}.new", *sources, *words], capture_output=True, text=True)
@@ -38,7 +39,7 @@ def compile_program(target, sources, *words):
 
 
 def board(cache, library, *flags):
-    """The board with the adapter of a library (the folder that `tools/library` wrote), or of `nicbench serve` (None)."""
+    """The board with the adapter of a library (what `tools/library` wrote), or of `nicbench serve` (None)."""
     wanted, other = ("adapter_library.c", "adapter_serve.c") if library else ("adapter_serve.c", "adapter_library.c")
     sources = [source for source in sources_in("board") if os.path.basename(source) != other]
     words = ["-I", os.path.join(library, "include"), os.path.join(library, "lib", LIBRARY)] if library else []

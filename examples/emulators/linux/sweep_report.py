@@ -27,11 +27,12 @@ def first_line(text):
 
 
 def steps_of_reply(rows, number):
-    """The rows that moved a reply: its arrival, and the steps that wrote it to memory and wrote its descriptor back."""
-    arrival = next((at for at, row in enumerate(rows) if row.name == f"reply {number}" and row.answer.startswith("stored")), None)
+    """The rows that moved a reply: its arrival, and the steps that wrote the frame and its descriptor to memory."""
+    stored = [at for at, row in enumerate(rows) if row.line == "# arrive" and row.answer.startswith("stored")]
+    arrival = next((at for at in stored if rows[at].name == f"reply {number}"), None)
     if arrival is None:
         return []
-    before = sum(row.line == "# arrive" and row.answer.startswith("stored") for row in rows[:arrival])
+    before = stored.index(arrival)
     moved = [at for at, row in enumerate(rows) if row.line == "# step rxdata -> moved"][before:before + 1]
     done = [at for at, row in enumerate(rows) if row.line.startswith("# step rxdone") and moved and at > moved[0]][:1]
     return [arrival, *moved, *done]
@@ -88,8 +89,8 @@ class Report:
         for name, text in (("schedule.txt", trace.schedule([self.fault])), ("chart.txt", chart)):
             with open(self.path(name), "w") as file:
                 file.write(text)
-        tell(f"{len(trace.deviations)} steps and arrivals were drawn; their schedule is schedule.txt" if self.words.keeps else
-             f"{len(trace.deviations)} steps and arrivals were drawn; --out FOLDER stores their schedule")
+        stored = "their schedule is schedule.txt" if self.words.keeps else "--out FOLDER stores their schedule"
+        tell(f"{len(trace.deviations)} steps and arrivals were drawn; {stored}")
         tell(f"\n{chart}")
 
     def site_name(self, site):
@@ -104,7 +105,7 @@ class Report:
     def show_reached(self):
         """Prints between which accesses steps were played, by functions of the driver."""
         with open(self.path("reached")) as file:
-            pairs = [[int(one, 16), int(other, 16), int(made), int(with_step)] for one, other, made, with_step in map(str.split, file)]
+            pairs = [[int(word, base) for word, base in zip(line.split(), (16, 16, 10, 10))] for line in file]
         seen, cut_in = Counter(), Counter()
         for one, _, _, with_step in pairs:
             seen[self.function_of(one)] += 1
@@ -112,8 +113,8 @@ class Report:
         with open(self.path("reached.txt"), "w") as file:
             file.writelines(f"{made:8} {with_step:8}  {self.site_name(one)} -> {self.site_name(other)}\n"
                             for one, other, made, with_step in sorted(pairs))
-        tell(f"steps fell between {sum(pair[3] > 0 for pair in pairs)} of {len(pairs)} pairs of accesses that the driver made one after"
-             " the other:")
+        reached = sum(pair[3] > 0 for pair in pairs)
+        tell(f"steps fell between {reached} of {len(pairs)} pairs of accesses that follow each other in the driver:")
         shown = [f"{name} {cut_in[name]}/{seen[name]}" for name in sorted(seen, key=lambda name: (-seen[name], name))]
         tell(f"  after {', '.join(shown[:12])}{', ..' if len(shown) > 12 else ''}")
 
