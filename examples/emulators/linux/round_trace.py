@@ -125,8 +125,9 @@ class Trace:
         self.rows.append(Row("# arrive", name=f"reply {number}", answer=f"{fate} {size}", drawn=bool(mark)))
         self.waiting += ["arrive"] if mark else []
 
-    def line_sent(self, number, size, _):
-        self.rows.append(Row("frame", name=f"request {number}", answer=size))
+    def line_sent(self, number, size, _, wrong=""):
+        name = f"{wrong or 'a'} frame" if wrong or number == "0" else f"request {number}"
+        self.rows.append(Row("frame", name=name, answer=size))
 
     def schedule(self, comments):
         """The drawn steps in the form of a schedule. Steps after the last access of the driver aren't in it."""

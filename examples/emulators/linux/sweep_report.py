@@ -38,10 +38,20 @@ def steps_of_reply(rows, number):
     return [arrival, *moved, *done]
 
 
+def steps_of_wrong(rows):
+    """The rows that moved the first wrong frame to the wire."""
+    sent = [at for at, row in enumerate(rows) if row.line == "frame"]
+    wrong = next((number for number, at in enumerate(sent) if rows[at].name == "wrong frame"), None)
+    if wrong is None:
+        return []
+    steps = [[at for at, row in enumerate(rows) if row.line == f"# step {step}"] for step in ("txtake -> took", "txput -> put")]
+    return [sent[wrong], *(found[wrong] for found in steps)]
+
+
 def stars_of(trace):
-    """The rows that a chart is about: those of the reply that was lost, or the last steps that were drawn."""
+    """The rows that a chart is about: those of a wrong frame or of the lost reply, or the last steps that were drawn."""
     drawn = [at for at, row in enumerate(trace.rows) if row.drawn]
-    return set(steps_of_reply(trace.rows, trace.lost) or drawn[-LAST:])
+    return set(steps_of_wrong(trace.rows) or steps_of_reply(trace.rows, trace.lost) or drawn[-LAST:])
 
 
 def chart_of(trace):

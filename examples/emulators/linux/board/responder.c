@@ -38,6 +38,7 @@ enum {
 enum {
     TYPE_IP = 0x0800,
     TYPE_ARP = 0x0806,
+    TYPE_IPV6 = 0x86DD,
     ICMP = 1,
     UDP = 17,
     REQUEST = 1,
@@ -138,38 +139,35 @@ static void send_reply(const uint8_t *request, const struct round_header *asked,
     wire_receive(frame, size, number + 1);
 }
 
-static void answer_round(const uint8_t *frame, uint32_t size)
+static bool answer_round(const uint8_t *frame, uint32_t size)
 {
     struct round_header header;
 
-    if (size < DATA + sizeof header) {
-        wire_counts.wrong++;
-        return;
-    }
+    if (size < DATA + sizeof header)
+        return false;
     memcpy(&header, frame + DATA, sizeof header);
-    if (!is_right(frame, size, &header)) {
-        wire_counts.wrong++;
-        return;
-    }
-    for (uint32_t number = 0; number < header.replies && number < 1024; number++)
+    if (!is_right(frame, size, &header))
+        return false;
+    for (uint32_t number = 0; number < header.replies && number < MOST_REPLIES; number++)
         send_reply(frame, &header, header.first + number);
+    return true;
 }
 
-static void answer_udp(uint8_t *frame, uint32_t size)
+static bool answer_udp(uint8_t *frame, uint32_t size)
 {
     swap(frame + UDP_SOURCE, frame + UDP_DESTINATION, 2);
     if (get16(frame + UDP_SOURCE) == ROUND_PORT)
-        answer_round(frame, size);
-    else
-        wire_receive(frame, size, 0);
+        return answer_round(frame, size);
+    wire_receive(frame, size, 0);
+    return true;
 }
 
-static void answer_ip(uint8_t *frame, uint32_t size)
+static bool answer_ip(uint8_t *frame, uint32_t size)
 {
     uint32_t end = IP + get16(frame + IP_LENGTH);
 
     if (frame[IP] != 0x45 || memcmp(frame + IP_DESTINATION, own_ip, 4) != 0 || end > size || end < IP_END)
-        return;
+        return true; /* for another host, or with options */
     memcpy(frame + DESTINATION, frame + SOURCE, 6);
     memcpy(frame + SOURCE, own_address, 6);
     swap(frame + IP_SOURCE, frame + IP_DESTINATION, 4);
@@ -178,18 +176,20 @@ static void answer_ip(uint8_t *frame, uint32_t size)
     else if (frame[IP_PROTOCOL] == ICMP && end >= DATA)
         answer_echo(frame, end);
     else if (frame[IP_PROTOCOL] == UDP && end >= DATA)
-        answer_udp(frame, end);
+        return answer_udp(frame, end);
+    return true;
 }
 
-void responder_answer(const uint8_t *sent, uint32_t size)
+bool responder_answer(const uint8_t *sent, uint32_t size)
 {
     uint8_t frame[FRAME_BYTES];
 
     if (size < ARP_END || size > sizeof frame)
-        return;
+        return false;
     memcpy(frame, sent, size);
+    if (get16(frame + TYPE) == TYPE_IP)
+        return answer_ip(frame, size);
     if (get16(frame + TYPE) == TYPE_ARP)
         answer_arp(frame);
-    if (get16(frame + TYPE) == TYPE_IP)
-        answer_ip(frame, size);
+    return get16(frame + TYPE) == TYPE_ARP || get16(frame + TYPE) == TYPE_IPV6;
 }

@@ -2,8 +2,11 @@
 #ifndef RESPONDER_H
 #define RESPONDER_H
 
+#include <stdbool.h>
 #include <stdint.h>
 
-void responder_answer(const uint8_t *frame, uint32_t size);
+/* Answers a frame. Returns false if it has a type that the guest doesn't use, or is a request of a round whose
+ * checksums or bytes are wrong. */
+bool responder_answer(const uint8_t *frame, uint32_t size);
 
 #endif

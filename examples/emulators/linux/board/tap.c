@@ -67,8 +67,9 @@ bool tap_read(void)
     return true;
 }
 
-void tap_write(const uint8_t *frame, uint32_t size)
+bool tap_write(const uint8_t *frame, uint32_t size)
 {
     if (write(descriptor, frame, size) < 0 && errno != EIO)
         report("a frame for the TAP device: %s", strerror(errno));
+    return true;
 }

@@ -14,7 +14,7 @@ int tap_descriptor(void);
 /* Reads one frame of the host. Returns false if there is none. */
 bool tap_read(void);
 
-/* Passes a frame to the host. */
-void tap_write(const uint8_t *frame, uint32_t size);
+/* Passes a frame to the host. Returns true. */
+bool tap_write(const uint8_t *frame, uint32_t size);
 
 #endif

@@ -67,7 +67,8 @@ static void print_event(FILE *file, const struct event *event)
         fprintf(file, " %08" PRIx64 "%s\n", word[3], mark);
         break;
     case SENT:
-        fprintf(file, "sent %" PRIu64 " %" PRIu64 " %08" PRIx64 "\n", word[0], word[1], word[2]);
+        fprintf(file, "sent %" PRIu64 " %" PRIu64 " %08" PRIx64 "%s\n", word[0], word[1], word[2],
+                word[3] ? "" : " wrong");
         break;
     case LINE:
         fprintf(file, "line %" PRIu64 "\n", word[0]);
@@ -171,9 +172,9 @@ static uint32_t request_in(const uint8_t *frame, uint32_t size)
     return header.number - FIRST_REQUEST + 1;
 }
 
-void trace_sent(const uint8_t *frame, uint32_t size)
+void trace_sent(const uint8_t *frame, uint32_t size, bool is_right)
 {
-    record(SENT, request_in(frame, size), size, frame_check(frame, size), 0);
+    record(SENT, request_in(frame, size), size, frame_check(frame, size), is_right);
 }
 
 void trace_line(bool level)

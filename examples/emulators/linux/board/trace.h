@@ -27,7 +27,7 @@ void trace_memory(const struct access_record *record);
 void trace_poke(void);
 void trace_step(enum kind kind, enum outcome outcome, uint32_t slot);
 void trace_arrival(enum fate fate, uint32_t number, const uint8_t *frame, uint32_t size);
-void trace_sent(const uint8_t *frame, uint32_t size);
+void trace_sent(const uint8_t *frame, uint32_t size, bool is_right);
 void trace_line(bool level);
 void trace_verdict(uint32_t verdict, uint32_t lost);
 

@@ -75,8 +75,10 @@ void wire_send(void)
     uint32_t size;
 
     while ((size = adapter_take_sent(frame)) > 0) {
-        trace_sent(frame, size);
+        bool is_right = other_end(frame, size);
+
+        trace_sent(frame, size, is_right);
         wire_counts.sent++;
-        other_end(frame, size);
+        wire_counts.wrong += !is_right;
     }
 }

@@ -11,8 +11,8 @@ struct wire_counts {
 
 extern struct wire_counts wire_counts;
 
-/* What is done with each frame that the adapter sends. */
-typedef void wire_end(const uint8_t *frame, uint32_t size);
+/* What is done with each frame that the adapter sends. Returns whether it may be a frame of the guest. */
+typedef bool wire_end(const uint8_t *frame, uint32_t size);
 void wire_start(wire_end *end);
 
 /* A frame comes from the other end, without FCS. It waits until it arrives at the adapter. `number` is shown in

@@ -10,7 +10,6 @@
 #include "traffic.h"
 
 enum {
-    MOST_REPLIES = 1024,
     SOURCE_PORT = 4000,
     ROOM = 4 << 20, /* of the socket */
     SECONDS = 1,

@@ -33,6 +33,7 @@ enum verdict {
 enum {
     ROUND_PORT = 9,         /* of UDP, at the wire's other end */
     FIRST_REQUEST = 100000, /* the number of a round's first request; replies have numbers from 0 on */
+    MOST_REPLIES = 1024,    /* of a round */
     LEAST_DATA = 16,        /* the header */
     MOST_DATA = 1472        /* of a UDP datagram in one frame */
 };
