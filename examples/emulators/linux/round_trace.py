@@ -50,7 +50,7 @@ class Trace:
         self.begun = {}  # the registers of the rings when the round began
         self.waiting = []  # deviations whose access isn't known yet
         self.place = Place(0, 0)
-        self.settings, self.verdict, self.lost = "", 0, None
+        self.settings, self.lost = "", []  # the replies that didn't come
         rings = iter("RT")
         for line in lines:
             word, *rest = line.split()
@@ -69,8 +69,11 @@ class Trace:
     def line_round(self, number, *settings):
         self.place, self.settings = Place(int(number), 0), " ".join(settings)
 
-    def line_verdict(self, verdict, lost):
-        self.verdict, self.lost = int(verdict), int(lost) + 1
+    def line_lost(self, number):
+        self.lost.append(f"reply {number}")
+
+    def line_verdict(self, verdict):
+        pass
 
     def line_poke(self):
         pass
@@ -105,9 +108,7 @@ class Trace:
         name = self.shadow.memory(access)
         data = int(value, 16).to_bytes(8, "little")[:access.size].hex()
         line = f"# read 0x{address} {size}" if kind == "read" else f"# write 0x{address} {size} 0x{data}"
-        in_ring = "[" in name
-        self.add_access(line, f"{kind} {name if in_ring else function}", f"0x{data}" if kind == "read" else None,
-                        function if in_ring else "")
+        self.add_access(line, f"{kind} {name}", f"0x{data}" if kind == "read" else None, function)
 
     def line_load(self, *words):
         self.memory("read", *words)
@@ -151,19 +152,11 @@ def chart_row(row, shadow):
     return of_step(row, head)
 
 
-def is_private(row):
-    """Whether a row is an access of memory that the adapter doesn't use."""
-    return row.place is not None and row.name.partition(" ")[2].startswith(("e1000", "0x"))
-
-
 def chart_rows(trace, stars):
-    """The rows of a trace as rows of a chart, with stars at the rows with these numbers. Accesses of the driver's own
-    memory are left out."""
+    """The rows of a trace as rows of a chart, with stars at the rows with these numbers."""
     rows, is_up, shadow = [], False, Shadow()
     shadow.registers |= trace.begun
     for at, row in enumerate(trace.rows):
-        if is_private(row):
-            continue
         shown = chart_row(row, shadow)
         if row.line.startswith("IRQ"):
             is_up = "raise" in row.line

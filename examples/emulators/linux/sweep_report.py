@@ -26,16 +26,23 @@ def first_line(text):
     return text.split("\\x0a")[0]
 
 
-def steps_of_reply(rows, number):
-    """The rows that moved a reply: its arrival, and the steps that wrote the frame and its descriptor to memory."""
+def around(places, at):
+    """The last of some places before `at`, and the first one after it."""
+    return [*[place for place in places if place < at][-1:], *[place for place in places if place > at][:1]]
+
+
+def steps_of_lost(rows, lost):
+    """The rows that moved the first lost reply that was stored: its arrival, the steps that wrote it to memory, and the
+    stores of its buffer's address before and after."""
     stored = [at for at, row in enumerate(rows) if row.line == "# arrive" and row.answer.startswith("stored")]
-    arrival = next((at for at in stored if rows[at].name == f"reply {number}"), None)
-    if arrival is None:
+    arrival = next((at for at in stored if rows[at].name in lost), None)
+    moved = [at for at, row in enumerate(rows) if row.line == "# step rxdata -> moved"]
+    if arrival is None or stored.index(arrival) >= len(moved):
         return []
-    before = stored.index(arrival)
-    moved = [at for at, row in enumerate(rows) if row.line == "# step rxdata -> moved"][before:before + 1]
-    done = [at for at, row in enumerate(rows) if row.line.startswith("# step rxdone") and moved and at > moved[0]][:1]
-    return [arrival, *moved, *done]
+    moved = moved[stored.index(arrival)]
+    done = [at for at, row in enumerate(rows) if row.line.startswith("# step rxdone") and at > moved][:1]
+    stores = [at for at, row in enumerate(rows) if row.name == f"write {rows[moved].name}"]
+    return [arrival, moved, *done, *around(stores, moved)]
 
 
 def steps_of_wrong(rows):
@@ -51,7 +58,7 @@ def steps_of_wrong(rows):
 def stars_of(trace):
     """The rows that a chart is about: those of a wrong frame or of the lost reply, or the last steps that were drawn."""
     drawn = [at for at, row in enumerate(trace.rows) if row.drawn]
-    return set(steps_of_wrong(trace.rows) or steps_of_reply(trace.rows, trace.lost) or drawn[-LAST:])
+    return set(steps_of_wrong(trace.rows) or steps_of_lost(trace.rows, trace.lost) or drawn[-LAST:])
 
 
 def chart_of(trace):

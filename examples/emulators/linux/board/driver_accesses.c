@@ -8,6 +8,7 @@
 #include "../shared/accesses.h"
 #include "reached.h"
 #include "report.h"
+#include "rings.h"
 #include "trace.h"
 
 static struct access_log *shared;
@@ -26,8 +27,16 @@ int accesses_start(void)
     return file;
 }
 
+static void watch(int number, const struct ring *ring)
+{
+    shared->rings[number].begin = ring->base;
+    shared->rings[number].size = ring->bytes;
+}
+
 void accesses_begin(void)
 {
+    watch(0, &receive_ring);
+    watch(1, &transmit_ring);
     collected = shared->written;
     count = 0;
     shared->is_on = 1;

@@ -18,12 +18,12 @@
 enum { SETTLE_ROUNDS = 4096, SETTINGS_TEXT = 120 };
 
 static bool draws, in_round, has_failed;
-static uint32_t seed, round_number, lost;
+static uint32_t seed;
 static uint64_t generator;
 static const char *folder;
 
 /* What a round draws first: how often each action is played, the most at a point, at one point in how many, and the
- * most accesses of memory from one point to the next. */
+ * most accesses of rings from one point to the next. */
 static struct {
     uint32_t weights[ACTIONS], sum, most, often, gap;
 } settings;
@@ -61,7 +61,7 @@ static uint32_t draw(uint32_t below)
 
 static void draw_settings(void)
 {
-    static const uint8_t weights[] = { 0, 1, 1, 2, 4, 8 }, most[] = { 1, 2, 4, 12, 120 }, gaps[] = { 3, 10, 30, 100 };
+    static const uint8_t weights[] = { 0, 1, 1, 2, 4, 8 }, most[] = { 1, 2, 4, 12, 120 }, gaps[] = { 1, 2, 5, 20 };
 
     settings.sum = 0;
     for (int action = 0; action < ACTIONS; action++)
@@ -83,9 +83,7 @@ static void begin_round(uint32_t number)
     const uint32_t *weight = settings.weights;
     char text[SETTINGS_TEXT];
 
-    round_number = number;
     in_round = true;
-    lost = UINT32_MAX;
     begun.missed = dma_counts.fates[MISSED];
     begun.rejected = rejected();
     begun.wrong = wire_counts.wrong;
@@ -105,7 +103,8 @@ static void begin_round(uint32_t number)
 static void end_round(void)
 {
     in_round = false;
-    accesses_end();
+    accesses_collect();
+    accesses_ask_after(0);
     trace_drawn(false);
     steps_settle(SETTLE_ROUNDS);
 }
@@ -136,11 +135,11 @@ void sweep_point(enum point point)
 {
     if (!draws)
         return;
+    accesses_collect();
     if (!in_round) {
         steps_settle(SETTLE_ROUNDS);
         return;
     }
-    accesses_collect();
     counts.points[point]++;
     if (point == AT_MEMORY || draw(settings.often) == 0)
         play_drawn();
@@ -186,7 +185,8 @@ static void judge(uint32_t verdict)
 {
     char path[PATH_MAX];
 
-    trace_verdict(verdict, lost);
+    accesses_end();
+    trace_verdict(verdict);
     if (verdict == 0 || has_failed || folder == NULL)
         return;
     has_failed = true;
@@ -204,7 +204,7 @@ void sweep_write(uint32_t offset, uint32_t value)
             end_round();
         break;
     case BOARD_LOST:
-        lost = value;
+        trace_lost(value);
         break;
     case BOARD_VERDICT:
         judge(value);
@@ -220,7 +220,7 @@ void sweep_end(void)
     if (!draws || folder == NULL)
         return;
     report("%" PRIu64 " rounds; steps drawn at %" PRIu64 " register accesses, %" PRIu64
-           " memory accesses and %" PRIu64 " calls of the test program; %" PRIu64 " steps drawn, %" PRIu64
+           " accesses of rings and %" PRIu64 " calls of the test program; %" PRIu64 " steps drawn, %" PRIu64
            " did something",
            counts.rounds, counts.points[AT_REGISTER], counts.points[AT_MEMORY], counts.points[AT_POKE], counts.drawn,
            counts.played);

@@ -14,7 +14,7 @@ void sweep_start(uint32_t seed, const char *folder, bool drawn);
 /* Whether steps are drawn in rounds. */
 bool sweep_draws(void);
 
-/* Where the driver is: at an access of a register, after an access of memory, or in a call of the test program. */
+/* Where the driver is: at an access of a register, after an access of a ring, or in a call of the test program. */
 enum point { AT_REGISTER, AT_MEMORY, AT_POKE };
 
 /* Plays steps at a point. */

@@ -14,7 +14,7 @@ enum { WORDS = 4, FLUSH = 1 << 16, TEXT = 120, UDP_PORT = 36, DATA = 42 };
 
 /* What was recorded. The meaning of the words is in `print_event`. */
 struct event {
-    enum event_kind { READ, WRITE, LOAD, STORE, POKE, STEP, ARRIVAL, SENT, LINE, VERDICT, ROUND, RING } kind;
+    enum event_kind { READ, WRITE, LOAD, STORE, POKE, STEP, ARRIVAL, SENT, LINE, LOST, VERDICT, ROUND, RING } kind;
     bool drawn;
     uint64_t words[WORDS];
 };
@@ -74,7 +74,10 @@ static void print_event(FILE *file, const struct event *event)
         fprintf(file, "line %" PRIu64 "\n", word[0]);
         break;
     case VERDICT:
-        fprintf(file, "verdict %" PRIu64 " %" PRIu64 "\n", word[0], word[1]);
+        fprintf(file, "verdict %" PRIu64 "\n", word[0]);
+        break;
+    case LOST:
+        fprintf(file, "lost %" PRIu64 "\n", word[0]);
         break;
     case ROUND:
         fprintf(file, "round %" PRIu64 " %s\n", word[0], settings);
@@ -182,9 +185,14 @@ void trace_line(bool level)
     record(LINE, level, 0, 0, 0);
 }
 
-void trace_verdict(uint32_t verdict, uint32_t lost)
+void trace_lost(uint32_t number)
 {
-    record(VERDICT, verdict, lost, 0, 0);
+    record(LOST, number + 1, 0, 0, 0);
+}
+
+void trace_verdict(uint32_t verdict)
+{
+    record(VERDICT, verdict, 0, 0, 0);
     in_round = false;
 }
 

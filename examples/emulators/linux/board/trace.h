@@ -29,7 +29,10 @@ void trace_step(enum kind kind, enum outcome outcome, uint32_t slot);
 void trace_arrival(enum fate fate, uint32_t number, const uint8_t *frame, uint32_t size);
 void trace_sent(const uint8_t *frame, uint32_t size, bool is_right);
 void trace_line(bool level);
-void trace_verdict(uint32_t verdict, uint32_t lost);
+
+/* The test program's verdict on the round, after the replies that didn't come. */
+void trace_lost(uint32_t number);
+void trace_verdict(uint32_t verdict);
 
 /* Writes the rest to the file of `trace_to`. */
 void trace_end(void);

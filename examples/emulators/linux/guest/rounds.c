@@ -185,13 +185,12 @@ static void receive_replies(void)
     current.late = current.right - before;
 }
 
-static uint32_t first_lost(void)
+/* Tells the board which replies didn't come. */
+static void report_lost(void)
 {
-    uint32_t number = 0;
-
-    while (number < current.replies && current.came[number])
-        number++;
-    return number;
+    for (uint32_t number = 0; number < current.replies; number++)
+        if (!current.came[number])
+            set(BOARD_LOST, number);
 }
 
 static uint32_t verdict(void)
@@ -219,8 +218,6 @@ static void explain(uint32_t found)
             printf("%s; ", texts[bit]);
     printf("%u requests, %u replies, %u right, %u late, %u missed", current.requests, current.replies, current.right,
            current.late, reg(BOARD_MISSED));
-    if (found & VERDICT_LOST)
-        printf("; the first lost reply is %u", first_lost() + 1);
     if (found & VERDICT_KERNEL)
         printf("; the kernel: %s", kernel_log_first());
     printf("\n");
@@ -236,7 +233,8 @@ static uint32_t play(uint32_t number)
     send_requests();
     receive_replies();
     found = verdict();
-    set(BOARD_LOST, first_lost());
+    if (found & VERDICT_LOST)
+        report_lost();
     set(BOARD_VERDICT, found);
     return found;
 }

@@ -1,12 +1,13 @@
-/* A plugin for QEMU's TCG: reports the memory accesses of the guest's modules, of which the driver is the only one,
- * to the board. After the number of accesses that the board has set, the guest waits until the board has answered, so
- * that the board can play steps between two accesses.
+/* A plugin for QEMU's TCG: reports the accesses of the guest's modules, of which the driver is the only one, to the
+ * rings of the adapter. After the number of accesses that the board has set, the guest waits until the board has
+ * answered, so that the board can play steps between two accesses.
  *
  *   -plugin accesses.so,socket=N,log=N,memory=N     descriptors of the board's socket, of the shared log, and of
  * memory
  *
  * Debian 12 has no package with qemu-plugin.h, so the functions that are used here are declared here.
  */
+#include <stdbool.h>
 #include <stdint.h>
 #include <stdio.h>
 #include <stdlib.h>
@@ -35,8 +36,7 @@ _Bool qemu_plugin_mem_is_store(qemu_plugin_meminfo_t);
 #define EXPORT __attribute__((visibility("default")))
 EXPORT int qemu_plugin_version = 1;
 
-/* Linux without address randomization: modules, and the map of all memory, in which rings and buffers are. Other
- * accesses, such as those of registers, aren't reported. */
+/* Linux without address randomization: modules, and the map of all memory, in which the rings are. */
 #define MODULES 0xFFFFFFFFC0000000ull
 #define DIRECT_MAP 0xFFFF888000000000ull
 
@@ -65,10 +65,18 @@ static void ask_board(void)
         shared->countdown = 0; /* the board has ended */
 }
 
+static bool is_in_ring(uint64_t address)
+{
+    for (int ring = 0; ring < ACCESS_RINGS; ring++)
+        if (address - shared->rings[ring].begin < shared->rings[ring].size)
+            return true;
+    return false;
+}
+
 static void accessed(unsigned processor, qemu_plugin_meminfo_t info, uint64_t address, void *instruction)
 {
     (void)processor;
-    if (address - DIRECT_MAP >= memory_size || !shared->is_on)
+    if (!shared->is_on || !is_in_ring(address - DIRECT_MAP))
         return;
     record((uintptr_t)instruction, address - DIRECT_MAP, 1u << qemu_plugin_mem_size_shift(info),
            qemu_plugin_mem_is_store(info));

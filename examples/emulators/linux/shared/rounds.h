@@ -14,7 +14,7 @@ enum {
     BOARD_MISSED = 0x08,  /* read: frames of this round that the adapter missed or rejected */
     BOARD_WRONG = 0x0C,   /* read: requests of this round that were wrong on the wire */
     BOARD_STOPPED = 0x10, /* read: engines that a fault has stopped: bit 0 receive, bit 1 transmit */
-    BOARD_LOST = 0x14,    /* write: the number of the first reply that is missing */
+    BOARD_LOST = 0x14,    /* write: the number of a reply that is missing, before the verdict */
     BOARD_VERDICT = 0x18, /* write: what was wrong in the round, 0 if nothing was */
     BOARD_DRAWS = 0x1C    /* read: 1 if steps are drawn, 0 if each step is played at once */
 };
