@@ -13,6 +13,8 @@ from race_finder.schedule import Deviation, Place, text_of  # noqa: E402
 from race_finder.shadow import Shadow  # noqa: E402
 
 PAGE = 0x1000
+PREFIX = "e1000_"  # of most functions of the driver; charts leave it out
+ALL_BITS = "0xffffffff"
 
 
 class Symbols:
@@ -135,13 +137,21 @@ class Trace:
         return text_of(self.deviations, comments=[*comments, self.settings])
 
 
+def access_row(row):
+    """The row of a chart for an access of the driver, with the function that makes an access of a ring."""
+    shown = of_access(row)
+    function = row.function.partition("+")[0].removeprefix(PREFIX)
+    cells = {**shown.cells, "driver": f"{function} {shown.cells['driver']}".strip()}
+    if row.line.endswith(ALL_BITS):
+        cells["registers"] = " ".join(cells["registers"].split()[:2])  # without the names of all bits
+    return shown._replace(cells=cells)
+
+
 def chart_row(row, shadow):
     """The row of a chart for a row of a trace."""
     head = head_after(shadow, row) if row.line != "# arrive" else None
     if row.place:
-        shown = of_access(row)
-        words = f"{row.function} {shown.cells['driver']}".strip()
-        return shown._replace(cells={**shown.cells, "driver": words})
+        return access_row(row)
     if row.line.startswith("IRQ"):
         return ChartRow({"adapter": "raises the line" if "raise" in row.line else "lowers the line"})
     if row.line == "frame":
