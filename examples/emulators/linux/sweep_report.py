@@ -12,6 +12,7 @@ sys.path.append(os.path.join(TOP, "tools"))
 from race_finder.chart import COLUMNS, ChartRow, cut, layout, line_of  # noqa: E402
 from race_finder.names import REGISTERS  # noqa: E402
 
+FILES = ("failed.trace", "schedule.txt", "chart.txt", "reached", "reached.txt")
 LAST = 8  # drawn steps that are marked if no reply is lost
 WRITE = 1 << 32  # in a site: a register is written (board/reached.h)
 MODULES = 1 << 63
@@ -75,6 +76,9 @@ class Report:
     def __init__(self, words):
         self.words, self.symbols = words, Symbols()
         self.fault = None  # of the first round that failed
+        for name in FILES:
+            if os.path.exists(self.path(name)):
+                os.remove(self.path(name))
         self.begun, self.played = time.monotonic(), None
 
     def line(self, line):
@@ -135,16 +139,15 @@ class Report:
         shown = [f"{name} {cut_in[name]}/{seen[name]}" for name in sorted(seen, key=lambda name: (-seen[name], name))]
         tell(f"  after {', '.join(shown[:12])}{', ..' if len(shown) > 12 else ''}")
 
-    def end(self):
-        """Prints the rest. Returns whether a round failed, or the rounds didn't end."""
+    def end(self, error=None):
+        """Prints the rest. Returns whether all rounds passed. `error` is why the guest has ended too early."""
         if self.played is None:
-            tell("the rounds have not ended")
-            return True
-        if self.words.at_once:
-            return self.fault is not None
-        if self.fault:
+            self.fault = error or "the rounds have not ended"
+            tell(self.fault)
+        if self.fault and os.path.exists(self.path("failed.trace")):
             self.show_failed()
-        self.show_reached()
-        return self.fault is not None
+        if os.path.exists(self.path("reached")):
+            self.show_reached()
+        return self.fault is None
 
 

@@ -17,8 +17,8 @@
 
 enum { SETTLE_ROUNDS = 4096, SETTINGS_TEXT = 120 };
 
-static bool draws, in_round, has_failed;
-static uint32_t seed;
+static bool draws, in_round, is_judged = true, has_failed;
+static uint32_t seed, round_number;
 static uint64_t generator;
 static const char *folder;
 
@@ -83,7 +83,9 @@ static void begin_round(uint32_t number)
     const uint32_t *weight = settings.weights;
     char text[SETTINGS_TEXT];
 
+    round_number = number;
     in_round = true;
+    is_judged = false;
     begun.missed = dma_counts.fates[MISSED];
     begun.rejected = rejected();
     begun.wrong = wire_counts.wrong;
@@ -180,18 +182,26 @@ uint32_t sweep_read(uint32_t offset)
     }
 }
 
-/* The test program has judged a round. */
-static void judge(uint32_t verdict)
+/* Keeps the trace of the first round that fails. */
+static void keep_trace(void)
 {
     char path[PATH_MAX];
 
-    accesses_end();
-    trace_verdict(verdict);
-    if (verdict == 0 || has_failed || folder == NULL)
+    if (has_failed || folder == NULL)
         return;
     has_failed = true;
     snprintf(path, sizeof path, "%s/failed.trace", folder);
     trace_write(path);
+}
+
+/* The test program has judged a round. */
+static void judge(uint32_t verdict)
+{
+    is_judged = true;
+    accesses_end();
+    trace_verdict(verdict);
+    if (verdict != 0)
+        keep_trace();
 }
 
 void sweep_write(uint32_t offset, uint32_t value)
@@ -219,6 +229,10 @@ void sweep_end(void)
 
     if (!draws || folder == NULL)
         return;
+    if (!is_judged) {
+        report("the guest has ended in round %u", round_number);
+        keep_trace();
+    }
     report("%" PRIu64 " rounds; steps drawn at %" PRIu64 " register accesses, %" PRIu64
            " accesses of rings and %" PRIu64 " calls of the test program; %" PRIu64 " steps drawn, %" PRIu64
            " did something",
