@@ -20,7 +20,8 @@ bool steps_play(enum action action)
 {
     bool did = action == ACTION_ARRIVE ? wire_arrive() : play_step((enum kind)action);
 
-    wire_send();
+    if (did && action == ACTION_TXPUT)
+        wire_send();
     return did;
 }
 
