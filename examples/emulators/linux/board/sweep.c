@@ -30,7 +30,7 @@ static struct {
 
 /* The counts when the round began. */
 static struct {
-    uint64_t missed, rejected, wrong;
+    uint64_t missed, excused, wrong;
 } begun;
 
 static struct {
@@ -73,9 +73,10 @@ static void draw_settings(void)
     settings.gap = gaps[draw(sizeof gaps)];
 }
 
-static uint64_t rejected(void)
+/* Frames that may be lost without a miss: the receiver was off, or too many frames waited on the wire. */
+static uint64_t excused(void)
 {
-    return dma_counts.fates[OFF] + dma_counts.fates[ILLEGAL] + dma_counts.fates[FILTERED] + wire_counts.dropped;
+    return dma_counts.fates[OFF] + wire_counts.dropped;
 }
 
 static void begin_round(uint32_t number)
@@ -87,7 +88,7 @@ static void begin_round(uint32_t number)
     in_round = true;
     is_judged = false;
     begun.missed = dma_counts.fates[MISSED];
-    begun.rejected = rejected();
+    begun.excused = excused();
     begun.wrong = wire_counts.wrong;
     counts.rounds++;
     generator = ((uint64_t)seed << 32) + number;
@@ -159,7 +160,7 @@ static uint32_t poke(void)
 
 static uint32_t missed(void)
 {
-    return (uint32_t)(dma_counts.fates[MISSED] - begun.missed + rejected() - begun.rejected);
+    return (uint32_t)(dma_counts.fates[MISSED] - begun.missed + excused() - begun.excused);
 }
 
 uint32_t sweep_read(uint32_t offset)
