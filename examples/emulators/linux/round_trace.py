@@ -6,7 +6,7 @@ from typing import NamedTuple, Optional
 
 from needs import TOP
 
-sys.path.append(os.path.join(TOP, "tools"))
+sys.path.insert(0, os.path.join(TOP, "tools"))
 from race_finder.chart import BAR, STAR, ChartRow, head_after, of_access, of_step  # noqa: E402
 from race_finder.names import DEFAULT_REGISTERS, Access  # noqa: E402
 from race_finder.schedule import Deviation, Place, text_of  # noqa: E402

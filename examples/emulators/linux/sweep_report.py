@@ -8,7 +8,7 @@ from collections import Counter
 from needs import TOP
 from round_trace import Symbols, Trace, chart_rows
 
-sys.path.append(os.path.join(TOP, "tools"))
+sys.path.insert(0, os.path.join(TOP, "tools"))
 from race_finder.chart import COLUMNS, ChartRow, cut, layout, line_of  # noqa: E402
 from race_finder.names import REGISTERS  # noqa: E402
 
