@@ -161,10 +161,6 @@ class Adapter:
         """From now on plays up to `count` steps before each access."""
         self.ask(f"interleave {count}")
 
-    def events(self, on):
-        """Has the server report frames, arrivals of offered frames and faults before answers, or not."""
-        self.ask(f"events {'on' if on else 'off'}")
-
     def log(self, on):
         """Turns the log of steps, accesses and arrivals on or off."""
         self.ask(f"log {'on' if on else 'off'}")

@@ -100,7 +100,6 @@ def run(program, seed, name="right", test=exchange, has_log=True):
     """Runs a driver once. Returns the fault, or None, and the log. An error that the driver raises is the fault."""
     with Adapter(program, "--seed", str(seed)) as adapter:
         try:
-            adapter.events(True)
             adapter.log(has_log)
             adapter.interleave(STEPS)
             driver = driver_of(name, adapter)

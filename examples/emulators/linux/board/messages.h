@@ -1,0 +1,11 @@
+/* The messages of QEMU's x-pci-proxy-dev (QEMU 7.2: include/hw/remote/mpqemu-link.h), which hands the accesses of a
+ * PCI function to another process. */
+#ifndef MESSAGES_H
+#define MESSAGES_H
+
+#include <stdbool.h>
+
+/* Reads a message from the connection, does what it asks for, and answers. Returns false if QEMU has ended. */
+bool messages_answer(int connection);
+
+#endif

@@ -1,0 +1,23 @@
+/* The network interface, and the kernel's log. */
+#ifndef INTERFACE_H
+#define INTERFACE_H
+
+#include <stdint.h>
+
+/* The board's registers, in the memory of the interface's PCI function. Ends the program if there are none. */
+volatile uint32_t *board_registers(const char *interface);
+
+/* Takes the interface down and up, and waits for the link. */
+void restart_interface(const char *interface);
+
+/* Opens the kernel's log, and skips what is in it. */
+void kernel_log_start(void);
+void kernel_log_skip(void);
+
+/* The number of warnings and errors in the kernel's log since the last call. */
+unsigned kernel_log_warnings(void);
+
+/* The first of these that was found since `kernel_log_skip`. */
+const char *kernel_log_first(void);
+
+#endif
