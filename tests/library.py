@@ -195,7 +195,6 @@ def same_answers(library):
     for seed in range(1, SEEDS + 1):
         inside = InProcess(library.shared, MEMORY)
         with Served(library.program, "--memory", str(MEMORY), "--seed", str(seed)) as served:
-            served.ask_for_events()
             differ = next(((request, got, wanted) for request in requests_of(seed)
                            if (got := inside.reply(request, seed)) != (wanted := served.reply(request))), None)
             library.check(f"{REQUESTS} requests of seed {seed}, in process and served", differ, None)
@@ -209,7 +208,6 @@ def steps_by_schedule(library):
         inside, asked = InProcess(library.shared, MEMORY), requests_of(seed)
         frames, answers, wanted, scheduled = [], [], [], 0
         with Served(library.program, "--memory", str(MEMORY)) as served:
-            served.ask_for_events()
             for request, later in zip(asked, [*asked[1:], ""]):
                 answer, put, _ = served.reply(request)
                 frames += put
