@@ -79,9 +79,7 @@ class Adapter:
     def ask_for_events(self):
         """Asks for the lines `frame`, `arrived` and `fault`."""
         self.has_events = True
-        self.requests.write(b"events on\n")
-        self.requests.flush()
-        self.answers.readline()
+        self.ask_at_once(["events on"])
 
     def answer(self, request):
         """Returns the next answer. Lines before it report what happened."""

@@ -99,7 +99,8 @@ is_memory session address count = nat_le (address + count) (length session.devic
 
 -- Some of this many bytes from an address on are those of registers.
 abbrev pub meets_registers : (registers address count : ℕ) → Bool
-meets_registers registers address count = nat_lt address (registers + register_bytes) && nat_lt registers (address + count)
+meets_registers registers address count =
+    nat_lt 0 count && nat_lt address (registers + register_bytes) && nat_lt registers (address + count)
 
 -- the target of an access of this many bytes at an address, all of which are in memory or not, or why there is none; without an
 -- address of the first register, there are no registers

@@ -65,7 +65,8 @@ fn meets_registers(registers: u64, address: u64, count: u64) -> bool
 {
     let address = u128::from(address);
     let registers = u128::from(registers);
-    address < registers + u128::from(REGISTER_BYTES) && registers < address + u128::from(count)
+    let end = address + u128::from(count);
+    count > 0 && address < registers + u128::from(REGISTER_BYTES) && registers < end
 }
 
 /// The register at an address, for an access of `count` bytes: an aligned word of 32 bits.
