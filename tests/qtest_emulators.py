@@ -2,6 +2,7 @@
 
 import json
 import os
+import re
 import shutil
 import socket
 import struct
@@ -63,6 +64,19 @@ def test_on_both(bench, has_qemu):
         1, "", "libqtest_client: the program didn't connect to its socket: qtest\n"))
     if has_qemu:
         bench.check("libqtest: the test on QEMU", runs(bench, test, TCG), (0, PASSED, ""))
+        ended_by_qemu(bench)
+
+
+def ended_by_qemu(bench):
+    """QEMU ends at a device that it doesn't know. The wrapper says why."""
+    with socket.socket(socket.AF_UNIX, socket.SOCK_STREAM) as end:
+        end.bind(bench.path("tcg"))
+        end.listen()
+        words = ["-qtest", f"unix:{bench.path('tcg')}", "-display", "none", "-audio", "none", "-device", "nothing"]
+        ran = subprocess.run([TCG, *words], capture_output=True, text=True, timeout=LIMIT)
+    told = re.fullmatch("qemu-system-tcg: QEMU has ended: .*'nothing' is not a valid device model name\n", ran.stderr, re.S)
+    bench.check(f"libqtest: QEMU with a wrong option: {ran.stderr}", (ran.returncode, ran.stdout, told is not None), (
+        1, "", True))
 
 
 class Session:
