@@ -18,11 +18,17 @@ def send(file, value):
 
 def receive(file):
     """The next value, or None at the end."""
-    size = int.from_bytes(os.read(file, SIZE), "little")
+    size = read(file, SIZE)
+    data = size and read(file, int.from_bytes(size, "little"))
+    return marshal.loads(data) if data else None
+
+
+def read(file, size):
+    """This number of bytes, or None if the end comes before."""
     data = b""
     while len(data) < size:
         more = os.read(file, size - len(data))
         if not more:
             return None
         data += more
-    return marshal.loads(data) if size else None
+    return data

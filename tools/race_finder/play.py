@@ -298,6 +298,7 @@ class Play:
         return self.answers.digest()
 
     def take_all(self, data, is_last):
+        """Takes the requests in the complete lines so far."""
         *lines, self.rest = (self.rest + data).split(b"\n")
         if is_last and self.rest:
             lines.append(self.rest)

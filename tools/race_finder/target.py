@@ -62,7 +62,7 @@ class Target:
         """Before many schedules are played, by the run without deviations."""
         if self.forks:
             self.forks.prepare(run)
-            if run.script and not run.fault and not self.recall:
+            if self.forks.is_usable and run.script and not run.fault and not self.recall:
                 self.recall = Recall(self.forks.settings, self.jobs, self.seconds)
                 self.recall.learn(run.script)
 
@@ -104,8 +104,9 @@ class Target:
 
     def recalls(self, schedule, draw, is_strict, has_rows):
         """Whether a run may be played without the test, by what earlier runs have shown."""
-        is_usable = self.recall and self.recall.is_usable and not (draw or is_strict or has_rows)
-        return is_usable and all(one.place and one.place.round for one in schedule) and len(schedule) > 0
+        if not (schedule and self.recall and self.recall.is_usable and self.forks.is_usable):
+            return False
+        return not (draw or is_strict or has_rows) and all(one.place and one.place.round for one in schedule)
 
     def play_forked(self, schedule, draw, is_strict, has_places, has_rows):
         """A forked run, or None. If it fails, the same is played again and recorded."""
