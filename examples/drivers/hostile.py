@@ -36,6 +36,7 @@ class CheckedAdapter(Adapter):
 
     def __init__(self, program, size, limit):
         super().__init__(program, "--memory", str(size))
+        self.has_events = True  # the requests themselves begin with `events on`
         self.limit = limit
         self.awaited = None  # the request whose answer is read next
         self.checks = iter([])
