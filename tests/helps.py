@@ -249,23 +249,31 @@ cause (ICS), and reads the causes (ICR):
   IRQ lower 0
   OK 0x0000000000000080
 
-The requests. QEMU's qtest protocol has the first six lines of this list, too:
+The requests. QEMU's qtest protocol has the first ten lines of this list, too:
 
   readl ADDR              reads 32 bits; also readb (8), readw (16) and readq (64)
   writel ADDR VALUE       writes 32 bits; also writeb, writew and writeq
-  read ADDR SIZE          reads SIZE bytes, at most 65536
-  write ADDR SIZE 0xHEX   writes SIZE bytes
+  read ADDR SIZE          reads SIZE bytes, at most 65536; b64read ADDR SIZE answers in base64
+  write ADDR SIZE 0xHEX   writes SIZE bytes; also b64write ADDR SIZE BASE64
   memset ADDR SIZE VALUE  writes SIZE bytes, all of them VALUE
+  inl PORT                reads an I/O port, for PCI configuration; also inb and inw
+  outl PORT VALUE         writes an I/O port; also outb and outw
   endianness              little
+  clock_step [NS]         settles, and the clock advances by NS nanoseconds; also clock_set NS
+  irq_intercept_in PATH   nothing: IRQ lines always come; also irq_intercept_out PATH
   step KIND               a step of the adapter: txtake, txput, rxdata, rxdone, eeprom or phy
   arrive HEX              a frame arrives from the wire
   settle                  all offered frames arrive; then steps in rounds, until a round does nothing
   line                    1 if the interrupt line is asserted, else 0
   interleave COUNT        from now on, plays up to COUNT random steps before each access; COUNT is at
                           most 65535, and 0 turns this off
+  pace COUNT              from now on, plays up to COUNT rounds of steps after each access and arrival
   wire full, wire free    wire full makes the wire full: the step txput puts no frame, and its outcome is
                           wirefull; wire free makes room again, as there is at the start
   log on, log off         log on prints each step, access and arrival from now on; log off stops this
+  events on, events off   events on prints frames on the wire, faults, and arrivals of offered frames, before
+                          the answers; events off, as at the start, stops this
+  frames, faults          the frames and the faults that came while events were off
   offer HEX               a frame waits: it arrives at the next settle, or before that as a random step
   save, restore           save keeps a copy of the state of the adapter, of memory and of these settings;
                           restore brings the last copy back
@@ -273,9 +281,10 @@ The requests. QEMU's qtest protocol has the first six lines of this list, too:
 Numbers are decimal, or hexadecimal after 0x. A register is read and written as four bytes, by readl,
 writel, read, write or memset. The adapter takes no step by itself: each step is a request, or random,
 and the same seed gives the same steps. Lines between a request and its answer say what happened: 'IRQ
-raise 0', 'IRQ lower 0', 'frame HEX' for a frame put on the wire, 'arrived FATE HEX' for an offered frame,
-and '# ...' while the log is on. If the answer isn't OK, the request changed nothing. Such an answer is
-'FAIL unknown', or 'ERR' and one reason: count, value, size, address, text, long or saved.
+raise 0' and 'IRQ lower 0'; after events on, 'frame HEX' for a frame put on the wire, 'arrived FATE HEX' for
+an offered frame, and 'fault tx INDEX REASON' or 'fault rx INDEX REASON' for a fault of an engine; and '# ...'
+while the log is on. If the answer isn't OK, the request changed nothing. Such an answer is 'FAIL unknown', or
+'ERR' and one reason: count, value, size, address, register, text, long or saved.
 
 At the end of its input the server ends with exit status 0. If it fails, it prints 'nicbench: CODE NAME' on
 standard error:
