@@ -31,13 +31,14 @@ from race_finder.recall import main
 main(int(sys.argv[2]))
 """
 FAR = 16  # requests up to the next schedule that are worth that the state is saved again
-MOST = 100_000  # answers for which the requests are kept
+MOST = 400_000  # answers for which the requests are kept, by all players: each takes about 1 kB
 
 
 class Requests:
     """The requests that a test makes after which answers, by the scripts of its runs (`Play.script`)."""
 
-    def __init__(self):
+    def __init__(self, most=MOST):
+        self.most = most
         # By a state, and what the test is told there: the next state, the next requests, and whether the test ends then
         self.known = {}
         self.is_certain = True  # whether the same answers always lead to the same requests
@@ -46,7 +47,7 @@ class Requests:
         state, told = 0, b""
         for at, (requests, answers, _) in enumerate(script, 1):
             found = self.known.get((state, told))
-            if found is None and len(self.known) < MOST:
+            if found is None and len(self.known) < self.most:
                 found = self.known[state, told] = len(self.known) + 1, requests, at == len(script)
             if found is None or found[1:] != (requests, at == len(script)):
                 self.is_certain &= found is None
@@ -57,9 +58,9 @@ class Requests:
 class Player:
     """Plays schedules whose deviations have places, from round 1 on, with a server of its own."""
 
-    def __init__(self, program, options, *addresses):
+    def __init__(self, most, program, options, *addresses):
         self.program, self.options, self.addresses = program, options, addresses
-        self.requests = Requests()
+        self.requests = Requests(most)
         self.base = None  # the script of the run without deviations
         self.server = self.run = None  # the server, and the run without deviations up to where its state is saved
 
@@ -127,7 +128,7 @@ class Recall:
         self.processes, self.scripts = [], {}  # by players, the scripts that they don't know yet
         self.is_usable = True
         for _ in range(count):
-            self.start(settings)
+            self.start((MOST // count, *settings))
 
     def start(self, settings):
         """Starts a player."""
