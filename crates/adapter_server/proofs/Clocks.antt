@@ -13,7 +13,8 @@ use Rattle.adapter_server.proofs.Stopping.{events_of_all, stopped_after}
 
 -- All offered frames arrived, and rounds were played.
 pub settled_all : {E : Type 0} (result : Result ℕ E) (a middle : Session) (device : Device) (before now after : Option (List ℕ))
-    → Tells before now (AllArrive a middle) → TellsEvents result now after middle.device (λ moved. Settles most_rounds moved middle.device device)
+    → Tells before now (AllArrive a middle)
+    → TellsEvents result now after middle.device (λ moved. Settles most_rounds moved middle.device device)
     → TellsEvents result before after a.device (λ moved. SettlesAll moved a (record middle { device = device }))
 settled_all (Ok moved) a middle device before now after arrive settles =
     joined (λ (s : Session). AllArrive a s) (λ s. OnDevice (Settles most_rounds moved) s (record middle { device = device })) middle

@@ -1,6 +1,7 @@
 -- Which bytes are in memory, and that they stay there.
 use Rattle.std.proofs.Common.{◌≡◌, ◌∙◌, ◌+◌, ◌≤◌}
-use Rattle.std.proofs.Common.{ℕ, Bool, List, [], ◌∷◌, ◌-◌, Option, Some, None, Ok, Err, true, false, ap, arith, if◌then◌else◌, length, nat_le}
+use Rattle.std.proofs.Common.{ℕ, Bool, List, [], ◌∷◌, ◌-◌, Option, Some, None, Ok, Err, true, false, ap, arith, if◌then◌else◌}
+use Rattle.std.proofs.Common.{length, nat_le}
 use Rattle.std.proofs.Common.{refl}
 use Rattle.std.proofs.lemmas.Bool.Decides.{nat_tests}
 use Rattle.pci_function.specs.ConfigSpace.{registers_of}
@@ -47,7 +48,8 @@ in_memory None false address count place = absurd (cc)
 four_bytes : (registers : Option ℕ) (memory : Bool) (address count offset : ℕ)
     → place_with registers memory address count ≡ Ok (Register offset) → count ≡ 4
 four_bytes (Some registers) memory address count offset place =
-    let is = is_at (is_register registers address count) memory (meets_registers registers address count) (address - registers) offset place in
+    let is = is_at (is_register registers address count) memory (meets_registers registers address count) (address - registers) offset
+    place in
     grind (arith, nat_tests, is)
 four_bytes None true address count offset place = absurd (cc)
 four_bytes None false address count offset place = absurd (cc)

@@ -45,7 +45,8 @@ shows_both false frames faults = refl
 -- the event of a step, and what is told of it
 abbrev pub step_of : StepKind → Outcome (Unit {0}) → Device → World → Happening
 step_of kind outcome a world =
-    Stepped (event.Steps kind a.wire_free (framed outcome a.machine.world.adapter)) (step_said kind outcome) (faults_told kind outcome world)
+    Stepped (event.Steps kind a.wire_free (framed outcome a.machine.world.adapter)) (step_said kind outcome)
+    (faults_told kind outcome world)
 
 -- the device with what a step keeps, before the level of its interrupt line is reported
 abbrev pub stepped : Device → MachineState → List (List ℕ) → List EngineFault → Device

@@ -1,5 +1,6 @@
 -- The answer to each request, and the state after it (our choice; the words of answers are QEMU's, docs/devel/testing/qtest).
-use Rattle.std.specs.Prelude.{◌≡◌, ◌+◌, ◌^◌, ◌++◌, ◌∷◌, ◌⊎◌, max, nat_lt, ℕ, List, [], Option, Some, None, Result, Ok, Err, codes, if◌then◌else◌, length, IsUtf8}
+use Rattle.std.specs.Prelude.{◌≡◌, ◌+◌, ◌^◌, ◌++◌, ◌∷◌, ◌⊎◌, ℕ, List, [], Option, Some, None, Result, Ok, Err, codes}
+use Rattle.std.specs.Prelude.{if◌then◌else◌, length, max, nat_lt, IsUtf8}
 use Rattle.std.specs.Int.{to_le_bytes, w32}
 use Rattle.bus.specs.Machines.{is_asserted}
 use Rattle.bus.specs.declared.event.Access.{Access}
@@ -16,7 +17,8 @@ use Rattle.adapter_server.specs.Happenings.{Logged}
 use Rattle.adapter_server.specs.Order.{Both, Joins, Tells, TellsPart}
 use Rattle.server_requests.specs.Reading.{request_in}
 use Rattle.adapter_server.specs.Sessions.{AllArrive, Interleaves, OnDevice, Paced, place_in, with_setting, write_to}
-use Rattle.adapter_server.specs.Texts.{Text, decimal_line, fate_word, faults_line, frames_line, line_moved, number_line, ok_line, outcome_word, word_line}
+use Rattle.adapter_server.specs.Texts.{Text, decimal_line, fate_word, faults_line, frames_line, line_moved, number_line, ok_line}
+use Rattle.adapter_server.specs.Texts.{outcome_word, word_line}
 use Rattle.adapter_server.specs.ReadLines.{answer_line}
 use Rattle.server_requests.specs.Refusals.{refusal_line}
 use Rattle.server_requests.specs.Widths.{size_of}
@@ -106,7 +108,8 @@ AnswersArrival frame said a b text =
 
 -- All offered frames arrive, and then rounds are played.
 abbrev pub SettlesAll : (moved : ℕ) → Session → Session → Text → Type 0
-SettlesAll moved a b text = Joins (λ middle first. AllArrive a middle first) (λ middle rest. OnDevice (Settles most_rounds moved) middle b rest) text
+SettlesAll moved a b text =
+    Joins (λ middle first. AllArrive a middle first) (λ middle rest. OnDevice (Settles most_rounds moved) middle b rest) text
 
 -- A settle answers the number of steps that did something.
 abbrev pub AnswersSettle : Session → Session → Text → Type 0

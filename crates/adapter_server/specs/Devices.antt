@@ -39,7 +39,8 @@ keeping frames faults device = record device {
 -- It happens, and is printed: a line of the log, what is printed of it if events are printed, and a change of the interrupt line.
 pub record Prints (happening : Happening) (a b : Device) (text : Text) : Type 0 where
   pub occurs : Occurs (event_of happening) a.machine.world
-  pub after : b ≡ told (keeping (put_by happening) (faults_of happening) (record a { machine = after_event (event_of happening) a.machine }))
+  pub after : b
+      ≡ told (keeping (put_by happening) (faults_of happening) (record a { machine = after_event (event_of happening) a.machine }))
   pub text_is : text ≡ said_log a.log (said_of happening)
       ++ (shown_of a.events happening ++ line_moved a.machine.reported b.machine.reported)
 

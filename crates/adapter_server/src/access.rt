@@ -152,8 +152,8 @@ impl Session {
         }
     }
 
-    /// `writeb`, `writew`, `writel`, `writeq`, `write`, `b64write`, `memset`. Four bytes at a register are one access of
-    /// it.
+    /// `writeb`, `writew`, `writel`, `writeq`, `write`, `b64write`, `memset`. Four bytes at a register are one access
+    /// of it.
     pub(crate) fn write<W: Write>(
         &mut self,
         alloc: Global,

@@ -75,13 +75,14 @@ impl Clone for Device {
 }
 
 impl Device {
-    ghost use Rattle.adapter_server.specs.Devices.{Prints, Round, Settles, Steps, TellsEvents, faults_told, keeping, listed};
-    ghost use Rattle.adapter_server.specs.Devices.{to_put, told};
+    ghost use Rattle.adapter_server.specs.Devices.{Prints, Round, Settles, Steps, TellsEvents, faults_told, keeping};
+    ghost use Rattle.adapter_server.specs.Devices.{listed, to_put, told};
     ghost use Rattle.adapter_server.specs.Order.{Says};
     ghost use Rattle.rx_engine.specs.declared.arrival.Fate.{Fate};
     ghost use Rattle.adapter_server.specs.Happenings.{Arrived};
     ghost use Rattle.bus.specs.Machines.{is_asserted};
-    ghost use Rattle.adapter_server.specs.Texts.{digits_arrived, fate_word, fault_line, frame_line, joined, line_moved, said_log};
+    ghost use Rattle.adapter_server.specs.Texts.{digits_arrived, fate_word, fault_line, frame_line, joined, line_moved};
+    ghost use Rattle.adapter_server.specs.Texts.{said_log};
 
     /// Prints an event that happened: what the log says of it, what is always printed of it, and a change of the
     /// interrupt line.

@@ -152,8 +152,8 @@ impl Session {
         }
         Ok(())
     }
-    /// Plays what comes after an access or an arrival: rounds of steps, until one does nothing or the number that was set
-    /// is reached.
+    /// Plays what comes after an access or an arrival: rounds of steps, until one does nothing or the number that was
+    /// set is reached.
     pub(crate) fn play_rounds<W: Write>(
         &mut self,
         alloc: Global,

@@ -1,6 +1,7 @@
 //! Serves an adapter and its memory over a line protocol: reads requests line by line, and answers each.
 //!
-//! The protocol is that of QEMU's `qtest`, with words for the adapter's own steps; the crate `server_requests` reads it. The one call is [`serve`].
+//! The protocol is that of QEMU's `qtest`, with words for the adapter's own steps; the crate `server_requests` reads
+//! it. The one call is [`serve`].
 //! Section numbers are those of Intel's "PCI/PCI-X Family of Gigabit Ethernet Controllers Software Developer's
 //! Manual".
 #![tactic(auto)]

@@ -84,8 +84,8 @@ fn register_at(registers: u64, address: u64, count: u64) -> Option<u32>
     }
 }
 
-/// The target of an access of `count` bytes at an address, or why there is none, if the registers begin at this address,
-/// and if these bytes are in memory or not.
+/// The target of an access of `count` bytes at an address, or why there is none, if the registers begin at this
+/// address, and if these bytes are in memory or not.
 fn place_with(
     registers: Option<u64>,
     in_memory: bool,

@@ -9,7 +9,8 @@ use Rattle.server_requests.specs.Texts.{Text}
 use Rattle.server_requests.specs.Verbs.{takes_words, verb_named}
 use Rattle.server_requests.specs.declared.refusal.Refusal.TheVariants as refusals
 use Rattle.server_requests.specs.declared.verb.Verb.{Verb}
-use Rattle.server_requests.specs.declared.verb.Verb.TheVariants.{ReadNumber, WriteNumber, Read, Write, ReadBase64, WriteBase64, Memset, ReadPort, WritePort}
+use Rattle.server_requests.specs.declared.verb.Verb.TheVariants.{ReadNumber, WriteNumber, Read, Write, ReadBase64, WriteBase64}
+use Rattle.server_requests.specs.declared.verb.Verb.TheVariants.{Memset, ReadPort, WritePort}
 use Rattle.server_requests.specs.declared.verb.Verb.TheVariants.{Endianness, Intercept, ClockStep, ClockSet, Step, Arrive, Settle}
 use Rattle.server_requests.specs.declared.verb.Verb.TheVariants.{Line, Interleave, Log, Wire, Offer, Events, Frames, Faults, Pace}
 use Rattle.server_requests.specs.declared.verb.Verb.TheVariants.{Save, Restore}

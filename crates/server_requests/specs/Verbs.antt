@@ -7,7 +7,8 @@ use Rattle.server_requests.specs.Texts.{Text}
 use Rattle.pci_function.specs.declared.port_width.PortWidth.TheVariants as port
 use Rattle.server_requests.specs.declared.request.Width.TheVariants as width
 use Rattle.server_requests.specs.declared.verb.Verb.{Verb}
-use Rattle.server_requests.specs.declared.verb.Verb.TheVariants.{ReadNumber, WriteNumber, Read, Write, ReadBase64, WriteBase64, Memset, ReadPort, WritePort}
+use Rattle.server_requests.specs.declared.verb.Verb.TheVariants.{ReadNumber, WriteNumber, Read, Write, ReadBase64, WriteBase64}
+use Rattle.server_requests.specs.declared.verb.Verb.TheVariants.{Memset, ReadPort, WritePort}
 use Rattle.server_requests.specs.declared.verb.Verb.TheVariants.{Endianness, Intercept, ClockStep, ClockSet, Step, Arrive, Settle}
 use Rattle.server_requests.specs.declared.verb.Verb.TheVariants.{Line, Interleave, Log, Wire, Offer, Events, Frames, Faults, Pace}
 use Rattle.server_requests.specs.declared.verb.Verb.TheVariants.{Save, Restore}

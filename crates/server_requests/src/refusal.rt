@@ -19,7 +19,8 @@ pub enum Refusal {
     Size,
     /// `ERR address`: its bytes are neither in memory nor a register.
     Address,
-    /// `ERR register`: some of its bytes are those of registers, and it isn't an access of four bytes at an aligned address.
+    /// `ERR register`: some of its bytes are those of registers, and it isn't an access of four bytes at an aligned
+    /// address.
     Register,
     /// `ERR saved`: it restores a state, and none was saved.
     Saved,

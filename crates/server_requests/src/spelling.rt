@@ -1,8 +1,8 @@
 // What words spell: numbers and bytes.
 
 ghost use Rattle.std.specs.Prelude.{◌≡◌, ◌≤◌};
-ghost use Rattle.server_requests.specs.Spellings.{Gives, base64_in, bytes_in, digits_in, number_in, number_below, payload_in};
-ghost use Rattle.server_requests.specs.Spellings.{size_in};
+ghost use Rattle.server_requests.specs.Spellings.{Gives, base64_in, bytes_in, digits_in, number_in, number_below};
+ghost use Rattle.server_requests.specs.Spellings.{payload_in, size_in};
 
 use crate::refusal::{Refusal, Stop};
 use crate::request::Payload;

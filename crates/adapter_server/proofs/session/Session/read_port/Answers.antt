@@ -7,5 +7,6 @@ pub returns : goal.returns
 returns g c =
     let a = c.args.self.now in
     replied c.say_number.result a.device _ a _ _
-    (rw (c.from.ensures ∙ c.read_port.ensures ∙ ap (λ asserted. answer_at c.args.port c.args.width asserted a.function) c.line-asserted.ensures.line)
+    (rw (c.from.ensures ∙ c.read_port.ensures
+    ∙ ap (λ asserted. answer_at c.args.port c.args.width asserted a.function) c.line-asserted.ensures.line)
     at c.say_number.ensures)

@@ -22,12 +22,16 @@ returns-in-Write g c =
 pub returns-in-ReadPort : goal.returns-in-ReadPort
 returns-in-ReadPort g c =
     rw c.in-ReadPort.is
-    (lifted c.read_port.result (AnswersPort c.in-ReadPort.width c.in-ReadPort.port) c.args.self.now c.read_port.new.self _ _ c.read_port.ensures)
+    (lifted c.read_port.result
+    (AnswersPort c.in-ReadPort.width c.in-ReadPort.port)
+    c.args.self.now c.read_port.new.self _ _ c.read_port.ensures)
 
 pub returns-in-WritePort : goal.returns-in-WritePort
 returns-in-WritePort g c =
     rw c.in-WritePort.is
-    (lifted c.write_port.result (Changes (with_port_written c.in-WritePort.width c.in-WritePort.port c.in-WritePort.value)) c.args.self.now c.write_port.new.self _ _ c.write_port.ensures)
+    (lifted c.write_port.result
+    (Changes (with_port_written c.in-WritePort.width c.in-WritePort.port c.in-WritePort.value))
+    c.args.self.now c.write_port.new.self _ _ c.write_port.ensures)
 
 pub returns-in-Endianness : goal.returns-in-Endianness
 returns-in-Endianness g c =
@@ -42,7 +46,9 @@ returns-in-Step g c =
 pub returns-in-Arrive : goal.returns-in-Arrive
 returns-in-Arrive g c =
     rw c.in-Arrive.is
-    (lifted c.deliver.result (AnswersArrival c.in-Arrive.frame c.args.said.now) c.args.self.now c.deliver.new.self _ _ (rw c.as_slice-in-Arrive.ensures at c.deliver.ensures))
+    (lifted c.deliver.result
+    (AnswersArrival c.in-Arrive.frame c.args.said.now)
+    c.args.self.now c.deliver.new.self _ _ (rw c.as_slice-in-Arrive.ensures at c.deliver.ensures))
 
 pub returns-in-Settle : goal.returns-in-Settle
 returns-in-Settle g c =
@@ -62,12 +68,16 @@ returns-in-Line g c =
 pub returns-in-ClockStep : goal.returns-in-ClockStep
 returns-in-ClockStep g c =
     rw c.in-ClockStep.is
-    (lifted c.step_clock.result (MovesClock (time_after c.args.self.now.session.clock c.in-ClockStep.nanoseconds)) c.args.self.now c.step_clock.new.self _ _ c.step_clock.ensures)
+    (lifted c.step_clock.result
+    (MovesClock (time_after c.args.self.now.session.clock c.in-ClockStep.nanoseconds))
+    c.args.self.now c.step_clock.new.self _ _ c.step_clock.ensures)
 
 pub returns-in-ClockSet : goal.returns-in-ClockSet
 returns-in-ClockSet g c =
     rw c.in-ClockSet.is
-    (lifted c.set_clock.result (MovesClock (Some (max c.args.self.now.session.clock c.in-ClockSet.time))) c.args.self.now c.set_clock.new.self _ _ c.set_clock.ensures)
+    (lifted c.set_clock.result
+    (MovesClock (Some (max c.args.self.now.session.clock c.in-ClockSet.time)))
+    c.args.self.now c.set_clock.new.self _ _ c.set_clock.ensures)
 
 pub returns-in-Intercept : goal.returns-in-Intercept
 returns-in-Intercept g c =
@@ -87,7 +97,9 @@ returns-in-Faults g c =
 pub returns-in-Offer : goal.returns-in-Offer
 returns-in-Offer g c =
     rw c.in-Offer.is
-    (lifted c.offer.result (Changes (with_offered c.in-Offer.frame)) c.args.self.now c.offer.new.self _ _ (rw c.as_slice-in-Offer.ensures at c.offer.ensures))
+    (lifted c.offer.result
+    (Changes (with_offered c.in-Offer.frame))
+    c.args.self.now c.offer.new.self _ _ (rw c.as_slice-in-Offer.ensures at c.offer.ensures))
 
 pub returns-in-Save : goal.returns-in-Save
 returns-in-Save g c = rw c.in-Save.is c.save.ensures
