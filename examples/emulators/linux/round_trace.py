@@ -13,7 +13,7 @@ from race_finder.schedule import Deviation, Place, text_of  # noqa: E402
 from race_finder.shadow import Shadow  # noqa: E402
 
 PAGE = 0x1000
-PREFIX = "e1000_"  # of most functions of the driver; charts leave it out
+PREFIX = "e1000_"  # of most functions of the driver; charts don't show it
 ALL_BITS = "0xffffffff"
 
 

@@ -14,7 +14,10 @@
 #include "report.h"
 #include "trace.h"
 
-enum { PATIENCE = 5000 }; /* milliseconds */
+enum {
+    PATIENCE = 5000, /* milliseconds */
+    PINS = 24        /* of the interrupt controller */
+};
 
 static const char *path;
 static int connection = -1;
@@ -79,7 +82,7 @@ void interrupts_update(bool waits)
     if (connection < 0)
         connect_to_qemu();
     size = snprintf(text, sizeof text, "set_irq_in /machine/i440fx/ioapic unnamed-gpio-in %u %d\n",
-                    configuration_interrupt() % 24, now);
+                    configuration_interrupt() % PINS, now);
     if (write(connection, text, size) != size)
         return; /* QEMU has ended */
     level = now;

@@ -1,4 +1,4 @@
-/* The messages of QEMU's x-pci-proxy-dev (QEMU 7.2: include/hw/remote/mpqemu-link.h), which hands the accesses of a
+/* The messages of QEMU's x-pci-proxy-dev (QEMU 7.2: include/hw/remote/mpqemu-link.h), which passes the accesses of a
  * PCI function to another process. */
 #ifndef MESSAGES_H
 #define MESSAGES_H

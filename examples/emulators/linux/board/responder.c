@@ -5,7 +5,7 @@
 
 #include "../shared/rounds.h"
 #include "adapter.h"
-#include "checksum.h"
+#include "internet_checksum.h"
 #include "wire.h"
 
 /* Places of fields in a frame */

@@ -6,7 +6,7 @@
 #include <string.h>
 
 #include "../shared/rounds.h"
-#include "checksum.h"
+#include "frame_check.h"
 #include "report.h"
 #include "rings.h"
 

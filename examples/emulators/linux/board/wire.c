@@ -3,11 +3,11 @@
 #include <string.h>
 
 #include "adapter.h"
-#include "checksum.h"
 #include "dma.h"
+#include "frame_check.h"
 #include "trace.h"
 
-enum { QUEUE = 512, SHORTEST = 60, FCS_BYTES = 4, LONGEST = FRAME_BYTES - FCS_BYTES };
+enum { QUEUE = 512, SHORTEST = 60, LONGEST = FRAME_BYTES - FRAME_CHECK_BYTES };
 
 struct wire_counts wire_counts;
 
@@ -21,18 +21,6 @@ static wire_end *other_end;
 void wire_start(wire_end *end)
 {
     other_end = end;
-}
-
-/* Where RCTL.SECRC is clear, the adapter passes the FCS on to memory; the model has no FCS, so the frame gets four
- * bytes more before it arrives. */
-static void add_frame_check(struct waiting *frame)
-{
-    uint32_t check = frame_check(frame->bytes, frame->size);
-
-    if (adapter_read(RCTL) & RCTL_SECRC)
-        return;
-    memcpy(frame->bytes + frame->size, &check, FCS_BYTES);
-    frame->size += FCS_BYTES;
 }
 
 void wire_receive(const uint8_t *frame, uint32_t size, uint32_t number)
@@ -61,7 +49,7 @@ bool wire_arrive(void)
 
     if (count == 0)
         return false;
-    add_frame_check(oldest);
+    oldest->size = frame_check_add(oldest->bytes, oldest->size);
     trace_arrival(dma_arrive(oldest->bytes, oldest->size), oldest->number, oldest->bytes, oldest->size);
     first = (first + 1) % QUEUE;
     count--;

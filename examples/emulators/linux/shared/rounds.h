@@ -5,7 +5,7 @@
 
 #include <stdint.h>
 
-/* The board's registers, from this offset of BAR 0 on, where the adapter has none. */
+/* The board's registers, from this offset of BAR 0 on. The adapter has no registers there. */
 #define BOARD_REGISTERS 0x1FF00u
 
 enum {

@@ -1,4 +1,8 @@
-#include "checksum.h"
+#include "frame_check.h"
+
+#include <string.h>
+
+#include "adapter.h"
 
 static uint32_t table[256];
 
@@ -26,13 +30,12 @@ uint32_t frame_check(const uint8_t *bytes, uint32_t size)
     return ~value;
 }
 
-uint16_t internet_checksum(const uint8_t *bytes, uint32_t size, uint32_t sum)
+uint32_t frame_check_add(uint8_t *bytes, uint32_t size)
 {
-    for (uint32_t at = 0; at + 1 < size; at += 2)
-        sum += (uint32_t)bytes[at] << 8 | bytes[at + 1];
-    if (size & 1)
-        sum += (uint32_t)bytes[size - 1] << 8;
-    sum = (sum & 0xFFFF) + (sum >> 16);
-    sum = (sum & 0xFFFF) + (sum >> 16);
-    return (uint16_t)~sum;
+    uint32_t check = frame_check(bytes, size);
+
+    if (adapter_read(RCTL) & RCTL_SECRC)
+        return size;
+    memcpy(bytes + size, &check, FRAME_CHECK_BYTES);
+    return size + FRAME_CHECK_BYTES;
 }
