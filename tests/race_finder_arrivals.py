@@ -71,7 +71,7 @@ print(target.forks.is_usable)
 
 def told(server, schedule):
     """What a test is told that offers frames, by a schedule. Lines for steps are left out."""
-    requests = ["log on", f"offer {OTHER}", "offer", "offer 0", "readb 0", f"offer {FRAME.upper()}", "readb 0", "readb 1", "settle 1", "settle", "settle"]
+    requests = ["events on", "log on", f"offer {OTHER}", "offer", "offer 0", "readb 0", f"offer {FRAME.upper()}", "readb 0", "readb 1", "settle 1", "settle", "settle"]
     server.put("requests", lines(requests))
     status, _, errors = replay(server, schedule, command=["sh", "-c", "exec 3<&0; cat requests & exec cat <&3 >answers"])
     server.check(f"arrivals: {schedule!r}", (status, errors), (PASSES, ""))
@@ -86,7 +86,7 @@ def talks(server):
     for schedule, places in [("", (4, 4)), ("3.1 arrive before read 0x0", (0, 4)), ("4.1 arrive before read 0x0\n4.2 arrive before read 0x1", (1, 2)),
                              ("4.2 arrive before read 0x1\n4.2 arrive before read 0x1", (2, 2)), ("arrive before read 0x0#2", (1, 4))]:
         arrivals = [[line for frame, at in zip((one, two), places) if at == place for line in frame] for place in range(5)]
-        wanted = ["OK", "OK", *invalid, *arrivals[0], "# readb 0", ZERO, "OK", *arrivals[1], "# readb 0", ZERO, *arrivals[2], "# readb 1", ZERO,
+        wanted = ["OK", "OK", "OK", *invalid, *arrivals[0], "# readb 0", ZERO, "OK", *arrivals[1], "# readb 0", ZERO, *arrivals[2], "# readb 1", ZERO,
                   "ERR count", *arrivals[4], ZERO, ZERO]
         server.check(f"arrivals: what the test is told by {schedule!r}", told(server, schedule), wanted)
     status, out, _ = replay(server, "3.1 arrive before read 0x0\n3.1 arrive before read 0x0", command=["sh", "-c", "cat requests"])

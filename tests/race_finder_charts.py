@@ -277,6 +277,8 @@ class Wanted:
             self.note("irq", int(words[1] == "raise"))
         elif words[0] == "frame":
             self.happen("frame")
+        elif words[0] == "fault":
+            return  # a dump has the outcome of the step
         elif words[1] in ("step", "arrive", "hold"):
             if words[-1] != "nothing":
                 self.time += 1
