@@ -59,6 +59,8 @@ impl Adapter {
     ghost use Rattle.adapter.specs.State.{IsAdapter};
     ghost use Rattle.adapter.specs.Steps.{Answers, ChangesAtMost, after_step, memory_after_step};
     ghost use Rattle.adapter.specs.declared.outcome.Outcome.TheVariants.{Fault, Nothing};
+    ghost use Rattle.eeprom.specs.Eerd.{is_pending};
+    ghost use Rattle.mdic_phy.specs.Mdic.{has_work};
 
     /// An adapter after power-on, with this EEPROM and a PHY whose link comes up as `link` says. Both
     /// packet buffers are empty; their memory is taken here, and no later call takes any.
@@ -105,6 +107,20 @@ impl Adapter {
         ensures adapter { IsAdapter self.now }
     {
         self.file.causes.line()
+    }
+
+    /// Whether a step of the EEPROM would end a read.
+    pub fn eeprom_has_work(&self) -> bool
+        ensures { result ≡ is_pending self.now.eerd }
+    {
+        self.file.eerd.is_pending()
+    }
+
+    /// Whether a step of the PHY would change the PHY or MDIC.
+    pub fn phy_has_work(&self) -> bool
+        ensures { result ≡ has_work self.now.mdic self.now.phy }
+    {
+        self.file.mdic.has_work(&self.phy)
     }
 
     /// How many frames the receive packet buffer has room for, by PBA: 24 at most.

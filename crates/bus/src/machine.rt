@@ -7,6 +7,8 @@ ghost use Rattle.bus.specs.Trails.{Occurs};
 ghost use Rattle.bus.specs.Machines.{after_event, is_asserted};
 ghost use Rattle.bus.specs.declared.event.Access.TheVariants.{Reads, Stores, Writes};
 ghost use Rattle.bus.specs.declared.event.Event.TheVariants.{Accesses, Arrives, Steps};
+ghost use Rattle.eeprom.specs.Eerd.{is_pending};
+ghost use Rattle.mdic_phy.specs.Mdic.{has_work};
 ghost use Rattle.descriptors.specs.Frames.{longest_frame};
 ghost use Rattle.dma_memory.specs.HostMemory.{bytes_at, LiesIn};
 
@@ -127,6 +129,20 @@ impl Machine {
         ensures adapter { IsAdapter self.now.world.adapter }
     {
         self.adapter.line()
+    }
+
+    /// Whether a step of the EEPROM would end a read.
+    pub fn eeprom_has_work(&self) -> bool
+        ensures { result ≡ is_pending self.now.world.adapter.eerd }
+    {
+        self.adapter.eeprom_has_work()
+    }
+
+    /// Whether a step of the PHY would change the PHY or MDIC.
+    pub fn phy_has_work(&self) -> bool
+        ensures { result ≡ has_work self.now.world.adapter.mdic self.now.world.adapter.phy }
+    {
+        self.adapter.phy_has_work()
     }
 
     /// The level of the interrupt line, if it differs from the level at the last report. The first report compares it

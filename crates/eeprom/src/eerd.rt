@@ -85,6 +85,13 @@ impl Eerd {
         }
     }
 
+    /// Whether a read is pending, so that a tick would end it.
+    pub fn is_pending(&self) -> bool
+        ensures { result ≡ is_pending self.now }
+    {
+        matches!(self.state, ReadState::Pending(_))
+    }
+
     /// Ends a pending read with its word of the image. Answers whether there was one; if not,
     /// nothing changes.
     pub fn tick(&mut self, image: &Image) -> bool

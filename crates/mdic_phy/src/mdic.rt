@@ -79,7 +79,7 @@ impl Model for Mdic {
 }
 
 impl Mdic {
-    ghost use Rattle.mdic_phy.specs.Mdic.{after_write, mdic_after_tick, new_mdic, phy_after_tick, told};
+    ghost use Rattle.mdic_phy.specs.Mdic.{after_write, has_work, mdic_after_tick, new_mdic, phy_after_tick, told};
 
     /// A register without a command: it reads 0.
     pub fn new() -> Self
@@ -112,6 +112,13 @@ impl Mdic {
         self.value
     }
 
+    /// Whether the PHY is counting or a command is pending, so that a tick would do something.
+    pub fn has_work(&self, phy: &Phy) -> bool
+        ensures { result ≡ has_work self.now phy.now }
+    {
+        phy.is_counting() || self.pending.is_some()
+    }
+
     /// A moment passes: the PHY's count is lowered, and then a pending command ends. Answers
     /// what the adapter has to record, or `None` where no count ran and no command was pending:
     /// then nothing changes.
@@ -122,7 +129,7 @@ impl Mdic {
         ensures mdic_stays { result ≡ None → self.new ≡ self.old }
         ensures phy_stays { result ≡ None → phy.new ≡ phy.old }
     {
-        if !phy.is_counting() && self.pending.is_none() {
+        if !self.has_work(phy) {
             return None;
         }
         let link_changed = phy.tick();
