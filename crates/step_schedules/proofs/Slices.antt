@@ -3,7 +3,7 @@ use Rattle.std.proofs.Common.{◌≡◌, ◌∙◌, ◌+◌, ◌-◌, ◌<◌, �
 use Rattle.std.proofs.Common.{ap, arith, length-drop, sym}
 use Rattle.std.proofs.lemmas.List.{drop-map, get_or-map, take-map, take_all}
 use Rattle.std.specs.List.{position}
-use Rattle.step_schedules.specs.Words.{Text, access_words, action_words, is_before_word, texts, word}
+use Rattle.step_schedules.specs.Words.{Text, action_words, event_words, is_before_word, texts, word}
 use Rattle.step_schedules.proofs.Places.{place-found}
 
 pub at_texts : (words : List (Bor Text)) (place : ℕ) (one : Bor Text) → place < length words
@@ -18,9 +18,9 @@ action_before words k found =
     sym (take-map (λ (w : Bor Text). w.now) k words)
     ∙ ap (λ n. take n (texts words)) (place-found is_before_word (texts words) k found)
 
-pub access_after : (words : List (Bor Text)) (k : ℕ) → Some k ≡ position is_before_word (texts words)
-    → texts (take (length words - (k + 1)) (drop (k + 1) words)) ≡ access_words (texts words)
-access_after words k found =
+pub event_after : (words : List (Bor Text)) (k : ℕ) → Some k ≡ position is_before_word (texts words)
+    → texts (take (length words - (k + 1)) (drop (k + 1) words)) ≡ event_words (texts words)
+event_after words k found =
     let count = length-drop (k + 1) words in
     ap texts (take_all (length words - (k + 1)) (drop (k + 1) words) (omega arith))
     ∙ sym (drop-map (λ (w : Bor Text). w.now) (k + 1) words)

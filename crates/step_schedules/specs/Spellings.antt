@@ -25,9 +25,10 @@ number_in text = if nat_lt 9 (length text) then None else digits_in text
 abbrev pub is_dot : ℕ → Bool
 is_dot byte = byte == 0x2E
 
--- accesses count from 1
+-- 0.0 is no place, since no request begins round 0
 abbrev pub place_with : ℕ → ℕ → Option Place
-place_with round access = if access == 0 then None else Some (record { round = round; access = access })
+place_with round access =
+    if round == 0 && access == 0 then None else Some (record { round = round; access = access })
 
 -- the numbers of a round and of an access, joined by a dot
 abbrev pub place_in : Text → Option Place

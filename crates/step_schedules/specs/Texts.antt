@@ -4,11 +4,11 @@ use Rattle.std.specs.Fmt.{decimal}
 use Rattle.step_schedules.specs.Deviations.{DeviationRead}
 use Rattle.step_schedules.specs.Schedules.{ScheduleRead}
 use Rattle.step_schedules.specs.Words.{Text}
-use Rattle.step_schedules.specs.declared.deviation.AccessKind.{AccessKind}
-use Rattle.step_schedules.specs.declared.deviation.AccessKind.TheVariants.{Read, Write}
+use Rattle.step_schedules.specs.declared.deviation.Before.{Before}
+use Rattle.step_schedules.specs.declared.deviation.Before.TheVariants.{Read, Request, Write}
 use Rattle.step_schedules.specs.declared.deviation.Action.{Action}
 use Rattle.step_schedules.specs.declared.deviation.Action.TheVariants.{TxTake, TxPut, RxData, RxDone, Tx, Rx, Arrive}
-use Rattle.step_schedules.specs.declared.deviation.Action.TheVariants.{HoldEeprom, HoldPhy}
+use Rattle.step_schedules.specs.declared.deviation.Action.TheVariants.{HoldEeprom, HoldPhy, EepromTick, PhyTick}
 use Rattle.step_schedules.specs.declared.deviation.Site.{Site}
 use Rattle.step_schedules.specs.declared.deviation.Site.TheVariants as site
 
@@ -22,15 +22,18 @@ action_text Rx = codes "rx"
 action_text Arrive = codes "arrive"
 action_text HoldEeprom = codes "hold eeprom"
 action_text HoldPhy = codes "hold phy"
+action_text EepromTick = codes "eeprom"
+action_text PhyTick = codes "phy"
 
-abbrev pub kind_text : AccessKind → Text
-kind_text Read = codes "read"
-kind_text Write = codes "write"
+abbrev pub before_text : Before → Text
+before_text Read = codes "before read "
+before_text Write = codes "before write "
+before_text Request = codes "before "
 
--- what happens, and the access without its number
+-- what happens, and the access or the request without its number
 abbrev pub event_text : DeviationRead → Text
 event_text deviation =
-    action_text deviation.action ++ codes " before " ++ kind_text deviation.kind ++ codes " " ++ deviation.name
+    action_text deviation.action ++ codes " " ++ before_text deviation.before ++ deviation.name
 
 abbrev pub text_at : Site → Text → Text
 text_at (site.Place place) event = decimal place.round ++ codes "." ++ decimal place.access ++ codes " " ++ event

@@ -47,8 +47,8 @@ before_place words = position_or_len is_before_word words
 abbrev pub action_words : List Text → List Text
 action_words words = take (before_place words) words
 
-abbrev pub access_words : List Text → List Text
-access_words words = drop (before_place words + 1) words
+abbrev pub event_words : List Text → List Text
+event_words words = drop (before_place words + 1) words
 
 -- an entry of a table, a word and its value, without the place of the word in memory
 abbrev pub entry_of : {T : Type 0} → Bor Text × T → Text × T

@@ -3,12 +3,12 @@
 ghost use Rattle.std.specs.Prelude.{◌≡◌};
 ghost use Rattle.step_schedules.specs.Deviations.{is_before};
 
-/// Before an access of a round.
+/// A place of a run: an access of a round, or the request that begins a round.
 #[derive(Clone, Copy, Debug, PartialEq, Eq)]
 pub struct Place {
-    /// The number of the round, from 0.
+    /// The number of the round. Round 0 is before the first request that begins a round.
     pub round: u32,
-    /// The number of the access in the round, from 1.
+    /// The number of the access in the round, from 1; or 0 for the request that begins the round.
     pub access: u32,
 }
 
@@ -21,12 +21,12 @@ impl Place {
     }
 }
 
-/// Which access a deviation happens before.
+/// Which access or request a deviation happens before.
 #[derive(Clone, Copy, Debug, PartialEq, Eq)]
 pub enum Site {
-    /// The access at this place.
+    /// The one at this place.
     Place(Place),
-    /// The access with this number, from 1, among those of the run with its name.
+    /// The one with this number, from 1, among those of the run with its name.
     Number(u32),
 }
 
@@ -51,26 +51,32 @@ pub enum Action {
     HoldEeprom,
     /// The default step of the PHY is left out.
     HoldPhy,
+    /// The EEPROM takes a step more.
+    EepromTick,
+    /// The PHY takes a step more.
+    PhyTick,
 }
 
-/// Whether an access reads or writes.
+/// Whether a deviation happens before a read, a write or a request.
 #[derive(Clone, Copy, Debug, PartialEq, Eq)]
-pub enum AccessKind {
-    /// It reads a register or memory.
+pub enum Before {
+    /// A read of a register or of memory.
     Read,
-    /// It writes a register or memory.
+    /// A write of a register or of memory.
     Write,
+    /// A request that begins a round. Its name is its word: `arrive`, `offer`, `step` or `settle`.
+    Request,
 }
 
-/// What happens, and before which access.
+/// What happens, and before which access or request.
 #[derive(Debug, Drop)]
 pub struct Deviation {
-    /// Which access.
+    /// Which access or request.
     pub site: Site,
     /// What happens before it.
     pub action: Action,
-    /// Whether the access reads or writes.
-    pub kind: AccessKind,
-    /// The name of what the access reads or writes, such as `ICR` or `rx[1]+8`.
+    /// Whether it reads, writes, or is a request.
+    pub before: Before,
+    /// The name of what the access reads or writes, such as `ICR` or `rx[1]+8`; or the word of the request.
     pub name: String,
 }

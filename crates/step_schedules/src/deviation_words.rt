@@ -1,11 +1,11 @@
 // Reads a deviation from the words of a line.
 
-ghost use Rattle.std.specs.Prelude.{◌≡◌, ◌<◌, length};
+ghost use Rattle.std.specs.Prelude.{◌≡◌, ◌<◌, IfSome, length};
 ghost use Rattle.step_schedules.specs.Deviations as spec;
 ghost use Rattle.step_schedules.specs.Results.{Gives};
 ghost use Rattle.step_schedules.specs.Words.{texts};
 
-use crate::deviation::{AccessKind, Action, Deviation, Place, Site};
+use crate::deviation::{Action, Before, Deviation, Place, Site};
 use crate::schedule_error::{Fault, Stop};
 use crate::spelling::{number_of, place_of};
 use crate::table::value_of;
@@ -13,7 +13,7 @@ use crate::words::{split_before, word_at};
 use std::alloc::Global;
 
 /// The actions of one word.
-const ACTIONS: [(&str, Action); 7] = [
+const ACTIONS: [(&str, Action); 9] = [
     ("txtake", Action::TxTake),
     ("txput", Action::TxPut),
     ("rxdata", Action::RxData),
@@ -21,18 +21,28 @@ const ACTIONS: [(&str, Action); 7] = [
     ("tx", Action::Tx),
     ("rx", Action::Rx),
     ("arrive", Action::Arrive),
+    ("eeprom", Action::EepromTick),
+    ("phy", Action::PhyTick),
 ];
 
 /// The actions that begin with `hold`, by their second word.
 const HOLDS: [(&str, Action); 2] = [("eeprom", Action::HoldEeprom), ("phy", Action::HoldPhy)];
 
 /// The kinds of accesses.
-const KINDS: [(&str, AccessKind); 2] = [("read", AccessKind::Read), ("write", AccessKind::Write)];
+const KINDS: [(&str, Before); 2] = [("read", Before::Read), ("write", Before::Write)];
 
-/// An access as a line names it.
+/// The requests that begin a round.
+const REQUESTS: [(&str, Before); 4] = [
+    ("arrive", Before::Request),
+    ("offer", Before::Request),
+    ("step", Before::Request),
+    ("settle", Before::Request),
+];
+
+/// An access or a request as a line names it.
 #[derive(Drop)]
-struct NamedAccess {
-    kind: AccessKind,
+struct Event {
+    before: Before,
     name: String,
     number: Option<u32>,
 }
@@ -52,10 +62,17 @@ fn hold_named(word: &str) -> Option<Action>
 }
 
 #[tactic(auto, unfolding(crate::specs::Deviations::kind_named))]
-fn kind_named(word: &str) -> Option<AccessKind>
+fn kind_named(word: &str) -> Option<Before>
     ensures { result ≡ spec.kind_named word.now }
 {
     value_of(&KINDS, word)
+}
+
+#[tactic(auto, unfolding(crate::specs::Deviations::request_named))]
+fn request_named(word: &str) -> Option<Before>
+    ensures { result ≡ spec.request_named word.now }
+{
+    value_of(&REQUESTS, word)
 }
 
 /// The action that these words name.
@@ -127,32 +144,68 @@ fn number_after(word: &str) -> Result<Option<u32>, Fault>
     }
 }
 
-/// The access that these words name.
-fn access_of(alloc: Global, words: &[&str]) -> Result<NamedAccess, Stop>
-    ensures { Gives spec.access_read result (spec.access_in (texts words.now)) }
+/// What these words name: one word a request, two words an access.
+fn before_of(words: &[&str]) -> Option<Before>
+    ensures before { result ≡ spec.before_in (texts words.now) }
+    ensures words { IfSome result (λ _. 0 < length words.now) }
 {
-    if words.len() != 2 {
-        return Err(Stop::Fault(Fault::Access));
+    if words.len() == 1 {
+        return request_named(name_of(word_at(words, 0)));
     }
-    let Some(kind) = kind_named(word_at(words, 0)) else {
+    if words.len() == 2 {
+        return kind_named(word_at(words, 0));
+    }
+    None
+}
+
+/// The access or the request that these words name.
+fn event_of(alloc: Global, words: &[&str]) -> Result<Event, Stop>
+    ensures { Gives spec.event_read result (spec.event_in (texts words.now)) }
+{
+    let Some(before) = before_of(words) else {
         return Err(Stop::Fault(Fault::Access));
     };
-    let word = word_at(words, 1);
+    let word = word_at(words, words.len() - 1);
     let number = number_after(word)?;
     let name = name_of(word);
     if name.is_empty() {
         return Err(Stop::Fault(Fault::Access));
     }
     let name = String::from_str(alloc, name)?;
-    Ok(NamedAccess { kind, name, number })
+    Ok(Event {
+        before,
+        name,
+        number,
+    })
 }
 
-/// Which access a deviation is for, by the place and the number of its line.
-fn site_of(place: Option<Place>, number: Option<u32>) -> Result<Site, Fault>
-    ensures { result ≡ spec.site_in place number }
+/// Whether this is a place of a request, or of an access.
+fn is_place_of(before: Before, place: Place) -> bool
+    ensures { result ≡ spec.is_place_of before place }
+{
+    match before {
+        Before::Request => place.access == 0,
+        Before::Read | Before::Write => place.access > 0,
+    }
+}
+
+/// The site at a place, if the place is one of a request before a request, and one of an access before an access.
+fn place_before(place: Place, before: Before) -> Result<Site, Fault>
+    ensures { result ≡ spec.place_before place before }
+{
+    if is_place_of(before, place) {
+        Ok(Site::Place(place))
+    } else {
+        Err(Fault::RequestPlace)
+    }
+}
+
+/// Which access or request a deviation is for, by the place and the number of its line.
+fn site_of(place: Option<Place>, number: Option<u32>, before: Before) -> Result<Site, Fault>
+    ensures { result ≡ spec.site_in place number before }
 {
     match (place, number) {
-        (Some(place), None) => Ok(Site::Place(place)),
+        (Some(place), None) => place_before(place, before),
         (Some(_), Some(_)) => Err(Fault::PlaceAndNumber),
         (None, Some(number)) if number > 0 => Ok(Site::Number(number)),
         (None, _) => Err(Fault::NoNumber),
@@ -163,17 +216,17 @@ fn site_of(place: Option<Place>, number: Option<u32>) -> Result<Site, Fault>
 fn deviation_after(alloc: Global, place: Option<Place>, words: &[&str]) -> Result<Deviation, Stop>
     ensures { Gives spec.deviation_read result (spec.deviation_after place (texts words.now)) }
 {
-    let (action, access) = split_before(words);
+    let (action, event) = split_before(words);
     let Some(action) = action_of(action) else {
         return Err(Stop::Fault(Fault::Action));
     };
-    let access = access_of(alloc, access)?;
-    let site = site_of(place, access.number)?;
+    let event = event_of(alloc, event)?;
+    let site = site_of(place, event.number, event.before)?;
     Ok(Deviation {
         site,
         action,
-        kind: access.kind,
-        name: access.name,
+        before: event.before,
+        name: event.name,
     })
 }
 

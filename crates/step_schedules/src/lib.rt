@@ -1,4 +1,4 @@
-//! Schedules: what an adapter does otherwise than by default, and before which accesses of its driver.
+//! Schedules: what an adapter does otherwise than by default, and before which accesses and requests of a test.
 //!
 //! The tool `tools/races` finds schedules, stores them as texts, and plays them.
 #![tactic(auto)]
@@ -15,6 +15,6 @@ mod spelling;
 mod table;
 mod words;
 
-pub use deviation::{AccessKind, Action, Deviation, Place, Site};
+pub use deviation::{Action, Before, Deviation, Place, Site};
 pub use schedule::Schedule;
 pub use schedule_error::{Fault, ScheduleError};

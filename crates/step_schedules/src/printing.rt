@@ -4,10 +4,10 @@ ghost use Rattle.std.specs.Prelude.{◌≡◌, Some, map, string_bytes};
 ghost use Rattle.std.specs.Fmt.{WritesOnOk};
 ghost use Rattle.step_schedules.specs.Deviations.{deviation_read};
 ghost use Rattle.step_schedules.specs.Schedules.{schedule_read};
-ghost use Rattle.step_schedules.specs.Texts.{action_text, deviation_lines, deviation_text, kind_text, options_line};
-ghost use Rattle.step_schedules.specs.Texts.{schedule_text};
+ghost use Rattle.step_schedules.specs.Texts.{action_text, before_text, deviation_lines, deviation_text};
+ghost use Rattle.step_schedules.specs.Texts.{options_line, schedule_text};
 
-use crate::deviation::{AccessKind, Action, Deviation, Site};
+use crate::deviation::{Action, Before, Deviation, Site};
 use crate::schedule::Schedule;
 use std::fmt;
 
@@ -26,18 +26,21 @@ impl Action {
             Action::Arrive => "arrive",
             Action::HoldEeprom => "hold eeprom",
             Action::HoldPhy => "hold phy",
+            Action::EepromTick => "eeprom",
+            Action::PhyTick => "phy",
         }
     }
 }
 
-impl AccessKind {
-    /// Its word in a line.
-    fn word(self) -> &'static str
-        ensures { result.now ≡ kind_text self }
+impl Before {
+    /// The part of a line before the name.
+    fn words(self) -> &'static str
+        ensures { result.now ≡ before_text self }
     {
         match self {
-            AccessKind::Read => "read",
-            AccessKind::Write => "write",
+            Before::Read => "before read ",
+            Before::Write => "before write ",
+            Before::Request => "before ",
         }
     }
 }
@@ -47,15 +50,15 @@ impl fmt::Display for Deviation {
 
     fn fmt<W: fmt::Write>(&self, f: &mut fmt::Formatter<W>) -> fmt::Result {
         let action = self.action.words();
-        let kind = self.kind.word();
+        let before = self.before.words();
         let name = self.name.as_str();
         match self.site {
             Site::Place(place) => {
                 let round = place.round;
                 let access = place.access;
-                write!(f, "{round}.{access} {action} before {kind} {name}")
+                write!(f, "{round}.{access} {action} {before}{name}")
             }
-            Site::Number(number) => write!(f, "{action} before {kind} {name}#{number}"),
+            Site::Number(number) => write!(f, "{action} {before}{name}#{number}"),
         }
     }
 }

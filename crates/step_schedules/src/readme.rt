@@ -5,11 +5,13 @@ use std::test::Fail;
 
 #[test]
 fn the_code_of_the_readme(rt: HostRuntime) -> Result<(), Fail> {
-    let text = b"options --rxa 2\n7.26 rx before read ICR # late\ntx before write TDT#1\n";
+    let text =
+        b"options --rxa 2\n7.26 rx before read ICR # late\n9.0 tx before settle\neeprom before read EERD#3\n";
     let schedule = Schedule::parse(rt.alloc(), text)?;
-    assert_eq!(rt; schedule.deviations.len(), 2);
+    assert_eq!(rt; schedule.deviations.len(), 3);
     let written = schedule.to_string(rt.alloc())?;
-    let lines = "options --rxa 2\n7.26 rx before read ICR\ntx before write TDT#1\n";
+    let lines =
+        "options --rxa 2\n7.26 rx before read ICR\n9.0 tx before settle\neeprom before read EERD#3\n";
     assert_eq!(rt; written.as_str(), lines);
     let unsorted = b"4.2 rx before read ICR\n4.1 rx before read RDT\n";
     let error = ScheduleError::Line {

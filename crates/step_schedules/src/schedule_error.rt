@@ -14,19 +14,22 @@ pub enum Fault {
     #[error("'options' must be the first line, and given once")]
     Options,
     /// The first word is neither a place nor the first word of an action.
-    #[error("no place: use ROUND.ACCESS, such as 4.6, and count accesses from 1")]
+    #[error("no place: use ROUND.ACCESS, such as 4.6, or ROUND.0 with a round from 1")]
     Place,
     /// The words up to `before` aren't an action.
-    #[error("no deviation: use txtake, txput, rxdata, rxdone, tx, rx, arrive, hold eeprom or hold phy")]
+    #[error("no deviation: use txtake, txput, rxdata, rxdone, tx, rx, arrive, eeprom, phy, hold eeprom or hold phy")]
     Action,
-    /// The words after `before` don't name an access.
-    #[error("no access is named: end the line with the access that it expects, such as 'before read ICR'")]
+    /// The words after `before` name neither an access nor a request that begins a round.
+    #[error("no access or request is named: end the line with one, such as 'before read ICR' or 'before settle'")]
     Access,
     /// It has both a place and a number after `#`.
     #[error("use either ROUND.ACCESS or a number after #")]
     PlaceAndNumber,
+    /// Its place is ROUND.0 before an access, or another place before a request.
+    #[error("use ROUND.0 before arrive, offer, step and settle, and there alone")]
+    RequestPlace,
     /// It has neither a place nor a number from 1.
-    #[error("the access has no number: begin the line with ROUND.ACCESS, or end it with a number from 1 after #")]
+    #[error("no place and no number: begin the line with ROUND.ACCESS, or end it with a number from 1 after #")]
     NoNumber,
     /// Its place comes before that of an earlier line.
     #[error("sort the lines by place")]

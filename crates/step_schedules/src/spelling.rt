@@ -28,14 +28,14 @@ pub(crate) fn number_of(text: &str) -> Option<u32>
     digits_of(text)
 }
 
-/// The place that a word such as `4.6` spells. Accesses count from 1.
+/// The place that a word such as `4.6` spells. No request begins round 0.
 pub(crate) fn place_of(word: &str) -> Option<Place>
     ensures { result ≡ spec.place_in word.now }
 {
     let (round, access) = word.split_once('.')?;
     let round = number_of(round)?;
     let access = number_of(access)?;
-    if access == 0 {
+    if round == 0 && access == 0 {
         return None;
     }
     Some(Place { round, access })

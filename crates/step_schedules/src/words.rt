@@ -44,7 +44,7 @@ fn first_before(words: &[&str]) -> Option<usize>
 /// The words before and after the first word `before`. Without one, no word is after it.
 pub(crate) fn split_before<'a, 'b>(words: &'b [&'a str]) -> (&'b [&'a str], &'b [&'a str])
     ensures action { spec.texts result.0.now ≡ spec.action_words (spec.texts words.entry.now) }
-    ensures access { spec.texts result.1.now ≡ spec.access_words (spec.texts words.entry.now) }
+    ensures event { spec.texts result.1.now ≡ spec.event_words (spec.texts words.entry.now) }
 {
     match first_before(words) {
         Some(place) => (&words[..place], &words[place + 1..]),
