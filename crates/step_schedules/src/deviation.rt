@@ -1,7 +1,9 @@
 // Deviations from what an adapter does by default.
 
 ghost use Rattle.std.specs.Prelude.{◌≡◌};
-ghost use Rattle.step_schedules.specs.Deviations.{is_before};
+ghost use Rattle.step_schedules.specs.Deviations.{deviation_read, is_before};
+
+use std::alloc::AllocError;
 
 /// A place of a run: an access of a round, or the request that begins a round.
 #[derive(Clone, Copy, Debug, PartialEq, Eq)]
@@ -79,4 +81,18 @@ pub struct Deviation {
     pub before: Before,
     /// The name of what the access reads or writes, such as `ICR` or `rx[1]+8`; or the word of the request.
     pub name: String,
+}
+
+impl Clone for Deviation {
+    ghost is_clone = { λ deviation copy. deviation_read copy ≡ deviation_read deviation };
+
+    /// The same deviation. Fails only if memory was refused.
+    fn clone(&self) -> Result<Deviation, AllocError> {
+        Ok(Deviation {
+            site: self.site,
+            action: self.action,
+            before: self.before,
+            name: self.name.clone()?,
+        })
+    }
 }
