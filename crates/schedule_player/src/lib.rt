@@ -3,6 +3,8 @@
 
 mod event;
 mod player;
+#[cfg(test)]
+mod readme;
 mod waiting;
 
 pub use player::Player;

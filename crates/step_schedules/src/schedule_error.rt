@@ -26,7 +26,7 @@ pub enum Fault {
     #[error("use either ROUND.ACCESS or a number after #")]
     PlaceAndNumber,
     /// Its place is ROUND.0 before an access, or another place before a request.
-    #[error("use ROUND.0 before arrive, offer, step and settle, and there alone")]
+    #[error("before arrive, offer, step or settle, use ROUND.0; before an access, count from 1")]
     RequestPlace,
     /// It has neither a place nor a number from 1.
     #[error("no place and no number: begin the line with ROUND.ACCESS, or end it with a number from 1 after #")]
