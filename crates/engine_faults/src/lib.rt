@@ -14,3 +14,4 @@ mod ring_words;
 pub use engine_fault::{Engine, EngineFault, Reason};
 pub use faults::fault_of;
 pub use laws::reasons_of_faults_hold;
+pub use ring_words::RingWords;

@@ -13,16 +13,20 @@ use descriptors::Ring;
 
 /// A ring as its registers read. Its indices may be ones that no ring has.
 #[derive(Clone, Copy)]
-pub(crate) struct RingWords {
-    pub(crate) base: u64,
-    pub(crate) bytes: u32,
-    pub(crate) head: u32,
-    pub(crate) tail: u32,
+pub struct RingWords {
+    /// The address of its first descriptor.
+    pub base: u64,
+    /// Its length in bytes.
+    pub bytes: u32,
+    /// The first descriptor that is the adapter's.
+    pub head: u32,
+    /// The first descriptor after the adapter's.
+    pub tail: u32,
 }
 
 impl RingWords {
     /// The registers of an engine's ring. Reading them changes nothing.
-    pub(crate) fn read(machine: &mut Machine, engine: Engine) -> RingWords
+    pub fn read(machine: &mut Machine, engine: Engine) -> RingWords
         ensures unchanged { machine.new ≡ machine.old }
         ensures ring { ring_from result ≡ ring_of_engine engine machine.old.world }
     {

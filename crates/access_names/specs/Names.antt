@@ -1,0 +1,99 @@
+-- The names of targets. Registers have the names of chapter 13 "Register Descriptions"; the rest is our choice.
+use Rattle.std.specs.Prelude.{◌==◌, ◌++◌, ℕ, List, [], Option, Some, None, codes, false, if◌then◌else◌}
+use Rattle.std.specs.Fmt.{decimal, digits}
+use Rattle.adapter.specs.Table.{register_at}
+use Rattle.adapter.specs.declared.register.RingRegister.{RingRegister}
+use Rattle.adapter.specs.declared.register.RingRegister.TheVariants.{BaseLow, BaseHigh, Length, Head, Tail}
+use Rattle.adapter.specs.declared.register.Register.{Register as AdapterRegister}
+use Rattle.adapter.specs.declared.register.Register.TheVariants.{Ctrl, Status, Eerd, Mdic, Vet, Icr, Ics, Ims, Imc, Rctl, Tctl}
+use Rattle.adapter.specs.declared.register.Register.TheVariants.{Pba, Receive, Transmit, Mpc, Gprc, Gptc, Rnbc, Mta, Ral, Rah, Vfta}
+use Rattle.engine_faults.specs.declared.engine_fault.Engine.{Engine}
+use Rattle.engine_faults.specs.declared.engine_fault.Engine.TheVariants as engines
+use Rattle.access_names.specs.declared.target.Target.{Target}
+use Rattle.access_names.specs.declared.target.Target.TheVariants.{Register, Descriptor, Memory}
+
+-- a text, as its bytes
+abbrev pub Text : Type 0
+Text = List ℕ
+
+-- a number in lower-case hexadecimal digits after 0x, without leading zeros
+abbrev pub hexadecimal : ℕ → Text
+hexadecimal number = codes "0x" ++ digits 16 false number
+
+-- a number in brackets
+abbrev pub bracketed : Text → Text
+bracketed number = codes "[" ++ number ++ codes "]"
+
+-- Registers.
+
+abbrev pub receive_register : RingRegister → Text
+receive_register BaseLow = codes "RDBAL"
+receive_register BaseHigh = codes "RDBAH"
+receive_register Length = codes "RDLEN"
+receive_register Head = codes "RDH"
+receive_register Tail = codes "RDT"
+
+abbrev pub transmit_register : RingRegister → Text
+transmit_register BaseLow = codes "TDBAL"
+transmit_register BaseHigh = codes "TDBAH"
+transmit_register Length = codes "TDLEN"
+transmit_register Head = codes "TDH"
+transmit_register Tail = codes "TDT"
+
+-- the name of a register, or of the array that it is part of
+abbrev pub manual_name : AdapterRegister → Text
+manual_name Ctrl = codes "CTRL"
+manual_name Status = codes "STATUS"
+manual_name Eerd = codes "EERD"
+manual_name Mdic = codes "MDIC"
+manual_name Vet = codes "VET"
+manual_name Icr = codes "ICR"
+manual_name Ics = codes "ICS"
+manual_name Ims = codes "IMS"
+manual_name Imc = codes "IMC"
+manual_name Rctl = codes "RCTL"
+manual_name Tctl = codes "TCTL"
+manual_name Pba = codes "PBA"
+manual_name (Receive part) = receive_register part
+manual_name (Transmit part) = transmit_register part
+manual_name Mpc = codes "MPC"
+manual_name Gprc = codes "GPRC"
+manual_name Gptc = codes "GPTC"
+manual_name Rnbc = codes "RNBC"
+manual_name (Mta word) = codes "MTA"
+manual_name (Ral entry) = codes "RAL"
+manual_name (Rah entry) = codes "RAH"
+manual_name (Vfta word) = codes "VFTA"
+
+-- the number of a register in its array, if it is part of one
+abbrev pub array_index : AdapterRegister → Option ℕ
+array_index (Mta word) = Some word
+array_index (Ral entry) = Some entry
+array_index (Rah entry) = Some entry
+array_index (Vfta word) = Some word
+array_index register = None
+
+abbrev pub index_text : Option ℕ → Text
+index_text (Some index) = bracketed (decimal index)
+index_text None = []
+
+-- the name of the register at this offset, if there is one
+abbrev pub register_text : Option AdapterRegister → ℕ → Text
+register_text (Some register) offset = manual_name register ++ index_text (array_index register)
+register_text None offset = codes "register" ++ bracketed (hexadecimal offset)
+
+-- Descriptors.
+
+abbrev pub ring_text : Engine → Text
+ring_text engines.Receive = codes "rx"
+ring_text engines.Transmit = codes "tx"
+
+-- the first byte has the name of its descriptor
+abbrev pub byte_text : ℕ → Text
+byte_text byte = if byte == 0 then [] else codes "+" ++ decimal byte
+
+-- the name of a target
+abbrev pub target_text : Target → Text
+target_text (Register offset) = register_text (register_at offset) offset
+target_text (Descriptor ring index byte) = ring_text ring ++ bracketed (decimal index) ++ byte_text byte
+target_text (Memory address) = hexadecimal address

@@ -1,0 +1,34 @@
+-- What is at an address in memory. Section 3.2.6 "Receive Descriptor Queue Structure" and 3.4 "Transmit Descriptor Ring
+-- Structure" define where descriptors are; that the receive ring comes first if both have the address is our choice.
+use Rattle.std.specs.Prelude.{◌&&◌, ◌+◌, ◌-◌, ◌/◌, ◌%◌, ℕ, Bool, Option, Some, None, if◌then◌else◌, nat_le, nat_lt}
+use Rattle.adapter.specs.Rings.{ring_of}
+use Rattle.adapter.specs.State.{AdapterState}
+use Rattle.descriptors.specs.declared.ring.Ring.{Ring}
+use Rattle.engine_faults.specs.declared.engine_fault.Engine.{Engine}
+use Rattle.engine_faults.specs.declared.engine_fault.Engine.TheVariants.{Receive, Transmit}
+use Rattle.access_names.specs.declared.target.Target.{Target}
+use Rattle.access_names.specs.declared.target.Target.TheVariants.{Descriptor, Memory}
+
+-- whether a descriptor of the ring has this address
+abbrev pub is_in_ring : Ring → ℕ → Bool
+is_in_ring ring address = nat_le ring.base address && nat_lt address (ring.base + ring.bytes)
+
+-- the byte of a descriptor that is this many bytes after the base of an engine's ring; a descriptor has 16 bytes
+abbrev pub descriptor_at : Engine → ℕ → Target
+descriptor_at engine distance = Descriptor engine (distance / 16) (distance % 16)
+
+-- the byte of an engine's ring that has this address, if one has
+abbrev pub target_in_ring : Engine → Ring → ℕ → Option Target
+target_in_ring engine ring address =
+    if is_in_ring ring address then Some (descriptor_at engine (address - ring.base)) else None
+
+abbrev pub or_else : Option Target → Target → Target
+or_else (Some target) other = target
+or_else None other = other
+
+-- what is at this address
+abbrev pub memory_target_in : AdapterState → ℕ → Target
+memory_target_in adapter address =
+    or_else (target_in_ring Receive (ring_of adapter.receive_ring) address)
+    (or_else (target_in_ring Transmit (ring_of adapter.transmit_ring) address)
+    (Memory address))

@@ -1,0 +1,32 @@
+//! The code of README.md, word for word.
+
+use crate::{Engine, Target, memory_target};
+use adapter::Adapter;
+use adapter::offsets::{ICR, RDBAL, RDLEN};
+use bus::Machine;
+use dma_memory::HostMemory;
+use eeprom::Image;
+use mdic_phy::Link;
+use std::test::Fail;
+
+#[test]
+fn the_code_of_the_readme(rt: HostRuntime) -> Result<(), Fail> {
+    let image = Image::with_address([0x02, 0, 0, 0, 0, 0x01]);
+    let adapter = Adapter::new(rt.alloc(), &image, Link::Never)?;
+    let mut machine = Machine::new(adapter, HostMemory::new(rt.alloc(), 4_096)?);
+    // A receive ring of eight descriptors at address 0x100.
+    machine.write(RDBAL, 0x100);
+    machine.write(RDLEN, 128);
+    let target = memory_target(&mut machine, 0x118);
+    let status = Target::Descriptor {
+        ring: Engine::Receive,
+        index: 1,
+        byte: 8,
+    };
+    assert_eq!(rt; target, status);
+    let name = target.to_string(rt.alloc())?;
+    assert_eq!(rt; name.as_str(), "rx[1]+8");
+    let name = Target::Register(ICR).to_string(rt.alloc())?;
+    assert_eq!(rt; name.as_str(), "ICR");
+    Ok(())
+}

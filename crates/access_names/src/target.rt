@@ -1,0 +1,22 @@
+// What accesses read and write.
+
+use engine_faults::Engine;
+
+/// What an access reads or writes. Its `Display` is its name.
+#[derive(Clone, Copy, Debug, PartialEq, Eq)]
+pub enum Target {
+    /// The register at this offset in bytes, such as `ICR`, `MTA[5]` or `RAL[0]`; `register[0x10]` if no register has
+    /// this offset.
+    Register(u32),
+    /// A byte of a descriptor of a ring, such as `rx[1]+8`, or `tx[0]` for the first byte.
+    Descriptor {
+        /// The engine whose ring it is.
+        ring: Engine,
+        /// The number of the descriptor in its ring, from 0.
+        index: u64,
+        /// The number of the byte in its descriptor, 0 to 15.
+        byte: u64,
+    },
+    /// The byte at this address in memory, such as `0x10000`.
+    Memory(u64),
+}
