@@ -235,6 +235,8 @@ Options:
       --rxa <N>              KB of the receive packet buffer, an even number from 2 to 48 [48]
       --seed <N>             Seed of the random steps of interleave [0]
       --missed <N>           The count of missed frames (MPC) at the start, such as 4294967294 [0]
+      --schedule <FILE>      Play this schedule instead of interleaved steps
+      --record <FILE>        Store what was played before accesses as a schedule
   -h, --help                 Print help
 
 An Intel 82540EM and the memory of its host: a driver in any language reads and writes registers and

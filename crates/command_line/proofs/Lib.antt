@@ -1,3 +1,4 @@
+pub mod Adding
 pub mod Commands
 pub mod Uses
 pub mod Values

@@ -1,6 +1,7 @@
 -- What clap holds for the words, as a job or as the value that it is refused for (our choice).
 use Rattle.std.specs.Prelude.{◌≡◌, ◌≤◌, ◌⊎◌, ◌↔◌, IfSome, IsTrue, ℕ, Bool, List, [], ◌∷◌, IsSomeAnd, Option, Some, None}
-use Rattle.std.specs.Prelude.{⊤, IsNone, IsSome, codes}
+use Rattle.std.specs.Borrow.{Bor}
+use Rattle.std.specs.Prelude.{⊤, IsNone, IsSome, codes, option_map}
 use Rattle.clap.specs.Words.{Row, Text, first_of}
 use Rattle.command_line.specs.Shape.{found_in, refusals}
 use Rattle.command_line.specs.Spelling.{IsGroup, IsKilobytes, IsLink, SpellsAddress, SpellsCount, SpellsDecimal, SpellsGroup}
@@ -31,6 +32,10 @@ IsValueOf spells _ _ = ⊥
 abbrev pub IsValueOr : {V : Type 0} → (Text → V → Type 0) → V → Option Text → V → Type 0
 IsValueOr spells default None value = value ≡ default
 IsValueOr spells default (Some text) value = spells text value
+
+-- an option's text itself, and none exactly where the option isn't there
+abbrev pub IsTextOf : Option Text → Option (Bor Text) → Type 0
+IsTextOf text value = text ≡ option_map (λ value. value.now) value
 
 -- clap's text for a flag is "true" exactly if the flag is in the words
 abbrev pub IsFlagOf : Option Text → Bool → Type 0
@@ -71,6 +76,8 @@ pub record IsServeJobOf (rows : List Row) (job : ServeJob) : Type 0 where
   pub kilobytes : IsValueOr SpellsKilobytes 48 (first_of (codes "rxa") rows) job.receive_kilobytes
   pub seed : IsValueOr SpellsDecimal 0 (first_of (codes "seed") rows) job.seed
   pub missed : IsValueOr SpellsCount 0 (first_of (codes "missed") rows) job.missed
+  pub schedule : IsTextOf (first_of (codes "schedule") rows) job.schedule
+  pub «record» : IsTextOf (first_of (codes "record") rows) job.«record»
 
 -- each option of a `drive` has the value of its text, or its default, and both traces are there
 pub record IsDriveJobOf (rows : List Row) (job : DriveJob) : Type 0 where

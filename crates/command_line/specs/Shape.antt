@@ -38,13 +38,14 @@ run_app =
 unfoldable pub show_app : App
 show_app = with_rule (new_app (codes "show")) (file_rule (codes "TRACE"))
 
--- `serve [--memory BYTES] [--registers ADDRESS] [--address A] [--image FILE] [--link N|never] [--rxa N] [--seed N] [--missed N]`
+-- `serve [--memory BYTES] [--registers ADDRESS] [--address A] [--image FILE] [--link N|never] [--rxa N] [--seed N] [--missed N]
+-- [--schedule FILE] [--record FILE]`
 unfoldable pub serve_app : App
 serve_app =
-    with_rule (with_rule (with_rule (with_rule (with_rule (with_rule (with_rule (with_rule (new_app (codes "serve"))
+    with_rule (with_rule (with_rule (with_rule (with_rule (with_rule (with_rule (with_rule (with_rule (with_rule (new_app (codes "serve"))
     (option_rule (codes "memory"))) (option_rule (codes "registers"))) (option_rule (codes "address")))
     (option_rule (codes "image"))) (option_rule (codes "link"))) (option_rule (codes "rxa"))) (option_rule (codes "seed")))
-    (option_rule (codes "missed"))
+    (option_rule (codes "missed"))) (option_rule (codes "schedule"))) (option_rule (codes "record"))
 
 -- `drive [--registers ADDRESS] [--memory BYTES] [--expect N] [--idle N] --send IN --receive OUT`
 unfoldable pub drive_app : App

@@ -1,16 +1,17 @@
 //! The commands of the program, built with clap.
-ghost use Rattle.std.specs.Prelude.{◌≡◌, IfOk, IsOkAnd, false, map};
-ghost use Rattle.clap.specs.Words.{app_of, rule_of, with_subcommand};
+ghost use Rattle.std.specs.Prelude.{◌≡◌, IfOk, false, map};
+ghost use Rattle.std.specs.List.{All};
+ghost use Rattle.clap.specs.Words.{app_of, rule_of};
 ghost use Rattle.clap.specs.declared.builder.command.Command.TheViews.{out-Command as fields_of};
-ghost use Rattle.command_line.specs.Arguments.{rule_for, with_rules};
+ghost use Rattle.command_line.specs.Arguments.{app_for, rule_for};
 ghost use Rattle.command_line.specs.Shape.{drive_app, file_rule, flag_rule, option_rule, pass_app, program_app};
 ghost use Rattle.command_line.specs.Shape.{required_rule, run_app, serve_app, show_app};
 
 use crate::help::{
     ADDRESS_HELP, DRIVE_ABOUT, DRIVE_MEMORY_HELP, DRIVE_NOTE, EEPROM_ADDRESS_HELP, EXPECT_HELP,
     GROUP_HELP, IDLE_HELP, IMAGE_HELP, LINK_HELP, MEMORY_HELP, MISSED_HELP, PASS_ABOUT, PASS_NOTE,
-    PROGRAM_NOTE, REGISTERS_HELP, RUN_ABOUT, RUN_NOTE, RXA_HELP, SEED_HELP, SERVE_ABOUT,
-    SERVE_NOTE, SHOW_ABOUT, SHOW_NOTE, VERSION, VLAN_HELP, WIRES_HELP,
+    PROGRAM_NOTE, RECORD_HELP, REGISTERS_HELP, RUN_ABOUT, RUN_NOTE, RXA_HELP, SCHEDULE_HELP,
+    SEED_HELP, SERVE_ABOUT, SERVE_NOTE, SHOW_ABOUT, SHOW_NOTE, VERSION, VLAN_HELP, WIRES_HELP,
 };
 use clap::{Arg, ArgAction, Command};
 use std::alloc::{AllocError, Global};
@@ -26,6 +27,17 @@ enum Argument<'a> {
     Required(&'a str, &'a str, &'a str),
     /// A file, which is required: its name and its help.
     File(&'a str, &'a str),
+}
+
+/// A subcommand of the program.
+#[derive(Clone, Copy)]
+struct Subcommand<'a> {
+    name: &'a str,
+    /// What it does.
+    about: &'a str,
+    /// The text of its help after its options.
+    note: &'a str,
+    arguments: &'a [Argument<'a>],
 }
 
 /// An option `--NAME VALUE`, which may be used once.
@@ -83,30 +95,43 @@ fn clap_argument<'a>(alloc: Global, argument: &Argument<'a>) -> Arg<'a>
     }
 }
 
-/// The command with these arguments added.
-fn with_arguments<'a>(
-    alloc: Global,
-    command: Command<'a>,
-    arguments: &[Argument<'a>],
-) -> Result<Command<'a>, AllocError>
-    requires { (fields_of command).has_globals ≡ false }
-    ensures app { IfOk result
-        (λ more. app_of more ≡ with_rules (app_of command.entry) (map rule_for arguments.now)) }
-    ensures local { IfOk result (λ more. (fields_of more).has_globals ≡ false) }
+/// Arguments in the form that clap takes.
+fn clap_arguments<'a>(alloc: Global, arguments: &[Argument<'a>]) -> Result<Vec<Arg<'a>>, AllocError>
+    ensures rules { IfOk result (λ args. map rule_of args.items ≡ map rule_for arguments.now) }
+    ensures local { IfOk result (λ args. All (λ arg. arg.global ≡ false) args.items) }
 {
-    let mut command = command;
+    let mut args = Vec::new(alloc);
     for argument in arguments {
-        command = command.arg(clap_argument(alloc, argument))?;
+        args.push(clap_argument(alloc, argument))?;
     }
-    Ok(command)
+    Ok(args)
 }
 
-/// The command with the texts of its help: what it does, and what follows its options.
-fn described<'a>(command: Command<'a>, about: &'a str, note: &'a str) -> Command<'a>
-    ensures app { app_of result ≡ app_of command.entry }
-    ensures local { (fields_of result).has_globals ≡ (fields_of command.entry).has_globals }
+/// A subcommand in the form that clap takes.
+fn clap_command<'a>(alloc: Global, subcommand: &Subcommand<'a>) -> Result<Command<'a>, AllocError>
+    ensures app { IfOk result (λ command. app_of command ≡ app_for subcommand.now) }
+    ensures local { IfOk result (λ command. (fields_of command).has_globals ≡ false) }
 {
-    command.about(about).after_help(note)
+    let arguments = clap_arguments(alloc, subcommand.arguments)?;
+    Command::new(alloc, subcommand.name)
+        .about(subcommand.about)
+        .after_help(subcommand.note)
+        .args(arguments)
+}
+
+/// Subcommands in the form that clap takes.
+fn clap_commands<'a>(
+    alloc: Global,
+    subcommands: &[Subcommand<'a>],
+) -> Result<Vec<Command<'a>>, AllocError>
+    ensures apps { IfOk result (λ commands. map app_of commands.items ≡ map app_for subcommands.now) }
+    ensures local { IfOk result (λ commands. All (λ command. (fields_of command).has_globals ≡ false) commands.items) }
+{
+    let mut commands = Vec::new(alloc);
+    for subcommand in subcommands {
+        commands.push(clap_command(alloc, subcommand)?)?;
+    }
+    Ok(commands)
 }
 
 const PASS_ARGUMENTS: [Argument<'static>; 5] = [
@@ -121,12 +146,15 @@ const PASS_ARGUMENTS: [Argument<'static>; 5] = [
 ];
 
 /// `pass [--address A] [--group G] [--vlan N] IN OUT`.
-fn pass_command<'a>(alloc: Global) -> Result<Command<'a>, AllocError>
-    ensures app { IfOk result (λ command. app_of command ≡ pass_app) }
-    ensures local { IfOk result (λ command. (fields_of command).has_globals ≡ false) }
+fn pass<'a>() -> Subcommand<'a>
+    ensures { app_for result ≡ pass_app }
 {
-    let pass = described(Command::new(alloc, "pass"), PASS_ABOUT, PASS_NOTE);
-    with_arguments(alloc, pass, &PASS_ARGUMENTS)
+    Subcommand {
+        name: "pass",
+        about: PASS_ABOUT,
+        note: PASS_NOTE,
+        arguments: &PASS_ARGUMENTS,
+    }
 }
 
 const RUN_ARGUMENTS: [Argument<'static>; 3] = [
@@ -139,12 +167,15 @@ const RUN_ARGUMENTS: [Argument<'static>; 3] = [
 ];
 
 /// `run [--wires] SCENARIO OUTDIR`.
-fn run_command<'a>(alloc: Global) -> Result<Command<'a>, AllocError>
-    ensures app { IfOk result (λ command. app_of command ≡ run_app) }
-    ensures local { IfOk result (λ command. (fields_of command).has_globals ≡ false) }
+fn run<'a>() -> Subcommand<'a>
+    ensures { app_for result ≡ run_app }
 {
-    let run = described(Command::new(alloc, "run"), RUN_ABOUT, RUN_NOTE);
-    with_arguments(alloc, run, &RUN_ARGUMENTS)
+    Subcommand {
+        name: "run",
+        about: RUN_ABOUT,
+        note: RUN_NOTE,
+        arguments: &RUN_ARGUMENTS,
+    }
 }
 
 const SHOW_ARGUMENTS: [Argument<'static>; 1] = [Argument::File(
@@ -153,15 +184,18 @@ const SHOW_ARGUMENTS: [Argument<'static>; 1] = [Argument::File(
 )];
 
 /// `show TRACE`.
-fn show_command<'a>(alloc: Global) -> Result<Command<'a>, AllocError>
-    ensures app { IfOk result (λ command. app_of command ≡ show_app) }
-    ensures local { IfOk result (λ command. (fields_of command).has_globals ≡ false) }
+fn show<'a>() -> Subcommand<'a>
+    ensures { app_for result ≡ show_app }
 {
-    let show = described(Command::new(alloc, "show"), SHOW_ABOUT, SHOW_NOTE);
-    with_arguments(alloc, show, &SHOW_ARGUMENTS)
+    Subcommand {
+        name: "show",
+        about: SHOW_ABOUT,
+        note: SHOW_NOTE,
+        arguments: &SHOW_ARGUMENTS,
+    }
 }
 
-const SERVE_ARGUMENTS: [Argument<'static>; 8] = [
+const SERVE_ARGUMENTS: [Argument<'static>; 10] = [
     Argument::Value("memory", "BYTES", MEMORY_HELP),
     Argument::Value("registers", "ADDRESS", REGISTERS_HELP),
     Argument::Value("address", "A", EEPROM_ADDRESS_HELP),
@@ -170,16 +204,21 @@ const SERVE_ARGUMENTS: [Argument<'static>; 8] = [
     Argument::Value("rxa", "N", RXA_HELP),
     Argument::Value("seed", "N", SEED_HELP),
     Argument::Value("missed", "N", MISSED_HELP),
+    Argument::Value("schedule", "FILE", SCHEDULE_HELP),
+    Argument::Value("record", "FILE", RECORD_HELP),
 ];
 
 /// `serve [--memory BYTES] [--registers ADDRESS] [--address A | --image FILE] [--link N|never] [--rxa N] [--seed N]
-/// [--missed N]`.
-fn serve_command<'a>(alloc: Global) -> Result<Command<'a>, AllocError>
-    ensures app { IfOk result (λ command. app_of command ≡ serve_app) }
-    ensures local { IfOk result (λ command. (fields_of command).has_globals ≡ false) }
+/// [--missed N] [--schedule FILE] [--record FILE]`.
+fn serve<'a>() -> Subcommand<'a>
+    ensures { app_for result ≡ serve_app }
 {
-    let serve = described(Command::new(alloc, "serve"), SERVE_ABOUT, SERVE_NOTE);
-    with_arguments(alloc, serve, &SERVE_ARGUMENTS)
+    Subcommand {
+        name: "serve",
+        about: SERVE_ABOUT,
+        note: SERVE_NOTE,
+        arguments: &SERVE_ARGUMENTS,
+    }
 }
 
 const DRIVE_ARGUMENTS: [Argument<'static>; 6] = [
@@ -196,26 +235,15 @@ const DRIVE_ARGUMENTS: [Argument<'static>; 6] = [
 ];
 
 /// `drive [--registers ADDRESS] [--memory BYTES] [--expect N] [--idle N] --send IN --receive OUT`.
-fn drive_command<'a>(alloc: Global) -> Result<Command<'a>, AllocError>
-    ensures app { IfOk result (λ command. app_of command ≡ drive_app) }
-    ensures local { IfOk result (λ command. (fields_of command).has_globals ≡ false) }
+fn drive<'a>() -> Subcommand<'a>
+    ensures { app_for result ≡ drive_app }
 {
-    let drive = described(Command::new(alloc, "drive"), DRIVE_ABOUT, DRIVE_NOTE);
-    with_arguments(alloc, drive, &DRIVE_ARGUMENTS)
-}
-
-/// The program with one more command, if there was memory for both.
-fn with_command<'a>(
-    program: Result<Command<'a>, AllocError>,
-    command: Result<Command<'a>, AllocError>,
-) -> Result<Command<'a>, AllocError>
-    requires program { IfOk program (λ program. (fields_of program).has_globals ≡ false) }
-    requires command { IfOk command (λ command. (fields_of command).has_globals ≡ false) }
-    ensures app { IfOk result (λ more. IsOkAnd program.entry (λ program. IsOkAnd command.entry
-        (λ command. app_of more ≡ with_subcommand (app_of program) (app_of command).top))) }
-    ensures local { IfOk result (λ more. (fields_of more).has_globals ≡ false) }
-{
-    program?.subcommand(command?)
+    Subcommand {
+        name: "drive",
+        about: DRIVE_ABOUT,
+        note: DRIVE_NOTE,
+        arguments: &DRIVE_ARGUMENTS,
+    }
 }
 
 /// The command line of the program.
@@ -224,13 +252,13 @@ pub(crate) fn program<'a>(alloc: Global) -> Result<Command<'a>, AllocError>
     ensures local { IfOk result (λ command. (fields_of command).has_globals ≡ false) }
 {
     let about = "A bench for a driver of the Intel 82540EM and a model of that adapter";
-    let bare = described(Command::new(alloc, "nicbench"), about, PROGRAM_NOTE)
+    let subcommands = [pass(), run(), show(), serve(), drive()];
+    let subcommands = clap_commands(alloc, &subcommands)?;
+    Command::new(alloc, "nicbench")
+        .about(about)
+        .after_help(PROGRAM_NOTE)
         .version(VERSION)
         .subcommand_required(true)
-        .arg_required_else_help(true);
-    let with_pass = with_command(Ok(bare), pass_command(alloc));
-    let with_run = with_command(with_pass, run_command(alloc));
-    let with_show = with_command(with_run, show_command(alloc));
-    let with_serve = with_command(with_show, serve_command(alloc));
-    with_command(with_serve, drive_command(alloc))
+        .arg_required_else_help(true)
+        .subcommands(subcommands)
 }

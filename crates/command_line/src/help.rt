@@ -175,6 +175,10 @@ pub(crate) const SEED_HELP: &str = "Seed of the random steps of interleave [0]";
 pub(crate) const MISSED_HELP: &str =
     "The count of missed frames (MPC) at the start, such as 4294967294 [0]";
 
+pub(crate) const SCHEDULE_HELP: &str = "Play this schedule instead of interleaved steps";
+
+pub(crate) const RECORD_HELP: &str = "Store what was played before accesses as a schedule";
+
 pub(crate) const SERVE_NOTE: &str =
     "An Intel 82540EM and the memory of its host: a driver in any language reads and writes registers and
 memory through a pipe. A request is a line on standard input. Its answer is a line on standard output,

@@ -56,7 +56,7 @@ pub struct PassFilter {
 }
 
 /// The job of `serve [--memory BYTES] [--registers ADDRESS] [--address A | --image FILE] [--link N|never] [--rxa N]
-/// [--seed N] [--missed N]`. Each option that isn't given has its default here.
+/// [--seed N] [--missed N] [--schedule FILE] [--record FILE]`. Each option that isn't given has its default here.
 #[derive(Clone, Copy, Debug, PartialEq, Eq)]
 pub struct ServeJob<'a> {
     /// How many bytes of memory there are, from address 0 on (`--memory`, 1 MiB).
@@ -73,6 +73,10 @@ pub struct ServeJob<'a> {
     pub seed: u64,
     /// The count of missed frames (MPC) that the adapter begins with (`--missed`, 0).
     pub missed: u32,
+    /// The path of the schedule that is played (`--schedule`, none).
+    pub schedule: Option<&'a str>,
+    /// The path of the file that a schedule of what was played is stored in (`--record`, none).
+    pub record: Option<&'a str>,
 }
 
 /// The job of `drive [--registers ADDRESS] [--memory BYTES] [--expect N] [--idle N] --send IN --receive OUT`. Addresses

@@ -136,6 +136,8 @@ pub(crate) fn serve_job<'a>(matches: &ArgMatches<'a>) -> Result<ServeJob<'a>, In
     let receive_kilobytes = kilobytes(matches)?;
     let seed = seed(matches)?;
     let missed = missed(matches)?;
+    let schedule = matches.get_str("schedule");
+    let record = matches.get_str("record");
     Ok(ServeJob {
         memory,
         registers,
@@ -144,5 +146,7 @@ pub(crate) fn serve_job<'a>(matches: &ArgMatches<'a>) -> Result<ServeJob<'a>, In
         receive_kilobytes,
         seed,
         missed,
+        schedule,
+        record,
     })
 }

@@ -3,7 +3,7 @@ use Rattle.std.proofs.Common.{arith, codes, refl}
 use Rattle.command_line.specs.Spelling.{IsKilobytes, IsLink, SpellsKilobytes, SpellsLink}
 use Rattle.command_line.specs.declared.job.ServeLink.{ServeLink}
 use Rattle.command_line.specs.declared.job.ServeLink.TheVariants.{After, Never}
-use Rattle.command_line.proofs.Values.{of_given_or_default}
+use Rattle.command_line.proofs.Values.{of_given_or_default, text_of}
 use Rattle.command_line.proofs.serve.serve_job.Goals as goal
 
 default_kilobytes : IsKilobytes 48
@@ -25,3 +25,18 @@ returns-clause-bounds c =
       of_given_or_default SpellsLink (After 1) IsLink default_link spelled_link (first_of (codes "link") rows) c.in_ok-link.link
           c.in_ok-link.ensures.value,
     )
+
+pub returns-clause-job : goal.returns-clause-job
+returns-clause-job c =
+    let found = found_of c.args.matches.now in
+    record {
+      memory = c.in_ok-memory.ensures.value;
+      registers = c.in_ok-registers.ensures.value;
+      image = c.in_ok-image.ensures.value;
+      link = c.in_ok-link.ensures.value;
+      kilobytes = c.in_ok-receive_kilobytes.ensures.value;
+      seed = c.in_ok-seed.ensures.value;
+      missed = c.in_ok-missed.ensures.value;
+      schedule = text_of found (codes "schedule") c.get_str-schedule.result c.get_str-schedule.ensures;
+      «record» = text_of found (codes "record") c.get_str-record.result c.get_str-record.ensures;
+    }
