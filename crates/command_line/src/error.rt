@@ -37,7 +37,7 @@ For more information, try '--help'.
 ";
 
 /// A value that isn't of its option's form, or can't be used with another option.
-#[derive(Clone, Copy, Debug, PartialEq, Eq)]
+#[derive(Clone, Copy, Debug)]
 pub struct InvalidValue<'a> {
     /// The option that it was given for.
     pub option: ValueOption,

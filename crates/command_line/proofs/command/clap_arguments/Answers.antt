@@ -12,5 +12,6 @@ loop-argument-preserved c =
     record {
       rules = one_more rule_of rule_for before after argument c.args.arguments.now c.loop-argument.argument-index _ (omega arith)
           c.in_ok-push.ensures.items c.clap_argument.ensures.rule c.loop-argument.invariant.rules;
-      local = all_more IsLocalArg before after argument c.in_ok-push.ensures.items c.loop-argument.invariant.local c.clap_argument.ensures.local;
+      local = all_more IsLocalArg before after argument c.in_ok-push.ensures.items c.loop-argument.invariant.local
+          c.clap_argument.ensures.local;
     }
