@@ -1,7 +1,8 @@
-ghost use Rattle.std.specs.Prelude.{◌≡◌, false};
+ghost use Rattle.std.specs.Prelude.{◌≡◌, false, fold};
 ghost use Rattle.eeprom.specs.declared.eerd.ReadState.TheVariants.{Idle};
 
 use crate::Image;
+use std::hash::Hasher;
 use std::marker::Model;
 
 /// START, bit 0: a write with it begins a read.
@@ -15,6 +16,13 @@ const ADDR_SHIFT: u32 = 8;
 
 /// The lowest bit of DATA, bits 31:16.
 const DATA_SHIFT: u32 = 16;
+
+/// The bytes that stand for the states of a read in a hash.
+const IDLE_TAG: u8 = 0;
+
+const PENDING_TAG: u8 = 1;
+
+const DONE_TAG: u8 = 2;
 
 /// How far the read stands that EERD was asked for.
 #[derive(Clone, Copy, Debug, PartialEq, Eq)]
@@ -49,6 +57,7 @@ impl Model for Eerd {
 impl Eerd {
     ghost use Rattle.eeprom.specs.declared.eerd.ReadState.TheVariants.{Idle};
     ghost use Rattle.eeprom.specs.Eerd.{after_tick, after_write, is_pending, shown};
+    ghost use Rattle.eeprom.specs.Hashed.{eerd_writes};
 
     /// A register that was not asked for anything: it reads 0.
     pub fn new() -> Self
@@ -104,6 +113,24 @@ impl Eerd {
         };
         self.state = ReadState::Done(address, image.word(address));
         true
+    }
+
+    /// Feeds the whole state of the register to a hasher. Equal registers feed the same bytes.
+    pub fn feed<H: Hasher>(&self, hasher: &mut H)
+        ensures { hasher.new ≡ fold H.write hasher.old (eerd_writes self.now) }
+    {
+        match self.state {
+            ReadState::Idle => hasher.write_u8(IDLE_TAG),
+            ReadState::Pending(address) => {
+                hasher.write_u8(PENDING_TAG);
+                hasher.write_u8(address);
+            }
+            ReadState::Done(address, word) => {
+                hasher.write_u8(DONE_TAG);
+                hasher.write_u8(address);
+                hasher.write_u16(word);
+            }
+        }
     }
 }
 

@@ -1,5 +1,5 @@
 -- What stands in the places of a queue, after a frame is written behind the others and after the first is dropped.
-use Rattle.std.proofs.Common.{◌≡◌, ◌≤◌, ◌<◌, ◌+◌, ◌-◌, ◌*◌, ◌⊎◌, inl, inr, ◌++◌, ◌∷◌, [], ℕ, suc, List, length, take, drop}
+use Rattle.std.proofs.Common.{◌≡◌, ◌≤◌, ◌<◌, ◌+◌, ◌-◌, ◌*◌, ◌⊎◌, inl, inr, ◌++◌, ◌∷◌, [], ℕ, zero, suc, List, length, take, drop}
 use Rattle.std.proofs.Common.{All, refl, sym, ap}
 use Rattle.std.proofs.Common.{◌∙◌, arith}
 use Rattle.std.proofs.lemmas.Bool.{cond_below, cond_above}
@@ -100,6 +100,20 @@ slice_get-frames_from bytes c p n [] below is = absurd (cc)
 slice_get-frames_from bytes c p n (m ∷ ns) below is =
     let same : m ≡ n = cc in
     rw (wrapped-below c p below, same) refl
+
+-- The frame at an index stands so many places behind the first.
+pub slice_get-frames_from-at : (bytes : List ℕ) (c p i n : ℕ) (ns : List ℕ) → slice_get ns i ≡ Some n
+    → slice_get (frames_from bytes c p ns) i ≡ Some (take n (drop (wrapped c (p + i) * 1518) bytes))
+unfolding frames_from
+slice_get-frames_from-at bytes c p i n [] is = absurd (cc)
+slice_get-frames_from-at bytes c p zero n (m ∷ ns) is =
+    let same : m ≡ n = cc in
+    let here : p ≡ p + 0 = omega arith in
+    rw (same, ← here) refl
+slice_get-frames_from-at bytes c p (suc i) n (m ∷ ns) is =
+    let here : p + 1 + i ≡ p + suc i = omega arith in
+    slice_get-frames_from-at bytes c (p + 1) i n ns is
+    ∙ ap (λ (q : ℕ). Some (take n (drop (wrapped c q * 1518) bytes))) here
 
 -- Without the first length the frames are those behind the first.
 pub frames_from-drop : (bytes : List ℕ) (c p : ℕ) (ns : List ℕ) → p < c → length ns ≤ c

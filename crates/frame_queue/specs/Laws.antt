@@ -1,6 +1,9 @@
--- A lemma on queues of a fixed room, for proofs of this crate and of those above it.
-use Rattle.std.proofs.Common.{◌≡◌, ◌<◌, ◌-◌, ◌++◌, ◌∷◌, [], ℕ, List, length, drop, ap, arith}
-use Rattle.std.proofs.lemmas.List.{length-append}
+-- Lemmas on queues of a fixed room and on what items feed to a hasher, for proofs of this crate and of those above it.
+use Rattle.std.proofs.Common.{◌≡◌, ◌<◌, ◌+◌, ◌-◌, ◌++◌, ◌∷◌, [], ℕ, List, length, drop, take, get_or, flat_map, fold, ap, ◌∙◌, arith}
+use Rattle.std.proofs.lemmas.List.{length-append, take_more}
+use Rattle.std.proofs.lemmas.List.Sums.{fold-append}
+use Rattle.std.proofs.lemmas.Grind.{flat_map-append}
+use Rattle.std.specs.Hash.{HashWrites}
 use Rattle.circular_buffer.specs.Buffer.{keep_last}
 
 -- One item more, where there is room, leaves all.
@@ -9,3 +12,13 @@ pub keep_last-room : {A : Type 0} (items : List A) (capacity : ℕ) (item : A) �
 keep_last-room items capacity item room =
     let none : length (items ++ item ∷ []) - capacity ≡ 0 = omega (arith, length-append items (item ∷ [])) in
     ap (λ (n : ℕ). drop n (items ++ item ∷ [])) none
+
+-- One item more feeds its writes after those of the items before it.
+pub fed-more : {S A : Type 0} (write : S → List ℕ → S) (writes : A → HashWrites) (s : S) (items : List A) (i : ℕ) (item : A)
+    → i < length items → get_or items i item ≡ item
+    → fold write s (flat_map writes (take (i + 1) items)) ≡ fold write (fold write s (flat_map writes (take i items))) (writes item)
+fed-more write writes s items i item below here =
+    let one_more = take_more items i item below ∙ ap (λ x. take i items ++ x ∷ []) here in
+    let all = ap (flat_map writes) one_more ∙ flat_map-append writes (take i items) (item ∷ []) in
+    ap (fold write s) all ∙ fold-append write s (flat_map writes (take i items)) (writes item ++ [])
+    ∙ fold-append write (fold write s (flat_map writes (take i items))) (writes item) []

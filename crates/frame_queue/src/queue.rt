@@ -1,11 +1,13 @@
+ghost use Rattle.frame_queue.specs.Hashed.{frames_writes};
 ghost use Rattle.frame_queue.specs.Wrapping.{wrapped};
 ghost use Rattle.std.specs.Prelude.{◌≡◌, ◌+◌, ◌-◌, ◌<◌, ◌≤◌, ◌↔◌, [], ◌∷◌, ◌++◌, drop, length};
-ghost use Rattle.std.specs.Prelude.{replicate, slice_get, take};
-ghost use Rattle.std.specs.Prelude.{IsTrue, IsNone, IfSome, IfOk};
+ghost use Rattle.std.specs.Prelude.{fold, replicate, slice_get, take};
+ghost use Rattle.std.specs.Prelude.{Some, IsTrue, IsNone, IfSome, IfOk};
 
 use crate::buffers::copy_of;
 use circular_buffer::HeapCircularBuffer;
 use std::alloc::{AllocError, Global};
+use std::hash::Hasher;
 use std::marker::Model;
 
 /// The room for one frame in bytes, the most that a legal frame has (IEEE 802.3, 4.4.2, with a VLAN tag and without
@@ -151,6 +153,30 @@ impl FrameQueue {
         ensures { self.new ≡ record self.old { frames = [] } }
     {
         self.lengths.clear();
+    }
+
+    /// The frame with this index, without a copy. The oldest frame has index 0.
+    fn frame_at(&self, index: usize) -> &[u8]
+        requires { index < length self.now.frames }
+        ensures { slice_get self.now.frames index ≡ Some result.now }
+    {
+        let length = usize::from(*self.lengths.get(index).unwrap());
+        let place = wrap(usize::from(self.first) + index, self.lengths.capacity());
+        let start = place * PLACE_BYTES;
+        &self.bytes.as_slice()[start..start + length]
+    }
+
+    /// Feeds the frames to a hasher, the oldest first. Queues with the same frames feed the same bytes.
+    pub fn feed<H: Hasher>(&self, hasher: &mut H)
+        ensures { hasher.new ≡ fold H.write hasher.old (frames_writes self.now.frames) }
+    {
+        let count = usize::from(self.len());
+        hasher.write_usize(count);
+        for index in 0..count {
+            let frame = self.frame_at(index);
+            hasher.write_usize(frame.len());
+            hasher.write(frame);
+        }
     }
 }
 

@@ -6,3 +6,4 @@ pub mod MdicHistory
 pub mod WriteLaws
 pub mod PhyLaws
 pub mod MdicLaws
+pub mod Hashed

@@ -1,7 +1,8 @@
-ghost use Rattle.std.specs.Prelude.{◌≡◌};
+ghost use Rattle.std.specs.Prelude.{◌≡◌, fold};
 ghost use Rattle.mdic_phy.specs.Mdic.{ended_phy, ended_value, with_data};
 
 use crate::Phy;
+use std::hash::Hasher;
 use std::marker::Model;
 
 /// DATA, bits 15:0.
@@ -41,6 +42,13 @@ const KEPT: u32 = 0x2FFF_FFFF;
 /// The address of the PHY.
 const PHY_ADDRESS: u32 = 1;
 
+/// The bytes that stand for the pending command in a hash.
+const NO_COMMAND_TAG: u8 = 0;
+
+const WRITE_TAG: u8 = 1;
+
+const READ_TAG: u8 = 2;
+
 /// What a command asks of the PHY.
 #[derive(Clone, Copy, Debug, PartialEq, Eq)]
 pub enum Operation {
@@ -79,6 +87,7 @@ impl Model for Mdic {
 }
 
 impl Mdic {
+    ghost use Rattle.mdic_phy.specs.Hashed.{mdic_writes};
     ghost use Rattle.mdic_phy.specs.Mdic.{after_write, has_work, mdic_after_tick, new_mdic, phy_after_tick, told};
 
     /// A register without a command: it reads 0.
@@ -145,6 +154,18 @@ impl Mdic {
             link_changed,
             access_complete,
         })
+    }
+
+    /// Feeds the whole state of the register to a hasher. Equal registers feed the same bytes.
+    pub fn feed<H: Hasher>(&self, hasher: &mut H)
+        ensures { hasher.new ≡ fold H.write hasher.old (mdic_writes self.now) }
+    {
+        hasher.write_u32(self.value);
+        hasher.write_u8(match self.pending {
+            None => NO_COMMAND_TAG,
+            Some(Operation::Write) => WRITE_TAG,
+            Some(Operation::Read) => READ_TAG,
+        });
     }
 }
 

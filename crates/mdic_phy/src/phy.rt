@@ -1,7 +1,9 @@
-ghost use Rattle.std.specs.Prelude.{◌≡◌, true, false};
+ghost use Rattle.std.specs.Prelude.{◌≡◌, true, false, fold};
+ghost use Rattle.mdic_phy.specs.Hashed.{link_writes, negotiation_writes};
 
 use crate::bits::{Control, Status};
 use bitflags::Flags;
+use std::hash::{Hash, Hasher};
 use std::marker::Model;
 
 /// The place of the control register (IEEE 802.3, 22.2.4.1).
@@ -17,6 +19,18 @@ const IDENTIFIER_LOW: u8 = 3;
 
 /// What the identifier registers read.
 const IDENTIFIERS: [u16; 2] = [0x0141, 0x0C20];
+
+/// The bytes that stand for the kinds of links in a hash.
+const AFTER_TAG: u8 = 0;
+
+const NEVER_TAG: u8 = 1;
+
+/// The bytes that stand for the states of negotiation in a hash.
+const NOT_STARTED_TAG: u8 = 0;
+
+const RUNNING_TAG: u8 = 1;
+
+const COMPLETE_TAG: u8 = 2;
 
 /// When the link of a PHY comes up, once negotiation was started.
 #[derive(Clone, Copy, Debug, PartialEq, Eq)]
@@ -73,6 +87,7 @@ impl Model for Phy {
 
 impl Phy {
     ghost use Rattle.mdic_phy.specs.Phy.{new_phy, after_write, after_read, after_tick, read_value, link_is_up};
+    ghost use Rattle.mdic_phy.specs.Hashed.{phy_writes};
     ghost use Rattle.mdic_phy.specs.Phy.{comes_up, is_counting};
 
     /// A PHY without link, whose negotiation was not started. Its link comes up as `link` says.
@@ -143,6 +158,43 @@ impl Phy {
         }
         self.negotiation = Negotiation::Complete;
         true
+    }
+
+    /// Feeds the whole state of the PHY to a hasher. Equal PHYs feed the same bytes.
+    pub fn feed<H: Hasher>(&self, hasher: &mut H)
+        ensures { hasher.new ≡ fold H.write hasher.old (phy_writes self.now) }
+    {
+        self.negotiation_enabled.hash(hasher);
+        self.latched_low.hash(hasher);
+        feed_link(self.link, hasher);
+        feed_negotiation(self.negotiation, hasher);
+    }
+}
+
+/// Feeds the kind of a link to a hasher.
+fn feed_link<H: Hasher>(link: Link, hasher: &mut H)
+    ensures { hasher.new ≡ fold H.write hasher.old (link_writes link) }
+{
+    match link {
+        Link::After(ticks) => {
+            hasher.write_u8(AFTER_TAG);
+            hasher.write_u16(ticks);
+        }
+        Link::Never => hasher.write_u8(NEVER_TAG),
+    }
+}
+
+/// Feeds the state of negotiation to a hasher.
+fn feed_negotiation<H: Hasher>(negotiation: Negotiation, hasher: &mut H)
+    ensures { hasher.new ≡ fold H.write hasher.old (negotiation_writes negotiation) }
+{
+    match negotiation {
+        Negotiation::NotStarted => hasher.write_u8(NOT_STARTED_TAG),
+        Negotiation::Running(ticks) => {
+            hasher.write_u8(RUNNING_TAG);
+            hasher.write_u16(ticks);
+        }
+        Negotiation::Complete => hasher.write_u8(COMPLETE_TAG),
     }
 }
 

@@ -1,0 +1,11 @@
+-- What the frames of a queue feed to a hasher (our choice).
+use Rattle.std.specs.Prelude.{◌++◌, ◌∷◌, [], ℕ, List, length}
+use Rattle.std.specs.Hash.{HashWrites, slice, usize}
+
+-- its length, and then its bytes
+abbrev pub frame_writes : List ℕ → HashWrites
+frame_writes frame = usize (length frame) ++ frame ∷ []
+
+-- how many frames there are, and then each frame, the oldest first
+abbrev pub frames_writes : List (List ℕ) → HashWrites
+frames_writes frames = slice frame_writes frames
