@@ -110,4 +110,11 @@ impl HostMemory {
         let start = address as usize;
         Ok(&self.bytes.as_slice()[start..start + count])
     }
+
+    /// All bytes of the memory, without a copy.
+    pub fn as_slice(&self) -> &[u8]
+        ensures { result.now ≡ self.now }
+    {
+        self.bytes.as_slice()
+    }
 }
