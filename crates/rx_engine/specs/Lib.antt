@@ -3,6 +3,7 @@ pub mod Arriving
 pub mod Descriptors
 pub mod FilterLaws
 pub mod Finishing
+pub mod Hashed
 pub mod Held
 pub mod Inside
 pub mod Laws

@@ -1,11 +1,13 @@
 // What the receive engine holds.
 
-ghost use Rattle.std.specs.Prelude.{◌≡◌, ◌<◌, ◌≤◌, ◌↔◌, [], ◌∷◌, ◌++◌, true, false, drop, length, option_copied};
+ghost use Rattle.std.specs.Prelude.{◌≡◌, ◌<◌, ◌≤◌, ◌↔◌, [], ◌∷◌, ◌++◌, true, false, drop, fold, length, option_copied};
 ghost use Rattle.std.specs.Prelude.{IsSome};
 ghost use Rattle.std.specs.Prelude.{IfSome, IfOk};
+ghost use Rattle.rx_engine.specs.Hashed.{work_writes};
 
 use frame_queue::FrameQueue;
 use std::alloc::{AllocError, Global};
+use std::hash::{Hash, Hasher};
 use std::marker::Model;
 
 /// The most frames that the receive packet buffer holds, as its 48 kilobytes at most hold them: a frame takes 2,048
@@ -47,6 +49,7 @@ impl Model for RxEngine {
 }
 
 impl RxEngine {
+    ghost use Rattle.rx_engine.specs.Hashed.{receiver_writes};
     ghost use Rattle.rx_engine.specs.Receiver.{new_receiver, IsReceiver, IsReady, oldest};
     ghost use Rattle.rx_engine.specs.Moving.{begun_with, left_bytes};
     ghost use Rattle.descriptors.specs.Frames.{IsLegal};
@@ -93,6 +96,16 @@ impl RxEngine {
         ensures sound { IsReceiver self.now }
     {
         self.work.as_ref()
+    }
+
+    /// Feeds the whole state of the engine to a hasher. Equal engines feed the same bytes.
+    pub fn feed<H: Hasher>(&self, hasher: &mut H)
+        ensures { hasher.new ≡ fold H.write hasher.old (receiver_writes self.now) }
+    {
+        self.stopped.hash(hasher);
+        hasher.write_u16(self.moved);
+        feed_work(self.work, hasher);
+        self.buffer.feed(hasher);
     }
 
     /// Puts a frame of a legal length after the others in the packet buffer, which has room for it.
@@ -153,5 +166,17 @@ impl RxEngine {
         ensures sound { IsReceiver self.new }
     {
         self.stopped = true;
+    }
+}
+
+/// Feeds the piece in progress, if any, to a hasher.
+fn feed_work<H: Hasher>(work: Option<Work>, hasher: &mut H)
+    ensures { hasher.new ≡ fold H.write hasher.old (work_writes work) }
+{
+    work.is_some().hash(hasher);
+    if let Some(work) = work {
+        hasher.write_u64(work.descriptor);
+        hasher.write_u16(work.length);
+        work.ends.hash(hasher);
     }
 }

@@ -1,8 +1,10 @@
 // The filter's registers, and which frames pass.
 
-ghost use Rattle.std.specs.Prelude.{◌≡◌, ◌<◌, ◌≤◌, ◌↔◌, IsTrue, bit_and, length, replicate, slice_index, slice_set};
+ghost use Rattle.std.specs.Prelude.{◌≡◌, ◌<◌, ◌≤◌, ◌↔◌, IsTrue, bit_and, fold, length, replicate};
+ghost use Rattle.std.specs.Prelude.{slice_index, slice_set};
 ghost use Rattle.registers.specs.Kept.{receive_control_mask};
 ghost use Rattle.rx_engine.specs.Addresses.{destination};
+ghost use Rattle.rx_engine.specs.Hashed.{filter_writes};
 ghost use Rattle.rx_engine.specs.Passing.{AcceptsAddress, AcceptsGroup, AcceptsVlan, Passes};
 ghost use Rattle.rx_engine.specs.Registers.{filter_of, address_high_mask};
 
@@ -10,7 +12,9 @@ use crate::address::{
     destination_of, ether_type_of, has_entry, hash_of, is_broadcast, is_group, vlan_number_of,
 };
 use crate::table::has_table_bit;
+use bitflags::Flags;
 use registers::Rctl;
+use std::hash::{Hash, Hasher};
 use std::marker::Model;
 
 /// How many exact addresses the filter has room for: the number of pairs RAL(n), RAH(n).
@@ -160,6 +164,18 @@ impl Filter {
         ensures { result ≡ self.now.vet }
     {
         self.vet
+    }
+
+    /// Feeds all registers of the filter to a hasher. Equal filters feed the same bytes.
+    pub fn feed<H: Hasher>(&self, hasher: &mut H)
+        ensures { hasher.new ≡ fold H.write hasher.old (filter_writes self.now) }
+    {
+        hasher.write_u32(self.rctl.bits());
+        hasher.write_u16(self.vet);
+        self.ral.hash(hasher);
+        self.rah.hash(hasher);
+        self.mta.hash(hasher);
+        self.vfta.hash(hasher);
     }
 
     /// Whether a frame of at least 16 bytes passes: its destination and its VLAN are accepted (3.2.1 and chapter 9).

@@ -1,10 +1,12 @@
 -- Frames and what their descriptors ask for, side by side.
-use Rattle.std.proofs.Common.{◌≡◌, ◌<◌, not, length-append, ◌++◌, ◌∷◌, [], ℕ, List, length, slice_get, Some, ◌↔◌, refl, ap, ◌∙◌, arith}
+use Rattle.std.proofs.Common.{◌≡◌, ◌<◌, not, length-append, ◌++◌, ◌∷◌, [], ℕ, List, length, map, flat_map, slice_get, Some, ◌↔◌}
+use Rattle.std.proofs.Common.{refl, ap, ◌∙◌, arith}
 use Rattle.circular_buffer.specs.Buffer.{Buffer, buffer, keep_last}
 use Rattle.frame_queue.specs.Laws.{keep_last-room}
 use Rattle.frame_queue.specs.Frames.{Frames}
 use Rattle.tx_engine.specs.Transmitter.{Queued, Transmitter}
 use Rattle.tx_engine.specs.Buffer.{side_by_side, transmitter_of, IsWhole}
+use Rattle.tx_engine.specs.Hashed.{queued_writes, report_writes}
 use Rattle.tx_engine.specs.Steps.{IfFront}
 use Rattle.tx_engine.specs.declared.report.Report.{Report}
 use Rattle.tx_engine.specs.declared.engine.TxEngine.TheInside.{Inside}
@@ -42,6 +44,22 @@ pub side_by_side-front : (frames : List (List ℕ)) (reports : List Report) (fra
 side_by_side-front [] reports frame same front = tt
 side_by_side-front (first ∷ frames) [] frame same front = absurd (omega arith)
 side_by_side-front (first ∷ frames) (report ∷ reports) frame same front = cc
+
+-- The frames of those that stand side by side are the frames,
+pub side_by_side-frames : (frames : List (List ℕ)) (reports : List Report) → length frames ≡ length reports
+    → map (λ (q : Queued). q.frame) (side_by_side frames reports) ≡ frames
+side_by_side-frames [] reports same = refl
+side_by_side-frames (frame ∷ frames) [] same = absurd (omega arith)
+side_by_side-frames (frame ∷ frames) (report ∷ reports) same = ap (λ fs. frame ∷ fs) (side_by_side-frames frames reports (omega arith))
+
+-- and what they feed of their descriptors to a hasher is what the reports feed.
+pub side_by_side-reports : (frames : List (List ℕ)) (reports : List Report) → length frames ≡ length reports
+    → flat_map queued_writes (side_by_side frames reports) ≡ flat_map report_writes reports
+side_by_side-reports [] [] same = refl
+side_by_side-reports [] (report ∷ reports) same = absurd (omega arith)
+side_by_side-reports (frame ∷ frames) [] same = absurd (omega arith)
+side_by_side-reports (frame ∷ frames) (report ∷ reports) same =
+    ap (λ ws. report_writes report ++ ws) (side_by_side-reports frames reports (omega arith))
 
 -- A frame more, in both queues: the reports in order.
 pushed-reports : (engine : Inside) (report : Report) (reports : Buffer Report) → IsWhole engine → length engine.frames.frames < 4

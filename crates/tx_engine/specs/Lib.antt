@@ -1,5 +1,6 @@
 pub mod Transmitter
 pub mod Fetching
+pub mod Hashed
 pub mod Buffer
 pub mod Steps
 pub mod ToSend

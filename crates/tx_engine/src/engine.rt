@@ -1,5 +1,7 @@
-ghost use Rattle.std.specs.Prelude.{◌≡◌, ◌+◌, ◌-◌, ◌<◌, ◌≤◌, ◌^◌, ◌↔◌, ◌++◌, ◌∷◌, [], drop, length, map, replicate};
-ghost use Rattle.std.specs.Prelude.{slice_get, true, false, IsTrue, IsNone, IfSome, IfOk};
+ghost use Rattle.std.specs.Prelude.{◌≡◌, ◌+◌, ◌-◌, ◌<◌, ◌≤◌, ◌^◌, ◌↔◌, ◌++◌, ◌∷◌, [], drop, fold, length, map};
+ghost use Rattle.std.specs.Prelude.{replicate, slice_get, true, false, IsTrue, IsNone, IfSome, IfOk};
+ghost use Rattle.std.specs.List.{flat_map};
+ghost use Rattle.tx_engine.specs.Hashed.{report_writes, transmitter_writes};
 ghost use Rattle.tx_engine.specs.Transmitter.{Queued, new_transmitter};
 ghost use Rattle.tx_engine.specs.Steps.{IfFront};
 
@@ -8,6 +10,7 @@ use crate::report::Report;
 use circular_buffer::HeapCircularBuffer;
 use frame_queue::{FrameQueue, copy_of};
 use std::alloc::{AllocError, Global};
+use std::hash::{Hash, Hasher};
 use std::marker::Model;
 
 /// How many frames the transmit packet buffer holds.
@@ -119,6 +122,17 @@ impl TxEngine {
         self.frames.front()
     }
 
+    /// Feeds the whole state of the engine to a hasher. Equal engines feed the same bytes.
+    pub fn feed<H: Hasher>(&self, hasher: &mut H)
+        ensures { hasher.new ≡ fold H.write hasher.old (transmitter_writes self.now) }
+    {
+        self.is_stopped().hash(hasher);
+        self.frames.feed(hasher);
+        let (front, wrapped) = self.reports.as_slices();
+        feed_reports(front, hasher);
+        feed_reports(wrapped, hasher);
+    }
+
     /// Stops the engine until a reset.
     pub(crate) fn stop(&mut self)
         ensures { self.new ≡ record self.old { stopped = true } }
@@ -157,5 +171,15 @@ impl TxEngine {
     {
         self.frames.pop();
         self.reports.pop_front()
+    }
+}
+
+/// Feeds the addresses and the RS bits of descriptors to a hasher.
+fn feed_reports<H: Hasher>(reports: &[Report], hasher: &mut H)
+    ensures { hasher.new ≡ fold H.write hasher.old (flat_map report_writes reports.now) }
+{
+    for report in reports {
+        hasher.write_u64(report.descriptor);
+        report.wanted.hash(hasher);
     }
 }
