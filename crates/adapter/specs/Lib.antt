@@ -19,6 +19,7 @@ pub mod HistoryLaws
 pub mod Parts
 pub mod PartsLaws
 pub mod Frames
+pub mod Hashed
 pub mod FrameLaws
 pub mod World
 pub mod Slots

@@ -1,6 +1,6 @@
 // The adapter: its registers joined.
 
-ghost use Rattle.std.specs.Prelude.{◌≡◌, ◌↔◌, ◌≤◌, IsTrue, IfOk, IfSome, length};
+ghost use Rattle.std.specs.Prelude.{◌≡◌, ◌↔◌, ◌≤◌, IsTrue, IfOk, IfSome, fold, length};
 ghost use Rattle.registers.specs.Bits.{Meet};
 ghost use Rattle.adapter.specs.Registers.{is_reset};
 ghost use Rattle.adapter.specs.Steps.{causes_told};
@@ -17,6 +17,7 @@ use mdic_phy::{Link, Phy, Ticked};
 use registers::{Cause, Ctrl, Status, Tctl};
 use rx_engine::{MOST_FRAMES, RxEngine};
 use std::alloc::{AllocError, Global};
+use std::hash::Hasher;
 use std::marker::Model;
 use tx_engine::TxEngine;
 
@@ -53,6 +54,7 @@ impl Model for Adapter {
 }
 
 impl Adapter {
+    ghost use Rattle.adapter.specs.Hashed.{adapter_writes};
     ghost use Rattle.adapter.specs.Outcomes.{framed};
     ghost use Rattle.adapter.specs.Receiving.{room};
     ghost use Rattle.adapter.specs.Registers.{after_read, after_write, answer_at, new_adapter};
@@ -121,6 +123,18 @@ impl Adapter {
         ensures { result ≡ has_work self.now.mdic self.now.phy }
     {
         self.file.mdic.has_work(&self.phy)
+    }
+
+    /// Feeds the whole state of the adapter to a hasher, except for the image of the EEPROM, which nothing changes.
+    /// Equal adapters feed the same bytes.
+    pub fn feed<H: Hasher>(&self, hasher: &mut H)
+        ensures { hasher.new ≡ fold H.write hasher.old (adapter_writes self.now) }
+    {
+        hasher.write_u32(self.packet_buffer.read());
+        self.file.feed(hasher);
+        self.phy.feed(hasher);
+        self.receiver.feed(hasher);
+        self.transmitter.feed(hasher);
     }
 
     /// How many frames the receive packet buffer has room for, by PBA: 24 at most.

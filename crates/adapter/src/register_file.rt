@@ -1,15 +1,18 @@
 // The registers that a reset sets.
 
-ghost use Rattle.std.specs.Prelude.{◌≡◌, ◌<◌, ◌==◌, if◌then◌else◌, length, slice_index};
+ghost use Rattle.std.specs.Prelude.{◌≡◌, ◌<◌, ◌==◌, if◌then◌else◌, fold, length, slice_index};
+ghost use Rattle.adapter.specs.Hashed.{file_writes};
 ghost use Rattle.adapter.specs.Recording.{one_more};
 ghost use Rattle.adapter.specs.Registers.{filter_at_reset};
 ghost use Rattle.adapter.specs.Table.{address_high_at_reset, address_low_at_reset};
 
 use crate::ring::RingRegisters;
+use bitflags::Flags;
 use eeprom::{Eerd, Image};
 use mdic_phy::Mdic;
 use registers::{Causes, Counter, Ctrl, Tctl};
 use rx_engine::{Filter, VLAN_TYPE};
+use std::hash::Hasher;
 
 /// The bits of a word of the EEPROM.
 const WORD_BITS: u32 = 16;
@@ -70,6 +73,25 @@ impl RegisterFile {
         if self.receive_ring.head == self.receive_ring.tail {
             self.rnbc.bump();
         }
+    }
+
+    /// Feeds all registers to a hasher. Equal registers feed the same bytes.
+    pub(crate) fn feed<H: Hasher>(&self, hasher: &mut H)
+        ensures { hasher.new ≡ fold H.write hasher.old (file_writes self.now) }
+    {
+        hasher.write_u32(self.ctrl.bits());
+        hasher.write_u32(self.tctl.bits());
+        hasher.write_u32(self.causes.recorded());
+        hasher.write_u32(self.causes.masked());
+        hasher.write_u32(self.mpc.value());
+        hasher.write_u32(self.gprc.value());
+        hasher.write_u32(self.gptc.value());
+        hasher.write_u32(self.rnbc.value());
+        self.receive_ring.feed(hasher);
+        self.transmit_ring.feed(hasher);
+        self.eerd.feed(hasher);
+        self.mdic.feed(hasher);
+        self.filter.feed(hasher);
     }
 }
 

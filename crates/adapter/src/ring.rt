@@ -1,10 +1,12 @@
 // The registers of a descriptor ring.
 
-ghost use Rattle.std.specs.Prelude.{◌≡◌};
+ghost use Rattle.std.specs.Prelude.{◌≡◌, fold};
+ghost use Rattle.adapter.specs.Hashed.{ring_writes};
 ghost use Rattle.adapter.specs.Rings.{new_ring, ring_answer, ring_of, ring_written};
 
 use crate::register::RingRegister;
 use descriptors::Ring;
+use std::hash::Hasher;
 
 /// The bits of RDBAL and TDBAL: a ring's address is a multiple of 16.
 const BASE_LOW_BITS: u32 = 0xFFFF_FFF0;
@@ -70,6 +72,17 @@ impl RingRegisters {
             RingRegister::Head => self.head = (value & INDEX_BITS) as u16,
             RingRegister::Tail => self.tail = (value & INDEX_BITS) as u16,
         }
+    }
+
+    /// Feeds the registers to a hasher. Equal registers feed the same bytes.
+    pub(crate) fn feed<H: Hasher>(&self, hasher: &mut H)
+        ensures { hasher.new ≡ fold H.write hasher.old (ring_writes self.now) }
+    {
+        hasher.write_u32(self.base_low);
+        hasher.write_u32(self.base_high);
+        hasher.write_u32(self.length_bytes);
+        hasher.write_u16(self.head);
+        hasher.write_u16(self.tail);
     }
 
     /// The ring that the registers tell.
