@@ -4,6 +4,7 @@ pub mod Composition
 pub mod StepsAndArrivals
 pub mod Trails
 pub mod Machines
+pub mod Digests
 pub mod LivelyBuses
 pub mod LivelyBusLaws
 pub mod Faults

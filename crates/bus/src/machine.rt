@@ -3,6 +3,7 @@
 ghost use Rattle.std.specs.Prelude.{◌≡◌, ◌≤◌, ◌↔◌, [], length, not, IfNone, IfSome, IsNone};
 ghost use Rattle.adapter.specs.Outcomes.{framed, oldest};
 ghost use Rattle.adapter.specs.State.{IsAdapter};
+ghost use Rattle.bus.specs.Digests.{digest_of};
 ghost use Rattle.bus.specs.Trails.{Occurs};
 ghost use Rattle.bus.specs.Machines.{after_event, is_asserted};
 ghost use Rattle.bus.specs.declared.event.Access.TheVariants.{Reads, Stores, Writes};
@@ -14,6 +15,7 @@ ghost use Rattle.dma_memory.specs.HostMemory.{bytes_at, LiesIn};
 
 use adapter::{Adapter, Fate, FrameCounts, Outcome, StepKind, WaitingFrames};
 use dma_memory::HostMemory;
+use std::hash::{DefaultHasher, Hasher};
 use std::marker::Model;
 
 /// An adapter and its host's memory. Each call but [`report_line`](Machine::report_line) makes one event happen, or
@@ -177,6 +179,19 @@ impl Machine {
         ensures transmit { result.transmit ≡ length self.now.world.adapter.transmitter.buffer }
     {
         self.adapter.waiting()
+    }
+
+    /// A digest of the adapter and its memory, by SipHash-1-3. Machines that agree in both have equal digests, and
+    /// machines that don't practically always have different ones. The image of the EEPROM, which no event changes, and
+    /// the level of the interrupt line at the last report aren't covered.
+    #[tactic(auto, unfolding(crate::specs::Digests::digest_of))]
+    pub fn digest(&self) -> u64
+        ensures { result ≡ digest_of self.now.world }
+    {
+        let mut hasher = DefaultHasher::new();
+        self.adapter.feed(&mut hasher);
+        hasher.write(self.memory.as_slice());
+        hasher.finish()
     }
 
     /// The adapter and the memory.
