@@ -1,5 +1,5 @@
 -- Five words of a line have the request of all, since no request has more than four.
-use Rattle.std.proofs.Common.{◌≡◌, ◌∙◌, ◌<◌, ◌≤◌, ◌==◌, ℕ, Bool, false, List, [], ◌∷◌, Option, Some, None, ap, arith, cond}
+use Rattle.std.proofs.Common.{◌≡◌, ◌∙◌, ◌<◌, ◌≤◌, ℕ, Bool, false, List, [], ◌∷◌, Option, Some, None, ap, arith, cond}
 use Rattle.std.proofs.Common.{inl, inr, length, refl, sym, take, ◌⊎◌}
 use Rattle.std.proofs.lemmas.Bool.Decides.{nat_tests}
 use Rattle.std.proofs.lemmas.List.{length-take, take_all}
@@ -13,7 +13,7 @@ use Rattle.server_requests.specs.declared.verb.Verb.TheVariants.{ReadNumber, Wri
 use Rattle.server_requests.specs.declared.verb.Verb.TheVariants.{Memset, ReadPort, WritePort}
 use Rattle.server_requests.specs.declared.verb.Verb.TheVariants.{Endianness, Intercept, ClockStep, ClockSet, Step, Arrive, Settle}
 use Rattle.server_requests.specs.declared.verb.Verb.TheVariants.{Line, Interleave, Log, Wire, Offer, Events, Frames, Faults, Pace}
-use Rattle.server_requests.specs.declared.verb.Verb.TheVariants.{Save, Restore}
+use Rattle.server_requests.specs.declared.verb.Verb.TheVariants.{Digest, Save, Restore}
 
 -- no request has more than four words
 too_many : (verb : Verb) (count : ℕ) → 4 < count → takes_words verb count ≡ false
@@ -34,6 +34,7 @@ too_many Step count more = grind (arith, nat_tests)
 too_many Arrive count more = grind (arith, nat_tests)
 too_many Settle count more = grind (arith, nat_tests)
 too_many Line count more = grind (arith, nat_tests)
+too_many Digest count more = grind (arith, nat_tests)
 too_many Interleave count more = grind (arith, nat_tests)
 too_many Log count more = grind (arith, nat_tests)
 too_many Wire count more = grind (arith, nat_tests)

@@ -22,7 +22,7 @@ use Rattle.server_requests.specs.declared.verb.Verb.TheVariants.{ReadNumber, Wri
 use Rattle.server_requests.specs.declared.verb.Verb.TheVariants.{Memset, ReadPort, WritePort}
 use Rattle.server_requests.specs.declared.verb.Verb.TheVariants.{Endianness, Intercept, ClockStep, ClockSet, Step, Arrive, Settle}
 use Rattle.server_requests.specs.declared.verb.Verb.TheVariants.{Line, Interleave, Log, Wire, Offer, Events, Frames, Faults, Pace}
-use Rattle.server_requests.specs.declared.verb.Verb.TheVariants.{Save, Restore}
+use Rattle.server_requests.specs.declared.verb.Verb.TheVariants.{Digest, Save, Restore}
 
 -- the maximum number of steps before an access, or of rounds after it, that a request may set
 abbrev pub most_count : ℕ
@@ -150,6 +150,7 @@ request_with Step words = step_in (word 1 words)
 request_with Arrive words = arrive_in (word 1 words)
 request_with Settle words = Ok requests.Settle
 request_with Line words = Ok requests.Line
+request_with Digest words = Ok requests.Digest
 request_with Interleave words = interleave_in (word 1 words)
 request_with Log words = log_in (word 1 words)
 request_with Wire words = wire_in (word 1 words)

@@ -11,7 +11,7 @@ use Rattle.server_requests.specs.declared.verb.Verb.TheVariants.{ReadNumber, Wri
 use Rattle.server_requests.specs.declared.verb.Verb.TheVariants.{Memset, ReadPort, WritePort}
 use Rattle.server_requests.specs.declared.verb.Verb.TheVariants.{Endianness, Intercept, ClockStep, ClockSet, Step, Arrive, Settle}
 use Rattle.server_requests.specs.declared.verb.Verb.TheVariants.{Line, Interleave, Log, Wire, Offer, Events, Frames, Faults, Pace}
-use Rattle.server_requests.specs.declared.verb.Verb.TheVariants.{Save, Restore}
+use Rattle.server_requests.specs.declared.verb.Verb.TheVariants.{Digest, Save, Restore}
 
 -- the first words of requests, and what these ask for
 abbrev pub verbs : List (Text × Verb)
@@ -44,6 +44,7 @@ verbs =
     ∷ (codes "arrive", Arrive)
     ∷ (codes "settle", Settle)
     ∷ (codes "line", Line)
+    ∷ (codes "digest", Digest)
     ∷ (codes "interleave", Interleave)
     ∷ (codes "log", Log)
     ∷ (codes "wire", Wire)
@@ -79,6 +80,7 @@ takes_words Step count = count == 2
 takes_words Arrive count = count == 2
 takes_words Settle count = count == 1
 takes_words Line count = count == 1
+takes_words Digest count = count == 1
 takes_words Interleave count = count == 2
 takes_words Log count = count == 2
 takes_words Wire count = count == 2

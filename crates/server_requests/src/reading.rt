@@ -255,6 +255,7 @@ fn request_with(alloc: Global, verb: Verb, words: &[&str]) -> Result<Request, St
         Verb::Arrive => arrive_of(alloc, word_at(words, 1)),
         Verb::Settle => Ok(Request::Settle),
         Verb::Line => Ok(Request::Line),
+        Verb::Digest => Ok(Request::Digest),
         Verb::Interleave => interleave_of(word_at(words, 1)),
         Verb::Log => log_of(word_at(words, 1)),
         Verb::Wire => wire_of(word_at(words, 1)),

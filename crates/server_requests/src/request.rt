@@ -115,6 +115,8 @@ pub enum Request {
     Set(Setting),
     /// `line`: whether the interrupt line is asserted.
     Line,
+    /// `digest`: a digest of the state of the adapter and of memory.
+    Digest,
     /// `offer`: a frame waits for its arrival.
     Offer(Payload),
     /// `frames`: which frames were put onto the wire while events weren't printed.

@@ -39,6 +39,8 @@ pub(crate) enum Verb {
     Settle,
     /// `line`.
     Line,
+    /// `digest`.
+    Digest,
     /// `interleave`.
     Interleave,
     /// `log`.
@@ -75,7 +77,7 @@ impl Verb {
         match self {
             Verb::Endianness | Verb::Settle | Verb::Line | Verb::Frames | Verb::Faults => count
                 == 1,
-            Verb::Save | Verb::Restore => count == 1,
+            Verb::Save | Verb::Restore | Verb::Digest => count == 1,
             Verb::ClockStep => count == 1 || count == 2,
             Verb::ReadNumber(_) | Verb::Step | Verb::Arrive | Verb::Interleave => count == 2,
             Verb::Log | Verb::Wire | Verb::Offer | Verb::Events | Verb::Pace => count == 2,
@@ -87,7 +89,7 @@ impl Verb {
 }
 
 /// The first words of requests, and what these ask for.
-const VERBS: [(&str, Verb); 38] = [
+const VERBS: [(&str, Verb); 39] = [
     ("readb", Verb::ReadNumber(Width::Byte)),
     ("readw", Verb::ReadNumber(Width::Word)),
     ("readl", Verb::ReadNumber(Width::Long)),
@@ -116,6 +118,7 @@ const VERBS: [(&str, Verb); 38] = [
     ("arrive", Verb::Arrive),
     ("settle", Verb::Settle),
     ("line", Verb::Line),
+    ("digest", Verb::Digest),
     ("interleave", Verb::Interleave),
     ("log", Verb::Log),
     ("wire", Verb::Wire),
