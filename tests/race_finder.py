@@ -130,7 +130,7 @@ def without_rate(text):
 BUGS = {
     "late": (10, 3, r"rx before read ICR"),
     "head": (10, 3, r"rxdata before read RDH"),
-    "length": (18, 3, r"rx before read rx\[\d\]\+12"),
+    "length": (9, 3, r"rx before read rx\[\d\]\+12"),
     "part": (1, 0, None),
     "freed": (10, 3, r"txtake before read TDH"),
 }
@@ -277,22 +277,32 @@ def names(server):
     server.check("names: what did nothing", (status, out.splitlines()[0]), (PASSES, "tx before read RDH#2: it did nothing"))
 
 
-ACTIONS = "use txtake, txput, rxdata, rxdone, tx, rx, arrive, hold eeprom or hold phy"
+ACTIONS = "use txtake, txput, rxdata, rxdone, tx, rx, arrive, eeprom, phy, hold eeprom or hold phy"
 NO_NUMBER = "the access has no number: begin the line with ROUND.ACCESS, such as 4.6, or end it with a number from 1, such as 'before read ICR#3'"
+PLACES = "isn't a place: use ROUND.ACCESS, such as 4.6; or ROUND.0 for the request that begins the round"
+NO_ACCESS = "no access is named: end the line with the access that it expects, such as 'before read ICR', or with a request that begins a round, " \
+            "such as 'before settle'"
 BAD = {
-    "x": "'x' isn't a place: use ROUND.ACCESS, such as 4.6, and count accesses from 1",
-    "4 rx before read ICR": "'4' isn't a place: use ROUND.ACCESS, such as 4.6, and count accesses from 1",
-    "4.0 rx before read ICR": "'4.0' isn't a place: use ROUND.ACCESS, such as 4.6, and count accesses from 1",
-    "-1.2 rx before read ICR": "'-1.2' isn't a place: use ROUND.ACCESS, such as 4.6, and count accesses from 1",
+    "x": f"'x' {PLACES}",
+    "4 rx before read ICR": f"'4' {PLACES}",
+    "4.0 rx before read ICR": "4.0 is before the request that begins round 4: use 'before arrive, offer, step or settle'",
+    "4.00 rx before readl": NO_ACCESS,
+    "4.1 rx before settle": "4.1 is before an access: use ROUND.0 for the request that begins a round",
+    "0.0 rx before arrive": "'0.0' isn't a place: round 0 begins with the run, not with a request",
+    "-1.2 rx before read ICR": f"'-1.2' {PLACES}",
+    "4.0 rx before settle#2": "use either ROUND.ACCESS or a number after #",
+    "rx before settle": NO_NUMBER, "rx before settle#0": NO_NUMBER, "4.0 rx before settles": NO_ACCESS, "4.0 rx before step rxdata": NO_ACCESS,
+    "5.0 rx before settle\n4.9 rx before read ICR": "4.9 is before 5.0: sort the lines by place",
+    "4.6 hold": f"'hold' isn't a deviation: {ACTIONS}",
     "4.6": f"'' isn't a deviation: {ACTIONS}",
     "4.6 rz before read ICR": f"'rz' isn't a deviation: {ACTIONS}",
     "4.6 hold rx before read ICR": f"'hold rx' isn't a deviation: {ACTIONS}",
-    "4.6 rx": "no access is named: end the line with the access that it expects, such as 'before read ICR'",
-    "4.6 rx before ICR": "no access is named: end the line with the access that it expects, such as 'before read ICR'",
-    "4.6 rx before # read ICR": "no access is named: end the line with the access that it expects, such as 'before read ICR'",
+    "4.6 rx": NO_ACCESS,
+    "4.6 rx before ICR": NO_ACCESS,
+    "4.6 rx before # read ICR": NO_ACCESS,
     "rx before read ICR": NO_NUMBER, "rx before read ICR#0": NO_NUMBER,
     "hold before read ICR#1": f"'hold' isn't a deviation: {ACTIONS}",
-    "rx before ICR#1": "no access is named: end the line with the access that it expects, such as 'before read ICR'",
+    "rx before ICR#1": NO_ACCESS,
     "4.6 rx before read ICR#1": "use either ROUND.ACCESS or a number after #",
     "4.6 rx before read ICR\nrx before read RDH#1\n4.5 rx before read ICR": "4.5 is before 4.6: sort the lines by place",
     "options\noptions": "'options' must be the first line, and given once",

@@ -97,9 +97,10 @@ def searches(server):
     """A race that needs an arrival is explored, drawn and made small. The chart and the dump show the arrival."""
     server.put("offered", OFFERED.encode())
     status, out, errors = find(server, "--explore", "2", command=["sh", "offered"])
-    # Before each of the accesses in round 2 a frame arrives; after that, before each later access `arrive`, `rxdata` or `rx`.
+    # Before the second offer, each of the accesses in round 2, and the settling, a frame arrives; after that, there or before each of those that are
+    # left, `arrive` (if the second frame is offered), `rxdata` or `rx`.
     counts = re.findall(r"^depth \d: (\d+) schedules, none fails", out, re.M)
-    server.check("arrivals: explored", (status, counts, errors), (PASSES, ["1", "3", "18"], ""))
+    server.check("arrivals: explored", (status, counts, errors), (PASSES, ["1", "5", "44"], ""))
     for name, words in [("explored", ["--explore", "2"]), ("drawn", ["--runs", "100"]), ("drawn by PCT", ["--pct", "3", "--runs", "200"])]:
         status, out, errors = find(server, *words, "--out", "charts/", command=FAILS)
         found = (server.get("charts/schedule.txt") or b"").decode().splitlines()[2:]
@@ -118,7 +119,7 @@ def searches(server):
 def actors(server):
     """For PCT, the wire is one more actor if the test offers frames. JSON has the bound."""
     server.put("offered", OFFERED.encode())
-    for command, count, events in [(["sh", "offered"], 5, 7), (["true"], 4, 0)]:
+    for command, count, events in [(["sh", "offered"], 5, 10), (["true"], 4, 0)]:
         out = find(server, "--pct", "2", "--runs", "3", command=command)[1]
         bound = count * max(1, events)
         line = f"PCT of depth 2: {count} actors and {events} events, so each run finds a race of this depth with a probability of at least 1/{bound}"

@@ -279,6 +279,8 @@ class Wanted:
             self.happen("frame")
         elif words[0] == "fault":
             return  # a dump has the outcome of the step
+        elif words[1] in ("offer", "settle"):
+            return
         elif words[1] in ("step", "arrive", "hold"):
             if words[-1] != "nothing":
                 self.time += 1

@@ -277,9 +277,9 @@ def pct(server):
     for seed in ("1", "2", "3", "4"):
         out = find(server, "--pct", "1", "--runs", "1", "--seed", seed, "--smaller", "0", command=["sh", "polls"])
         server.check(f"pct: a driver that polls, seed {seed}", (out[0], out[2]), (FOUND, ""))
-    for depth, bound in (("1", "4"), ("2", "16"), ("3", "64")):  # of four actors and four accesses
+    for depth, bound in (("1", "4"), ("2", "20"), ("3", "100")):  # of four actors, an arrival and four accesses
         got = [find(server, "--pct", depth, "--runs", "20", command=["sh", "small"]) for _ in range(2)]
-        line = f"PCT of depth {depth}: 4 actors and 4 events, so each run finds a race of this depth with a probability of at least 1/{bound}\n"
+        line = f"PCT of depth {depth}: 4 actors and 5 events, so each run finds a race of this depth with a probability of at least 1/{bound}\n"
         server.check(f"pct: the bound of depth {depth}", (got[0][0], without_reached(got[0][1]).startswith(line)), (PASSES, True))
         server.check(f"pct: a seed decides at depth {depth}", without_rate(got[0][1]), without_rate(got[1][1]))
     status, out, errors = find(server, "--pct", "3", "--runs", "200", command=["sh", "small", "fails"])

@@ -72,9 +72,18 @@ def frame_text(digits):
 
 def chart_row_of(row, head):
     """The row of a chart for a row of the log, or None if there is nothing to show."""
-    words = row.line.split(" ")
     if row.place:
         return of_access(row)
+    shown = of_event(row, head)
+    if row.begins:
+        request = {"place": str(row.begins), "driver": row.line.split(" ")[1]}
+        return shown._replace(cells={**shown.cells, **request}) if shown else ChartRow(request)
+    return shown
+
+
+def of_event(row, head):
+    """The row of what isn't an access, or None if there is nothing to show."""
+    words = row.line.split(" ")
     if words[0] == "IRQ":
         return ChartRow({"adapter": "raises the line" if words[1] == "raise" else "lowers the line"})
     if words[0] == "fault":
@@ -85,7 +94,7 @@ def chart_row_of(row, head):
         return None if words[4] == "nothing" else of_step(row, head)
     if words[1] == "arrive":
         return ChartRow({"adapter": row.answer or "", "wire": frame_text(words[2])}, ("wire", "adapter"))
-    return ChartRow({"adapter": row.line[2:]})
+    return None if row.begins else ChartRow({"adapter": row.line[2:]})
 
 
 def head_after(shadow, row):

@@ -47,6 +47,7 @@ from race_finder.explore import Search, explore
 from race_finder.jobs import MOST_JOBS, in_order, processors
 from race_finder.play import Mismatch
 from race_finder.reached import lines_of, tables_of
+from race_finder.requests import kind_of
 from race_finder.schedule import HOLDS, ScheduleError, by_name, parse, text_of
 from race_finder.server import ServerEnded
 from race_finder.shrink import Shrinker
@@ -115,8 +116,8 @@ def lack_of(run, deviation):
     """Why a run didn't reach the access of a deviation."""
     if not deviation.number:
         return f"{deviation}: the run doesn't reach this place"
-    count = sum(row.place is not None and row.name == deviation.before for row in run.rows)
-    return f"{deviation}: the run makes this access {count} time" + ("" if count == 1 else "s")
+    count = sum(met.name == deviation.before for met in run.places)
+    return f"{deviation}: the run makes this {kind_of(deviation.before)} {count} time" + ("" if count == 1 else "s")
 
 
 def progress(line):
@@ -246,7 +247,7 @@ class Finder:
         """The schedule of a run as it is printed and stored."""
         if not self.given["by-name"]:
             return run.met
-        return by_name(run.met, [(row.place, row.name) for row in run.rows if row.place])
+        return by_name(run.met, [(met.place, met.name) for met in run.places])
 
     def text_of(self, run):
         """The schedule of a run, with comments."""

@@ -1,14 +1,14 @@
 """Draws schedules.
 
-`actions(name, enabled, has_frames)` returns the steps that are played before the access with this name, and arrivals of
-frames that the test has offered, one by one. `enabled` returns those that would do something at this time, after those
+`actions(name, enabled, has_frames)` returns the steps that are played before the access or the request with this name, and
+arrivals of frames that the test has offered, one by one. `enabled` returns those that would do something at this time, after those
 that were returned before. With `has_frames`, an offered frame waits.
 """
 
 from _random import Random  # the generator of the module `random`, which draws a new seed after each fork
 from functools import cached_property
 
-from race_finder.schedule import ARRIVE, ENGINES, PAIRS
+from race_finder.schedule import ARRIVE, ENGINES, PAIRS, ROUNDS
 
 # One of the steps of a pair makes the other one possible; so does an arrival.
 PARTNERS = {step: other for one, two in PAIRS.values() for step, other in ((one, two), (two, one))}
@@ -19,6 +19,10 @@ ACTORS = {DRIVER: (), "receive": PAIRS["rx"], "fetch": ("txtake",), "put": ("txp
 WIRE = {"wire": (ARRIVE,)}  # one more actor if the test offers frames
 OFFERED = *ENGINES, ARRIVE
 PATIENCE = 4  # reads of one register in a row
+# Before a request that begins a round, a step has this part of its probability before an access: with more steps there,
+# less work is left for the accesses after the request.
+ROUND = 1 / 8
+OTHER = 1 << 64  # from a seed to that of the generator for these requests
 
 
 def actors_of(offers_frames):
@@ -29,6 +33,7 @@ def actors_of(offers_frames):
 class Uniform:
     """Before each access, draws each step of an engine with some probability, in a random order. The seed decides.
 
+    Before a request that begins a round, the probability is lower.
     While an offered frame waits, its arrival is drawn like a step.
     """
 
@@ -40,13 +45,19 @@ class Uniform:
         """Of this generator, only the numbers of `random` are the same in all versions of Python."""
         return Random(self.seed).random
 
+    @cached_property
+    def random_of_rounds(self):
+        """A generator of its own, so that each access gets the same numbers as without these requests."""
+        return Random(self.seed + OTHER).random
+
     def words(self):
         """This drawing as a built-in value, for `with_words`."""
         return "uniform", self.seed, self.chance, self.draws_holds
 
-    def actions(self, _, enabled, has_frames):
-        draw, actions, possible = self.random, OFFERED if has_frames else ENGINES, enabled()
-        order, chance = [(draw(), action) for action in actions], self.chance
+    def actions(self, name, enabled, has_frames):
+        draw, chance = (self.random_of_rounds, self.chance * ROUND) if name in ROUNDS else (self.random, self.chance)
+        actions, possible = OFFERED if has_frames else ENGINES, enabled()
+        order = [(draw(), action) for action in actions]
         if not possible:
             for _ in actions:  # as many numbers as if an action is possible
                 draw()

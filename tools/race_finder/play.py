@@ -1,29 +1,25 @@
 """Plays a schedule between a test and `nicbench serve`."""
 
 import hashlib
-import re
 from collections import Counter
 from copy import copy
-from typing import NamedTuple
 
-from race_finder.names import DEFAULT_REGISTERS, access_of, causes_of, number_in, number_of, words_of
-from race_finder.reached import STEP_KINDS, access_bit, bits_of_causes, bits_of_fates, bits_of_steps
+from race_finder.names import DEFAULT_REGISTERS, access_of, causes_of, number_in, words_of
+from race_finder.reached import STEP_KINDS, bits_of_causes, bits_of_fates, bits_of_steps
+from race_finder.requests import Known, Met, Row, frame_of, is_interleave, kind_of, text_of
 from race_finder.schedule import ARRIVE, ENGINES, HOLDS, ROUNDS, Deviation, Place, steps_of
-from race_finder.shadow import MATTER, Shadow
+from race_finder.shadow import Shadow
 
 # The most bytes of requests that are sent before answers are read: every pipe holds at least this many.
 MOST_AT_ONCE = 4096
-MOST_INTERLEAVED = 65535
-FRAME = re.compile("(?:[0-9a-fA-F]{2})+")
-LONGEST = 131_200  # bytes of a request
 # Who made a request. The test was told the answer to a request that is TOLD before it was sent.
 TEST, TOLD, DEFAULT, DEVIATION = "test", "told", "default", "deviation"
 # How the answers OK, ERR and FAIL begin, and the first one of these
 ANSWERS, OK = b"OEF", b"O"[0]
 # Answers to steps that changed nothing
 NOTHING, IDLE = b"OK nothing", (b"OK nothing", b"OK wirefull")
-# Each write of one of these registers is valid, and never changes the interrupt line.
-QUIET = ("RDT", "TDT")
+# Requests that begin a round and have a line of the log
+LOGGED = ("arrive", "step")
 # Requests that only the finder sends: the state that is saved is that of a fork.
 OURS = ["save"], ["restore"]
 LOG, EVENTS = (["log", "on"], ["log", "off"]), (["events", "on"], ["events", "off"])
@@ -37,55 +33,7 @@ MOST_KNOWN = 65536  # requests whose accesses are kept
 
 
 class Mismatch(Exception):
-    """A schedule meets another access than it expects."""
-
-
-class Met(NamedTuple):
-    """An access of a run: its place, its name, and the deviations before it that would do something."""
-    place: Place
-    name: str
-    enabled: tuple
-    holds: tuple
-
-
-class Row:
-    """A line of the log: who caused it, its access (or the slot that a step used), and the answer."""
-    __slots__ = ("line", "owner", "place", "name", "answer")
-
-    def __init__(self, line, owner, place=None, name=None):
-        self.line, self.owner, self.place, self.name, self.answer = line, owner, place, name, None
-
-
-class Known:
-    """The access of a request: its name, its register (None for memory), and what follows from these."""
-    __slots__ = ("access", "register", "name", "bit", "matters", "is_quiet", "is_causes", "has_effect")
-
-    def __init__(self, access, register, name, memory):
-        is_write = access.kind == "write"
-        self.access, self.register, self.name = access, register, name
-        self.bit = access_bit(access.kind, register)
-        self.matters = is_write and register in MATTER
-        is_stored = register is None and 0 < access.size <= memory - access.address
-        self.is_quiet = is_write and (register in QUIET or is_stored)
-        self.is_causes = register == "ICR" and not is_write
-        self.has_effect = self.is_causes or self.matters
-
-
-def is_interleave(words):
-    """Whether a request turns random steps on or off, and has a valid form."""
-    count = number_of(words[1]) if words[:1] == ["interleave"] and len(words) == 2 else None
-    return count is not None and count <= MOST_INTERLEAVED
-
-
-def frame_of(request, words):
-    """The digits of the frame that a request offers, or None if it isn't a valid one that offers a frame."""
-    is_offer = len(words) == 2 and words[0] == "offer" and len(request) <= LONGEST
-    return words[1].lower().encode() if is_offer and FRAME.fullmatch(words[1]) else None
-
-
-def text_of(line):
-    """The text of a request or a line."""
-    return line.decode(errors="surrogateescape")
+    """A schedule meets another access or request than it expects."""
 
 
 class Play:
@@ -101,7 +49,7 @@ class Play:
     __slots__ = ("shadow", "memory", "known", "waiting", "size", "untold", "round", "access_number", "is_logged", "stop",
                  "at_stop", "begun", "out", "offered", "offers", "met", "idle", "places", "rows", "reached", "others",
                  "accesses", "script", "told", "answers", "counts", "rest", "is_direct", "tells_events", "server", "draw",
-                 "is_strict", "has_places", "has_rows", "has_script", "has_log", "schedule", "left", "named")
+                 "begins", "is_strict", "has_places", "has_rows", "has_script", "has_log", "schedule", "left", "named")
 
     def __init__(self, base=DEFAULT_REGISTERS, memory=0):
         self.shadow, self.memory = Shadow(base), memory  # of `memory` bytes, the finder knows that they are there
@@ -113,6 +61,7 @@ class Play:
         self.is_logged = False  # whether the test wants the log
         self.stop, self.at_stop = None, None  # a place, and what is called when the run reaches it
         self.begun = []  # the requests before this place
+        self.begins = None  # the place of a request on its way, if its row is marked
         self.out = []  # lines for the test
         self.offered, self.offers = [], 0  # frames that wait for their arrival, the oldest one first; how many there were
         self.met, self.idle = [], []  # the deviations that did something, and those that did nothing
@@ -158,8 +107,9 @@ class Play:
         self.is_direct = not (self.left or self.named or self.draw or self.has_places or self.is_logged or self.stop)
 
     def events(self):
-        """The number of accesses, of steps of engines that did something, and of arrivals of offered frames, from round 1 on."""
-        return self.others + self.accesses + (self.access_number if self.round else 0)
+        """The number of requests from the first one on that begins a round: those that begin one, and accesses; and of
+        the steps of engines that did something, and arrivals of offered frames, since then."""
+        return self.others + self.accesses + (self.access_number if self.round else 0) + self.round
 
     # The server
 
@@ -252,7 +202,7 @@ class Play:
         if not (self.has_rows or self.is_logged) or step[2] == "nothing" and owner is not TEST:
             return
         if self.has_rows:
-            self.rows.append(Row(text_of(line), owner, None, slot))
+            self.rows.append(Row(text_of(line), owner, None, slot, self.marked(owner)))
         if self.is_logged:
             self.out.append(line)
 
@@ -263,8 +213,16 @@ class Play:
             self.out.append(line)
         if not self.has_rows:
             return None
-        self.rows.append(Row(text_of(line), owner, *(met[:2] if is_request and met else ())))
+        place, name = met[:2] if is_request and met else (None, None)
+        self.rows.append(Row(text_of(line), owner, place, name, self.marked(owner) if is_request else None))
         return self.rows[-1] if is_request else None
+
+    def marked(self, owner):
+        """The place of the request that begins a round, for its row, which is the next one that the test causes."""
+        begins = self.begins if owner is TEST else None
+        if begins:
+            self.begins = None
+        return begins
 
     def write(self, known):
         """A register was written. If a ring has moved, names of accesses are other ones."""
@@ -361,6 +319,8 @@ class Play:
             self.reach(Place(self.round + 1, 0))
         self.accesses += self.access_number if self.round else 0
         self.round, self.access_number = self.round + 1, 0
+        if not self.is_direct:
+            self.before_round(words[0])
         frame = frame_of(request, words)
         if frame:
             self.flush()
@@ -374,6 +334,7 @@ class Play:
                 self.arrive(DEFAULT)
         self.queue_round(request, words)
         self.flush()  # so the same steps follow, however many requests are sent at once
+        self.begins = None
 
     def queue_round(self, request, words):
         """The request at the begin of a round. The log has the steps of `settle`; the answer has the outcome of `step`."""
@@ -382,6 +343,31 @@ class Play:
         self.set_log(has_log or words == ["settle"])
         self.queue(request, TEST, outcomes=None if has_log else OUTCOMES.get(kind))
         self.set_log(has_log)
+
+    def before_round(self, name):
+        """Plays what is due before the request with this name, which begins a round. No default step is played."""
+        self.flush()
+        place, count = Place(self.round, 0), len(self.met)
+        for deviation in self.due(name) if self.left or self.named else ():
+            if deviation.action in HOLDS:
+                self.idle.append(deviation)
+            else:
+                self.play(deviation, name)
+        if self.draw:
+            for action in self.draw.actions(name, self.enabled, self.offered):
+                self.play_drawn(action, name)
+            self.flush()
+        if self.has_places:
+            self.places.append(Met(place, name, () if self.draw else self.possible(), ()))
+        if self.has_rows and len(self.met) > count:
+            self.mark(place, name)
+
+    def mark(self, place, name):
+        """The request that begins a round here gets a row with its place: its own one, if it has one in the log."""
+        if name in LOGGED:
+            self.begins = place
+        else:
+            self.rows.append(Row(f"# {name}", TEST, begins=place))
 
     def access(self, request, known):
         """An access of the test, after what the schedule plays before it."""
@@ -417,11 +403,11 @@ class Play:
         return Met(Place(self.round, self.access_number), name, () if self.draw else self.possible(), holds)
 
     def due(self, name):
-        """The deviations before this access, in the order in which the schedule has them."""
+        """The deviations before this access or request, in the order in which the schedule has them."""
         due = self.left.pop((self.round, self.access_number), [])
         for deviation in due:
             if self.is_strict and deviation.before != name:
-                raise Mismatch(f"{deviation}: at this place, the test makes another access: {name}")
+                raise Mismatch(f"{deviation}: at this place, the test makes another {kind_of(name)}: {name}")
         if self.named:
             self.counts[name] += 1
             due += self.named.pop((name, self.counts[name]), ())

@@ -1,4 +1,4 @@
-"""Schedules: what the adapter does otherwise than by default, and before which accesses.
+"""Schedules: what the adapter does otherwise than by default, and before which requests.
 
 By default, the EEPROM and the PHY each take one step before each access while they have work, and everything else
 happens at the test's own requests. A schedule is a list of deviations from this. It doesn't depend on who plays it.
@@ -15,17 +15,22 @@ PAIRS = {"tx": ("txtake", "txput"), "rx": ("rxdata", "rxdone")}
 ARRIVE = "arrive"
 # The default step of an actor is left out.
 HOLDS = {"hold eeprom": "eeprom", "hold phy": "phy"}
-ACTIONS = (*ENGINES, *PAIRS, ARRIVE, *HOLDS)
+# One step more of such an actor, after its default step. These aren't drawn and not explored.
+TICKS = tuple(HOLDS.values())
+ACTIONS = (*ENGINES, *PAIRS, ARRIVE, *TICKS, *HOLDS)
 # A round of the test begins with each of these requests.
 ROUNDS = ("arrive", "offer", "step", "settle")
 
 PLACE = re.compile(r"([0-9]{1,9})\.([0-9]{1,9})")
-ACCESS = re.compile(r"((?:read|write) [^\s#]+)(?:#([0-9]{1,9}))?")
+BEFORE = re.compile(rf"((?:read|write) [^\s#]+|{'|'.join(ROUNDS)})(?:#([0-9]{{1,9}}))?")
 COMMENT = re.compile(r"(^|\s)#.*")
 
 
 class Place(NamedTuple):
-    """Before an access: the number of the round, and the number of the access in it, from 1."""
+    """Before an access: the number of the round, and the number of the access in it, from 1.
+
+    With access 0, before the request that begins the round. Round 0 begins with the run, and has no such place.
+    """
     round: int
     access: int
 
@@ -34,9 +39,9 @@ class Place(NamedTuple):
 
 
 class Deviation(NamedTuple):
-    """What happens, before which access, and the name of this access.
+    """What happens, before which access or request that begins a round, and its name.
 
-    The access is given by its place; or by its number among those of the run with this name, from 1, and without a place.
+    It is given by its place; or by its number among those of the run with this name, from 1, and without a place.
     """
     place: Optional[Place]
     action: str
@@ -71,17 +76,28 @@ class ScheduleError(Exception):
 
 def steps_of(action):
     """The steps of a deviation; none for a hold or an arrival."""
-    return (action,) if action in ENGINES else PAIRS.get(action, ())
+    return (action,) if action in ENGINES or action in TICKS else PAIRS.get(action, ())
 
 
 def place_of(word):
     """The place in a word, or None for the first word of a deviation, which has none."""
     found = PLACE.fullmatch(word)
-    if found and found[2].strip("0"):
-        return Place(int(found[1]), int(found[2]))
-    if word not in {action.split()[0] for action in ACTIONS}:
-        raise ScheduleError(f"{word!r} isn't a place: use ROUND.ACCESS, such as 4.6, and count accesses from 1")
-    return None
+    place = found and Place(int(found[1]), int(found[2]))
+    if place == (0, 0):
+        raise ScheduleError(f"{word!r} isn't a place: round 0 begins with the run, not with a request")
+    if not place and word not in {action.split()[0] for action in ACTIONS}:
+        raise ScheduleError(f"{word!r} isn't a place: use ROUND.ACCESS, such as 4.6; or ROUND.0 for the request that"
+                            " begins the round")
+    return place
+
+
+def check_place(place, name):
+    """ROUND.0 is before a request that begins a round, and every other place is before an access."""
+    if place.access and name in ROUNDS:
+        raise ScheduleError(f"{place} is before an access: use ROUND.0 for the request that begins a round")
+    if not place.access and name not in ROUNDS:
+        raise ScheduleError(f"{place} is before the request that begins round {place.round}: use"
+                            f" 'before {', '.join(ROUNDS[:-1])} or {ROUNDS[-1]}'")
 
 
 def deviation_of(line):
@@ -90,15 +106,17 @@ def deviation_of(line):
     place = place_of(words[0])
     words = words[place is not None:]
     end = words.index("before") if "before" in words else len(words)
-    action, found = " ".join(words[:end]), ACCESS.fullmatch(" ".join(words[end + 1:]))
+    action, found = " ".join(words[:end]), BEFORE.fullmatch(" ".join(words[end + 1:]))
     if action not in ACTIONS:
         raise ScheduleError(f"{action!r} isn't a deviation: use {', '.join(ACTIONS[:-1])} or {ACTIONS[-1]}")
     if not found:
-        raise ScheduleError("no access is named: end the line with the access that it expects,"
-                            " such as 'before read ICR'")
+        raise ScheduleError("no access is named: end the line with the access that it expects, such as 'before read"
+                            " ICR', or with a request that begins a round, such as 'before settle'")
     if place and found[2]:
         raise ScheduleError("use either ROUND.ACCESS or a number after #")
-    if not place and (found[2] or "").strip("0") == "":
+    if place:
+        check_place(place, found[1])
+    elif (found[2] or "").strip("0") == "":
         raise ScheduleError("the access has no number: begin the line with ROUND.ACCESS, such as 4.6, or end it with a"
                             " number from 1, such as 'before read ICR#3'")
     return Deviation(place, action, found[1], None if place else int(found[2]))
@@ -127,8 +145,8 @@ def parse(text):
 def by_name(schedule, accesses):
     """The same schedule without places: each access is given by its number among those with its name.
 
-    `accesses` has the place and the name of each access of its run. A deviation whose place the run didn't reach keeps
-    its place.
+    `accesses` has the place and the name of each access of its run, and of each request that began a round. A deviation
+    whose place the run didn't reach keeps its place.
     """
     counts, numbers = Counter(), {}
     for place, name in accesses:

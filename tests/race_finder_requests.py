@@ -1,0 +1,157 @@
+"""The finder of races before the requests of a test that begin rounds, and steps of the EEPROM and the PHY in schedules."""
+
+import re
+
+from race_finder import ASK, FOUND, FRAME, HASTY, PASSES, find, replay
+from race_finder_charts import check_dump, check_picture
+from race_finder_output import script
+from race_finder_runs import BEGIN, STAGED
+
+# The packet buffer has room for one frame, and two arrive without an access between them. The second one has room if the first one leaves before.
+ROOM = ASK + f"""
+ask "writel 0xFEB01000 2"
+ask "writel 0xFEB02808 128"
+ask "writeq 0 0x800"
+ask "writeq 16 0x800"
+ask "writel 0xFEB02818 2"
+ask "writel 0xFEB00100 0x8002"
+ask "arrive {FRAME}"
+ask "arrive {FRAME}"; fate=$answer
+ask "readb 12"
+ask "settle"
+case $1-$fate in fails-*stored) echo "there was room" >&2; exit 1 ;; esac
+"""
+FAILS = ["sh", "room", "fails"]
+SMALLEST = "2.0 rxdata before arrive"
+CHART = """\
+   place  driver     registers              memory                         adapter          wire              line
+   0.4    write --------------------------> rx[1] buffer 0x800
+   0.5    write ---> RDT 0x2
+   0.6    write ---> RCTL 0x8002 EN BAM
+                                                                           stored <-------- 60 bytes, ..0000
+*                    RDH 0x1                buffer of rx[0] is written <-- rxdata moved
+   2.0    arrive                                                           stored <-------- 60 bytes, ..0000
+   2.1    read <--------------------------- rx[0]+12 status 0x0
+                                            rx[0] is written back <------- rxdone done
+                     RDH 0x2                buffer of rx[1] is written <-- rxdata moved
+                                            rx[1] is written back <------- rxdone done
+   exit status 1: there was room
+"""
+# A frame arrives, another one is offered, and then come a step and a settling.
+EACH = ROOM.partition(f'ask "arrive {FRAME}"\n')[0] + f"""
+ask "arrive {FRAME}"
+ask "offer {FRAME}"
+ask "step rxdata"
+ask "settle"
+"""
+# Schedules before requests: what runs show in a process of their own, forked and recalled.
+SAME = BEGIN + """
+def shown(run):
+    return [run.fault, run.met, run.idle, run.unreached, run.answers, run.events, run.reached, [tuple(met) for met in run.places]]
+
+for command in COMMANDS:
+    target = Target(sys.argv[1], command, seconds=60)
+    run = target.play()
+    target.prepare(run)
+    first = [[Deviation(met.place, action, met.name)] for met in run.places if met.place.access == 0 for action in met.enabled][::3]
+    both = [[*one, Deviation(run.places[-1].place, "rx", run.places[-1].name)] for one in first]
+    ways = [{"schedule": one} for one in [*first, *both]] + [{"draw": Uniform(seed)} for seed in (2, 3)] + [{"draw": Pct(4, 3, run.events)}]
+    runs = [[shown(play(**way)) for way in ways] for play in (target.play, target.play)]
+    runs.append([shown(target.play_apart(way.get("schedule", ()), way.get("draw"), False)) for way in ways])
+    met = sum(len(run[1]) > 0 and run[1][0].place.access == 0 for run in runs[0])
+    print(len(first) > 5, met > len(first), runs[0] == runs[1] == runs[2], target.forks.is_usable, target.recall.is_usable)
+    target.close()
+"""
+
+
+def plays(server):
+    """A deviation before a request that begins a round is explored, drawn, made small, replayed and shown."""
+    server.put("room", ROOM.encode())
+    status, out, errors = find(server, "--explore", "1", "--out", "charts/", command=FAILS)
+    found = (server.get("charts/schedule.txt") or b"").decode().splitlines()[2:]
+    server.check("plays: explored", (status, found, errors), (FOUND, [SMALLEST], ""))
+    check_picture(server, "a request")
+    _, got = check_dump(server, "a request")
+    server.check("plays: in the dump", (len(got["arrive_stored"]), len(got["deviation"])), (2, 1))
+    for name, words in [("drawn", ["--runs", "200"]), ("drawn by PCT", ["--pct", "2", "--runs", "100"])]:
+        status, _, errors = find(server, *words, "--out", "found", command=FAILS)
+        found = (server.get("found") or b"").decode().splitlines()[2:]
+        server.check(f"plays: {name}", (status, found, errors), (FOUND, [SMALLEST], ""))
+    server.check("plays: the chart", replay(server, SMALLEST, command=FAILS), (FOUND, CHART, ""))
+    server.check("plays: by name", replay(server, SMALLEST, "--by-name", "--out", "named", command=FAILS)[0], FOUND)
+    named = (server.get("named") or b"").decode().splitlines()[2:]
+    server.check("plays: the name", named, ["rxdata before arrive#2"])
+    server.check("plays: a replay of the name", replay(server, named[0], command=FAILS), (FOUND, CHART, ""))
+    # Before the second arrival, `rxdata` or `rx`; before the read and the settling, too.
+    out = find(server, "--explore", "1", command=["sh", "room"])[1]
+    server.check("plays: all of one deviation", re.findall(r"^depth 1: (\d+) ", out, re.M), ["6"])
+
+
+def lacks(server):
+    """What a replay reports of such deviations."""
+    server.put("room", ROOM.encode())
+    passes = ["sh", "room"]
+    for line, words, wanted in [
+        ("2.0 rx before settle", [], (FOUND, "2.0 rx before settle: at this place, the test makes another request: arrive")),
+        ("4.0 rx before settle", [], (FOUND, "4.0 rx before settle: the run doesn't reach this place")),
+        ("rx before settle#2", [], (FOUND, "rx before settle#2: the run makes this request 1 time")),
+        ("rx before offer#1", [], (FOUND, "rx before offer#1: the run makes this request 0 times")),
+        ("1.0 rx before arrive", [], (PASSES, "1.0 rx before arrive: it did nothing")),
+        ("2.0 hold phy before arrive", [], (PASSES, "2.0 hold phy before arrive: it did nothing")),
+        ("2.0 phy before arrive", [], (PASSES, "2.0 phy before arrive: it did nothing")),
+        ("2.0 rxdata before settle", ["--any-access"], (FOUND, CHART.splitlines()[0])),
+    ]:
+        status, out, errors = replay(server, line, *words, command=FAILS if words else passes)
+        server.check(f"lacks: {line}", (status, out.splitlines()[0], errors), (*wanted, ""))
+
+
+def rows(server):
+    """In the log and in the chart, the row after such a deviation is that of the request."""
+    server.put("each", EACH.encode())
+    text = "2.0 rxdata before offer\n3.0 rxdone before step\n4.0 arrive before settle\n4.0 rxdata before settle\n"
+    status, out, errors = replay(server, text, "--out", "charts/", command=["sh", "each"])
+    log = [line.partition(" ->")[0] for line in (server.get("charts/log.txt") or b"").decode().splitlines()]
+    at = log.index(f"# arrive {FRAME}") + 1
+    server.check("rows: in the log", log[at:at + 7], ["# step rxdata", "# offer", "# step rxdone", "# step rxdata", f"# arrive {FRAME}", "# step rxdata", "# settle"])
+    shown = [line.split()[:2] for line in out.splitlines() if re.match(r" +\d+\.0", line)]
+    server.check("rows: in the chart", (status, shown, errors), (PASSES, [["2.0", "offer"], ["3.0", "step"], ["4.0", "settle"]], ""))
+    check_picture(server, "requests")
+    check_dump(server, "requests")
+
+
+def ticks(server):
+    """Steps of the EEPROM and the PHY are played after the default steps, in the order of the lines."""
+    server.put("hasty", HASTY.encode())
+    held, step = "0.2 hold eeprom before read EERD\n", "0.2 eeprom before read EERD\n"
+    for name, text, status in [("held", held, FOUND), ("held and played", held + step, PASSES), ("played before it is held", step + held, PASSES)]:
+        got = replay(server, text, command=["sh", "hasty"])
+        server.check(f"ticks: {name}", (got[0], "did nothing" in got[1], got[2]), (status, False, ""))
+    text = "0.2 hold eeprom before read EERD\n0.2 phy before read EERD\n"
+    got = replay(server, text, command=["sh", "hasty"])
+    server.check("ticks: of the other one", (got[0], got[1].splitlines()[0]), (FOUND, "0.2 phy before read EERD: it did nothing"))
+    got = replay(server, step, command=["sh", "hasty"])
+    server.check("ticks: one too many", (got[0], got[1].splitlines()[0]), (PASSES, "0.2 eeprom before read EERD: it did nothing"))
+    # The read is pending when the round begins, and its default step is left out after that.
+    server.put("hasty", HASTY.replace('ask "readl', 'ask "step rxdata"\nask "readl').encode())
+    held, step = "1.1 hold eeprom before read EERD\n", "1.0 eeprom before step\n"
+    for name, text, status in [("held", held, FOUND), ("played before a request", step + held, PASSES)]:
+        got = replay(server, text, command=["sh", "hasty"])
+        server.check(f"ticks: {name}, with a round", (got[0], got[2]), (status, ""))
+    out = replay(server, step, "--by-name", "--out", "named", command=["sh", "hasty"])[1]
+    named = (server.get("named") or b"").decode().splitlines()[2:]
+    server.check("ticks: by name", (named, "did nothing" in out), (["eeprom before step#1"], False))
+    for words in (["--explore", "2"], ["--runs", "20"]):
+        out = find(server, *words, "--holds", "--out", "found", command=["sh", "hasty"])
+        found = (server.get("found") or b"").decode().splitlines()[2:]
+        server.check(f"ticks: {words[0]} finds a hold alone", (out[0], found), (FOUND, [held.strip()]))
+
+
+def same(server):
+    """Such deviations are the same in a process of its own, forked and recalled."""
+    got = script(server, f"COMMANDS = {[[*STAGED, 'stages', 'right'], [*STAGED, 'stages', 'freed']]!r}\n{SAME}")
+    server.check("same: before requests", got, (0, "True True True True True\n" * 2, ""))
+
+
+def all_cases(server):
+    for part in [plays, lacks, rows, ticks, same]:
+        part(server)

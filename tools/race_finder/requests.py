@@ -1,0 +1,73 @@
+"""Requests of a test, and what is recorded of them."""
+
+import re
+from typing import NamedTuple
+
+from race_finder.names import number_of
+from race_finder.reached import access_bit
+from race_finder.schedule import ROUNDS, Place
+from race_finder.shadow import MATTER
+
+MOST_INTERLEAVED = 65535
+FRAME = re.compile("(?:[0-9a-fA-F]{2})+")
+LONGEST = 131_200  # bytes of a request
+# Each write of one of these registers is valid, and never changes the interrupt line.
+QUIET = ("RDT", "TDT")
+
+
+class Met(NamedTuple):
+    """An access of a run, or a request that began a round: its place, its name, and the deviations before it that would
+    do something."""
+    place: Place
+    name: str
+    enabled: tuple
+    holds: tuple
+
+
+class Row:
+    """A line of the log: who caused it, its access (or the slot that a step used), and the answer.
+
+    `begins` is the place of a request that begins a round, if something was played before it.
+    """
+    __slots__ = ("line", "owner", "place", "name", "answer", "begins")
+
+    def __init__(self, line, owner, place=None, name=None, begins=None):
+        self.line, self.owner, self.place, self.name, self.answer = line, owner, place, name, None
+        self.begins = begins
+
+
+class Known:
+    """The access of a request: its name, its register (None for memory), and what follows from these."""
+    __slots__ = ("access", "register", "name", "bit", "matters", "is_quiet", "is_causes", "has_effect")
+
+    def __init__(self, access, register, name, memory):
+        is_write = access.kind == "write"
+        self.access, self.register, self.name = access, register, name
+        self.bit = access_bit(access.kind, register)
+        self.matters = is_write and register in MATTER
+        is_stored = register is None and 0 < access.size <= memory - access.address
+        self.is_quiet = is_write and (register in QUIET or is_stored)
+        self.is_causes = register == "ICR" and not is_write
+        self.has_effect = self.is_causes or self.matters
+
+
+def is_interleave(words):
+    """Whether a request turns random steps on or off, and has a valid form."""
+    count = number_of(words[1]) if words[:1] == ["interleave"] and len(words) == 2 else None
+    return count is not None and count <= MOST_INTERLEAVED
+
+
+def frame_of(request, words):
+    """The digits of the frame that a request offers, or None if it isn't a valid one that offers a frame."""
+    is_offer = len(words) == 2 and words[0] == "offer" and len(request) <= LONGEST
+    return words[1].lower().encode() if is_offer and FRAME.fullmatch(words[1]) else None
+
+
+def kind_of(name):
+    """What is called by this name."""
+    return "request" if name in ROUNDS else "access"
+
+
+def text_of(line):
+    """The text of a request or a line."""
+    return line.decode(errors="surrogateescape")
