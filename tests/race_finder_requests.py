@@ -1,8 +1,9 @@
 """The finder of races before the requests of a test that begin rounds, and steps of the EEPROM and the PHY in schedules."""
 
+import json
 import re
 
-from race_finder import ASK, FOUND, FRAME, HASTY, PASSES, find, replay
+from race_finder import ASK, FOUND, FRAME, HASTY, PASSES, USAGE, find, replay
 from race_finder_charts import check_dump, check_picture
 from race_finder_output import script
 from race_finder_runs import BEGIN, STAGED
@@ -43,6 +44,14 @@ ask "arrive {FRAME}"
 ask "offer {FRAME}"
 ask "step rxdata"
 ask "settle"
+"""
+# Restarts autonegotiation, which takes four steps of the PHY with `--link 3`. Fails if the link is up at the second access after that.
+LINK = ASK + """
+ask "writel 0xFEB00000 0x40"
+ask "writel 0xFEB00020 0x04201200"
+ask "readl 0xFEB00008"
+ask "readl 0xFEB00008"
+case $answer in *3) echo "the link is up" >&2; exit 1 ;; esac
 """
 # Schedules before requests: what runs show in a process of their own, forked and recalled.
 SAME = BEGIN + """
@@ -152,6 +161,35 @@ def same(server):
     server.check("same: before requests", got, (0, "True True True True True\n" * 2, ""))
 
 
+def shrinks(server):
+    """A given schedule is made smaller, and shown like one that was found."""
+    server.put("room", ROOM.encode())
+    server.put("given", b"1.0 tx before arrive\n2.0 rxdata before arrive\n2.0 rxdone before arrive\n2.1 rx before read rx[0]+12\n")
+    wanted = ["1.0 tx before arrive: it did nothing", "3 deviations: exit status 1: there was room"]
+    for name, words in [("", []), (" with a process for each run", ["--apart"])]:
+        status, out, errors = find(server, "--shrink", "given", *words, "--out", "found", command=FAILS)
+        found = (server.get("found") or b"").decode().splitlines()[2:]
+        server.check(f"shrinks: one that fails{name}", (status, found, errors), (FOUND, [SMALLEST], ""))
+        server.check(f"shrinks: what is printed{name}", (out.splitlines()[:2], "\nsmallest: " in out, out.endswith(CHART)), (wanted, True, True))
+    status, out, errors = find(server, "--shrink", "given", command=["sh", "room"])
+    server.check("shrinks: one that passes", (status, out, errors), (PASSES, f"{wanted[0]}\nThe test passes.\n", ""))
+    result = json.loads(find(server, "--shrink", "given", "--json", command=FAILS)[1])
+    server.check("shrinks: as JSON", [result[key] for key in ("result", "fault", "schedule", "seed")], ["fails", "exit status 1: there was room", [SMALLEST], None])
+    server.put("given", b"2.0 rxdata before settle\n")
+    wanted = "2.0 rxdata before settle: at this place, the test makes another request: arrive\n"
+    server.check("shrinks: another request", find(server, "--shrink", "given", command=FAILS), (FOUND, wanted, ""))
+    server.check("shrinks: any request", find(server, "--shrink", "given", "--any-access", command=FAILS)[1].endswith(CHART), True)
+    server.put("link", LINK.encode())
+    server.put("given", b"options --link 3\n0.3 phy before read STATUS\n0.4 phy before read STATUS\n0.4 tx before read STATUS\n")
+    status, out, _ = find(server, "--shrink", "given", "--out", "found", command=["sh", "link"])
+    found = (server.get("found") or b"").decode().splitlines()[2:]
+    server.check("shrinks: steps that aren't searched", (status, found, out.count("another one may fail"), "smallest" in out),
+                 (FOUND, ["options --link 3", *["0.4 phy before read STATUS"] * 2], 1, False))
+    error = "races: use either --replay or --shrink\nFor more information, try '--help'.\n"
+    server.check("shrinks: no replay", find(server, "--shrink", "given", "--replay", "given", command=FAILS), (USAGE, "", error))
+    server.check("shrinks: no file", find(server, "--shrink", "none", command=FAILS)[2].splitlines()[0], "races: none: No such file or directory")
+
+
 def all_cases(server):
-    for part in [plays, lacks, rows, ticks, same]:
+    for part in [plays, lacks, rows, ticks, same, shrinks]:
         part(server)

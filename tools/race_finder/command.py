@@ -23,9 +23,10 @@ fails is made smaller, and printed with the end of the log and a chart.
                        stores there schedule.txt, log.txt, chart.txt, chart.svg and run.vcd (waves, for GTKWave)
   --by-name            prints and stores the schedule without places: before read ICR#3 is before the third read of ICR
   --replay FILE        plays one schedule
+  --shrink FILE        plays one schedule, and if it fails, makes it smaller
   --reached            prints what the runs reached and what they never did, also if one fails
   --json               prints one JSON object instead of the text
-  --any-access         --replay doesn't compare the names of accesses
+  --any-access         --replay and --shrink don't compare the names of accesses
   --seconds N          the time for a run, in seconds (default 10)
   --apart              starts a process for each run. Otherwise a COMMAND python3 SCRIPT.py .. is loaded once, up to its
                        first answer, and forked for each run, if SCRIPT.py uses sys.stdin and sys.stdout alone
@@ -48,7 +49,7 @@ from race_finder.jobs import MOST_JOBS, in_order, processors
 from race_finder.play import Mismatch
 from race_finder.reached import lines_of, tables_of
 from race_finder.requests import kind_of
-from race_finder.schedule import HOLDS, ScheduleError, by_name, parse, text_of
+from race_finder.schedule import HOLDS, TICKS, ScheduleError, by_name, parse, text_of
 from race_finder.server import ServerEnded
 from race_finder.shrink import Shrinker
 from race_finder.store import store
@@ -60,7 +61,7 @@ INTERRUPTED = 130
 LOG_LINES, LONGEST_LINE = 30, 110
 DEEPEST = 100  # of --pct
 NUMBERS = {"runs": 1000, "seed": 1, "explore": None, "smaller": 1000, "seconds": 10, "jobs": processors(), "pct": None}
-TEXTS = {"server": os.path.join(TOP, ".build", "nicbench"), "options": None, "out": None, "replay": None,
+TEXTS = {"server": os.path.join(TOP, ".build", "nicbench"), "options": None, "out": None, "replay": None, "shrink": None,
          "shard": "1/1"}
 FLAGS = ("holds", "any-access", "by-name", "reached", "json", "apart")
 
@@ -93,6 +94,8 @@ def arguments_of(words):
     is_alone = given["explore"] is None and not given["holds"]
     if given["pct"] is not None and not (1 <= given["pct"] <= DEEPEST and is_alone):
         raise UsageError(f"--pct: use a depth from 1 to {DEEPEST}, without --explore and --holds")
+    if given["replay"] and given["shrink"]:
+        raise UsageError("use either --replay or --shrink")
     given["shard"] = shard_of(given["shard"])
     if len(words) < 2:
         raise UsageError("no COMMAND after '--'")
@@ -132,6 +135,7 @@ class Finder:
     def __init__(self, given, target):
         self.given, self.target = given, target
         self.say = (lambda *words, **options: None) if given["json"] else print
+        self.is_given = given["replay"] or given["shrink"]  # whether a schedule is given
         self.result = {"result": "passes", "seed": None}  # what --json prints
         self.note("passes", None, [])
 
@@ -230,8 +234,10 @@ class Finder:
         search.up_to(len(small.met) - 1)
         tried = f"{sum(search.counts)} smaller schedules were tried"
         if not search.found:
-            self.say(f"{tried}, and pass" + ("" if search.is_complete else "; another one may fail"))
-            return small, search.is_complete
+            # One step more of the EEPROM or the PHY isn't searched.
+            is_smallest = search.is_complete and not any(deviation.action in TICKS for deviation in small.met)
+            self.say(f"{tried}, and pass" + ("" if is_smallest else "; another one may fail"))
+            return small, is_smallest
         self.say(f"{tried}: one with {deviations(len(search.found.met))} fails")
         return shrinker.shrink(search.found), True  # only moves its deviations
 
@@ -269,11 +275,15 @@ class Finder:
         if self.given["json"]:
             tables = tables_of(reached) if self.target.runs else (None, None)
             print(json.dumps({**self.result, "runs": self.target.runs, **dict(zip(("reached", "never"), tables))}))
-        elif self.target.runs and (self.given["reached"] or status == PASSES and not self.given["replay"]):
+        elif self.target.runs and (self.given["reached"] or status == PASSES and not self.is_given):
             print(*lines_of(reached), sep="\n")
         return status
 
-    def replay(self, schedule):
+    def play(self, schedule):
+        """Plays a schedule, and prints what did nothing and what the run didn't reach. Returns the run.
+
+        Returns None if the schedule meets another access.
+        """
         is_strict = not self.given["any-access"]
         self.note("passes", None, schedule)
         try:
@@ -281,30 +291,47 @@ class Finder:
         except Mismatch as error:
             self.say(error)
             self.note("mismatch", str(error), schedule)
-            return FOUND
+            return None
         for deviation in run.idle:
             self.say(f"{deviation}: it did nothing")
         unreached = [lack_of(run, deviation) for deviation in run.unreached]
         for lack in unreached:
             self.say(lack)
-        self.say(chart(run), end="")
         if run.fault:
             self.note("fails", run.fault, schedule)
         elif is_strict and unreached:
             self.note("mismatch", unreached[0], schedule)
+        return run
+
+    def replay(self, schedule):
+        run = self.play(schedule)
+        if run is None:
+            return FOUND
+        self.say(chart(run), end="")
         is_stored = self.store(run, self.text_of(run))
         return FOUND if self.result["result"] != "passes" else PASSES if is_stored else USAGE
+
+    def shrink_given(self, schedule):
+        """Makes a schedule smaller if it fails."""
+        run = self.play(schedule)
+        if run and run.fault:
+            self.say(f"{deviations(len(run.met))}: {run.fault}")
+            return self.report(run)
+        if run:
+            self.say("The test passes.")
+        return FOUND if self.result["result"] != "passes" else PASSES
 
 
 def call(words):
     given, command = arguments_of(words)
     options, schedule = given["options"] and given["options"].split(), []
-    if given["replay"]:
+    path = given["replay"] or given["shrink"]
+    if path:
         try:
-            with open(given["replay"], encoding="utf-8") as file:
+            with open(path, encoding="utf-8") as file:
                 stored, schedule = parse(file.read())
         except (OSError, UnicodeDecodeError) as error:
-            raise UsageError(f"{given['replay']}: {getattr(error, 'strerror', error)}") from None
+            raise UsageError(f"{path}: {getattr(error, 'strerror', error)}") from None
         options = stored if options is None else options
     is_forked = not (given["apart"] or given["replay"])
     target = Target(given["server"], command, options or (), given["seconds"], given["jobs"], is_forked)
@@ -312,6 +339,8 @@ def call(words):
         finder = Finder(given, target)
         if given["replay"]:
             return finder.end(finder.replay(schedule))
+        if given["shrink"]:
+            return finder.end(finder.shrink_given(schedule))
         return finder.end(finder.draw() if given["explore"] is None else finder.explore())
 
 

@@ -28,7 +28,7 @@ from race_finder.messages import SIZE, receive, send
 from race_finder.play import Mismatch, Play
 from race_finder.run import fault_of, run_of
 from race_finder.schedule import Place, with_words
-from race_finder.server import Server, Servers
+from race_finder.server import Servers
 
 # A child writes this and its number first. Anything else in its place was written by the test itself.
 MARK = b"\0race"
