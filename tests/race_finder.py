@@ -355,7 +355,9 @@ def talks(server):
     requests = ["log on", "readl 0xFEB00008", "step phy", "arrive 00", "settle", "line", *offers, "wire full", "wire free", "wire", "log off", "interleave 3", "interleave 65536", "log maybe",
                 "writel 0xFEB000C8 128", "writel 0xFEB000D0 128", "readl\t0xFEB000C0 ", "", "fly", "read 0 65537", "write 0 2 0x00", "readb 0x100000",
                 "memset 0 4 1", "read 0 4", "read 0xFEB00000 4", "write 0xFEB000D0 4 0x01000000", "writel 0 0x1ffffffff", "readl 0\r", "read 0 65536",
-                "readl 0".ljust(140_000), "writel 0xFEB00020 0x04201200", "settle"]
+                "readl 0".ljust(140_000), "writel 0xFEB00020 0x04201200", "settle",
+                f"offer {FRAME}", "clock_step 7", f"offer {FRAME}", "clock_set 9", f"offer {FRAME}", "clock_step", "offer 00", "clock_step x", "clock_step 1 2",
+                "outl 0xCF8 0x80002010", "outl 0xCFC 0xE0000000", "readl 0xE0000008", "readl 0xFEB00008", "b64read 0 4", "settle"]
     data = lines(requests) + b"\xff\nreadl 0\xed\xa0\x80\nendianness"
     server.put("requests", data)
     status, _, errors = replay(server, "", command=["sh", "-c", "exec 3<&0; cat requests & exec cat <&3 >answers"])

@@ -83,14 +83,14 @@ def talks(server):
     """Offered frames arrive at the next `settle`, in order, or before accesses by the schedule. The test is told their fates."""
     invalid = server.serve(b"offer\noffer 0\n")[1].decode().splitlines()
     one, two = ["# arrive OTHER", "arrived off OTHER"], ["# arrive FRAME", "arrived off FRAME"]
-    for schedule, places in [("", (4, 4)), ("3.1 arrive before read 0x0", (0, 4)), ("4.1 arrive before read 0x0\n4.2 arrive before read 0x1", (1, 2)),
-                             ("4.2 arrive before read 0x1\n4.2 arrive before read 0x1", (2, 2)), ("arrive before read 0x0#2", (1, 4))]:
+    for schedule, places in [("", (4, 4)), ("1.1 arrive before read 0x0", (0, 4)), ("2.1 arrive before read 0x0\n2.2 arrive before read 0x1", (1, 2)),
+                             ("2.2 arrive before read 0x1\n2.2 arrive before read 0x1", (2, 2)), ("2.0 arrive before offer\n3.0 arrive before settle", (3, 4)), ("arrive before read 0x0#2", (1, 4))]:
         arrivals = [[line for frame, at in zip((one, two), places) if at == place for line in frame] for place in range(5)]
-        wanted = ["OK", "OK", "OK", *invalid, *arrivals[0], "# readb 0", ZERO, "OK", *arrivals[1], "# readb 0", ZERO, *arrivals[2], "# readb 1", ZERO,
+        wanted = ["OK", "OK", "OK", *invalid, *arrivals[0], "# readb 0", ZERO, *arrivals[3], "OK", *arrivals[1], "# readb 0", ZERO, *arrivals[2], "# readb 1", ZERO,
                   "ERR count", *arrivals[4], ZERO, ZERO]
         server.check(f"arrivals: what the test is told by {schedule!r}", told(server, schedule), wanted)
-    status, out, _ = replay(server, "3.1 arrive before read 0x0\n3.1 arrive before read 0x0", command=["sh", "-c", "cat requests"])
-    server.check("arrivals: none is left", (status, out.splitlines()[0]), (PASSES, "3.1 arrive before read 0x0: it did nothing"))
+    status, out, _ = replay(server, "1.1 arrive before read 0x0\n1.1 arrive before read 0x0", command=["sh", "-c", "cat requests"])
+    server.check("arrivals: none is left", (status, out.splitlines()[0]), (PASSES, "1.1 arrive before read 0x0: it did nothing"))
 
 
 def searches(server):

@@ -7,6 +7,7 @@ from race_finder import ASK, FOUND, FRAME, HASTY, PASSES, USAGE, find, replay
 from race_finder_charts import check_dump, check_picture
 from race_finder_output import script
 from race_finder_runs import BEGIN, STAGED
+from server import lines
 
 # The packet buffer has room for one frame, and two arrive without an access between them. The second one has room if the first one leaves before.
 ROOM = ASK + f"""
@@ -155,6 +156,20 @@ def ticks(server):
         server.check(f"ticks: {words[0]} finds a hold alone", (out[0], found), (FOUND, [held.strip()]))
 
 
+def counted(server):
+    """Which requests begin rounds, and which are accesses: those that the server doesn't refuse."""
+    requests = ["offer", "arrive 0", "step fly", "settle 1", "settle", "read 0 65537", "readl 0x100000", "readw 0xFEB00008", "readl 0xFEB00008",
+                "outl 0xCF8 0x80002010", "outl 0xCFC 0xE0000000", "readl 0xFEB00008", "writel 0xE0000014 1", "b64read 0xE0000014 4", "clock_step", "read 0x100000 0",
+                "b64write 0xE0000014 4 AQE=", "b64write 0xE0000014 4 AQEAAA==", "readl 0xE0000014"]
+    server.put("requests", lines(requests))
+    text = "\n".join(["1.1 rx before read STATUS", "1.2 rx before write EERD", "1.3 hold eeprom before read EERD", "1.4 rx before read 0x100000",
+                      "1.5 rx before write EERD", "1.6 hold eeprom before read EERD"])
+    status, out, errors = replay(server, text, command=["sh", "-c", "exec 3<&0; cat requests & exec cat <&3 >answers"])
+    server.check("counted: accesses", (status, re.findall("another|reach", out), errors), (PASSES, [], ""))
+    got = (server.get("answers") or b"").decode().splitlines()
+    server.check("counted: reads of EERD, and the last of them in base64", (got[13], got[18]), ("OK AAAAAA==", "OK 0x0000000000000100"))
+
+
 def same(server):
     """Such deviations are the same in a process of its own, forked and recalled."""
     got = script(server, f"COMMANDS = {[[*STAGED, 'stages', 'right'], [*STAGED, 'stages', 'freed']]!r}\n{SAME}")
@@ -191,5 +206,5 @@ def shrinks(server):
 
 
 def all_cases(server):
-    for part in [plays, lacks, rows, ticks, same, shrinks]:
+    for part in [plays, lacks, rows, ticks, counted, same, shrinks]:
         part(server)

@@ -1,6 +1,7 @@
 """Names of registers, and accesses in requests."""
 
 import re
+from binascii import a2b_base64
 from functools import lru_cache
 from typing import NamedTuple
 
@@ -33,6 +34,8 @@ FIELDS = {
 FIELD_BITS = {"rx status": {0: "DD", 1: "EOP"}, "tx status": {0: "DD"}, "tx command": {0: "EOP", 3: "RS"}}
 SLOT = re.compile(r"(rx|tx)\[[0-9]+\](?:\+([0-9]+))?")
 SIZES = {"b": 1, "w": 2, "l": 4, "q": 8}
+HEXADECIMAL = re.compile("0x(?:[0-9a-fA-F]{2})*")
+BASE64 = re.compile("(?:[A-Za-z0-9+/]{4})*(?:[A-Za-z0-9+/]{2}==|[A-Za-z0-9+/]{3}=)?")
 NUMBER = re.compile(r"0x[0-9a-fA-F]+|[0-9]+")
 MOST_BYTES = 65536
 
@@ -40,13 +43,13 @@ MOST_BYTES = 65536
 class Access(NamedTuple):
     """An access: 'read' or 'write', its bytes, and what it writes, as a number (None if it reads).
 
-    Its answer may have bytes in the order of memory (`is_bytes`), or a number.
+    Its answer may have bytes in the order of memory (`bytes_of` reads them), or a number.
     """
     kind: str
     address: int
     size: int
     value: int
-    is_bytes: bool = False
+    bytes_of: object = None
 
 
 def words_of(request):
@@ -66,7 +69,7 @@ def number_of(word):
 def access_of(request):
     """The access that a request makes, or None if the request isn't an access or has an invalid form."""
     name, *rest = words_of(request) or [""]
-    if name in ("read", "write", "memset"):
+    if name in ("read", "write", "b64read", "b64write", "memset"):
         return access_of_bytes(name, rest)
     kind, size = name[:-1], SIZES.get(name[-1:])
     if kind not in ("read", "write") or size is None or len(rest) != (1 if kind == "read" else 2):
@@ -77,39 +80,44 @@ def access_of(request):
     return Access(kind, address, size, value if kind == "write" else None)
 
 
-def bytes_of(word, size):
-    """The bytes in a word such as 0x0a0b, or None if it has another form or another number of bytes."""
-    if not word.startswith("0x") or len(word) != 2 + 2 * size:
-        return None
-    try:
-        data = bytes.fromhex(word[2:])
-    except ValueError:
-        return None
-    return data if len(data) == size else None  # `fromhex` skips white space
+def in_hexadecimal(word):
+    """The bytes in a word such as 0x0a0b, or None if it has another form."""
+    return bytes.fromhex(word[2:]) if HEXADECIMAL.fullmatch(word) else None
+
+
+def in_base64(word):
+    """The bytes in base64 (RFC 4648), or None if a word has another form."""
+    return a2b_base64(word) if BASE64.fullmatch(word) else None
 
 
 def access_of_bytes(name, words):
-    """The access of a request `read`, `write` or `memset`, or None if it has an invalid form."""
-    if len(words) != (2 if name == "read" else 3):
+    """The access of a request whose bytes are in the order of memory, or None if it has an invalid form."""
+    is_read, bytes_of = name.endswith("read"), in_base64 if name.startswith("b64") else in_hexadecimal
+    if len(words) != (2 if is_read else 3):
         return None
     address, size = map(number_of, words[:2])
     if None in (address, size) or size > MOST_BYTES:
         return None
-    if name == "read":
-        return Access("read", address, size, None, True)
+    if is_read:
+        return Access("read", address, size, None, bytes_of)
     if name == "memset":
         byte = number_of(words[2])
         data = None if byte is None or byte > 255 else bytes([byte]) * size
     else:
-        data = bytes_of(words[2], size)
-    return None if data is None else Access("write", address, size, int.from_bytes(data, "little"), True)
+        data = bytes_of(words[2])
+    if data is None or len(data) != size:
+        return None
+    return Access("write", address, size, int.from_bytes(data, "little"), bytes_of)
 
 
 def number_in(access, text):
     """The number that an access has read, by the text of its answer; or None."""
-    if access.kind == "write" or not text or not text.startswith("0x"):
+    if access.kind == "write" or not text:
         return None
-    return int.from_bytes(bytes.fromhex(text[2:]), "little") if access.is_bytes else int(text, 0)
+    if access.bytes_of:
+        data = access.bytes_of(text)
+        return None if data is None else int.from_bytes(data, "little")
+    return int(text, 0) if text.startswith("0x") else None
 
 
 def bits_of(word, names):

@@ -4,10 +4,10 @@ import hashlib
 from collections import Counter
 from copy import copy
 
-from race_finder.names import DEFAULT_REGISTERS, access_of, causes_of, number_in, words_of
+from race_finder.names import DEFAULT_REGISTERS, access_of, causes_of, number_in, number_of, words_of
 from race_finder.reached import STEP_KINDS, bits_of_causes, bits_of_fates, bits_of_steps
-from race_finder.requests import Known, Met, Row, frame_of, is_interleave, kind_of, text_of
-from race_finder.schedule import ARRIVE, ENGINES, HOLDS, ROUNDS, Deviation, Place, steps_of
+from race_finder.requests import LONGEST, Known, Met, Row, begins_round, is_interleave, kind_of, settles, text_of
+from race_finder.schedule import ARRIVE, ENGINES, HOLDS, Deviation, Place, steps_of
 from race_finder.shadow import Shadow
 
 # The most bytes of requests that are sent before answers are read: every pipe holds at least this many.
@@ -286,8 +286,14 @@ class Play:
         elif words[:1] in OURS:
             self.flush()
             self.out.append(b"FAIL unknown")
-        elif words[:1] and words[0] in ROUNDS:
+        elif begins_round(request, words):
             self.begin_round(request, words)
+        elif settles(words):
+            self.settle(request)
+        elif words[:1] == ["outl"] and len(words) == 3:
+            self.queue(request, TEST)
+            if self.shadow.configure(*map(number_of, words[1:])):
+                self.known = {}
         elif words in WIRE:
             self.queue(request, TEST)
             if self.flush()[-1] == b"OK":
@@ -296,11 +302,11 @@ class Play:
             self.queue(request, TEST)
 
     def learn(self, request):
-        """The access of a request, or None if it is none."""
-        access = access_of(text_of(request[:-1]))
-        if not access:
+        """The access of a request, or None if it is none, or is refused."""
+        access = access_of(text_of(request[:-1])) if len(request) <= LONGEST + 1 else None
+        register = self.shadow.register(access) if access else None
+        if not access or register is None and access.address + access.size > self.memory:
             return None
-        register = self.shadow.register(access)
         known = Known(access, register, f"{access.kind} {register or self.shadow.memory(access)}", self.memory)
         if len(self.known) < MOST_KNOWN:
             self.known[request] = known
@@ -321,28 +327,29 @@ class Play:
         self.round, self.access_number = self.round + 1, 0
         if not self.is_direct:
             self.before_round(words[0])
-        frame = frame_of(request, words)
-        if frame:
+        if words[0] == "offer":
             self.flush()
-            self.offered.append(frame)
+            self.offered.append(words[1].lower().encode())
             self.offers += 1
             self.out.append(b"OK")
-            return
-        if self.offered and words == ["settle"]:
-            self.flush()
-            while self.offered:
-                self.arrive(DEFAULT)
-        self.queue_round(request, words)
-        self.flush()  # so the same steps follow, however many requests are sent at once
+        elif words[0] == "settle":
+            self.settle(request)
+        else:
+            self.queue(request, TEST, outcomes=None if self.has_log else OUTCOMES.get(words[1]))
+            self.flush()  # so the same steps follow, however many requests are sent at once
         self.begins = None
 
-    def queue_round(self, request, words):
-        """The request at the begin of a round. The log has the steps of `settle`; the answer has the outcome of `step`."""
-        kind = words[1] if words[0] == "step" and len(words) == 2 else None
+    def settle(self, request):
+        """A request that delivers the offered frames and plays rounds of steps, which the log has."""
+        self.flush()
+        while self.offered:
+            self.arrive(DEFAULT)
         has_log = self.has_log
-        self.set_log(has_log or words == ["settle"])
-        self.queue(request, TEST, outcomes=None if has_log else OUTCOMES.get(kind))
+        self.set_log(True)
+        self.queue(request, TEST)
         self.set_log(has_log)
+        self.flush()
+
 
     def before_round(self, name):
         """Plays what is due before the request with this name, which begins a round. No default step is played."""

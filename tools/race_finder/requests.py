@@ -4,7 +4,7 @@ import re
 from typing import NamedTuple
 
 from race_finder.names import number_of
-from race_finder.reached import access_bit
+from race_finder.reached import STEP_KINDS, access_bit
 from race_finder.schedule import ROUNDS, Place
 from race_finder.shadow import MATTER
 
@@ -57,10 +57,23 @@ def is_interleave(words):
     return count is not None and count <= MOST_INTERLEAVED
 
 
-def frame_of(request, words):
-    """The digits of the frame that a request offers, or None if it isn't a valid one that offers a frame."""
-    is_offer = len(words) == 2 and words[0] == "offer" and len(request) <= LONGEST
-    return words[1].lower().encode() if is_offer and FRAME.fullmatch(words[1]) else None
+def begins_round(request, words):
+    """Whether a request begins a round, and has a valid form."""
+    name, *rest = words or [""]
+    if name == "settle":
+        return not rest
+    if name == "step":
+        return len(rest) == 1 and rest[0] in STEP_KINDS
+    is_frame = name in ("arrive", "offer") and len(rest) == 1 and len(request) <= LONGEST + 1  # with its newline
+    return is_frame and FRAME.fullmatch(rest[0]) is not None
+
+
+def settles(words):
+    """Whether a request delivers all offered frames and plays rounds of steps, and has a valid form."""
+    name, *rest = words or [""]
+    if name not in ("clock_step", "clock_set"):
+        return name == "settle" and not rest
+    return len(rest) == 1 and number_of(rest[0]) is not None or name == "clock_step" and not rest
 
 
 def kind_of(name):

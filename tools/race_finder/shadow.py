@@ -7,6 +7,8 @@ from race_finder.names import DEFAULT_REGISTERS, REGISTERS, REGISTERS_SIZE
 RESET, START, ENABLE = 1 << 26, 1, 1 << 1  # CTRL.RST; the start bit of EERD; RCTL.EN and TCTL.EN
 DESCRIPTOR = 16
 TRANSMIT_ROOM = 4  # frames in the transmit packet buffer
+# The ports of configuration space, the bits that the first one keeps, and there the address of BAR0
+ADDRESS, DATA, ADDRESS_BITS, BAR0 = 0xCF8, 0xCFC, 0x80FFFFFC, 0x80002010
 # The bits that a write stores, of registers that are kept here.
 KEPT = {"RCTL": 0x0607B33A, "TCTL": 0x003FFFFA}
 for ring in "RT":
@@ -20,7 +22,7 @@ MATTER = {*KEPT, "CTRL", "EERD", "MDIC"}
 
 class Shadow:
     def __init__(self, base=DEFAULT_REGISTERS):
-        self.base = base
+        self.base, self.configuration = base, 0  # the address of the registers, and one in configuration space
         self.eeprom = self.phy = False  # whether a step of it may have work
         self.is_wire_free = True
         self.reset()
@@ -79,6 +81,17 @@ class Shadow:
         elif register == "MDIC":
             self.phy = True
         return False
+
+    def configure(self, port, value):
+        """A port of four bytes was written. Returns whether the registers have moved: BAR0 was written as a whole."""
+        if value is None or value >= 1 << 32:
+            return False
+        if port == ADDRESS:
+            self.configuration = value & ADDRESS_BITS
+        is_moved = port == DATA and self.configuration == BAR0
+        if is_moved:
+            self.base = value & ~(REGISTERS_SIZE - 1)
+        return is_moved
 
     def set_wire(self, is_free):
         """Whether the wire has room for a frame from now on."""
