@@ -87,6 +87,41 @@ for scripts in [[(b"a", b"1", (1, 0)), (b"b", b"2", (1, 1))], [(b"a", b"1", (1, 
         requests.learn(one)
     print(requests.is_certain)
 """
+# Plays schedules without the test, with and without digests. Prints whether the runs are the same, and how many end at a state that is known.
+DIGESTS = BEGIN + """
+from race_finder import seen
+from race_finder.recall import Player
+
+ended = []
+class Counted(seen.Known):
+    def __init__(self, rest):
+        ended.append(rest)
+        super().__init__(rest)
+
+seen.Known = Counted
+for command in COMMANDS:
+    target = Target(sys.argv[1], command, seconds=60)
+    run = target.play()
+    target.prepare(run)
+    players = [Player(1, has_digest, *target.forks.settings) for has_digest in (True, False)]
+    schedules = [[Deviation(met.place, action, met.name)] for met in run.places if met.place.round for action in met.enabled][:60]
+    schedules += [[one[0], two[0]] for one, two in zip(schedules, schedules[3:])]
+    for script in [run.script, *(one.script for one in (target.play(schedule) for schedule in schedules) if one.script and not one.fault)]:
+        for player in players:
+            player.learn(*script)
+    known, count = [], 0
+    for schedule in schedules:
+        runs = [(player.play(schedule, False) or [None])[0] for player in players]
+        both = [one and (one.answers, one.events, one.offers, one.reached, one.fault) for one in runs]
+        known.append(both[0] == both[1])
+        count += runs[0] is not None
+    can_digest = players[0].can_digest
+    print(all(known), count > len(schedules) // 2, can_digest == (len(ended) > 10), players[1].can_digest)
+    ended.clear()
+    for player in players:
+        player.end()
+    target.close()
+"""
 MISMATCH = "4.1 rx before read RDH: at this place, the test makes another access: read {}\n"
 # Tests in Python: what each does, whether its runs are forked, and its fault
 ASKS = """
@@ -152,6 +187,19 @@ def recalled(server):
     """A schedule that is played without the test shows what a process of the test shows."""
     got = script(server, f"COMMANDS = {[[*STAGED, 'stages', 'right'], [*STAGED, 'stages', 'freed']]!r}\n{RECALLED}")
     server.check("recalled: runs without the test", got, (0, "True True True True False\nTrue True True True True\nFalse\nTrue\n", ""))
+
+
+def digests(server):
+    """A run that ends at a state that is known is the same as one that is played to its end."""
+    got = script(server, f"COMMANDS = {[[*STAGED, 'stages', 'right'], [*STAGED, 'offers', 'right'], [*EXCHANGE, 'freed']]!r}\n{DIGESTS}")
+    server.check("digests: runs without the test", got, (0, "True True True False\n" * 3, ""))
+    if not server.serve(b"digest\n")[1].startswith(b"OK"):
+        print("digests: `serve` doesn't know the request digest, so no run ends at a state that is known")
+    server.put("small", SMALL.encode())
+    for name, words, command in [("explored", ["--explore", "1"], [*STAGED, "offers", "right"]), ("a race", ["--explore", "1"], [*STAGED, "stages", "late"]),
+                                 ("a small test", ["--explore", "3"], ["sh", "small"])]:
+        got = [find(server, *words, *more, "--jobs", "3", command=command) for more in ([], ["--no-digest"])]
+        server.check(f"digests: {name}", (got[0][0] in (PASSES, FOUND), got[0]), (True, got[1]))
 
 
 def ends(server):
@@ -293,5 +341,5 @@ def pct(server):
 
 
 def all_cases(server):
-    for part in [same, recalled, ends, jobs, saved, pct]:
+    for part in [same, recalled, digests, ends, jobs, saved, pct]:
         part(server)

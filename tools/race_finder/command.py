@@ -30,6 +30,7 @@ fails is made smaller, and printed with the end of the log and a chart.
   --seconds N          the time for a run, in seconds (default 10)
   --apart              starts a process for each run. Otherwise a COMMAND python3 SCRIPT.py .. is loaded once, up to its
                        first answer, and forked for each run, if SCRIPT.py uses sys.stdin and sys.stdout alone
+  --no-digest          --explore plays each run to its end, also from a state that it knows from an earlier run
 
 Exit status: 0 if no run fails, 1 if a run or the replay fails, 2 if an argument or the schedule is invalid, and 3 if COMMAND
 or the server couldn't be run.
@@ -63,7 +64,7 @@ DEEPEST = 100  # of --pct
 NUMBERS = {"runs": 1000, "seed": 1, "explore": None, "smaller": 1000, "seconds": 10, "jobs": processors(), "pct": None}
 TEXTS = {"server": os.path.join(TOP, ".build", "nicbench"), "options": None, "out": None, "replay": None, "shrink": None,
          "shard": "1/1"}
-FLAGS = ("holds", "any-access", "by-name", "reached", "json", "apart")
+FLAGS = ("holds", "any-access", "by-name", "reached", "json", "apart", "no-digest")
 
 
 class UsageError(Exception):
@@ -334,7 +335,7 @@ def call(words):
             raise UsageError(f"{path}: {getattr(error, 'strerror', error)}") from None
         options = stored if options is None else options
     is_forked = not (given["apart"] or given["replay"])
-    target = Target(given["server"], command, options or (), given["seconds"], given["jobs"], is_forked)
+    target = Target(given["server"], command, options or (), given["seconds"], given["jobs"], is_forked, not given["no-digest"])
     with closing(target):
         finder = Finder(given, target)
         if given["replay"]:

@@ -49,7 +49,7 @@ class Play:
     __slots__ = ("shadow", "memory", "known", "waiting", "size", "untold", "round", "access_number", "is_logged", "stop",
                  "at_stop", "begun", "out", "offered", "offers", "met", "idle", "places", "rows", "reached", "others",
                  "accesses", "script", "told", "answers", "counts", "rest", "is_direct", "tells_events", "server", "draw",
-                 "begins", "is_strict", "has_places", "has_rows", "has_script", "has_log", "schedule", "left", "named")
+                 "begins", "checkpoint", "is_strict", "has_places", "has_rows", "has_script", "has_log", "schedule", "left", "named")
 
     def __init__(self, base=DEFAULT_REGISTERS, memory=0):
         self.shadow, self.memory = Shadow(base), memory  # of `memory` bytes, the finder knows that they are there
@@ -60,6 +60,7 @@ class Play:
         self.round = self.access_number = 0
         self.is_logged = False  # whether the test wants the log
         self.stop, self.at_stop = None, None  # a place, and what is called when the run reaches it
+        self.checkpoint = None  # what is called before accesses and rounds when no deviation is left
         self.begun = []  # the requests before this place
         self.begins = None  # the place of a request on its way, if its row is marked
         self.out = []  # lines for the test
@@ -104,7 +105,8 @@ class Play:
 
     def look_ahead(self):
         """Notes whether from now on nothing but default steps is played, and nothing is recorded but what is reached."""
-        self.is_direct = not (self.left or self.named or self.draw or self.has_places or self.is_logged or self.stop)
+        has_more = self.left or self.named or self.draw or self.stop or self.checkpoint
+        self.is_direct = not (has_more or self.has_places or self.is_logged)
 
     def events(self):
         """The number of requests from the first one on that begins a round: those that begin one, and accesses; and of
@@ -364,6 +366,8 @@ class Play:
             for action in self.draw.actions(name, self.enabled, self.offered):
                 self.play_drawn(action, name)
             self.flush()
+        if self.checkpoint and not (self.left or self.named):
+            self.checkpoint()
         if self.has_places:
             self.places.append(Met(place, name, () if self.draw else self.possible(), ()))
         if self.has_rows and len(self.met) > count:
@@ -404,6 +408,8 @@ class Play:
         if self.draw and self.round:
             for action in self.draw.actions(name, self.enabled, self.offered):
                 self.play_drawn(action, name)
+        if self.checkpoint and not (self.left or self.named):
+            self.checkpoint()
         if not self.has_places:
             return None
         # No schedule gets longer than a drawn one.

@@ -8,6 +8,7 @@ Players are processes of the finder. Each has a server, whose state it saves sho
 schedule: later schedules often begin there, too.
 """
 
+import hashlib
 import os
 import queue
 import select
@@ -15,11 +16,13 @@ import socket
 import subprocess
 import sys
 
+from race_finder import seen
 from race_finder.forks import END, kill
 from race_finder.messages import receive, send
 from race_finder.play import Play
 from race_finder.run import run_of, unpacked
 from race_finder.schedule import with_words
+from race_finder.seen import Checks, States
 from race_finder.server import Server, ServerEnded
 
 TOOLS = os.path.dirname(os.path.dirname(os.path.abspath(__file__)))
@@ -34,12 +37,18 @@ FAR = 16  # requests up to the next schedule that are worth that the state is sa
 MOST = 400_000  # answers for which the requests are kept, by all players: each takes about 1 kB
 
 
+def hash_of(state, told):
+    """The state after this one."""
+    return int.from_bytes(hashlib.sha1(b"%d " % state + told).digest()[:8], "little")
+
+
 class Requests:
     """The requests that a test makes after which answers, by the scripts of its runs (`Play.script`)."""
 
     def __init__(self, most=MOST):
         self.most = most
-        # By a state, and what the test is told there: the next state, the next requests, and whether the test ends then
+        # By a state, and what the test is told there: the next state, the next requests, and whether the test ends
+        # then. A state is a hash of all that the test was told.
         self.known = {}
         self.is_certain = True  # whether the same answers always lead to the same requests
 
@@ -48,7 +57,7 @@ class Requests:
         for at, (requests, answers, _) in enumerate(script, 1):
             found = self.known.get((state, told))
             if found is None and len(self.known) < self.most:
-                found = self.known[state, told] = len(self.known) + 1, requests, at == len(script)
+                found = self.known[state, told] = hash_of(state, told), requests, at == len(script)
             if found is None or found[1:] != (requests, at == len(script)):
                 self.is_certain &= found is None
                 return
@@ -58,9 +67,10 @@ class Requests:
 class Player:
     """Plays schedules whose deviations have places, from round 1 on, with a server of its own."""
 
-    def __init__(self, most, program, options, *addresses):
+    def __init__(self, count, has_digest, program, options, *addresses):
         self.program, self.options, self.addresses = program, options, addresses
-        self.requests = Requests(most)
+        self.requests = Requests(MOST // count)
+        self.states, self.has_digest = States(min(seen.MOST // count, seen.MOST_EACH)), has_digest
         self.base = None  # the script of the run without deviations
         self.server = self.run = None  # the server, and the run without deviations up to where its state is saved
 
@@ -70,7 +80,7 @@ class Player:
         self.requests.learn([*self.base[:shared], *script])
 
     def play(self, schedule, has_places):
-        """The run of a schedule, or None if the requests of the test aren't known."""
+        """The run of a schedule, and its rests by its states; or None if the requests of the test aren't known."""
         if not self.requests.is_certain:
             return None
         self.move(min(deviation.place for deviation in schedule))
@@ -79,12 +89,28 @@ class Player:
         self.server.restore()
         play, state, told = self.run.copy(), self.state, self.told
         play.begin(self.server, schedule, None, False, has_places, False)
-        while found := self.requests.known.get((state, told)):
-            state, requests, is_last = found
-            told = play.feed(requests, is_last)
-            if is_last:
-                return run_of(None, play).reduced(has_places, False)
+        checks = Checks(self.states, play, self.server, not has_places) if self.can_digest else None
+        try:
+            while found := self.requests.known.get((state, told)):
+                state, requests, is_last = found
+                if checks:
+                    checks.state = state
+                told = play.feed(requests, is_last)
+                if is_last:
+                    return self.ended(play, checks, has_places)
+        except seen.Known as known:
+            return self.ended(play, checks, has_places, known.rest)
         return None
+
+    def ended(self, play, checks, has_places, rest=None):
+        """The run that was played, and the rests of the run by its states."""
+        if not checks:
+            return run_of(None, play).reduced(has_places, False), []
+        ended, rests = checks.end(rest)
+        self.states.learn(rests)
+        if has_places:
+            ended.take(run_of(None, play))
+        return ended, rests
 
     def end(self):
         if self.server:
@@ -106,6 +132,7 @@ class Player:
         """A new server, and the run from its start."""
         self.end()
         self.server = Server(self.program, self.options)
+        self.can_digest = self.has_digest and self.server.ask(b"digest\n").startswith(b"OK")
         self.run, self.state, self.told, self.is_saved = Play(*self.addresses), 0, b"", False
 
     def advance(self, script):
@@ -123,12 +150,13 @@ class Player:
 class Recall:
     """The players of the finder."""
 
-    def __init__(self, settings, count, seconds):
+    def __init__(self, settings, count, seconds, has_digest):
         self.free, self.seconds = queue.LifoQueue(), seconds
-        self.processes, self.scripts = [], {}  # by players, the scripts that they don't know yet
+        self.processes = []
+        self.scripts, self.rests = {}, {}  # by players, what they don't know yet
         self.is_usable = True
         for _ in range(count):
-            self.start((MOST // count, *settings))
+            self.start((count, has_digest, *settings))
 
     def start(self, settings):
         """Starts a player."""
@@ -138,7 +166,7 @@ class Recall:
             self.processes.append(subprocess.Popen(words, stdin=null, stdout=null, stderr=null, start_new_session=True,
                                                    pass_fds=[theirs.fileno()]))
         send(ours.fileno(), settings)
-        self.scripts[ours] = []
+        self.scripts[ours], self.rests[ours] = [], []
         self.free.put(ours)
 
     def learn(self, script):
@@ -151,7 +179,8 @@ class Recall:
         control = self.free.get()
         try:
             scripts, self.scripts[control] = self.scripts[control], []
-            send(control.fileno(), (scripts, [deviation.words() for deviation in schedule], has_places))
+            rests, self.rests[control] = self.rests[control], []
+            send(control.fileno(), (scripts, rests, [deviation.words() for deviation in schedule], has_places))
             is_ready = select.select([control], [], [], self.seconds)[0]
             found = is_ready and receive(control.fileno())
         except OSError:
@@ -161,7 +190,11 @@ class Recall:
         if not found:
             self.is_usable = False  # a process of the test shows what it is
             return None
-        return found[0] and unpacked(found[0])
+        run, rests = found
+        for other in self.rests if rests else ():
+            if other is not control:
+                self.rests[other] += rests
+        return run and unpacked(run)
 
     def end(self):
         for control in self.scripts:
@@ -175,15 +208,16 @@ class Recall:
 
 
 def main(control):
-    """Plays what is asked for until the finder ends. The answer is a list with the run, or None instead of it."""
+    """Plays what is asked for until the finder ends. The answer has the run, or None, and its rests by its states."""
     player = Player(*receive(control))
     try:
         while message := receive(control):
-            scripts, schedule, has_places = message
+            scripts, rests, schedule, has_places = message
             for script in scripts:
                 player.learn(*script)
-            run = player.play([with_words(*words) for words in schedule], has_places)
-            send(control, [run and run.packed()])
+            player.states.learn(rests)
+            run, rests = player.play([with_words(*words) for words in schedule], has_places) or (None, [])
+            send(control, (run and run.packed(), rests))
     except (ServerEnded, OSError):
         pass  # the finder goes on without this player
     finally:

@@ -23,6 +23,10 @@ class Run:
             self.places = self.met = self.idle = self.unreached = ()
         return self
 
+    def take(self, run):
+        """Takes what was played from the same run."""
+        self.met, self.idle, self.unreached, self.places = run.met, run.idle, run.unreached, run.places
+
     def packed(self):
         """This run as a built-in value, for `unpacked`."""
         if self.fault or self.met or self.idle or self.unreached or self.places or self.rows or self.script:

@@ -39,9 +39,9 @@ def addresses_of(options):
 class Target:
     """The command that is tested. Its runs are forked if it is a script in Python and `is_forked`."""
 
-    def __init__(self, server, command, options=(), seconds=10.0, jobs=1, is_forked=True):
+    def __init__(self, server, command, options=(), seconds=10.0, jobs=1, is_forked=True, has_digest=True):
         self.server, self.command, self.options = server, command, tuple(options)
-        self.seconds, self.jobs = seconds, jobs
+        self.seconds, self.jobs, self.has_digest = seconds, jobs, has_digest
         self.runs, self.reached = 0, 0  # of the runs that are counted
         self.wake = os.pipe()  # holds a byte while runs must end
         script = script_of(command) if is_forked else None
@@ -63,7 +63,7 @@ class Target:
         if self.forks:
             self.forks.prepare(run)
             if self.forks.is_usable and run.script and not run.fault and not self.recall:
-                self.recall = Recall(self.forks.settings, self.jobs, self.seconds)
+                self.recall = Recall(self.forks.settings, self.jobs, self.seconds, self.has_digest)
                 self.recall.learn(run.script)
 
     def run(self, schedule=(), draw=None, is_strict=False):

@@ -1,0 +1,75 @@
+"""States of runs that are known: from there on, a run is the same as an earlier one.
+
+A state is what the test was told so far, the place, the number of frames that wait, and the digest of the server. If no
+deviation is left, it decides the rest of the run: the test has made the same requests, and makes the same ones.
+"""
+
+from race_finder.run import Run
+
+MOST = 400_000  # states that are kept, by all players: each takes about 400 bytes
+MOST_EACH = 100_000
+CHECKS = 4  # of a run: at its last deviation, before the next access, and where the next rounds begin
+
+
+class Known(Exception):
+    """A run has come to a state that is known."""
+
+    def __init__(self, rest):
+        super().__init__()
+        self.rest = rest
+
+
+class States:
+    """The rests of runs by their states. A rest has the hash of all answers of the run, the number of offers in the run,
+    the number of events in the rest, and what is reached in the rest.
+    """
+
+    def __init__(self, most):
+        self.most, self.rests = most, {}
+
+    def learn(self, rests):
+        """Learns rests, each as a pair of a state and a rest. If there are too many, forgets those before."""
+        if len(self.rests) + len(rests) > self.most:
+            self.rests.clear()
+        self.rests.update(rests)
+
+
+class Checks:
+    """The checks of a run, from its last deviation on. `ends` is whether it ends at a state that is known."""
+
+    def __init__(self, states, play, server, ends):
+        self.states, self.play, self.server, self.ends = states, play, server, ends
+        self.left, self.state = CHECKS, 0  # the state stands for all that the test was told
+        self.passed = []  # the states so far, each with the events up to there, and what is reached since the one before
+        play.checkpoint = self.check
+
+    def check(self):
+        """The run is before an access or a request, and no deviation is left."""
+        play = self.play
+        if play.access_number and self.left < CHECKS - 1 or play.out:
+            return
+        self.left -= 1
+        if not self.left:
+            play.checkpoint = None
+            play.look_ahead()
+        play.flush()
+        state = self.state, play.round, play.access_number, len(play.offered), self.server.ask(b"digest\n")
+        if self.ends and state in self.states.rests:
+            raise Known(self.states.rests[state])
+        self.passed.append((state, play.events(), play.reached))
+        play.reached = 0
+
+    def end(self, rest=None):
+        """At the end of a run that passes: its result, and the rests of the run by its states.
+
+        With a rest, the run has ended at a state that has this rest.
+        """
+        play = self.play
+        answers, offers, events, reached = rest or (play.digest(), play.offers, 0, 0)
+        events += play.events()
+        reached |= play.reached
+        rests = []
+        for state, before, reached_before in reversed(self.passed):
+            rests.append((state, (answers, offers, events - before, reached)))
+            reached |= reached_before
+        return Run(answers, events, offers, reached), rests
