@@ -93,6 +93,7 @@ from race_finder import seen
 from race_finder.recall import Player
 
 ended = []
+seen.SLOW = 10
 class Counted(seen.Known):
     def __init__(self, rest):
         ended.append(rest)
@@ -100,7 +101,7 @@ class Counted(seen.Known):
 
 seen.Known = Counted
 for command in COMMANDS:
-    target = Target(sys.argv[1], command, seconds=60)
+    target = Target(sys.argv[1], command, ["--memory", "0x40000"], seconds=60)
     run = target.play()
     target.prepare(run)
     players = [Player(1, has_digest, *target.forks.settings) for has_digest in (True, False)]
@@ -196,9 +197,10 @@ def digests(server):
     if not server.serve(b"digest\n")[1].startswith(b"OK"):
         print("digests: `serve` doesn't know the request digest, so no run ends at a state that is known")
     server.put("small", SMALL.encode())
+    options = ["--options", "--memory 0x40000"]
     for name, words, command in [("explored", ["--explore", "1"], [*STAGED, "offers", "right"]), ("a race", ["--explore", "1"], [*STAGED, "stages", "late"]),
                                  ("a small test", ["--explore", "3"], ["sh", "small"])]:
-        got = [find(server, *words, *more, "--jobs", "3", command=command) for more in ([], ["--no-digest"])]
+        got = [find(server, *words, *options, *more, "--jobs", "3", command=command) for more in ([], ["--no-digest"])]
         server.check(f"digests: {name}", (got[0][0] in (PASSES, FOUND), got[0]), (True, got[1]))
 
 

@@ -132,7 +132,7 @@ class Player:
         """A new server, and the run from its start."""
         self.end()
         self.server = Server(self.program, self.options)
-        self.can_digest = self.has_digest and self.server.ask(b"digest\n").startswith(b"OK")
+        self.can_digest = self.has_digest and seen.is_fast(self.server)
         self.run, self.state, self.told, self.is_saved = Play(*self.addresses), 0, b"", False
 
     def advance(self, script):

@@ -4,11 +4,25 @@ A state is what the test was told so far, the place, the number of frames that w
 deviation is left, it decides the rest of the run: the test has made the same requests, and makes the same ones.
 """
 
+import time
+
 from race_finder.run import Run
 
 MOST = 400_000  # states that are kept, by all players: each takes about 400 bytes
 MOST_EACH = 100_000
-CHECKS = 4  # of a run: at its last deviation, before the next access, and where the next rounds begin
+NEAR, CHECKS = 4, 5  # checks of a run: at its last deviation, before the next accesses, and where the next round begins
+SLOW = 0.001  # seconds: if a digest takes longer, a run is as fast without digests
+
+
+def is_fast(server):
+    """Whether a server knows the request `digest`, and answers it soon."""
+    times = []
+    for _ in range(3):
+        begun = time.perf_counter()
+        if not server.ask(b"digest\n").startswith(b"OK"):
+            return False
+        times.append(time.perf_counter() - begun)
+    return min(times) < SLOW
 
 
 class Known(Exception):
@@ -46,7 +60,7 @@ class Checks:
     def check(self):
         """The run is before an access or a request, and no deviation is left."""
         play = self.play
-        if play.access_number and self.left < CHECKS - 1 or play.out:
+        if play.access_number and self.left <= CHECKS - NEAR or play.out:
             return
         self.left -= 1
         if not self.left:
