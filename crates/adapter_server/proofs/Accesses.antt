@@ -13,17 +13,18 @@ use Rattle.rx_engine.specs.declared.arrival.Fate.{Fate}
 use Rattle.adapter_server.specs.Answers.{Accessed, PacedThen, TellsAnswer}
 use Rattle.adapter_server.specs.Devices.{Events, Happened, Prints, TellsEvents, told}
 use Rattle.adapter_server.specs.Happenings.{Logged}
-use Rattle.adapter_server.specs.Order.{Both, Says, Tells, TellsPart, WritesPart}
-use Rattle.adapter_server.specs.Sessions.{Interleaves, OnDevice, Paced, TellsRounds, logged_text, reported, write_to}
-use Rattle.adapter_server.specs.Texts.{Text, line_moved, said_log}
+use Rattle.server_output.specs.Order.{Both, Says, Tells, TellsPart, WritesPart}
+use Rattle.adapter_server.specs.Sessions.{ComesBefore, OnDevice, Paced, TellsRounds, before_of, logged_text, reported}
+use Rattle.adapter_server.specs.Sessions.{target_of, write_to}
+use Rattle.server_output.specs.Texts.{Text, line_moved, said_log}
 use Rattle.adapter_server.specs.declared.device.Device.{Device}
 use Rattle.adapter_server.specs.declared.session.Place.{Place}
 use Rattle.adapter_server.specs.declared.session.Place.TheVariants.{Memory, Register}
 use Rattle.adapter_server.specs.declared.session.Session.{Session}
-use Rattle.adapter_server.proofs.PartsWritten.{part_so, part_then}
+use Rattle.server_output.proofs.PartsWritten.{part_so, part_then}
 use Rattle.adapter_server.proofs.Printing.{answers_then, kept_none, prints}
-use Rattle.adapter_server.proofs.Stopping.{events_none, events_of_interleaves, events_one, events_then}
-use Rattle.adapter_server.proofs.Writing.{appends_then}
+use Rattle.adapter_server.proofs.Stopping.{events_none, events_of_before, events_one, events_then}
+use Rattle.server_output.proofs.Writing.{appends_then}
 
 abbrev no_text : Text
 no_text = []
@@ -45,7 +46,7 @@ logs event said a machine occurs state =
 -- The steps before an access happened, and then the access.
 pub accessed : (access : Access) (said : Text) (a middle moved : Session) → Occurs (Accesses access) middle.device.machine.world
     → moved ≡ record middle { device = record middle.device { machine = after_event (Accesses access) middle.device.machine } }
-    → (first : Text) → Interleaves a middle first
+    → (first : Text) → ComesBefore (before_of access) (target_of access a) a middle first
     → Accessed access said a (reported moved) (first ++ logged_text said moved.device)
 accessed access said a middle moved occurs after first steps = record {
   middle = middle;
@@ -63,7 +64,8 @@ pub events_of_access : (access : Access) (said : Text) (a m : Session) (text : T
     → Events a.device m.device text
 events_of_access access said a m text all =
     rw all.text_is
-    (events_then a.device all.middle.device m.device all.first all.rest (events_of_interleaves a all.middle all.first all.happens)
+    (events_then a.device all.middle.device m.device all.first all.rest
+    (events_of_before (before_of access) (target_of access a) a all.middle all.first all.happens)
     (events_one (Logged (Accesses access) said) all.middle.device m.device all.rest all.goes_on.happens))
 
 -- It was printed, and rounds after it were played.

@@ -3,9 +3,9 @@ use Rattle.std.proofs.Common.{◌++◌, ℕ, List, Option, refl}
 use Rattle.std.specs.Prelude.{Err, Ok, Result}
 use Rattle.adapter_server.specs.Answers.{Answered, SettlesAll, SettlesUntil, TellsAnswer}
 use Rattle.adapter_server.specs.Devices.{Settles, TellsEvents, most_rounds}
-use Rattle.adapter_server.specs.Order.{Says, Tells}
+use Rattle.server_output.specs.Order.{Says, Tells}
 use Rattle.adapter_server.specs.Sessions.{AllArrive, OnDevice}
-use Rattle.adapter_server.specs.Texts.{Text}
+use Rattle.server_output.specs.Texts.{Text}
 use Rattle.adapter_server.specs.declared.device.Device.{Device}
 use Rattle.adapter_server.specs.declared.session.Session.{Session}
 use Rattle.adapter_server.proofs.Printing.{answers_then, joined, on_device}

@@ -1,7 +1,5 @@
 pub mod Accesses
 pub mod Clocks
-pub mod Parts
-pub mod PartsWritten
 pub mod Places
 pub mod Printing
 pub mod PutFrames
@@ -12,4 +10,3 @@ pub mod ServedParts
 pub mod Slices
 pub mod Stepping
 pub mod Stopping
-pub mod Writing

@@ -9,10 +9,18 @@ use Rattle.bus.proofs.Trails.{event_happens}
 use Rattle.bus.specs.Trails.{IsStep}
 use Rattle.adapter_server.specs.Devices.{Prints}
 use Rattle.adapter_server.specs.Happenings.{Arrived, Happening, event_of}
-use Rattle.adapter_server.specs.Sessions.{Chosen, Draws, Interleaves, OldestArrives, Takes}
-use Rattle.adapter_server.specs.Sessions.{drawn, drawn_count, is_memory, is_register, meets_registers}
-use Rattle.adapter_server.specs.Sessions.{place_in, place_with}
-use Rattle.adapter_server.specs.Texts.{Text}
+use Rattle.adapter_server.specs.Sessions.{Chosen, ComesBefore, Draws, Interleaves, Makes, OldestArrives, Takes}
+use Rattle.adapter_server.specs.Sessions.{before_of, drawn, drawn_count, is_memory, is_register, meeting, meets_registers, noting}
+use Rattle.adapter_server.specs.Sessions.{place_in, place_with, target_at, target_of, write_to}
+use Rattle.access_names.specs.Names.{target_text}
+use Rattle.access_names.specs.declared.target.Target.{Target}
+use Rattle.step_schedules.specs.declared.deviation.Action.{Action}
+use Rattle.step_schedules.specs.declared.deviation.Before.{Before}
+use Rattle.step_schedules.specs.declared.deviation.Before.TheVariants.{Write}
+use Rattle.adapter_server.specs.declared.moves.Move.{Move}
+use Rattle.adapter_server.specs.declared.moves.Move.TheVariants.{Hold, Play, Tick}
+use Rattle.adapter_server.proofs.Stopping.{noting_device}
+use Rattle.server_output.specs.Texts.{Text}
 use Rattle.adapter_server.specs.declared.device.Device.{Device}
 use Rattle.adapter_server.specs.declared.interleaving.Choice.{Choice}
 use Rattle.adapter_server.specs.declared.interleaving.Choice.TheVariants.{Step, Arrival}
@@ -20,7 +28,7 @@ use Rattle.adapter_server.specs.declared.session.Place.{Place}
 use Rattle.adapter_server.specs.declared.session.Place.TheVariants.{Memory, Register}
 use Rattle.adapter_server.specs.declared.session.Session.{Session}
 use Rattle.server_requests.specs.declared.refusal.Refusal.TheVariants as refusals
-use Rattle.adapter_server.proofs.Writing.{in_order_keeps}
+use Rattle.server_output.proofs.Writing.{in_order_keeps}
 
 is_true : (register memory meets : Bool) (offset : ℕ)
     → (if register then Ok (Register offset) else if memory then Ok Memory
@@ -84,25 +92,55 @@ oldest_keeps [] a b text same = ap (λ (s : Session). size_of s.device) same.0
 oldest_keeps (frame ∷ later) a b text arrives =
     prints_keep (Arrived frame arrives.fate) a.device b.device text tt arrives.prints
 
+noted_keeps : (did : Bool) (action : Action) (from b : Session) → b ≡ noting did action from → size_of b.device ≡ size_of from.device
+noted_keeps did action from b after =
+    ap size_of (ap (λ (s : Session). s.device) after ∙ noting_device did action from)
+
 chosen_keeps : (choice : Choice) (a b : Session) (text : Text) → Chosen choice a b text → size_of b.device ≡ size_of a.device
-chosen_keeps (Step kind) a b text played = prints_keep _ a.device b.device text tt played.1.happens
-chosen_keeps Arrival a b text arrives = oldest_keeps a.offered a b text arrives
+chosen_keeps (Step kind) a b text played =
+    noted_keeps _ _ (record a { device = played.device }) b played.after
+    ∙ prints_keep _ a.device played.device text tt played.steps
+chosen_keeps Arrival a b text played =
+    noted_keeps _ _ played.arrived b played.after ∙ oldest_keeps a.offered a played.arrived text played.arrives
+
+made_keeps : (next : Move) (a b : Session) (text : Text) → Makes next a b text → size_of b.device ≡ size_of a.device
+made_keeps (Tick kind) a b text played = prints_keep _ a.device b.device text tt played.1.happens
+made_keeps (Hold action) a b text noted = noted_keeps true action a b noted.0
+made_keeps (Play choice) a b text chosen = chosen_keeps choice a b text chosen
 
 draws_keep : (a b : Session) (text : Text) → Draws a b text → size_of b.device ≡ size_of a.device
 draws_keep a b text draws =
     chosen_keeps (drawn a.offered a.generator).0 (record a { generator = (drawn a.offered a.generator).1 }) b text draws
 
+interleaving_keeps : (a b : Session) (text : Text) → Interleaves a b text → size_of b.device ≡ size_of a.device
+interleaving_keeps a b text steps =
+    in_order_keeps (λ (turn : ℕ). Draws) (λ (s : Session). size_of s.device) (λ turn. draws_keep) _
+    (record a { generator = (drawn_count a.most_steps a.generator).1 }) b text steps
+
+before_keeps : (before : Before) (target : Target) (a b : Session) (text : Text) → ComesBefore before target a b text
+    → size_of b.device ≡ size_of a.device
+before_keeps before target a b text all =
+    interleaving_keeps all.middle b all.rest all.goes_on
+    ∙ in_order_keeps Makes (λ (s : Session). size_of s.device) made_keeps _ (meeting before (target_text target) a) all.middle all.first
+    all.happens
+
 -- What comes before an access leaves its bytes in memory.
-pub still_fits : (a b : Session) (text : Text) (address count : ℕ) → is_memory a address count ≡ true → Interleaves a b text
-    → address + count ≤ length b.device.machine.world.memory
-still_fits a b text address count memory steps =
-    let kept : size_of b.device ≡ size_of a.device = in_order_keeps (λ (turn : ℕ). Draws) (λ (s : Session). size_of s.device)
-    (λ turn. draws_keep) _ (record a { generator = (drawn_count a.most_steps a.generator).1 }) b text steps in
-    let before = fits (address + count) (size_of a.device) memory in
+pub still_fits : (before : Before) (target : Target) (a b : Session) (text : Text) (address count : ℕ) → is_memory a address count ≡ true
+    → ComesBefore before target a b text → address + count ≤ length b.device.machine.world.memory
+still_fits before target a b text address count memory steps =
+    let kept = before_keeps before target a b text steps in
+    let begin = fits (address + count) (size_of a.device) memory in
     omega arith
 
-pub still_takes : (place : Place) (a b : Session) (text : Text) (address : ℕ) (bytes : List ℕ)
-    → place_in a address (length bytes) ≡ Ok place → Interleaves a b text → Takes place address bytes b.device
-still_takes (Register offset) a b text address bytes at steps = register_place a address (length bytes) offset at
-still_takes Memory a b text address bytes at steps =
-    still_fits a b text address (length bytes) (memory_place a address (length bytes) at) steps
+pub still_takes : (place : Place) (before : Before) (target : Target) (a b : Session) (text : Text) (address : ℕ) (bytes : List ℕ)
+    → place_in a address (length bytes) ≡ Ok place → ComesBefore before target a b text → Takes place address bytes b.device
+still_takes (Register offset) before target a b text address bytes at steps = register_place a address (length bytes) offset at
+still_takes Memory before target a b text address bytes at steps =
+    still_fits before target a b text address (length bytes) (memory_place a address (length bytes) at) steps
+
+-- What comes before a write, by its place.
+pub write_begins : (place : Place) (address : ℕ) (bytes : List ℕ) (a middle : Session) (first : Text)
+    → ComesBefore Write (target_at place address a) a middle first
+    → ComesBefore (before_of (write_to place address bytes)) (target_of (write_to place address bytes) a) a middle first
+write_begins (Register offset) address bytes a middle first all = all
+write_begins Memory address bytes a middle first all = all

@@ -8,15 +8,15 @@ use Rattle.bus.specs.Trails.{Occurs}
 use Rattle.adapter_server.specs.Answers.{Answered, Changes, OnSession, Reaches, Replies, TellsAnswer}
 use Rattle.adapter_server.specs.Devices.{Prints, TellsEvents, keeping, told}
 use Rattle.adapter_server.specs.Happenings.{Happening, event_of, faults_of, put_by, said_of, shown_of}
-use Rattle.adapter_server.specs.Order.{Joins, Says, Tells}
+use Rattle.server_output.specs.Order.{Joins, Says, Tells}
 use Rattle.adapter_server.specs.Sessions.{OnDevice}
-use Rattle.adapter_server.specs.Texts.{Text, line_moved, ok_line, said_log}
+use Rattle.server_output.specs.Texts.{Text, line_moved, ok_line, said_log}
 use Rattle.adapter_server.specs.declared.device.Device.{Device}
 use Rattle.adapter_server.specs.declared.session.Session.{Session}
 use Rattle.adapter_server.specs.declared.snapshot.Server.{Server}
-use Rattle.adapter_server.proofs.PartsWritten.{part_so, part_then}
+use Rattle.server_output.proofs.PartsWritten.{part_so, part_then}
 use Rattle.adapter_server.proofs.Stopping.{answer_so, stopped_in}
-use Rattle.adapter_server.proofs.Writing.{appends_then, tells_so}
+use Rattle.server_output.proofs.Writing.{appends_then, tells_so}
 
 -- the text of what happens
 abbrev pub text_of : Happening → Device → MachineState → Text

@@ -9,10 +9,10 @@ use Rattle.std.proofs.lemmas.List.Sums.{sum_by-append}
 use Rattle.adapter.specs.declared.outcome.Outcome.{Outcome}
 use Rattle.adapter.specs.declared.outcome.Outcome.TheVariants.{Took, Put, WireFull, Part, Moved, Done, Delivered, Ticked, Nothing, Fault}
 use Rattle.adapter_server.specs.Devices.{Round, Settles, with_last}
-use Rattle.adapter_server.specs.Order.{InOrder, Tells}
+use Rattle.server_output.specs.Order.{InOrder, Tells}
 use Rattle.adapter_server.specs.Outcomes.{moved_by}
 use Rattle.adapter_server.specs.declared.device.Device.{Device}
-use Rattle.adapter_server.proofs.Writing.{tells_more, tells_none, tells_so}
+use Rattle.server_output.proofs.Writing.{tells_more, tells_none, tells_so}
 
 pub moved_little : (outcome : Outcome (Unit {0})) → moved_by outcome ≤ 1
 moved_little Took = omega arith

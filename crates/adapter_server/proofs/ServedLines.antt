@@ -6,21 +6,21 @@ use Rattle.std.proofs.lemmas.List.{append-nil}
 use Rattle.std.specs.Prelude.{Err, IfErr, IfSome, MatchBool, Ok, Result}
 use Rattle.std.specs.Io.KnownBytes.{Appends, Keeps}
 use Rattle.adapter_server.specs.Answers.{AnswersLine, Refuses}
-use Rattle.adapter_server.specs.Order.{Tells}
+use Rattle.server_output.specs.Order.{Tells}
 use Rattle.server_requests.specs.Lines.{behind_line, first_line, lines_of, most_line_bytes}
 use Rattle.server_requests.specs.LinesRead.{AtEnd, BothKnown, IsLong, IsNextLine, IsWhole}
-use Rattle.adapter_server.specs.Serving.{AnswersNext, Serves, ServesFront, ServesWhole, Turns}
+use Rattle.adapter_server.specs.Serving.{AnswersNext, Serves, ServesFront, ServesTo, ServesWhole, Turns}
 use Rattle.adapter_server.specs.Statuses.{ended_by}
-use Rattle.adapter_server.specs.Texts.{Text}
-use Rattle.adapter_server.specs.declared.answer_error.AnswerError.{AnswerError}
-use Rattle.adapter_server.specs.declared.answer_error.AnswerError.TheVariants as causes
+use Rattle.server_output.specs.Texts.{Text}
+use Rattle.server_output.specs.declared.answer_error.AnswerError.{AnswerError}
+use Rattle.server_output.specs.declared.answer_error.AnswerError.TheVariants as causes
 use Rattle.server_requests.specs.declared.line_reader.NextLine.{NextLine}
 use Rattle.server_requests.specs.declared.line_reader.NextLine.TheVariants.{End, Whole, Long}
 use Rattle.server_requests.specs.declared.refusal.Refusal.TheVariants as refusals
 use Rattle.adapter_server.specs.declared.serve_error.ServeError.TheVariants as errors
 use Rattle.adapter_server.specs.declared.snapshot.Server.{Server}
 use Rattle.server_requests.proofs.ReadingLines.{known_same, known_then, lines_some}
-use Rattle.adapter_server.proofs.Writing.{appends_kept, appends_none, appends_then, in_order_more}
+use Rattle.server_output.proofs.Writing.{appends_kept, appends_none, appends_then, in_order_more, tells_so}
 
 -- The lines that were read up to here are served by this text.
 pub record Served (begin now : Server) (text : Text) (old new : List ℕ) : Type 0 where
@@ -126,7 +126,7 @@ serves_next Long old new later begin now next line before middle after on read t
 
 pub serves_lines : (old new later : Option (List ℕ)) (begin now : Server) (before after : Option (List ℕ))
     → ServesOn old new begin now before after → BothKnown new later AtEnd
-    → IfSome old (λ bytes. Tells before after (ServesWhole bytes begin))
+    → IfSome old (λ bytes. Tells before after (ServesWhole bytes begin now))
 serves_lines None new later begin now before after on ends = tt
 serves_lines (Some old) None later begin now before after on ends = absurd on.goes
 serves_lines (Some old) (Some new) None begin now before after on ends = absurd ends
@@ -135,9 +135,18 @@ serves_lines (Some old) (Some new) (Some later) begin now before after on ends =
     on.goes.lines ∙ ap (λ (left : List ℕ). on.goes.front ++ lines_of left) ends.none ∙ append-nil on.goes.front in
     record {
       text = on.text;
-      holds = (now, subst (λ (lines : List Text). Serves lines begin now on.text) (sym all) on.goes.serves);
+      holds = subst (λ (lines : List Text). Serves lines begin now on.text) (sym all) on.goes.serves;
       written = on.written;
     }
+
+-- The player at the end is that of the last server.
+pub serves_to : (bytes : Option (List ℕ)) (begin last : Server) (before after : Option (List ℕ))
+    → IfSome bytes (λ all. Tells before after (ServesWhole all begin last))
+    → IfSome bytes (λ all. Tells before after (ServesTo all begin last.session.player))
+serves_to None begin last before after serves = tt
+serves_to (Some all) begin last before after serves =
+    tells_so (ServesWhole all begin last) (ServesTo all begin last.session.player) before after
+    (λ text lines. record { last = last; serves = lines; player = refl }) serves
 
 pub serves_front : (old new : Option (List ℕ)) (begin now : Server) (before after : Option (List ℕ))
     → ServesOn old new begin now before after → IfSome old (λ bytes. Tells before after (ServesFront bytes begin))

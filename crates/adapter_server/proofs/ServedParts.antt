@@ -4,25 +4,25 @@ use Rattle.std.proofs.lemmas.List.{append-nil}
 use Rattle.std.specs.Prelude.{Err, IfErr, IfSome, IsErrAnd, Ok, OnOk, Result}
 use Rattle.std.specs.Io.KnownBytes.{Keeps}
 use Rattle.adapter_server.specs.Answers.{AnswersLine, Reaches, Refuses, TellsAnswer}
-use Rattle.adapter_server.specs.Order.{Begins, Tells, TellsPart}
+use Rattle.server_output.specs.Order.{Begins, Tells, TellsPart}
 use Rattle.server_requests.specs.Lines.{behind_line, first_line, lines_of}
 use Rattle.server_requests.specs.LinesRead.{BothKnown, IsLong, IsNextLine, IsWhole}
 use Rattle.adapter_server.specs.Serving.{AnswersNext, BeginsNext, ServesBegun, Turns}
 use Rattle.adapter_server.specs.Statuses.{ended_by}
-use Rattle.adapter_server.specs.Texts.{Text}
+use Rattle.server_output.specs.Texts.{Text}
 use Rattle.adapter_server.specs.declared.device.Device.{Device}
-use Rattle.adapter_server.specs.declared.answer_error.AnswerError.{AnswerError}
+use Rattle.server_output.specs.declared.answer_error.AnswerError.{AnswerError}
 use Rattle.server_requests.specs.declared.line_reader.NextLine.{NextLine}
 use Rattle.server_requests.specs.declared.line_reader.NextLine.TheVariants.{End, Whole, Long}
 use Rattle.server_requests.specs.declared.refusal.Refusal.TheVariants as refusals
 use Rattle.adapter_server.specs.declared.serve_error.ServeError.{ServeError}
 use Rattle.adapter_server.specs.declared.serve_error.ServeError.TheVariants as errors
 use Rattle.adapter_server.specs.declared.snapshot.Server.{Server}
-use Rattle.adapter_server.proofs.PartsWritten.{part_whole}
+use Rattle.server_output.proofs.PartsWritten.{part_whole}
 use Rattle.server_requests.proofs.ReadingLines.{lines_some}
 use Rattle.adapter_server.proofs.ServedLines.{Served, ServesOn, long_turn, never_read, short_turn, tells_sent}
 use Rattle.adapter_server.proofs.Stopping.{events_none, part_reached}
-use Rattle.adapter_server.proofs.Writing.{appends_then, tells_so}
+use Rattle.server_output.proofs.Writing.{appends_then, tells_so}
 
 begins_nothing : (lines : List Text) (a : Server) → BeginsNext lines a []
 begins_nothing [] a = refl

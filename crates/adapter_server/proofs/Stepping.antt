@@ -12,7 +12,7 @@ use Rattle.bus.specs.declared.event.Event.TheVariants as event
 use Rattle.engine_faults.specs.declared.engine_fault.EngineFault.{EngineFault}
 use Rattle.adapter_server.specs.Devices.{Prints, Steps, faults_told, keeping, told}
 use Rattle.adapter_server.specs.Happenings.{Happening, Stepped, put_by}
-use Rattle.adapter_server.specs.Texts.{Text, fault_line, frame_line, kind_word, line_moved, outcome_word, said_log, step_said}
+use Rattle.server_output.specs.Texts.{Text, fault_line, frame_line, kind_word, line_moved, outcome_word, said_log, step_said}
 use Rattle.adapter_server.specs.declared.device.Device.{Device}
 use Rattle.adapter_server.proofs.Printing.{kept, prints, text_of}
 

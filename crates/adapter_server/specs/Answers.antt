@@ -2,6 +2,7 @@
 use Rattle.std.specs.Prelude.{◌≡◌, ◌+◌, ◌^◌, ◌++◌, ◌∷◌, ◌⊎◌, ℕ, List, [], Option, Some, None, Result, Ok, Err, codes}
 use Rattle.std.specs.Prelude.{if◌then◌else◌, length, max, nat_lt, IsUtf8}
 use Rattle.std.specs.Int.{to_le_bytes, w32}
+use Rattle.bus.specs.Digests.{digest_of}
 use Rattle.bus.specs.Machines.{is_asserted}
 use Rattle.bus.specs.declared.event.Access.{Access}
 use Rattle.bus.specs.declared.event.Access.TheVariants.{Loads, Reads}
@@ -14,12 +15,13 @@ use Rattle.pci_function.specs.declared.port_width.PortWidth.{PortWidth}
 use Rattle.rx_engine.specs.declared.arrival.Fate.{Fate}
 use Rattle.adapter_server.specs.Devices.{Happened, Prints, Settles, Steps, most_rounds}
 use Rattle.adapter_server.specs.Happenings.{Logged}
-use Rattle.adapter_server.specs.Order.{Both, Joins, Tells, TellsPart}
+use Rattle.server_output.specs.Order.{Both, Joins, Tells, TellsPart}
 use Rattle.server_requests.specs.Reading.{request_in}
-use Rattle.adapter_server.specs.Sessions.{AllArrive, Interleaves, OnDevice, Paced, place_in, with_setting, write_to}
-use Rattle.adapter_server.specs.Texts.{Text, decimal_line, fate_word, faults_line, frames_line, line_moved, number_line, ok_line}
-use Rattle.adapter_server.specs.Texts.{outcome_word, word_line}
-use Rattle.adapter_server.specs.ReadLines.{answer_line}
+use Rattle.adapter_server.specs.Sessions.{AllArrive, ComesBefore, OnDevice, Paced, RoundBegins}
+use Rattle.adapter_server.specs.Sessions.{before_of, place_in, target_of, with_setting, write_to}
+use Rattle.server_output.specs.Texts.{Text, decimal_line, fate_word, faults_line, frames_line, line_moved, number_line, ok_line}
+use Rattle.server_output.specs.Texts.{outcome_word, word_line}
+use Rattle.server_output.specs.ReadLines.{answer_line}
 use Rattle.server_requests.specs.Refusals.{refusal_line}
 use Rattle.server_requests.specs.Widths.{size_of}
 use Rattle.server_requests.specs.Words.{words_of}
@@ -63,10 +65,11 @@ TellsAnswer (Err error) before after device Answers b = TellsPart before after (
 
 -- Answers about the adapter and its memory.
 
--- The steps that the generator chooses are played, and then the access happens.
+-- What comes before an access is played, and then the access happens.
 abbrev pub Accessed : Access → (said : Text) → Session → Session → Text → Type 0
 Accessed access said a b text =
-    Joins (λ middle first. Interleaves a middle first) (λ middle rest. OnDevice (Prints (Logged (Accesses access) said)) middle b rest) text
+    Joins (λ middle first. ComesBefore (before_of access) (target_of access a) a middle first)
+    (λ middle rest. OnDevice (Prints (Logged (Accesses access) said)) middle b rest) text
 
 -- the bytes in memory from an address on
 abbrev pub in_memory : Session → (address size : ℕ) → List ℕ
@@ -134,6 +137,10 @@ with_offered frame session = record session { offered = session.offered ++ frame
 abbrev pub AnswersLevel : Session → Session → Text → Type 0
 AnswersLevel a b text = Replies (number_line (line_number a.device)) a b text
 
+-- The digest of the adapter and its memory is the answer.
+abbrev pub AnswersDigest : Session → Session → Text → Type 0
+AnswersDigest a b text = Replies (number_line (digest_of a.device.machine.world)) a b text
+
 -- What is at an I/O port is the answer.
 abbrev pub AnswersPort : PortWidth → (port : ℕ) → Session → Session → Text → Type 0
 AnswersPort width port a b text =
@@ -195,6 +202,7 @@ Does (requests.Arrive frame) said a b text = OnSession (AnswersArrival frame sai
 Does requests.Settle said a b text = OnSession AnswersSettle a b text
 Does (requests.Set setting) said a b text = OnSession (Changes (with_setting setting)) a b text
 Does requests.Line said a b text = OnSession AnswersLevel a b text
+Does requests.Digest said a b text = OnSession AnswersDigest a b text
 Does (requests.ClockStep nanoseconds) said a b text =
     OnSession (MovesClock (time_after a.session.clock nanoseconds)) a b text
 Does (requests.ClockSet time) said a b text = OnSession (MovesClock (Some (max a.session.clock time))) a b text
@@ -205,8 +213,13 @@ Does (requests.Offer frame) said a b text = OnSession (Changes (with_offered fra
 Does requests.Save said a b text = Replies ok_line (record a { saved = Some a.session }) b text
 Does requests.Restore said a b text = Restores a.saved a b text
 
+-- What comes before a request is played, and then the request is answered.
+abbrev pub Obeys : Request → (said : Text) → Server → Server → Text → Type 0
+Obeys request said a b text =
+    Joins (λ middle first. OnSession (RoundBegins request) a middle first) (λ middle rest. Does request said middle b rest) text
+
 abbrev pub AnswersTo : Result Request Refusal → (said : Text) → Server → Server → Text → Type 0
-AnswersTo (Ok request) said a b text = Does request said a b text
+AnswersTo (Ok request) said a b text = Obeys request said a b text
 AnswersTo (Err refusal) said a b text = Refuses refusal a b text
 
 -- A line's request is answered; a line that isn't UTF-8 is refused.

@@ -15,9 +15,9 @@ use Rattle.bus.specs.Machines.{after_event, is_asserted}
 use Rattle.bus.specs.Trails.{Occurs}
 use Rattle.bus.specs.declared.event.Event.TheVariants as event
 use Rattle.adapter_server.specs.Happenings.{Happening, Stepped, event_of, faults_of, put_by, said_of, shown_of}
-use Rattle.adapter_server.specs.Order.{InOrder, Tells, TellsPart}
+use Rattle.server_output.specs.Order.{InOrder, Tells, TellsPart}
 use Rattle.adapter_server.specs.Outcomes.{moved_by}
-use Rattle.adapter_server.specs.Texts.{Text, line_moved, said_log, step_said}
+use Rattle.server_output.specs.Texts.{Text, line_moved, said_log, step_said}
 use Rattle.adapter_server.specs.declared.device.Device.{Device}
 
 -- the device after the level of its interrupt line was reported

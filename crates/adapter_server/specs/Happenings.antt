@@ -5,7 +5,7 @@ use Rattle.bus.specs.declared.event.Event.{Event}
 use Rattle.bus.specs.declared.event.Event.TheVariants.{Arrives}
 use Rattle.engine_faults.specs.declared.engine_fault.EngineFault.{EngineFault}
 use Rattle.rx_engine.specs.declared.arrival.Fate.{Fate}
-use Rattle.adapter_server.specs.Texts.{Text, arrive_said, arrived_line, fault_line, frame_line}
+use Rattle.server_output.specs.Texts.{Text, arrive_said, arrived_line, fault_line, frame_line}
 
 pub data Happening : Type 0 where
   -- an access or an arrival, and what the log says of it

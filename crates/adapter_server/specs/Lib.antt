@@ -1,13 +1,11 @@
 pub mod Statuses
-pub mod Texts
-pub mod Order
 pub mod Outcomes
 pub mod Kinds
+pub mod Moves
 pub mod Choices
 pub mod Happenings
 pub mod Defaults
 pub mod Devices
-pub mod ReadLines
 pub mod Sessions
 pub mod Answers
 pub mod Serving

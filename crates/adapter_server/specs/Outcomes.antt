@@ -1,7 +1,13 @@
 -- Which steps did something (our choice).
-use Rattle.std.specs.Prelude.{ℕ}
+use Rattle.std.specs.Prelude.{ℕ, Bool, true, false}
 use Rattle.adapter.specs.declared.outcome.Outcome.{Outcome}
 use Rattle.adapter.specs.declared.outcome.Outcome.TheVariants.{Nothing, WireFull}
+
+-- Whether a step with this outcome did something.
+abbrev pub did : Outcome (Unit {0}) → Bool
+did Nothing = false
+did WireFull = false
+did _ = true
 
 -- 1 if a step with this outcome did something, else 0
 abbrev pub moved_by : Outcome (Unit {0}) → ℕ

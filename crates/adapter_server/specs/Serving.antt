@@ -2,18 +2,19 @@
 use Rattle.std.specs.Prelude.{◌≡◌, ◌++◌, ℕ, List, [], ◌∷◌, MatchBool, None, Option, length, nat_lt}
 use Rattle.adapter_server.specs.Answers.{AnswersLine, Reaches, Refuses}
 use Rattle.server_requests.specs.Lines.{lines_of, most_line_bytes}
-use Rattle.adapter_server.specs.Order.{Begins, InOrder, Tells}
+use Rattle.server_output.specs.Order.{Begins, InOrder, Tells}
 use Rattle.adapter_server.specs.Sessions.{new_session}
-use Rattle.adapter_server.specs.Texts.{Text}
+use Rattle.server_output.specs.Texts.{Text}
 use Rattle.server_requests.specs.declared.line_reader.NextLine.{NextLine}
 use Rattle.server_requests.specs.declared.line_reader.NextLine.TheVariants.{End, Whole, Long}
+use Rattle.schedule_player.specs.Players.{PlayerState}
 use Rattle.adapter_server.specs.declared.options.ServeOptions.{ServeOptions}
 use Rattle.server_requests.specs.declared.refusal.Refusal.TheVariants as refusals
 use Rattle.adapter_server.specs.declared.snapshot.Server.{Server}
 
 -- a server before the first request
-abbrev pub new_server : ServeOptions → Server
-new_server options = record { session = new_session options; saved = None }
+abbrev pub new_server : ServeOptions → Option PlayerState → Server
+new_server options player = record { session = new_session options player; saved = None }
 
 -- A line is answered, and one that is too long is refused. At the end of the input nothing happens.
 abbrev pub AnswersNext : NextLine → Text → Server → Server → Text → Type 0
@@ -30,8 +31,8 @@ abbrev pub Serves : List Text → Server → Server → Text → Type 0
 Serves lines a b text = InOrder Turns lines a b text
 
 -- All lines of these bytes are answered, in order.
-abbrev pub ServesWhole : (bytes : List ℕ) → Server → Text → Type 0
-ServesWhole bytes begin text = (last : Server) × Serves (lines_of bytes) begin last text
+abbrev pub ServesWhole : (bytes : List ℕ) → (begin last : Server) → Text → Type 0
+ServesWhole bytes begin last text = Serves (lines_of bytes) begin last text
 
 -- The first lines of these bytes are answered, each in full, in order, and nothing else is written.
 pub record ServesFront (bytes : List ℕ) (begin : Server) (text : Text) : Type 0 where
@@ -58,14 +59,21 @@ pub record ServesBegun (bytes : List ℕ) (begin : Server) (text : Text) : Type 
   pub begun : BeginsNext left last part
   pub text_is : text ≡ front ++ part
 
--- From a new server on, all lines are answered.
-abbrev pub ServesAll : ServeOptions → (bytes : List ℕ) → (before after : Option (List ℕ)) → Type 0
-ServesAll options bytes before after = Tells before after (ServesWhole bytes (new_server options))
+-- All lines are answered, in order, and this is the player after them.
+pub record ServesTo (bytes : List ℕ) (begin : Server) (left : Option PlayerState) (text : Text) : Type 0 where
+  pub last : Server
+  pub serves : ServesWhole bytes begin last text
+  pub player : left ≡ last.session.player
 
--- From a new server on, the first lines are answered.
-abbrev pub ServesSome : ServeOptions → (bytes : List ℕ) → (before after : Option (List ℕ)) → Type 0
-ServesSome options bytes before after = Tells before after (ServesFront bytes (new_server options))
+-- From a new server with this player on, all lines are answered, and this is the player after them.
+abbrev pub ServesAll : ServeOptions → Option PlayerState → (bytes : List ℕ) → (left : Option PlayerState)
+    → (before after : Option (List ℕ)) → Type 0
+ServesAll options player bytes left before after = Tells before after (ServesTo bytes (new_server options player) left)
 
--- From a new server on, the first lines are answered, and at most a part of the next answer is written.
-abbrev pub ServesPart : ServeOptions → (bytes : List ℕ) → (before after : Option (List ℕ)) → Type 0
-ServesPart options bytes before after = Tells before after (ServesBegun bytes (new_server options))
+-- From a new server with this player on, the first lines are answered.
+abbrev pub ServesSome : ServeOptions → Option PlayerState → (bytes : List ℕ) → (before after : Option (List ℕ)) → Type 0
+ServesSome options player bytes before after = Tells before after (ServesFront bytes (new_server options player))
+
+-- From a new server with this player on, the first lines are answered, and at most a part of the next answer is written.
+abbrev pub ServesPart : ServeOptions → Option PlayerState → (bytes : List ℕ) → (before after : Option (List ℕ)) → Type 0
+ServesPart options player bytes before after = Tells before after (ServesBegun bytes (new_server options player))

@@ -2,11 +2,24 @@
 use Rattle.std.specs.Prelude.{◌≡◌, ◌==◌, ◌+◌, ◌-◌, ◌%◌, ◌&&◌, ◌++◌, ◌∷◌, ◌≤◌, [], List}
 use Rattle.pci_function.specs.ConfigSpace.{new_function, registers_of}
 use Rattle.std.specs.Prelude.{ℕ, Option, Some, None, Result, Ok, Err, true, false, Bool, if◌then◌else◌, length, nat_le, nat_lt}
-use Rattle.std.specs.Prelude.{replicate}
+use Rattle.std.specs.Prelude.{flat_map, not, replicate}
+use Rattle.std.specs.List.{list_any}
+use Rattle.std.specs.Option.{option_map, option_map_or}
+use Rattle.access_names.specs.Names.{target_text}
+use Rattle.access_names.specs.Targets.{memory_target_in}
+use Rattle.access_names.specs.declared.target.Target.{Target}
+use Rattle.access_names.specs.declared.target.Target.TheVariants as targets
+use Rattle.eeprom.specs.Eerd.{is_pending}
+use Rattle.mdic_phy.specs.Mdic.{has_work}
+use Rattle.schedule_player.specs.Players.{PlayerState, after_meeting, after_playing, due_actions}
+use Rattle.step_schedules.specs.declared.deviation.Action.{Action}
+use Rattle.step_schedules.specs.declared.deviation.Action.TheVariants.{Arrive, HoldEeprom, HoldPhy}
+use Rattle.step_schedules.specs.declared.deviation.Before.{Before}
+use Rattle.step_schedules.specs.declared.deviation.Before.TheVariants.{Read, Request, Write}
 use Rattle.std.specs.Int.{from_le_bytes, w32}
 use Rattle.bus.specs.Machines.{is_asserted}
 use Rattle.bus.specs.declared.event.Access.{Access}
-use Rattle.bus.specs.declared.event.Access.TheVariants.{Stores, Writes}
+use Rattle.bus.specs.declared.event.Access.TheVariants.{Loads, Reads, Stores, Writes}
 use Rattle.rand_core.specs.Pcg32Seed.{pcg32_seed}
 use Rattle.rand_pcg.specs.Lcg.{Lcg}
 use Rattle.rand_pcg.specs.Pcg.{pcg32, pcg32_of_seed}
@@ -15,19 +28,25 @@ use Rattle.adapter.specs.declared.outcome.Outcome.{Outcome}
 use Rattle.adapter.specs.State.{AdapterState}
 use Rattle.rx_engine.specs.declared.arrival.Fate.{Fate}
 use Rattle.adapter.specs.declared.step.StepKind.{StepKind}
+use Rattle.adapter.specs.declared.step.StepKind.TheVariants.{EepromTick, PhyTick}
 use Rattle.adapter_server.specs.Choices.{choice_numbered}
 use Rattle.adapter_server.specs.Devices.{Happened, Prints, Settles, Steps, told}
 use Rattle.adapter_server.specs.Happenings.{Arrived}
 use Rattle.adapter_server.specs.Kinds.{kind_numbered}
-use Rattle.adapter_server.specs.Order.{Both, Tells, TellsPart, Times}
-use Rattle.adapter_server.specs.Texts.{Text, line_moved, said_log}
+use Rattle.adapter_server.specs.Moves.{default_moves, holds_eeprom, holds_phy, moves_of, round_word, step_action}
+use Rattle.server_output.specs.Order.{Both, InOrder, Joins, Tells, TellsPart, Times}
+use Rattle.adapter_server.specs.Outcomes.{did}
+use Rattle.server_output.specs.Texts.{Text, line_moved, said_log}
 use Rattle.adapter_server.specs.declared.device.Device.{Device}
 use Rattle.adapter_server.specs.declared.interleaving.Choice.{Choice}
 use Rattle.adapter_server.specs.declared.interleaving.Choice.TheVariants.{Step, Arrival}
+use Rattle.adapter_server.specs.declared.moves.Move.{Move}
+use Rattle.adapter_server.specs.declared.moves.Move.TheVariants.{Hold, Play, Tick}
 use Rattle.adapter_server.specs.declared.options.ServeOptions.{ServeOptions}
 use Rattle.adapter_server.specs.declared.session.Place.{Place}
 use Rattle.adapter_server.specs.declared.session.Place.TheVariants.{Register, Memory}
 use Rattle.adapter_server.specs.declared.session.Session.{Session}
+use Rattle.server_requests.specs.declared.request.Request.{Request as AnyRequest}
 use Rattle.server_requests.specs.declared.request.Setting.{Setting}
 use Rattle.server_requests.specs.declared.request.Setting.TheVariants as settings
 use Rattle.server_requests.specs.declared.refusal.Refusal.{Refusal}
@@ -44,9 +63,9 @@ with_missed count adapter = record adapter { missed_packets = count }
 abbrev pub first_adapter : ServeOptions → AdapterState
 first_adapter options = with_missed options.missed (after_write pba options.receive_kilobytes (new_adapter options.image options.link))
 
--- the state before the first request: memory of zeros, a new adapter, and no offered frame
-unfoldable pub new_session : ServeOptions → Session
-new_session options = record {
+-- the state before the first request: memory of zeros, a new adapter, no offered frame, and this player
+unfoldable pub new_session : ServeOptions → Option PlayerState → Session
+new_session options player = record {
   device = record {
     machine = record {
       world = record {
@@ -67,6 +86,7 @@ new_session options = record {
   pace = 0;
   clock = 0;
   offered = [];
+  player = player;
 }
 
 -- Something happens to the device, and nothing else changes.
@@ -74,9 +94,13 @@ pub record OnDevice (Happens : Device → Device → Text → Type 0) (a b : Ses
   pub happens : Happens a.device b.device text
   pub after : b ≡ record a { device = b.device }
 
--- how later requests are answered
+-- Whether a schedule is played.
+abbrev pub plays_schedule : Session → Bool
+plays_schedule session = option_map_or (λ (player : PlayerState). player.is_playing) session.player false
+
+-- how later requests are answered; while a schedule is played, the generator chooses nothing
 abbrev pub with_setting : Setting → Session → Session
-with_setting (settings.Interleave count) session = record session { most_steps = count }
+with_setting (settings.Interleave count) session = record session { most_steps = if plays_schedule session then 0 else count }
 with_setting (settings.Pace count) session = record session { pace = count }
 with_setting (settings.Log on) session = record session { device = record session.device { log = on } }
 with_setting (settings.Events on) session = record session { device = record session.device { events = on } }
@@ -164,10 +188,28 @@ AllArrive a b text = Times NextArrives (length a.offered) a b text
 
 -- What comes before an access.
 
+-- the session after its player, if there is one, has noted an action that did something
+abbrev pub noting : (did : Bool) → Action → Session → Session
+noting true action session = record session { player = option_map (after_playing action) session.player }
+noting false action session = session
+
+-- A step is played, and noted if it does something.
+pub record StepPlayed (kind : StepKind) (a b : Session) (text : Text) : Type 0 where
+  pub outcome : Outcome (Unit {0})
+  pub device : Device
+  pub steps : Steps kind outcome a.device device text
+  pub after : b ≡ noting (did outcome) (step_action kind) (record a { device = device })
+
+-- The oldest offered frame arrives, and is noted, if there is one.
+pub record ArrivalPlayed (a b : Session) (text : Text) : Type 0 where
+  pub arrived : Session
+  pub arrives : NextArrives a arrived text
+  pub after : b ≡ noting (not (length a.offered == 0)) Arrive arrived
+
 -- A choice is played.
 abbrev pub Chosen : Choice → Session → Session → Text → Type 0
-Chosen (Step kind) a b text = (outcome : Outcome (Unit {0})) × OnDevice (Steps kind outcome) a b text
-Chosen Arrival a b text = NextArrives a b text
+Chosen (Step kind) a b text = StepPlayed kind a b text
+Chosen Arrival a b text = ArrivalPlayed a b text
 
 -- The next word chooses, and the choice is played.
 abbrev pub Draws : Session → Session → Text → Type 0
@@ -177,6 +219,69 @@ Draws a b text = Chosen (drawn a.offered a.generator).0 (record a { generator = 
 abbrev pub Interleaves : Session → Session → Text → Type 0
 Interleaves a b text =
     Times Draws (drawn_count a.most_steps a.generator).0 (record a { generator = (drawn_count a.most_steps a.generator).1 }) b text
+
+-- A move of a player is played.
+abbrev pub Makes : Move → Session → Session → Text → Type 0
+Makes (Tick kind) a b text = (outcome : Outcome (Unit {0})) × OnDevice (Steps kind outcome) a b text
+Makes (Hold action) a b text = (b ≡ noting true action a) × (text ≡ [])
+Makes (Play choice) a b text = Chosen choice a b text
+
+-- the session after its player, if there is one, has met an access or a request with this name
+abbrev pub meeting : Before → (name : Text) → Session → Session
+meeting before name session = record session { player = option_map (after_meeting before name) session.player }
+
+-- the moves of the default steps before an access for which these actions are due
+abbrev pub tick_moves : (due : List Action) → Session → List Move
+tick_moves due session =
+    let adapter = session.device.machine.world.adapter in
+    let plays = plays_schedule session in
+    default_moves (is_pending adapter.eerd) plays (list_any holds_eeprom due) EepromTick HoldEeprom
+    ++ default_moves (has_work adapter.mdic adapter.phy) plays (list_any holds_phy due) PhyTick HoldPhy
+
+-- the moves of the player before an access: of the default steps, and then of what is due
+abbrev pub access_moves : Before → (name : Text) → Session → List Move
+access_moves before name session =
+    option_map_or (λ (player : PlayerState).
+    let due = due_actions before name player in tick_moves due session ++ flat_map moves_of due) session.player []
+
+-- the moves of the player before a request
+abbrev pub request_moves : (name : Text) → Session → List Move
+request_moves name session =
+    option_map_or (λ (player : PlayerState). flat_map moves_of (due_actions Request name player)) session.player []
+
+-- What comes before an access of this target: moves of the player, and then what the generator chooses.
+abbrev pub ComesBefore : Before → Target → Session → Session → Text → Type 0
+ComesBefore before target a b text =
+    let name = target_text target in
+    Joins (λ middle first. InOrder Makes (access_moves before name a) (meeting before name a) middle first)
+    (λ middle rest. Interleaves middle b rest) text
+
+abbrev pub RoundBeginsWith : Option Text → Session → Session → Text → Type 0
+RoundBeginsWith (Some word) a b text = InOrder Makes (request_moves word a) (meeting Request word a) b text
+RoundBeginsWith None a b text = (b ≡ a) × (text ≡ [])
+
+-- What comes before a request: moves of the player, if the request begins a round.
+abbrev pub RoundBegins : AnyRequest → Session → Session → Text → Type 0
+RoundBegins request a b text = RoundBeginsWith (round_word request) a b text
+
+-- whether an access reads or writes
+abbrev pub before_of : Access → Before
+before_of (Reads offset value) = Read
+before_of (Writes offset value) = Write
+before_of (Loads address size) = Read
+before_of (Stores address bytes) = Write
+
+-- what an access reads or writes
+abbrev pub target_of : Access → Session → Target
+target_of (Reads offset value) session = targets.Register offset
+target_of (Writes offset value) session = targets.Register offset
+target_of (Loads address size) session = memory_target_in session.device.machine.world.adapter address
+target_of (Stores address bytes) session = memory_target_in session.device.machine.world.adapter address
+
+-- the target at this place
+abbrev pub target_at : Place → (address : ℕ) → Session → Target
+target_at (Register offset) address session = targets.Register offset
+target_at Memory address session = memory_target_in session.device.machine.world.adapter address
 
 -- What comes after an access or an arrival.
 

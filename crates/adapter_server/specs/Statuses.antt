@@ -1,7 +1,7 @@
 -- The exit status of a program that ends for an error of a server, and the error of a server that stops at a line (our choice).
 use Rattle.std.specs.Prelude.{ℕ}
-use Rattle.adapter_server.specs.declared.answer_error.AnswerError.{AnswerError}
-use Rattle.adapter_server.specs.declared.answer_error.AnswerError.TheVariants as causes
+use Rattle.server_output.specs.declared.answer_error.AnswerError.{AnswerError}
+use Rattle.server_output.specs.declared.answer_error.AnswerError.TheVariants as causes
 use Rattle.adapter_server.specs.declared.serve_error.ServeError.{ServeError}
 use Rattle.adapter_server.specs.declared.serve_error.ServeError.TheVariants.{Memory, Read, Write}
 

@@ -1,35 +1,20 @@
 // Reads and writes, and the steps before each.
 
-ghost use Rattle.std.specs.Prelude.{◌≡◌, ◌≤◌, IsTrue, length};
+ghost use Rattle.std.specs.Prelude.{◌≡◌, IsTrue, length};
 ghost use Rattle.std.specs.Int.{from_le_bytes, w32};
-ghost use Rattle.adapter_server.specs.Order.{Says};
-ghost use Rattle.adapter_server.specs.ReadLines.{answer_line, number_spelled};
 ghost use Rattle.server_requests.specs.Widths.{size_of};
 
-use crate::answer_error::AnswerError;
 use crate::device::Device;
-use crate::output::{refuse, say, say_base64, say_bytes, say_number};
 use crate::session::{Place, Session};
+use access_names::Target;
+use server_output::{AnswerError, refuse, say, say_read};
 use server_requests::Wanted;
 use std::alloc::Global;
 use std::io::Write;
+use step_schedules::Before;
 
 /// The number of bytes of a register.
 const REGISTER_WIDTH: usize = 4;
-
-/// The maximum number of bytes of a number.
-const MOST_NUMBER_BYTES: usize = 8;
-
-/// The number with these bytes, the lowest first.
-#[tactic(auto, unfolding(crate::specs::ReadLines::number_spelled))]
-fn number_of(bytes: &[u8]) -> u64
-    requires { length bytes.now ≤ 8 }
-    ensures { result ≡ number_spelled bytes.now }
-{
-    let mut all = [0; MOST_NUMBER_BYTES];
-    all[..bytes.len()].copy_from_slice(bytes);
-    u64::from_le_bytes(all)
-}
 
 /// The value of a register with these four bytes, the lowest first.
 fn register_value(bytes: &[u8]) -> u32
@@ -39,23 +24,6 @@ fn register_value(bytes: &[u8]) -> u32
     let mut all = [0; REGISTER_WIDTH];
     all.copy_from_slice(bytes);
     u32::from_le_bytes(all)
-}
-
-/// Writes the line of the answer with these bytes.
-fn say_read<W: Write>(
-    alloc: Global,
-    out: &mut W,
-    wanted: Wanted,
-    bytes: &[u8],
-) -> Result<(), AnswerError>
-    requires { length bytes.now ≡ size_of wanted }
-    ensures { Says result (W.contents out.old) (W.contents out.new) (answer_line wanted bytes.now) }
-{
-    match wanted {
-        Wanted::Number(_) => say_number(alloc, out, number_of(bytes)),
-        Wanted::Bytes(_) => say_bytes(alloc, out, bytes),
-        Wanted::Base64(_) => say_base64(alloc, out, bytes),
-    }
 }
 
 impl Device {
@@ -107,7 +75,7 @@ impl Session {
         ensures { TellsAnswer result (W.contents out.old) (W.contents out.new) self.old.device
             (ReadsRegister offset wanted said.now self.old) self.new }
     {
-        self.interleave(alloc, out)?;
+        self.play_before(alloc, out, Before::Read, Target::Register(offset))?;
         let value = self.device.machine.read(offset);
         self.finish(alloc, out, said)?;
         say_read(alloc, out, wanted, &value.to_le_bytes())
@@ -127,7 +95,7 @@ impl Session {
             (ReadsMemory address wanted said.now self.old) self.new }
     {
         let mut bytes = vec![in alloc; 0; wanted.size() as usize]?;
-        self.interleave(alloc, out)?;
+        self.play_before_at(alloc, out, Before::Read, Place::Memory, address)?;
         self.device.machine.load(address, bytes.as_mut_slice());
         self.finish(alloc, out, said)?;
         say_read(alloc, out, wanted, bytes.as_slice())
@@ -169,7 +137,7 @@ impl Session {
             Ok(place) => place,
             Err(refusal) => return refuse(out, refusal),
         };
-        self.interleave(alloc, out)?;
+        self.play_before_at(alloc, out, Before::Write, place, address)?;
         self.device.write_to(place, address, bytes);
         self.finish(alloc, out, said)?;
         say(out, b"OK\n")

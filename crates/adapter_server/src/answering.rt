@@ -1,12 +1,10 @@
 // Answers to requests.
 
-use crate::answer_error::AnswerError;
 use crate::device::MOST_ROUNDS;
-use crate::output::{refuse, say, say_number, say_word};
 use crate::session::Session;
 use crate::snapshot::Server;
-use crate::text::{fate_word, outcome_word};
 use adapter::StepKind;
+use server_output::{AnswerError, fate_word, outcome_word, refuse, say, say_number, say_word};
 use server_requests::{NextLine, Refusal, Request, Stop, read_line};
 use std::alloc::Global;
 use std::io::Write;
@@ -70,7 +68,7 @@ impl Session {
 }
 
 impl Server {
-    ghost use Rattle.adapter_server.specs.Answers.{AnswersLine, Does, TellsAnswer};
+    ghost use Rattle.adapter_server.specs.Answers.{AnswersLine, Does, Obeys, TellsAnswer};
     ghost use Rattle.adapter_server.specs.Serving.{AnswersNext};
 
     /// Answers a request.
@@ -100,6 +98,7 @@ impl Server {
             Request::Settle => session.settle(alloc, out),
             Request::Set(setting) => session.change(out, *setting),
             Request::Line => session.say_level(alloc, out),
+            Request::Digest => session.say_digest(alloc, out),
             Request::ClockStep(nanoseconds) => session.step_clock(alloc, out, *nanoseconds),
             Request::ClockSet(time) => session.set_clock(alloc, out, *time),
             Request::Intercept => say(out, b"OK\n"),
@@ -109,6 +108,21 @@ impl Server {
             Request::Save => self.save(out),
             Request::Restore => self.restore(out),
         }
+    }
+
+    /// Plays what comes before a request, and answers it.
+    fn obey<W: Write>(
+        &mut self,
+        alloc: Global,
+        out: &mut W,
+        said: &[u8],
+        request: &Request,
+    ) -> Result<(), AnswerError>
+        ensures { TellsAnswer result (W.contents out.old) (W.contents out.new) self.old.session.device
+            (Obeys request.now said.now self.old) self.new }
+    {
+        self.session.begin_round(alloc, out, request)?;
+        self.answer(alloc, out, said, request)
     }
 
     /// Answers a line, which isn't too long.
@@ -122,7 +136,7 @@ impl Server {
             (AnswersLine line.now self.old) self.new }
     {
         match read_line(alloc, line) {
-            Ok(request) => self.answer(alloc, out, line, &request),
+            Ok(request) => self.obey(alloc, out, line, &request),
             Err(Stop::Refused(refusal)) => refuse(out, refusal),
             Err(Stop::Memory) => Err(AnswerError::Memory),
         }

@@ -3,16 +3,13 @@
 ghost use Rattle.std.specs.Prelude.{◌≡◌, ◌++◌, ◌≤◌, [], IfOk, OnOk, flat_map, if◌then◌else◌, length};
 ghost use Rattle.adapter_server.specs.Outcomes.{moved_by};
 
-use crate::answer_error::AnswerError;
-use crate::faults::Faults;
-use crate::frames::Frames;
-use crate::output::say;
-use crate::text::{
-    arrived_line, event_text, fate_word, frame_line, kind_word, outcome_word, push_fault_line,
-};
 use adapter::{Fate, Outcome, StepKind};
 use bus::Machine;
 use engine_faults::{EngineFault, fault_of};
+use server_output::{
+    AnswerError, Faults, Frames, arrived_line, event_text, fate_word, frame_line, kind_word,
+    outcome_word, push_fault_line, say,
+};
 use server_requests::Payload;
 use std::alloc::{AllocError, Global};
 use std::io::Write;
@@ -64,12 +61,12 @@ impl Clone for Device {
     /// The same adapter and memory. Fails only if memory was refused.
     fn clone(&self) -> Result<Device, AllocError> {
         Ok(Device {
+            put: self.put.clone()?,
+            faults: self.faults.clone()?,
             machine: self.machine.clone()?,
             log: self.log,
             events: self.events,
             wire_free: self.wire_free,
-            put: self.put.clone()?,
-            faults: self.faults.clone()?,
         })
     }
 }
@@ -77,12 +74,12 @@ impl Clone for Device {
 impl Device {
     ghost use Rattle.adapter_server.specs.Devices.{Prints, Round, Settles, Steps, TellsEvents, faults_told, keeping};
     ghost use Rattle.adapter_server.specs.Devices.{listed, to_put, told};
-    ghost use Rattle.adapter_server.specs.Order.{Says};
+    ghost use Rattle.server_output.specs.Order.{Says};
     ghost use Rattle.rx_engine.specs.declared.arrival.Fate.{Fate};
     ghost use Rattle.adapter_server.specs.Happenings.{Arrived};
     ghost use Rattle.bus.specs.Machines.{is_asserted};
-    ghost use Rattle.adapter_server.specs.Texts.{digits_arrived, fate_word, fault_line, frame_line, joined, line_moved};
-    ghost use Rattle.adapter_server.specs.Texts.{said_log};
+    ghost use Rattle.server_output.specs.Texts.{digits_arrived, fate_word, fault_line, frame_line, joined, line_moved};
+    ghost use Rattle.server_output.specs.Texts.{said_log};
 
     /// Prints an event that happened: what the log says of it, what is always printed of it, and a change of the
     /// interrupt line.

@@ -3,13 +3,16 @@
 ghost use Rattle.std.specs.Prelude.{◌≡◌};
 ghost use Rattle.adapter_server.specs.Choices.{choice_numbered};
 ghost use Rattle.adapter_server.specs.Kinds.{kind_numbered};
+ghost use Rattle.adapter_server.specs.Outcomes.{did};
 
-use crate::answer_error::AnswerError;
+use crate::moves::step_action;
 use crate::session::Session;
-use adapter::StepKind;
+use adapter::{Outcome, StepKind};
 use rand_core::utils::NextWord;
+use server_output::AnswerError;
 use std::alloc::Global;
 use std::io::Write;
+use step_schedules::Action;
 
 /// The number of kinds of steps.
 const KINDS: u32 = 6;
@@ -51,9 +54,17 @@ fn choice_numbered(number: u32) -> Choice
     }
 }
 
+/// Whether a step with this outcome did something.
+fn did(outcome: Outcome<()>) -> bool
+    ensures { result ≡ did outcome }
+{
+    !matches!(outcome, Outcome::Nothing | Outcome::WireFull)
+}
+
 impl Session {
     ghost use Rattle.adapter_server.specs.Devices.{TellsEvents};
-    ghost use Rattle.adapter_server.specs.Sessions.{AllArrive, Chosen, Interleaves, NextArrives, Paced};
+    ghost use Rattle.adapter_server.specs.Sessions.{AllArrive, ArrivalPlayed, Chosen, Interleaves, NextArrives, Paced};
+    ghost use Rattle.adapter_server.specs.Sessions.{StepPlayed};
     ghost use Rattle.adapter_server.specs.Sessions.{drawn, drawn_count, drawn_kind};
 
     /// The kind of steps that the next word of the generator chooses.
@@ -117,8 +128,34 @@ impl Session {
         Ok(())
     }
 
+    /// Plays a step. If it does something, the player notes it.
+    fn play_step<W: Write>(
+        &mut self,
+        alloc: Global,
+        out: &mut W,
+        kind: StepKind,
+    ) -> Result<(), AnswerError>
+        ensures { TellsEvents result (W.contents out.old) (W.contents out.new) self.old.device
+            (λ _. StepPlayed kind self.old self.new) }
+    {
+        let outcome = self.device.step(alloc, out, kind)?;
+        self.note(did(outcome), step_action(kind))?;
+        Ok(())
+    }
+
+    /// Delivers the oldest offered frame, if there is one. The player notes it.
+    fn play_arrival<W: Write>(&mut self, alloc: Global, out: &mut W) -> Result<(), AnswerError>
+        ensures { TellsEvents result (W.contents out.old) (W.contents out.new) self.old.device
+            (λ _. ArrivalPlayed self.old self.new) }
+    {
+        let is_offered = !self.offered.is_empty();
+        self.deliver_next(alloc, out)?;
+        self.note(is_offered, Action::Arrive)?;
+        Ok(())
+    }
+
     /// Plays a choice.
-    fn play<W: Write>(
+    pub(crate) fn play<W: Write>(
         &mut self,
         alloc: Global,
         out: &mut W,
@@ -128,15 +165,12 @@ impl Session {
             (λ _. Chosen choice self.old self.new) }
     {
         match choice {
-            Choice::Step(kind) => {
-                self.device.step(alloc, out, kind)?;
-                Ok(())
-            }
-            Choice::Arrival => self.deliver_next(alloc, out),
+            Choice::Step(kind) => self.play_step(alloc, out, kind),
+            Choice::Arrival => self.play_arrival(alloc, out),
         }
     }
 
-    /// Plays what comes before an access: steps and arrivals, which the generator chooses.
+    /// Plays the steps and arrivals before an access that the generator chooses.
     pub(crate) fn interleave<W: Write>(
         &mut self,
         alloc: Global,
@@ -152,6 +186,7 @@ impl Session {
         }
         Ok(())
     }
+
     /// Plays what comes after an access or an arrival: rounds of steps, until one does nothing or the number that was
     /// set is reached.
     pub(crate) fn play_rounds<W: Write>(

@@ -7,20 +7,16 @@
 #![tactic(auto)]
 
 mod access;
-mod answer_error;
 mod answering;
 mod device;
-mod faults;
-mod frames;
 mod interleaving;
+mod moves;
 mod options;
-mod output;
 mod serve_error;
 mod server;
 mod session;
 mod small_answers;
 mod snapshot;
-mod text;
 
 pub use options::ServeOptions;
 pub use serve_error::ServeError;

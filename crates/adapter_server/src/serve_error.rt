@@ -4,7 +4,7 @@ ghost use Rattle.std.specs.Prelude.{◌≡◌};
 ghost use Rattle.adapter_server.specs.declared.serve_error.ServeError.TheVariants as errors;
 ghost use Rattle.adapter_server.specs.Statuses.{ended_by, status_of};
 
-use crate::answer_error::AnswerError;
+use server_output::AnswerError;
 use server_requests::ReadFailed;
 use std::alloc::AllocError;
 use thiserror::Error;

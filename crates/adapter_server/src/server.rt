@@ -1,17 +1,17 @@
 // The server.
 
-ghost use Rattle.std.specs.Prelude.{◌≡◌, IfErr, IfSome, OnErr, OnOk};
+ghost use Rattle.std.specs.Prelude.{◌≡◌, IfErr, IfOk, IfSome, OnErr, OnOk};
 ghost use Rattle.adapter_server.specs.Answers.{TellsAnswer};
-ghost use Rattle.adapter_server.specs.Order.{Tells};
+ghost use Rattle.server_output.specs.Order.{Tells};
 ghost use Rattle.adapter_server.specs.Serving.{AnswersNext, ServesAll, ServesBegun, ServesFront, ServesPart};
 ghost use Rattle.adapter_server.specs.Serving.{ServesSome, ServesWhole};
 ghost use Rattle.adapter_server.specs.declared.serve_error.ServeError.TheVariants as errors;
 
-use crate::answer_error::AnswerError;
 use crate::options::ServeOptions;
-use crate::output::send;
 use crate::serve_error::ServeError;
 use crate::snapshot::Server;
+use schedule_player::Player;
+use server_output::{AnswerError, send};
 use server_requests::{MOST_LINE_BYTES, NextLine, next_line};
 use std::alloc::Global;
 use std::io::{Read, Write};
@@ -40,7 +40,7 @@ fn serve_lines<R: Read, W: Write>(
     output: &mut W,
 ) -> Result<(), ServeError>
     ensures ok { OnOk result (IfSome (R.remaining input.old) (λ bytes.
-        Tells (W.contents output.old) (W.contents output.new) (ServesWhole bytes server.old))) }
+        Tells (W.contents output.old) (W.contents output.new) (ServesWhole bytes server.old server.new))) }
     ensures read { IfErr result (λ error. error ≡ errors.Read → IfSome (R.remaining input.old) (λ bytes.
         Tells (W.contents output.old) (W.contents output.new) (ServesFront bytes server.old))) }
     ensures begun { OnErr result (IfSome (R.remaining input.old) (λ bytes.
@@ -66,10 +66,11 @@ fn serve_lines<R: Read, W: Write>(
 /// Each line is answered. A line that isn't a request is refused. So is a line of more than 131,200 bytes, which is
 /// skipped to its end.
 ///
-/// While no frame is offered and nothing is saved, memory use is bounded: the memory of the options, the adapter (its
-/// packet buffers, the same for all input), and 721,039 bytes. Of these a line takes 131,200; the answer to a `read` of
-/// 65,536 bytes takes the others, for the bytes, their digits and its text. A saved state takes as much as the state,
-/// and while `save` or `restore` is answered, there is one copy more. Only memory limits the number of offered frames.
+/// While no frame is offered, nothing is saved and there is no player, memory use is bounded: the memory of the
+/// options, the adapter (its packet buffers, the same for all input), and 721,039 bytes. Of these a line takes 131,200;
+/// the answer to a `read` of 65,536 bytes takes the others, for the bytes, their digits and its text. A saved state
+/// takes as much as the state, and while `save` or `restore` is answered, there is one copy more. Only memory limits
+/// the number of offered frames. A player keeps its schedule, and what was played.
 ///
 /// # Errors
 ///
@@ -81,16 +82,20 @@ fn serve_lines<R: Read, W: Write>(
 pub fn serve<R: Read + Drop, W: Write>(
     alloc: Global,
     options: &ServeOptions,
+    player: Option<Player>,
     mut input: R,
     output: &mut W,
-) -> Result<(), ServeError>
-    ensures ok { OnOk result (IfSome (R.remaining input)
-        (λ bytes. ServesAll options.now bytes (W.contents output.old) (W.contents output.new))) }
+) -> Result<Option<Player>, ServeError>
+    ensures ok { IfOk result (λ left. IfSome (R.remaining input)
+        (λ bytes. ServesAll options.now player bytes left (W.contents output.old) (W.contents output.new))) }
     ensures read { IfErr result (λ error. error ≡ errors.Read → IfSome (R.remaining input)
-        (λ bytes. ServesSome options.now bytes (W.contents output.old) (W.contents output.new))) }
+        (λ bytes. ServesSome options.now player bytes (W.contents output.old) (W.contents output.new))) }
     ensures begun { OnErr result (IfSome (R.remaining input)
-        (λ bytes. ServesPart options.now bytes (W.contents output.old) (W.contents output.new))) }
+        (λ bytes. ServesPart options.now player bytes (W.contents output.old) (W.contents output.new))) }
 {
-    let mut server = Server::new(alloc, options)?;
-    serve_lines(&mut server, alloc, &mut input, output)
+    let mut server = Server::new(alloc, options, player)?;
+    let served = serve_lines(&mut server, alloc, &mut input, output);
+    let left = server.into_player();
+    served?;
+    Ok(left)
 }

@@ -3,10 +3,7 @@
 ghost use Rattle.std.specs.Prelude.{◌≡◌, ◌+◌, ◌-◌, IfOk, None, Some, if◌then◌else◌, nat_le};
 ghost use Rattle.adapter_server.specs.Sessions.{first_adapter, is_register, meets_registers, place_with};
 
-use crate::answer_error::AnswerError;
 use crate::device::Device;
-use crate::faults::Faults;
-use crate::frames::Frames;
 use crate::options::ServeOptions;
 use adapter::Adapter;
 use adapter::offsets::PBA;
@@ -15,6 +12,8 @@ use dma_memory::HostMemory;
 use pci_function::PciFunction;
 use rand_core::SeedableRng;
 use rand_pcg::Lcg64Xsh32;
+use schedule_player::Player;
+use server_output::{AnswerError, Faults, Frames};
 use server_requests::{Refusal, Setting};
 use std::alloc::{AllocError, Global};
 
@@ -41,6 +40,8 @@ pub struct Session {
     pub clock: u64,
     /// The frames that wait for their arrival.
     pub offered: Frames,
+    /// The player of a schedule, or of a run that is recorded, if there is one.
+    pub player: Option<Player>,
 }
 
 /// The target of an access.
@@ -125,25 +126,30 @@ impl Clone for Session {
     /// The same state, with memory of its own. Fails only if memory was refused.
     fn clone(&self) -> Result<Session, AllocError> {
         Ok(Session {
+            offered: self.offered.clone()?,
+            player: self.player.clone()?,
+            generator: self.generator.clone()?,
             device: self.device.clone()?,
             function: self.function,
-            generator: self.generator.clone()?,
             most_steps: self.most_steps,
             pace: self.pace,
             clock: self.clock,
-            offered: self.offered.clone()?,
         })
     }
 }
 
 impl Session {
-    ghost use Rattle.adapter_server.specs.Sessions.{is_memory, new_session, place_in, with_setting};
+    ghost use Rattle.adapter_server.specs.Sessions.{is_memory, new_session, place_in, plays_schedule, with_setting};
 
-    /// The state before the first request: a new adapter, whose PBA is written once and whose MPC is set, and memory of
-    /// zeros.
+    /// The state before the first request: a new adapter, whose PBA is written once and whose MPC is set, memory of
+    /// zeros, and this player.
     #[tactic(auto, unfolding(crate::specs::Sessions::new_session))]
-    pub(crate) fn new(alloc: Global, options: &ServeOptions) -> Result<Session, AnswerError>
-        ensures { IfOk result (λ session. session ≡ new_session options.now) }
+    pub(crate) fn new(
+        alloc: Global,
+        options: &ServeOptions,
+        player: Option<Player>,
+    ) -> Result<Session, AnswerError>
+        ensures { IfOk result (λ session. session ≡ new_session options.now player) }
     {
         let memory = HostMemory::new(alloc, options.memory)?;
         let adapter = adapter_of(alloc, options)?;
@@ -162,7 +168,18 @@ impl Session {
             pace: 0,
             clock: 0,
             offered: Frames::new(alloc),
+            player,
         })
+    }
+
+    /// Whether a schedule is played.
+    pub(crate) fn plays_schedule(&self) -> bool
+        ensures { result ≡ plays_schedule self.now }
+    {
+        match &self.player {
+            Some(player) => player.is_playing(),
+            None => false,
+        }
     }
 
     /// Sets how later requests are answered.
@@ -170,7 +187,9 @@ impl Session {
         ensures { self.new ≡ with_setting setting self.old }
     {
         match setting {
-            Setting::Interleave(count) => self.most_steps = count,
+            Setting::Interleave(count) => {
+                self.most_steps = if self.plays_schedule() { 0 } else { count };
+            }
             Setting::Pace(count) => self.pace = count,
             Setting::Log(on) => self.device.log = on,
             Setting::Events(on) => self.device.events = on,

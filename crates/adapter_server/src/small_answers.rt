@@ -2,18 +2,19 @@
 
 ghost use Rattle.std.specs.Prelude.{Some, max};
 
-use crate::answer_error::AnswerError;
-use crate::faults::Faults;
-use crate::output::{refuse, say, say_decimal, say_faults, say_frames, say_number};
 use crate::session::Session;
 use pci_function::PortWidth;
+use server_output::{
+    AnswerError, Faults, refuse, say, say_decimal, say_faults, say_frames, say_number,
+};
 use server_requests::{Payload, Refusal, Setting};
 use std::alloc::Global;
 use std::io::Write;
 use std::mem;
 
 impl Session {
-    ghost use Rattle.adapter_server.specs.Answers.{AnswersFaults, AnswersFrames, AnswersLevel, AnswersPort, MovesClock};
+    ghost use Rattle.adapter_server.specs.Answers.{AnswersDigest, AnswersFaults, AnswersFrames, AnswersLevel};
+    ghost use Rattle.adapter_server.specs.Answers.{AnswersPort, MovesClock};
     ghost use Rattle.adapter_server.specs.Answers.{Changes, TellsAnswer, time_after, with_offered, with_port_written};
     ghost use Rattle.adapter_server.specs.Sessions.{with_setting};
 
@@ -74,6 +75,18 @@ impl Session {
             (AnswersLevel self.old) self.new }
     {
         say_number(alloc, out, u64::from(self.device.machine.line()))
+    }
+
+    /// `digest`.
+    pub(crate) fn say_digest<W: Write>(
+        &mut self,
+        alloc: Global,
+        out: &mut W,
+    ) -> Result<(), AnswerError>
+        ensures { TellsAnswer result (W.contents out.old) (W.contents out.new) self.old.device
+            (AnswersDigest self.old) self.new }
+    {
+        say_number(alloc, out, self.device.machine.digest())
     }
 
     /// `offer`.

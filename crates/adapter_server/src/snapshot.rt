@@ -1,13 +1,12 @@
 // A server: an adapter that is served, and the copy of it that is kept.
 
 ghost use Rattle.std.specs.Prelude.{◌≡◌, IfOk, Some};
-ghost use Rattle.adapter_server.specs.Texts.{ok_line};
+ghost use Rattle.server_output.specs.Texts.{ok_line};
 
-use crate::answer_error::AnswerError;
 use crate::options::ServeOptions;
-use crate::output::{refuse, say};
 use crate::session::Session;
-use crate::text::restored_text;
+use schedule_player::Player;
+use server_output::{AnswerError, refuse, restored_text, say};
 use server_requests::Refusal;
 use std::alloc::Global;
 use std::io::Write;
@@ -21,18 +20,38 @@ pub struct Server {
     pub saved: Option<Session>,
 }
 
+/// Puts a value in the place of another, which is dropped.
+fn put_in_place<T: Drop>(place: &mut T, value: T)
+    ensures { place.new ≡ value }
+{
+    *place = value;
+}
+
 impl Server {
     ghost use Rattle.adapter_server.specs.Answers.{Replies, Restores, TellsAnswer};
     ghost use Rattle.adapter_server.specs.Serving.{new_server};
 
-    /// The state before the first request. Nothing is saved.
-    pub(crate) fn new(alloc: Global, options: &ServeOptions) -> Result<Server, AnswerError>
-        ensures { IfOk result (λ server. server ≡ new_server options.now) }
+    /// The state before the first request, with this player. Nothing is saved.
+    pub(crate) fn new(
+        alloc: Global,
+        options: &ServeOptions,
+        player: Option<Player>,
+    ) -> Result<Server, AnswerError>
+        ensures { IfOk result (λ server. server ≡ new_server options.now player) }
     {
         Ok(Server {
-            session: Session::new(alloc, options)?,
+            session: Session::new(alloc, options, player)?,
             saved: None,
         })
+    }
+
+    /// The player after the last request.
+    pub(crate) fn into_player(mut self) -> Option<Player>
+        ensures { result ≡ self.session.player }
+    {
+        let player = self.session.player.take();
+        drop(self);
+        player
     }
 
     /// `save`.
@@ -40,7 +59,8 @@ impl Server {
         ensures { TellsAnswer result (W.contents out.old) (W.contents out.new) self.old.session.device
             (Replies ok_line (record self.old { saved = Some self.old.session })) self.new }
     {
-        self.saved = Some(self.session.clone()?);
+        let copy = self.session.clone()?;
+        put_in_place(&mut self.saved, Some(copy));
         say(out, b"OK\n")
     }
 
@@ -55,7 +75,7 @@ impl Server {
         let session = saved.clone()?;
         let was = self.session.device.machine.line();
         let is = session.device.machine.line();
-        self.session = session;
+        put_in_place(&mut self.session, session);
         say(out, restored_text(was, is))
     }
 }

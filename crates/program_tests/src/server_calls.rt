@@ -33,8 +33,8 @@ fn interrupted_reads_are_tried_again_and_others_end_it(rt: HostRuntime) -> Resul
         is_interrupted: false,
     };
     let mut output = Vec::new(rt.alloc());
-    let ended = serve(rt.alloc(), &options, input, &mut output);
-    assert!(rt; ended == Err(ServeError::Read));
+    let ended = serve(rt.alloc(), &options, None, input, &mut output);
+    assert!(rt; ended.err() == Some(ServeError::Read));
     let wanted = b"OK 0x0000000000000000\nOK little\n";
     assert!(rt; output.as_slice() == wanted.as_slice());
     Ok(())

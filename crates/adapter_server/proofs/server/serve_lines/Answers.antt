@@ -2,7 +2,7 @@ use Rattle.std.proofs.Common.{◌≡◌, arith, subst}
 use Rattle.server_requests.specs.LinesRead.{IsNextLine}
 use Rattle.server_requests.specs.declared.line_reader.NextLine.{NextLine}
 use Rattle.adapter_server.specs.declared.serve_error.ServeError.TheVariants as errors
-use Rattle.adapter_server.proofs.PartsWritten.{whatever_err}
+use Rattle.server_output.proofs.PartsWritten.{whatever_err}
 use Rattle.adapter_server.proofs.ServedLines.{serves_front, serves_lines, serves_next, serves_none, whatever_error}
 use Rattle.adapter_server.proofs.ServedParts.{answering_stopped, serves_part, serves_stopped}
 use Rattle.adapter_server.proofs.server.serve_lines.Goals as goal

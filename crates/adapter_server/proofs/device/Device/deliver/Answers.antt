@@ -3,8 +3,8 @@ use Rattle.std.specs.List.{concat}
 use Rattle.hex.specs.Hex.{encode_lower}
 use Rattle.adapter_server.specs.Devices.{Prints}
 use Rattle.adapter_server.specs.Happenings.{Arrived, Happening}
-use Rattle.adapter_server.specs.Order.{Says}
-use Rattle.adapter_server.specs.Texts.{Text, digits_arrived, fate_word, said_log}
+use Rattle.server_output.specs.Order.{Says}
+use Rattle.server_output.specs.Texts.{Text, digits_arrived, fate_word, said_log}
 use Rattle.adapter_server.specs.declared.device.Device.{Device}
 use Rattle.rx_engine.specs.declared.arrival.Fate.{Fate}
 use Rattle.adapter_server.proofs.Printing.{kept_none, printed}

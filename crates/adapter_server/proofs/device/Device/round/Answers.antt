@@ -3,10 +3,10 @@ use Rattle.std.proofs.lemmas.List.{take_more}
 use Rattle.adapter.specs.declared.step.StepKind.{StepKind}
 use Rattle.adapter.specs.declared.step.StepKind.TheVariants.{TxTake}
 use Rattle.adapter_server.specs.Devices.{Plays, Steps, round}
-use Rattle.adapter_server.specs.Order.{InOrder, Tells}
+use Rattle.server_output.specs.Order.{InOrder, Tells}
 use Rattle.adapter_server.proofs.Rounds.{moved_little}
 use Rattle.adapter_server.proofs.Stopping.{events_of_plays, events_stop, stopped_after}
-use Rattle.adapter_server.proofs.Writing.{tells_more, tells_none, tells_so}
+use Rattle.server_output.proofs.Writing.{tells_more, tells_none, tells_so}
 use Rattle.adapter_server.proofs.device.Device.round.Goals as goal
 
 pub loop-kind-init : goal.loop-kind-init

@@ -1,6 +1,6 @@
 use Rattle.std.proofs.Common.{◌≤◌, take}
 use Rattle.adapter_server.specs.Devices.{Plays, round}
-use Rattle.adapter_server.specs.Order.{InOrder, Tells}
+use Rattle.server_output.specs.Order.{InOrder, Tells}
 use Rattle.adapter_server.proofs.device.Device.round.Given as goal
 
 abbrev pub invariant-loop-kind : goal.invariant-loop-kind

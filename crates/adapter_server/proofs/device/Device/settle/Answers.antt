@@ -1,6 +1,6 @@
 use Rattle.std.proofs.Common.{arith, ℕ, subst}
 use Rattle.adapter_server.specs.Devices.{Round}
-use Rattle.adapter_server.specs.Order.{InOrder, Tells}
+use Rattle.server_output.specs.Order.{InOrder, Tells}
 use Rattle.adapter_server.proofs.Rounds.{BusyRounds, no_rounds, one_round, settled, settled_late}
 use Rattle.adapter_server.proofs.Stopping.{events_of_rounds, events_stop, stopped_after}
 use Rattle.adapter_server.proofs.device.Device.settle.Goals as goal

@@ -1,8 +1,8 @@
 use Rattle.std.proofs.Common.{◌≡◌, ◌∙◌, ◌++◌, [], ap, cond, flat_map, subst, sym}
 use Rattle.std.specs.Io.KnownBytes.{Appends}
 use Rattle.adapter_server.specs.Devices.{faults_told, keeping, listed}
-use Rattle.adapter_server.specs.Order.{WritesPart}
-use Rattle.adapter_server.specs.Texts.{fault_line}
+use Rattle.server_output.specs.Order.{WritesPart}
+use Rattle.server_output.specs.Texts.{fault_line}
 use Rattle.adapter_server.specs.declared.device.Device.{Device}
 use Rattle.adapter_server.proofs.Printing.{text_of}
 use Rattle.adapter_server.proofs.PutFrames.{puts_next}

@@ -1,4 +1,4 @@
-use Rattle.adapter_server.proofs.PartsWritten.{nothing_said, says_stop}
+use Rattle.server_output.proofs.PartsWritten.{nothing_said, says_stop}
 use Rattle.adapter_server.proofs.device.Device.tell.Goals as goal
 
 pub returns-in_err-text-clause-text : goal.returns-in_err-text-clause-text

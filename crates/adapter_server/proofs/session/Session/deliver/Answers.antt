@@ -3,11 +3,11 @@ use Rattle.bus.specs.declared.event.Event.TheVariants.{Arrives}
 use Rattle.adapter_server.specs.Devices.{Prints}
 use Rattle.adapter_server.specs.Happenings.{Logged}
 use Rattle.adapter_server.specs.Sessions.{OnDevice, reported}
-use Rattle.adapter_server.specs.Texts.{fate_word, word_line}
+use Rattle.server_output.specs.Texts.{fate_word, word_line}
 use Rattle.adapter_server.specs.declared.session.Session.{Session}
 use Rattle.adapter_server.proofs.Accesses.{events_of_arrival, arrived, rounds_answer, rounds_stop}
 use Rattle.adapter_server.proofs.Stopping.{answer_stops}
-use Rattle.adapter_server.proofs.Writing.{appends_none}
+use Rattle.server_output.proofs.Writing.{appends_none}
 use Rattle.adapter_server.proofs.session.Session.deliver.Goals as goal
 
 pub returns-in_err-finish : goal.returns-in_err-finish

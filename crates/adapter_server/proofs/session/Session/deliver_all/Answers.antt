@@ -1,8 +1,8 @@
 use Rattle.std.proofs.Common.{◌≡◌, ◌∙◌, ℕ, arith, replicate, subst}
-use Rattle.adapter_server.specs.Order.{Tells, Times}
+use Rattle.server_output.specs.Order.{Tells, Times}
 use Rattle.adapter_server.specs.Sessions.{NextArrives}
 use Rattle.adapter_server.proofs.Stopping.{events_of_arrivals, events_stop, stopped_after}
-use Rattle.adapter_server.proofs.Writing.{tells_none, times_more}
+use Rattle.server_output.proofs.Writing.{tells_none, times_more}
 use Rattle.adapter_server.proofs.session.Session.deliver_all.Goals as goal
 
 pub loop-frame-init : goal.loop-frame-init

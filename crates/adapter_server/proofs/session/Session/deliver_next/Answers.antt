@@ -1,6 +1,6 @@
 use Rattle.std.proofs.Common.{◌∙◌, List, [], ap, sym, ℕ}
 use Rattle.adapter_server.proofs.Stopping.{arrived, none_arrives}
-use Rattle.adapter_server.proofs.Writing.{appends_none}
+use Rattle.server_output.proofs.Writing.{appends_none}
 use Rattle.adapter_server.proofs.session.Session.deliver_next.Goals as goal
 
 pub returns-in_default : goal.returns-in_default

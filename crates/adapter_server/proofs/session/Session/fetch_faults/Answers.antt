@@ -1,7 +1,7 @@
 use Rattle.std.proofs.Common.{◌≡◌, ◌∙◌, [], List, subst, sym}
 use Rattle.engine_faults.specs.declared.engine_fault.EngineFault.{EngineFault}
 use Rattle.adapter_server.specs.Answers.{AnswersFaults, TellsAnswer}
-use Rattle.adapter_server.specs.Texts.{faults_line}
+use Rattle.server_output.specs.Texts.{faults_line}
 use Rattle.adapter_server.specs.declared.session.Session.{Session}
 use Rattle.adapter_server.proofs.Printing.{replied}
 use Rattle.adapter_server.proofs.session.Session.fetch_faults.Goals as goal

@@ -1,12 +1,12 @@
 use Rattle.std.proofs.Common.{◌≡◌, ◌∙◌, ℕ, ap, arith, replicate, subst}
 use Rattle.adapter_server.specs.Devices.{Happened}
-use Rattle.adapter_server.specs.Order.{Tells, TellsPart, Times}
+use Rattle.server_output.specs.Order.{Tells, TellsPart, Times}
 use Rattle.adapter_server.specs.Sessions.{Chosen, Draws, drawn, drawn_count}
 use Rattle.adapter_server.specs.declared.device.Device.{Device}
 use Rattle.adapter_server.specs.declared.interleaving.Choice.{Choice}
 use Rattle.adapter_server.specs.declared.session.Session.{Session}
 use Rattle.adapter_server.proofs.Stopping.{events_of_draws, events_stop, stopped_after}
-use Rattle.adapter_server.proofs.Writing.{tells_none, times_more}
+use Rattle.server_output.proofs.Writing.{tells_none, times_more}
 use Rattle.adapter_server.proofs.session.Session.interleave.Goals as goal
 
 pub loop-step-init : goal.loop-step-init

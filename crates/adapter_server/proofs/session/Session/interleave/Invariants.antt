@@ -1,4 +1,4 @@
-use Rattle.adapter_server.specs.Order.{Tells, Times}
+use Rattle.server_output.specs.Order.{Tells, Times}
 use Rattle.adapter_server.specs.Sessions.{Draws}
 use Rattle.adapter_server.proofs.session.Session.interleave.Given as goal
 

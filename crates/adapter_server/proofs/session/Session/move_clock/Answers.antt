@@ -1,4 +1,4 @@
-use Rattle.adapter_server.specs.Texts.{decimal_line}
+use Rattle.server_output.specs.Texts.{decimal_line}
 use Rattle.adapter_server.proofs.Clocks.{moved_clock}
 use Rattle.adapter_server.proofs.Printing.{replied}
 use Rattle.adapter_server.proofs.Stopping.{answer_stops}

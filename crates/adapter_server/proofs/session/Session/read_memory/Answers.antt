@@ -1,8 +1,10 @@
 use Rattle.std.proofs.Common.{◌≡◌, ◌∙◌, ap, arith, length, refl}
 use Rattle.bus.specs.declared.event.Access.TheVariants.{Loads}
 use Rattle.adapter_server.specs.Answers.{Accessed, in_memory}
-use Rattle.adapter_server.specs.ReadLines.{answer_line}
-use Rattle.adapter_server.specs.Sessions.{Interleaves, reported}
+use Rattle.server_output.specs.ReadLines.{answer_line}
+use Rattle.adapter_server.specs.Sessions.{ComesBefore, reported, target_at}
+use Rattle.adapter_server.specs.declared.session.Place.TheVariants.{Memory}
+use Rattle.step_schedules.specs.declared.deviation.Before.TheVariants.{Read}
 use Rattle.server_requests.specs.Widths.{size_of}
 use Rattle.adapter_server.proofs.Accesses.{accessed, events_of_access, rounds_answer, rounds_stop}
 use Rattle.adapter_server.proofs.Places.{still_fits}
@@ -12,8 +14,9 @@ use Rattle.adapter_server.proofs.session.Session.read_memory.Goals as goal
 
 pub load-requires : goal.load-requires
 load-requires g c =
-    let steps = c.in_ok-interleave.ensures in
-    let fits = still_fits c.args.self.now c.interleave.new.self steps.text c.args.address (size_of c.args.wanted) c.requires steps.holds in
+    let steps = c.in_ok-play_before_at.ensures in
+    let fits = still_fits Read (target_at Memory c.args.address c.args.self.now) c.args.self.now c.play_before_at.new.self
+    steps.text c.args.address (size_of c.args.wanted) c.requires steps.holds in
     record { lies = omega (arith, c.in_ok-bytes.ensures.len, c.size.ensures) }
 
 pub returns-in_err-bytes : goal.returns-in_err-bytes
@@ -22,26 +25,26 @@ returns-in_err-bytes g c =
     answer_stops c.from_residual.result c.args.self.now.device _ _ contents contents c.from_residual.ensures.0
     (stopped_before c.args.self.now.device contents)
 
-pub returns-in_err-interleave : goal.returns-in_err-interleave
-returns-in_err-interleave g c =
-    answer_stops c.from_residual-in_err-interleave.result c.args.self.now.device _ _ _ _ c.from_residual-in_err-interleave.ensures.0
-    c.in_err-interleave.ensures
+pub returns-in_err-play_before_at : goal.returns-in_err-play_before_at
+returns-in_err-play_before_at g c =
+    answer_stops c.from_residual-in_err-play_before_at.result c.args.self.now.device _ _ _ _ c.from_residual-in_err-play_before_at.ensures.0
+    c.in_err-play_before_at.ensures
 
 pub returns-in_err-finish : goal.returns-in_err-finish
 returns-in_err-finish g c =
     let a = c.args.self.now in
-    let middle = c.interleave.new.self in
+    let middle = c.play_before_at.new.self in
     let said = c.args.said.now in
     let access = Loads c.args.address (size_of c.args.wanted) in
     answer_stops c.from_residual-in_err-finish.result a.device _ _ _ _ c.from_residual-in_err-finish.ensures.0
-    (rounds_stop a middle said (Interleaves a middle) _ _ _
+    (rounds_stop a middle said (ComesBefore Read (target_at Memory c.args.address a) a middle) _ _ _
     (λ first steps. events_of_access access said a (reported middle) _ (accessed access said a middle middle tt refl first steps))
-    c.in_ok-interleave.ensures c.in_err-finish.ensures)
+    c.in_ok-play_before_at.ensures c.in_err-finish.ensures)
 
 pub returns : goal.returns
 returns g c =
     let a = c.args.self.now in
-    let middle = c.interleave.new.self in
+    let middle = c.play_before_at.new.self in
     let said = c.args.said.now in
     let size = size_of c.args.wanted in
     let access = Loads c.args.address size in
@@ -50,6 +53,7 @@ returns g c =
     ∙ filled c.in_ok-bytes.bytes.len c.load.new.into c.in_ok-bytes.bytes.items (omega arith)
     ∙ c.load.ensures.loaded ∙ ap (in_memory middle c.args.address) count in
     rounds_answer c.say_read.result a middle c.finish.new.self said
-    (answer_line c.args.wanted (in_memory (reported middle) c.args.address size)) (Interleaves a middle) (Accessed access said a) _ _ _ _ _
-    (accessed access said a middle middle tt refl) c.in_ok-interleave.ensures c.in_ok-finish.ensures
+    (answer_line c.args.wanted (in_memory (reported middle) c.args.address size))
+    (ComesBefore Read (target_at Memory c.args.address a) a middle) (Accessed access said a) _ _ _ _ _
+    (accessed access said a middle middle tt refl) c.in_ok-play_before_at.ensures c.in_ok-finish.ensures
     (λ text answer. (reported middle, answer)) (rw loaded at c.say_read.ensures)

@@ -1,5 +1,5 @@
 use Rattle.adapter_server.specs.Answers.{SettlesAll}
-use Rattle.adapter_server.specs.Texts.{number_line}
+use Rattle.server_output.specs.Texts.{number_line}
 use Rattle.adapter_server.proofs.Printing.{answered}
 use Rattle.adapter_server.proofs.Stopping.{answer_stops}
 use Rattle.adapter_server.proofs.session.Session.settle.Goals as goal

@@ -1,6 +1,6 @@
 use Rattle.adapter_server.specs.Devices.{Steps}
 use Rattle.adapter_server.specs.Sessions.{OnDevice}
-use Rattle.adapter_server.specs.Texts.{outcome_word, word_line}
+use Rattle.server_output.specs.Texts.{outcome_word, word_line}
 use Rattle.adapter_server.specs.declared.session.Session.{Session}
 use Rattle.adapter_server.proofs.Printing.{answered, on_device}
 use Rattle.adapter_server.proofs.Stopping.{answer_stops}

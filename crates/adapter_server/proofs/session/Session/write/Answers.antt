@@ -1,52 +1,58 @@
 use Rattle.std.proofs.Common.{◌∙◌, ap, sym}
 use Rattle.adapter_server.specs.Answers.{Accessed}
-use Rattle.adapter_server.specs.Sessions.{Interleaves, reported, write_to}
-use Rattle.adapter_server.specs.Texts.{ok_line}
+use Rattle.adapter_server.specs.Sessions.{ComesBefore, reported, target_at, write_to}
+use Rattle.step_schedules.specs.declared.deviation.Before.TheVariants.{Write}
+use Rattle.server_output.specs.Texts.{ok_line}
 use Rattle.adapter_server.specs.declared.device.Device.{Device}
 use Rattle.adapter_server.specs.declared.session.Session.{Session}
 use Rattle.adapter_server.proofs.Accesses.{accessed, events_of_access, rounds_answer, rounds_stop, write_occurs}
-use Rattle.adapter_server.proofs.Places.{still_takes}
+use Rattle.adapter_server.proofs.Places.{still_takes, write_begins}
 use Rattle.adapter_server.proofs.Printing.{replied}
 use Rattle.adapter_server.proofs.Stopping.{answer_stops}
 use Rattle.adapter_server.proofs.session.Session.write.Goals as goal
 
 pub write_to-requires : goal.write_to-requires
 write_to-requires g c =
-    let steps = c.in_ok-interleave.ensures in
-    still_takes c.in-Ok.place c.args.self.now c.interleave.new.self steps.text c.args.address c.args.bytes.now
+    let steps = c.in_ok-play_before_at.ensures in
+    still_takes c.in-Ok.place Write (target_at c.in-Ok.place c.args.address c.args.self.now) c.args.self.now
+    c.play_before_at.new.self steps.text c.args.address c.args.bytes.now
     (sym c.place_of.ensures ∙ c.in-Ok.is) steps.holds
 
-pub returns-in_err-interleave : goal.returns-in_err-interleave
-returns-in_err-interleave g c =
-    answer_stops c.from_residual.result c.args.self.now.device _ _ _ _ c.from_residual.ensures.0 c.in_err-interleave.ensures
+pub returns-in_err-play_before_at : goal.returns-in_err-play_before_at
+returns-in_err-play_before_at g c =
+    answer_stops c.from_residual.result c.args.self.now.device _ _ _ _ c.from_residual.ensures.0 c.in_err-play_before_at.ensures
 
 pub returns-in_err-finish : goal.returns-in_err-finish
 returns-in_err-finish g c =
     let a = c.args.self.now in
-    let middle = c.interleave.new.self in
+    let middle = c.play_before_at.new.self in
     let said = c.args.said.now in
     let access = write_to c.in-Ok.place c.args.address c.args.bytes.now in
     let with : Device → Session = λ device. record middle { device = device } in
     let moved = with c.write_to.new.self in
+    let begins = write_begins c.in-Ok.place c.args.address c.args.bytes.now a middle in
     let made = accessed access said a middle moved (write_occurs c.in-Ok.place c.args.address c.args.bytes.now _)
     (ap with c.write_to.ensures) in
     answer_stops c.from_residual-in_err-finish.result a.device _ _ _ _ c.from_residual-in_err-finish.ensures.0
-    (rounds_stop a moved said (Interleaves a middle) _ _ _
-    (λ first steps. events_of_access access said a (reported moved) _ (made first steps)) c.in_ok-interleave.ensures
-    c.in_err-finish.ensures)
+    (rounds_stop a moved said (ComesBefore Write (target_at c.in-Ok.place c.args.address a) a middle) _ _ _
+    (λ first steps. events_of_access access said a (reported moved) _ (made first (begins first steps)))
+    c.in_ok-play_before_at.ensures c.in_err-finish.ensures)
 
 pub returns : goal.returns
 returns g c =
     let a = c.args.self.now in
-    let middle = c.interleave.new.self in
+    let middle = c.play_before_at.new.self in
     let said = c.args.said.now in
     let access = write_to c.in-Ok.place c.args.address c.args.bytes.now in
     let with : Device → Session = λ device. record middle { device = device } in
     let moved = with c.write_to.new.self in
+    let begins = write_begins c.in-Ok.place c.args.address c.args.bytes.now a middle in
     rw (← c.place_of.ensures, c.in-Ok.is)
-    (rounds_answer c.say.result a moved c.finish.new.self said ok_line (Interleaves a middle) (Accessed access said a) _ _ _ _ _
-    (accessed access said a middle moved (write_occurs c.in-Ok.place c.args.address c.args.bytes.now _) (ap with c.write_to.ensures))
-    c.in_ok-interleave.ensures c.in_ok-finish.ensures (λ text answer. (reported moved, answer)) c.say.ensures)
+    (rounds_answer c.say.result a moved c.finish.new.self said ok_line
+    (ComesBefore Write (target_at c.in-Ok.place c.args.address a) a middle) (Accessed access said a) _ _ _ _ _
+    (λ first steps. accessed access said a middle moved (write_occurs c.in-Ok.place c.args.address c.args.bytes.now _)
+    (ap with c.write_to.ensures) first (begins first steps)) c.in_ok-play_before_at.ensures c.in_ok-finish.ensures
+    (λ text answer. (reported moved, answer)) c.say.ensures)
 
 pub returns-in-Err : goal.returns-in-Err
 returns-in-Err g c =

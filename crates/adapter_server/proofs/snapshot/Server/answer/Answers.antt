@@ -1,8 +1,9 @@
 use Rattle.std.proofs.Common.{Some, codes, length, max}
-use Rattle.adapter_server.specs.Answers.{AnswersArrival, AnswersFaults, AnswersFrames, AnswersLevel, AnswersPort, AnswersSettle}
-use Rattle.adapter_server.specs.Answers.{AnswersStep, Changes, MovesClock, ReadsAt, WritesAt, time_after, with_offered, with_port_written}
+use Rattle.adapter_server.specs.Answers.{AnswersArrival, AnswersDigest, AnswersFaults, AnswersFrames, AnswersLevel, AnswersPort}
+use Rattle.adapter_server.specs.Answers.{AnswersSettle, AnswersStep, Changes, MovesClock, ReadsAt, WritesAt, time_after, with_offered}
+use Rattle.adapter_server.specs.Answers.{with_port_written}
 use Rattle.adapter_server.specs.Sessions.{place_in, with_setting}
-use Rattle.adapter_server.specs.Texts.{ok_line, word_line}
+use Rattle.server_output.specs.Texts.{ok_line, word_line}
 use Rattle.server_requests.specs.Widths.{size_of}
 use Rattle.adapter_server.proofs.Printing.{lifted, replied}
 use Rattle.adapter_server.proofs.snapshot.Server.answer.Goals as goal
@@ -64,6 +65,11 @@ pub returns-in-Line : goal.returns-in-Line
 returns-in-Line g c =
     rw c.in-Line.is
     (lifted c.say_level.result (AnswersLevel) c.args.self.now c.say_level.new.self _ _ c.say_level.ensures)
+
+pub returns-in-Digest : goal.returns-in-Digest
+returns-in-Digest g c =
+    rw c.in-Digest.is
+    (lifted c.say_digest.result (AnswersDigest) c.args.self.now c.say_digest.new.self _ _ c.say_digest.ensures)
 
 pub returns-in-ClockStep : goal.returns-in-ClockStep
 returns-in-ClockStep g c =

@@ -1,4 +1,4 @@
-use Rattle.adapter_server.specs.Answers.{AnswersLine, Does, Refuses}
+use Rattle.adapter_server.specs.Answers.{AnswersLine, Obeys, Refuses}
 use Rattle.adapter_server.specs.declared.snapshot.Server.{Server}
 use Rattle.adapter_server.proofs.Printing.{replied}
 use Rattle.adapter_server.proofs.ReadRequests.{answers_read, answers_refused}
@@ -10,8 +10,8 @@ returns-in-Ok g c =
     let line = c.args.line.now in
     let a = c.args.self.now in
     let request = c.in-Ok.request in
-    answer_so c.answer.result (Does request line a) (AnswersLine line a) (λ (b : Server). b) a.session.device c.answer.new.self _ _
-    (λ b text does. answers_read line request a b text c.in-Ok.ensures does) c.answer.ensures
+    answer_so c.obey.result (Obeys request line a) (AnswersLine line a) (λ (b : Server). b) a.session.device c.obey.new.self _ _
+    (λ b text does. answers_read line request a b text c.in-Ok.ensures does) c.obey.ensures
 
 pub returns-in-Err-Refused : goal.returns-in-Err-Refused
 returns-in-Err-Refused g c =

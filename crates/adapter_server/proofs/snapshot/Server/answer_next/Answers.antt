@@ -1,6 +1,6 @@
 use Rattle.std.proofs.Common.{[], refl}
 use Rattle.adapter_server.proofs.Printing.{replied}
-use Rattle.adapter_server.proofs.Writing.{appends_none}
+use Rattle.server_output.proofs.Writing.{appends_none}
 use Rattle.adapter_server.proofs.snapshot.Server.answer_next.Goals as goal
 
 pub returns-in-End : goal.returns-in-End

@@ -1,6 +1,7 @@
 use Rattle.std.proofs.Common.{◌≡◌, ◌++◌, ◌∙◌, Option, Some, ap, rules, subst, sym}
 use Rattle.adapter_server.specs.Answers.{Restores, TellsAnswer, line_between}
-use Rattle.adapter_server.specs.Texts.{ok_line}
+use Rattle.server_output.specs.Order.{Says}
+use Rattle.server_output.specs.Texts.{ok_line}
 use Rattle.adapter_server.specs.declared.session.Session.{Session}
 use Rattle.adapter_server.proofs.Printing.{replied}
 use Rattle.adapter_server.proofs.Stopping.{answer_stops, stopped_before}
@@ -22,10 +23,15 @@ returns-in_err-session g c =
 pub returns : goal.returns
 returns g c =
     let a = c.args.self.now in
-    let session = c.in_ok-session.session in
-    let same : session ≡ c.in-Some.saved = search rules in
+    let before = g.W.Write.contents c.args.out.now in
+    let after = g.W.Write.contents c.say.new.out in
+    let placed = c.put_in_place.new.place in
+    let copied : c.in_ok-session.session ≡ c.in-Some.saved = search rules in
     subst
-    (λ (saved : Option Session). TellsAnswer c.say.result (g.W.Write.contents c.args.out.now) (g.W.Write.contents c.say.new.out)
-    a.session.device (Restores saved a) (record a { session = session })) (ap Some same ∙ sym c.in-Some.is)
-    (replied c.say.result a.session.device (line_between a.session session ++ ok_line) (record a { session = session }) _ _
-    (rw (c.restored_text.ensures, c.line-was.ensures.line, c.line-is.ensures.line) at c.say.ensures))
+    (λ (saved : Option Session).
+    TellsAnswer c.say.result before after a.session.device (Restores saved a) (record a { session = placed }))
+    (ap Some (c.put_in_place.ensures ∙ copied) ∙ sym c.in-Some.is)
+    (replied c.say.result a.session.device (line_between a.session placed ++ ok_line) (record a { session = placed }) before after
+    (subst (λ (session : Session). Says c.say.result before after (line_between a.session session ++ ok_line))
+    (sym c.put_in_place.ensures)
+    (rw (c.restored_text.ensures, c.line-was.ensures.line, c.line-is.ensures.line) at c.say.ensures)))

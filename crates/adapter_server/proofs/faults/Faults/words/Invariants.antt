@@ -1,7 +1,0 @@
-use Rattle.std.proofs.Common.{◌≡◌, ◌++◌, drop, flat_map}
-use Rattle.adapter_server.specs.Texts.{fault_words}
-use Rattle.adapter_server.proofs.faults.Faults.words.Given as goal
-
--- the text with the faults that are left is the text with all faults
-abbrev pub invariant-loop-fault : goal.invariant-loop-fault
-invariant-loop-fault l = l.text.items ++ flat_map fault_words (drop l.fault-index l.self) ≡ flat_map fault_words l.self

@@ -1,9 +1,0 @@
-use Rattle.std.proofs.Common.{◌≡◌, ◌≤◌, ◌++◌, drop, length}
-use Rattle.adapter_server.specs.Order.{Tells}
-use Rattle.adapter_server.proofs.output.say.Given as goal
-
-abbrev pub invariant-loop-turn : goal.invariant-loop-turn
-invariant-loop-turn g l = record {
-  said : Tells (g.W.Write.contents l.initial.out) (g.W.Write.contents l.out) (λ part. l.text ≡ part ++ drop l.written l.text);
-  few : l.written ≤ length l.text;
-}
