@@ -161,9 +161,5 @@ def recorded(server):
 
 def all_cases(server):
     server.put("stored.py", STORED.encode())
-    server.put("empty", b"")
-    if server.serve(b"", "--schedule", "empty")[0] == 2:
-        print("alike: `serve` doesn't know --schedule, so schedules of the finder aren't compared with it")
-        return
     drawn(server)
     recorded(server)

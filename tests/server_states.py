@@ -96,6 +96,39 @@ def missed_between(server):
     server.check("offers: a seed finds a miss between the reads of ICR and MPC", found != [], True)
 
 
+# Changes of one thing each: registers, memory, and what the EEPROM, the PHY and the engines are in the middle of.
+CHANGES = [
+    *[[f"writel {BASE + offset:#x} {value:#x}"] for offset, value in [
+        (0x0000, 0x40), (0x0014, 0x1), (0x0014, 0x101), (0x0020, 0x08210000), (0x0020, 0x04201200), (0x0038, 0x9100), (0x00C8, 0x1), (0x00C8, 0x80),
+        (0x00D0, 0x1), (0x0100, 0x2), (0x0100, 0x8002), (0x0400, 0x2), (0x1000, 0x8), (0x2800, 0x100), (0x2804, 0x1), (0x2808, 0x80), (0x2810, 0x1),
+        (0x2818, 0x1), (0x3800, 0x100), (0x3804, 0x1), (0x3808, 0x80), (0x3810, 0x1), (0x3818, 0x1), (0x5200, 0x1), (0x53FC, 0x1), (0x5400, 0x1),
+        (0x5404, 0x1), (0x5478, 0x1), (0x547C, 0x1), (0x5600, 0x1), (0x57FC, 0x1)]],
+    *[[f"writeb {address:#x} {value}"] for address in (0, 1, 0x7FFF, 0x8000, 0xFFFF, 0xFFFFF) for value in (1, 2)],
+    ["writel 0xFEB00014 0x1", "step eeprom"], ["writel 0xFEB00020 0x04201200", "step phy"], ["writel 0xFEB00020 0x04201200", "step phy", "step phy"],
+]
+
+
+def digests(server):
+    """States that differ have different digests, and a state that comes back has its digest again."""
+    asked = ["save", "digest", *sum(([*change, "digest", "restore", "digest"] for change in CHANGES), [])]
+    status, out, errors = server.serve(lines(asked))
+    told = [line for line in out.decode().split("\n") if line.startswith("OK 0x") and len(line) == len(ZERO)]
+    server.check("digests: the session", (status, errors, len(told)), (0, b"", 1 + 2 * len(CHANGES)))
+    server.check("digests: after a restore", set(told[2::2]), {told[0]})
+    server.check("digests: after a change", len({told[0], *told[1::2]}), 1 + len(CHANGES))
+    session = [*[request for request, _ in RECEIVES], f"arrive {FRAME}", "step rxdata", "step rxdone", f"arrive {FRAME}", f"readl {BASE + ICR}",
+               f"arrive {FRAME[:-2]}01"]
+    for name, extra in [("", []), (", with the log", ["log on"]), (", with events", ["events on"]), (", after an offer", ["offer 00"])]:
+        got = server.serve(lines([*extra, *sum(([request, "digest"] for request in session), [])]))[1].decode().split("\n")
+        told = [line for line in got if line.startswith("OK 0x") and line not in (ZERO, number(0x80), number(1))]
+        first = told if not extra else first
+        server.check(f"digests: a session{name}", told, first)
+    server.check("digests: each request of a session changes it", len(set(first)), len(session))
+    for size in (0, 1, 7, 8, 9, 4096):
+        got = [server.serve(lines(["digest", *change, "digest"]), "--memory", str(size))[1].split() for change in ([], ["writeb 0 1"])]
+        server.check(f"digests: {size} bytes of memory", (got[0][1] == got[0][3], got[1][1] != got[1][-1]), (True, size > 0))
+
+
 def all_cases(server):
-    for part in [restored, lines_moved, generators, offered, drawn, missed_between]:
+    for part in [digests, restored, lines_moved, generators, offered, drawn, missed_between]:
         part(server)

@@ -220,10 +220,11 @@ The requests. QEMU's qtest protocol has the first ten lines of this list, too:
   offer HEX               a frame waits: it arrives at the next settle, or before that as a random step
   save, restore           save keeps a copy of the state of the adapter, of memory and of these settings;
                           restore brings the last copy back
+  digest                  a number that depends on the adapter and on memory, to see that a state comes back
 
 Numbers are decimal, or hexadecimal after 0x. A register is read and written as four bytes, by readl,
 writel, read, write or memset. The adapter takes no step by itself: each step is a request, or random,
-and the same seed gives the same steps. Lines between a request and its answer say what happened: 'IRQ
+and the same seed gives the same steps, or it is of a schedule. Lines between a request and its answer say what happened: 'IRQ
 raise 0' and 'IRQ lower 0'; after events on, 'frame HEX' for a frame put on the wire, 'arrived FATE HEX' for
 an offered frame, and 'fault tx INDEX REASON' or 'fault rx INDEX REASON' for a fault of an engine; and '# ...'
 while the log is on. If the answer isn't OK, the request changed nothing. Such an answer is 'FAIL unknown', or
@@ -234,10 +235,15 @@ standard error:
 
   E57 Memory    Out of memory, status 4. Free some, or reduce --memory
   E58 Image     The file of --image hasn't 128 bytes, status 1. Name another file
-  E66 Read      Standard input or the file of --image could not be read, status 3. Check where it comes from
-  E67 Write     Standard output could not be written, or nobody reads it any more, status 3. Free space
-                there, or read all answers
-  E68 Open      The file of --image couldn't be opened or is a device, status 3. Check its path";
+  E66 Read      Standard input or the file of --image or --schedule could not be read, status 3. Check where
+                it comes from
+  E67 Write     Standard output or the file of --record could not be written, or nobody reads standard output
+                any more, status 3. Free space there, or read all answers
+  E68 Open      The file of --image or --schedule couldn't be opened or is a device, or that of --record
+                couldn't be created, status 3. Check its path
+  E70 Schedule  The file of --schedule isn't a schedule, or one for other options, status 1. Correct it, or
+                use the options in its first line
+  E71 Unmet     Deviations of the schedule weren't met, status 1: standard error lists them before this";
 
 pub(crate) const DRIVE_ABOUT: &str = "Run the driver on an adapter that another program models";
 
@@ -316,4 +322,7 @@ run only (E46 from drive, too): nicbench run --help. For E57, E66, E67 and E68 o
   E68 Open      IN couldn't be opened or is a device, OUT couldn't be created, or OUTDIR doesn't exist.
                 Check the paths and permissions. Copy a part of a device to a file: head -c SIZE DEVICE
   E69 Fewer     drive ended before all frames of IN were sent and N were received. Check the adapter, or use a
-                larger --idle";
+                larger --idle
+  E70 Schedule  The file of --schedule of serve isn't a schedule, or one for other options. Correct it, or use
+                the options in its first line
+  E71 Unmet     Deviations of the schedule of serve weren't met. Standard error lists them";

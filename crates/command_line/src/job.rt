@@ -98,7 +98,7 @@ pub struct DriveJob<'a> {
 }
 
 /// The contents of the EEPROM of an adapter that is served.
-#[derive(Clone, Copy, Debug)]
+#[derive(Clone, Copy, Debug, PartialEq, Eq)]
 pub enum ServeImage<'a> {
     /// An image of this Ethernet address, the first byte first (`--address`).
     Address([u8; 6]),
@@ -107,7 +107,7 @@ pub enum ServeImage<'a> {
 }
 
 /// When the link of an adapter that is served comes up.
-#[derive(Clone, Copy, Debug)]
+#[derive(Clone, Copy, Debug, PartialEq, Eq)]
 pub enum ServeLink {
     /// After so many ticks of the PHY, 1 or more.
     After(u16),

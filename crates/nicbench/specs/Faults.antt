@@ -5,6 +5,8 @@ use Rattle.drive.specs.Statuses as drive
 use Rattle.pcap_bench.specs.ProgramErrors as program
 use Rattle.scenario.specs.Statuses as refusals
 use Rattle.scenario_bench.specs.Errors as bench
+use Rattle.step_schedules.specs.declared.schedule_error.ScheduleError.{ScheduleError}
+use Rattle.step_schedules.specs.declared.schedule_error.ScheduleError.TheVariants as schedules
 use Rattle.nicbench.specs.declared.fault.Fault.{Fault}
 use Rattle.nicbench.specs.declared.fault.Fault.TheVariants as faults
 
@@ -16,4 +18,13 @@ status_of (faults.Serve error) = server.status_of error
 status_of (faults.Drive error) = drive.status_of error
 status_of faults.Fewer = 1
 status_of faults.Image = 1
+status_of (faults.Schedule error) = 1
+status_of faults.Options = 1
+status_of faults.Unmet = 1
 status_of faults.Memory = 4
+
+-- the fault of a text that isn't read as a schedule
+abbrev pub schedule_fault : ScheduleError → Fault
+schedule_fault (schedules.Line line fault) = faults.Schedule (schedules.Line line fault)
+schedule_fault schedules.Text = faults.Schedule schedules.Text
+schedule_fault schedules.Memory = faults.Memory

@@ -1,6 +1,6 @@
 //! Why the program ended.
 ghost use Rattle.std.specs.Prelude.{◌≡◌};
-ghost use Rattle.nicbench.specs.Faults.{status_of};
+ghost use Rattle.nicbench.specs.Faults.{schedule_fault, status_of};
 ghost use Rattle.nicbench.specs.declared.fault.Fault.TheVariants as faults;
 
 use adapter_server::ServeError;
@@ -9,10 +9,14 @@ use pcap_bench::{PassError, ProgramError, ReadError, WriteError};
 use scenario::Refusal;
 use scenario_bench::BenchError;
 use std::alloc::{AllocError, AllocFailed};
+use step_schedules::ScheduleError;
 use thiserror::Error;
 
 /// The exit status where an image was refused.
 const BAD_IMAGE: u8 = 1;
+
+/// The exit status if a schedule was refused, or wasn't met.
+const BAD_SCHEDULE: u8 = 1;
 
 /// The exit status where fewer frames came than were expected.
 const FEWER_FRAMES: u8 = 1;
@@ -44,6 +48,15 @@ pub(crate) enum Fault {
     /// The image of an EEPROM hasn't 128 bytes.
     #[error("E58 Image")]
     Image,
+    /// A text isn't a schedule.
+    #[error("E70 Schedule {0}")]
+    Schedule(ScheduleError),
+    /// A schedule is for an adapter with other options.
+    #[error("E70 Schedule options")]
+    Options,
+    /// Deviations of a schedule weren't met.
+    #[error("E71 Unmet")]
+    Unmet,
     /// Memory was refused elsewhere.
     #[error("E57 Memory")]
     Memory,
@@ -62,6 +75,7 @@ impl Fault {
             Fault::Drive(error) => error.status(),
             Fault::Fewer => FEWER_FRAMES,
             Fault::Image => BAD_IMAGE,
+            Fault::Schedule(_) | Fault::Options | Fault::Unmet => BAD_SCHEDULE,
             Fault::Memory => NO_MEMORY,
         }
     }
@@ -131,6 +145,17 @@ impl From<DriveError> for Fault {
 
     fn from(error: DriveError) -> Fault {
         Fault::Drive(error)
+    }
+}
+
+impl From<ScheduleError> for Fault {
+    ghost from_gives = { λ e f. f ≡ schedule_fault e };
+
+    fn from(error: ScheduleError) -> Fault {
+        match error {
+            ScheduleError::Memory => Fault::Memory,
+            ScheduleError::Text | ScheduleError::Line { .. } => Fault::Schedule(error),
+        }
     }
 }
 

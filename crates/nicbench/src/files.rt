@@ -117,14 +117,19 @@ pub(crate) fn read_front<R: Files + Input + AllocGlobal>(
     }
 }
 
+/// A file that is written. It is made if there is none; else it keeps its bytes until the first new byte.
+pub(crate) fn create_file<R: Files>(rt: &R, path: &str) -> Result<LateFile<R::File>, ProgramError> {
+    match OpenOptions::new().write(true).create(true).open(rt, path) {
+        Ok(file) => Ok(LateFile::new(file)),
+        Err(_) => Err(ProgramError::Open),
+    }
+}
+
 /// A file as a sink. It is made if there is none; else it keeps its bytes until the sink's first byte.
 pub(crate) fn create<R: Files>(rt: &R, path: &str) -> Result<FileSink<R::File>, ProgramError>
     ensures { IfOk result (λ sink. ⟦<FileSink<R::File> as Sink>⟧.failures sink ≡ 0) }
 {
-    match OpenOptions::new().write(true).create(true).open(rt, path) {
-        Ok(file) => Ok(WriterSink::new(LateFile::new(file))),
-        Err(_) => Err(ProgramError::Open),
-    }
+    Ok(WriterSink::new(create_file(rt, path)?))
 }
 
 /// Looks whether a folder is there.

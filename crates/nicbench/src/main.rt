@@ -12,6 +12,7 @@ mod late_file;
 mod pass;
 mod progress;
 mod run;
+mod schedules;
 mod serve;
 mod show;
 
@@ -57,15 +58,19 @@ fn report<R: Eprint>(rt: &R, job: &Job<'_>, fault: &Fault) -> ExitCode {
     ExitCode::from(fault.status())
 }
 
-/// Does what the words asked for.
-fn obey<R: Files + Input + Print + Watched + AllocGlobal>(rt: &R, job: &Job<'_>) -> ExitCode
+/// Does what these words asked for: the job.
+fn obey<R: Files + Input + Print + Watched + AllocGlobal>(
+    rt: &R,
+    words: &[String],
+    job: &Job<'_>,
+) -> ExitCode
     requires { HasBounds job.now }
 {
     let outcome = match job {
         Job::Pass(job) => run_pass(rt, job),
         Job::Run(job) => run_scenario(rt, job),
         Job::Show(job) => run_show(rt, job),
-        Job::Serve(job) => run_serve(rt, job),
+        Job::Serve(job) => run_serve(rt, words, job),
         Job::Drive(job) => run_drive(rt, job),
     };
     match outcome {
@@ -80,7 +85,7 @@ fn main(rt: HostRuntime) -> ExitCode {
         Err(error) => return refuse(&rt, &error),
     };
     match line(rt.alloc(), words.as_slice()) {
-        Ok(job) => obey(&rt, &job),
+        Ok(job) => obey(&rt, words.as_slice(), &job),
         Err(error) => refuse(&rt, &error),
     }
 }

@@ -4,10 +4,12 @@ ghost use Rattle.nicbench.specs.Served.{IsImageFor, link_of, options_of};
 
 use crate::fault::Fault;
 use crate::files::read_front;
+use crate::schedules::{adapter_options, player_of, record_of, report_unmet, store};
 use adapter_server::{ServeOptions, serve};
 use command_line::{ServeImage, ServeJob, ServeLink};
 use eeprom::{Image, WORDS};
 use mdic_phy::Link;
+use schedule_player::Player;
 use std::io::{self, BufReader, BufWriter, Input};
 use std::rt::Files;
 
@@ -66,19 +68,43 @@ fn options_of(job: &ServeJob<'_>, image: Image) -> ServeOptions
     }
 }
 
-/// Requests come from standard input, and their answers go to standard output.
-pub(crate) fn run_serve<R: Files + Input + Print + AllocGlobal>(
+/// Serves: requests come from standard input, and their answers go to standard output. Returns the player after that.
+fn serve_input<R: Input + Print + AllocGlobal>(
     rt: &R,
-    job: &ServeJob<'_>,
-) -> Result<(), Fault> {
+    options: &ServeOptions,
+    player: Option<Player>,
+) -> Result<Option<Player>, Fault> {
     let alloc = rt.alloc();
-    let image = image_of(rt, job.image)?;
     let Ok(input) = BufReader::new(alloc, rt.reader()) else {
         return Err(Fault::Memory);
     };
     let Ok(mut output) = BufWriter::new(alloc, io::writer(rt)) else {
         return Err(Fault::Memory);
     };
-    serve(alloc, &options_of(job, image), input, &mut output)?;
-    Ok(())
+    let left = serve(alloc, options, player, input, &mut output)?;
+    Ok(left)
+}
+
+/// The words of the program are those of the job. A schedule that was recorded is stored at the end, and deviations
+/// that weren't met are reported.
+pub(crate) fn run_serve<R: Files + Input + Print + Eprint + AllocGlobal>(
+    rt: &R,
+    words: &[String],
+    job: &ServeJob<'_>,
+) -> Result<(), Fault> {
+    let image = image_of(rt, job.image)?;
+    let player = player_of(rt, job)?;
+    let mut record = record_of(rt, job)?;
+    let Some(player) = serve_input(rt, &options_of(job, image), player)? else {
+        return Ok(());
+    };
+    if let Some(file) = &mut record {
+        store(
+            rt.alloc(),
+            file,
+            adapter_options(rt.alloc(), words)?,
+            &player,
+        )?;
+    }
+    report_unmet(rt, &player)
 }
