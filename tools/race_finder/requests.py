@@ -9,7 +9,7 @@ from race_finder.schedule import ROUNDS, Place
 from race_finder.shadow import MATTER
 
 MOST_INTERLEAVED = 65535
-FRAME = re.compile("(?:[0-9a-fA-F]{2})+")
+DIGITS = re.compile("[0-9a-fA-F]+")
 LONGEST = 131_200  # bytes of a request
 # Each write of one of these registers is valid, and never changes the interrupt line.
 QUIET = ("RDT", "TDT")
@@ -65,7 +65,7 @@ def begins_round(request, words):
     if name == "step":
         return len(rest) == 1 and rest[0] in STEP_KINDS
     is_frame = name in ("arrive", "offer") and len(rest) == 1 and len(request) <= LONGEST + 1  # with its newline
-    return is_frame and FRAME.fullmatch(rest[0]) is not None
+    return is_frame and len(rest[0]) % 2 == 0 and DIGITS.fullmatch(rest[0]) is not None
 
 
 def settles(words):

@@ -1,0 +1,79 @@
+"""The order of the steps of a `settle` doesn't matter: any other order leaves the same state, frames on the wire and faults.
+
+So the finder of races needs no deviations inside a `settle`. This holds if the adapter reads no memory that it writes in the same
+`settle`, as with the drivers of examples/drivers. A driver for which it doesn't hold has a race that a deviation before the `settle` shows.
+"""
+
+import os
+import random
+import sys
+
+from server_pages import TOP
+
+DRIVERS = os.path.join(TOP, "examples", "drivers")
+sys.path.append(DRIVERS)
+from adapter import Adapter  # noqa: E402
+from driver import RIGHT, driver_of  # noqa: E402
+from sweep import TESTS  # noqa: E402
+
+KINDS = "txtake", "txput", "rxdata", "rxdone", "eeprom", "phy"
+SEEDS, ORDERS = 2, 3  # runs of each driver and test; other orders of each settle
+
+
+class AnyOrder(Adapter):
+    """An adapter that also plays the steps of each `settle` in random orders, from the same state."""
+
+    def __init__(self, program, *options, seed):
+        super().__init__(program, *options)
+        self.random, self.settles, self.longest, self.differences = random.Random(seed), 0, 0, []
+
+    def state(self):
+        """The digest of the state, and what the test was told since the last `save`."""
+        return self.ask("digest")[0], self.line, self.wire[self.seen:], self.faults[self.fault:]
+
+    def settle(self):
+        """The first order is that of the request `settle`. A handler that can cut in does it after all of them."""
+        with self.interrupts_off():
+            return self.settle_in_orders()
+
+    def settle_in_orders(self):
+        self.seen, self.fault = len(self.wire), len(self.faults)
+        self.ask("save")
+        wanted = super().settle(), *self.state()
+        for _ in range(ORDERS):
+            self.ask("restore")
+            del self.wire[self.seen:], self.faults[self.fault:]
+            got = self.settle_by_steps(), *self.state()
+            if got != wanted:
+                self.differences.append((self.settles, wanted, got))
+        self.settles += 1
+        self.longest = max(self.longest, wanted[0])
+        return wanted[0]
+
+    def settle_by_steps(self):
+        """Plays steps in a random order until none is left. Returns how many did something."""
+        count, left = 0, set(KINDS)
+        while left:
+            kind = self.random.choice(sorted(left))
+            if self.step(kind) == "nothing":
+                left.remove(kind)
+            else:
+                count, left = count + 1, set(KINDS)
+        return count
+
+
+def settle_in_any_order(server):
+    """Each settle of the drivers without a bug has the same result in each order, with random steps before it."""
+    for name in RIGHT:
+        for test, play in TESTS.items():
+            settles, longest, differences = 0, 0, []
+            for seed in range(1, SEEDS + 1):
+                with AnyOrder(server.program, "--seed", str(seed), seed=seed) as adapter:
+                    adapter.interleave(3)
+                    driver = driver_of(name, adapter)
+                    driver.bring_up()
+                    server.check(f"settle: {name}, {test}: the driver passes", play(adapter, driver), None)
+                    differences += adapter.differences
+                    settles, longest = settles + adapter.settles, max(longest, adapter.longest)
+            server.check(f"settle: {name}, {test}: each order has the same result", differences[:1], [])
+            server.check(f"settle: {name}, {test}: there are settles of several steps", settles > 5 and longest > 2, True)
