@@ -110,10 +110,10 @@ def searches(server):
     _, got = check_dump(server, "an offered frame")
     server.check("arrivals: in the dump", (len(got["arrive_stored"]), len(got["deviation"])), (2, 3))
     shutil.rmtree(server.path("charts"))
-    tables = [[], [], [], [], ["off"]], [[], [], [], [], ["stored", "missed", "filtered", "illegal"]]
+    tables = [[], [], [], [], ["off"], []], [[], [], [], [], ["stored", "missed", "filtered", "illegal"], []]
     status, out, errors = reached_by(server, ["offer 00", "settle"])
-    server.check("arrivals: reached", (status, out.splitlines()[5], out.splitlines()[-1], errors), (
-        PASSES, shown(REACHED, tables[0]).splitlines()[-1], shown(NEVER, tables[1]).splitlines()[-1], ""))
+    server.check("arrivals: reached", (status, out.splitlines()[5], out.splitlines()[-2], errors), (
+        PASSES, shown(REACHED, tables[0]).splitlines()[-2], shown(NEVER, tables[1]).splitlines()[-2], ""))
 
 
 def actors(server):

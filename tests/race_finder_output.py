@@ -66,6 +66,7 @@ reached:
   causes read from ICR: %s
   steps of the adapter: %s
   fates of arrivals: %s
+  rings without a free descriptor: %s
 """
 NEVER = REACHED.replace("reached:", "never:")
 # The registers by offset; which a read or a write can't do anything to; the causes, and so on.
@@ -80,7 +81,10 @@ WRITTEN = [name for name in REGISTERS if name not in ("STATUS", "MPC", "GPRC", "
 CAUSES = ["TXDW", "TXQE", "LSC", "RXDMT0", "RXO", "RXT0", "MDAC"]
 STEPS = ["txtake took", "txtake fault", "txput put", "txput wirefull", "rxdata part", "rxdata moved", "rxdata fault", "rxdone done", "eeprom ticked", "phy ticked"]
 FATES = ["stored", "missed", "filtered", "illegal", "off"]
-ALL = [READ, WRITTEN, CAUSES, STEPS, FATES]
+RINGS = ["receive", "transmit"]
+ALL = [READ, WRITTEN, CAUSES, STEPS, FATES, RINGS]
+# The line of accesses before which deviations were played, which race_finder_reached.py tests
+PLAYED = re.compile(r"^  deviations came before: .*\n", re.M)
 
 
 def write(name, value):
@@ -107,7 +111,7 @@ def whole():
     yield from [write("RDT", 3), "settle"]
     yield from [write("TDBAL", 0x400), write("TDLEN", 128), "write 0x400 16 0x00100000000000004000000900000000", write("TDT", 1), write("TCTL", 0xA)]
     yield from ["wire full", "settle", "wire free", "settle"]
-    yield from [write("TDH", 8), "step txtake", "readb 0x400", write("RDH", 8), f"arrive {FRAME}", "step rxdata"]
+    yield from [write("RDH", 0), write("RDT", 1), f"arrive {FRAME}", "settle", write("TDT", 0), write("TDH", 8), "step txtake", "readb 0x400", write("RDH", 8), f"arrive {FRAME}", "step rxdata"]
     yield from map(read, READ)
 
 
@@ -140,17 +144,17 @@ def reached_by(server, requests, *words):
     """What a test that sends these requests reaches."""
     server.put("requests", lines(requests))
     status, out, errors = replay(server, "", "--reached", *words, command=["sh", "-c", "exec 3<&0; cat requests & exec cat <&3 >answers"])
-    return status, out[out.find("reached:\n"):], errors
+    return status, PLAYED.sub("", out[out.find("reached:\n"):]), errors
 
 
 def reached(server):
     """What the runs reached, and what they never did."""
     requests = list(whole())
-    server.check("reached: all", reached_by(server, requests), (PASSES, shown(REACHED, ALL) + shown(NEVER, [[]] * 5), ""))
+    server.check("reached: all", reached_by(server, requests), (PASSES, shown(REACHED, ALL) + shown(NEVER, [[]] * 6), ""))
     for at, name, request in [(0, "MPC", read("MPC")), (0, "RAH", read("RAH")), (1, "VFTA", write("VFTA", 0)), (3, "txtake fault", "step txtake"),
                               (3, "txput wirefull", "wire full"),
                               (3, "rxdata fault", "step rxdata"), (4, "illegal", "arrive 00"), (4, "off", requests[0])]:
-        never = [[name] if at == key else [] for key in range(5)]
+        never = [[name] if at == key else [] for key in range(6)]
         requests.remove(request)
         did = [[one for one in names if [one] != without] for names, without in zip(ALL, never)]
         server.check(f"reached: without {name}", reached_by(server, requests), (PASSES, shown(REACHED, did) + shown(NEVER, never), ""))
@@ -161,17 +165,17 @@ def json_of(got):
     """The exit status, the object on standard output except for what was reached, the same as lists, and the errors."""
     status, out, errors = got
     result = json.loads(out)
-    tables = [None if result[key] is None else list(result[key].values()) for key in ("reached", "never")]
+    tables = [result[key] and [names for one, names in result[key].items() if one != "played"] for key in ("reached", "never")]
     return status, {key: value for key, value in result.items() if key not in ("reached", "never")}, tables, errors
 
 
 FAULT, FAILS = "exit status 1: finished too late", ["sh", "small", "fails"]
-NOTHING = [[[]] * 5, ALL]
+NOTHING = [[[]] * 6, ALL]
 
 
 def small_tables():
     """What SMALL reaches if both steps of its frame are played, and what it doesn't reach."""
-    did = [["RDH"], ["RCTL", "RDLEN", "RDT"], [], ["rxdata moved", "rxdone done"], ["stored"]]
+    did = [["RDH"], ["RCTL", "RDLEN", "RDT"], [], ["rxdata moved", "rxdone done"], ["stored"], ["receive"]]
     return [did, [[one for one in names if one not in some] for names, some in zip(ALL, did)]]
 
 

@@ -6,7 +6,7 @@
 from typing import NamedTuple
 
 from race_finder.names import SLOT, access_of, fields_of, number_in, value_in
-from race_finder.play import DEVIATION
+from race_finder.talk import DEVIATION
 from race_finder.shadow import Shadow
 
 # Rows that are shown: before and after a deviation, at the end, later ones of a slot, and of a run without a deviation.

@@ -4,31 +4,22 @@ import hashlib
 from collections import Counter
 from copy import copy
 
-from race_finder.names import DEFAULT_REGISTERS, access_of, causes_of, number_in, number_of, words_of
-from race_finder.reached import STEP_KINDS, bits_of_causes, bits_of_fates, bits_of_steps
+from race_finder.commute import commuting
+from race_finder.kept import REQUESTS, Kept
+from race_finder.names import DEFAULT_REGISTERS, access_of, number_of, words_of
+from race_finder.reached import PACE, bit_made, bit_played
 from race_finder.requests import LONGEST, Known, Met, Row, begins_round, is_interleave, kind_of, settles, text_of
-from race_finder.schedule import ARRIVE, ENGINES, HOLDS, Deviation, Place, steps_of
+from race_finder.schedule import ARRIVE, HOLDS, ROUNDS, Deviation, Place, steps_of
 from race_finder.shadow import Shadow
+from race_finder.talk import DEFAULT, DEVIATION, IDLE, NOTHING, OUTCOMES, STEP, TEST, TOLD, Talk
 
-# The most bytes of requests that are sent before answers are read: every pipe holds at least this many.
-MOST_AT_ONCE = 4096
-# Who made a request. The test was told the answer to a request that is TOLD before it was sent.
-TEST, TOLD, DEFAULT, DEVIATION = "test", "told", "default", "deviation"
-# How the answers OK, ERR and FAIL begin, and the first one of these
-ANSWERS, OK = b"OEF", b"O"[0]
-# Answers to steps that changed nothing
-NOTHING, IDLE = b"OK nothing", (b"OK nothing", b"OK wirefull")
 # Requests that begin a round and have a line of the log
 LOGGED = ("arrive", "step")
 # Requests that only the finder sends: the state that is saved is that of a fork.
 OURS = ["save"], ["restore"]
 LOG, EVENTS = (["log", "on"], ["log", "off"]), (["events", "on"], ["events", "off"])
 WIRE = ["wire", "full"], ["wire", "free"]
-LOG_ON, LOG_OFF = b"log on\n", b"log off\n"
-FATES, STEPS = bits_of_fates(), bits_of_steps()
-# For each step that the finder requests: the request, and the values of STEPS by its answer
-STEP = {kind: f"step {kind}\n".encode() for kind in STEP_KINDS}
-OUTCOMES = {kind: {b"OK " + step[2].encode(): step for step in STEPS.values() if step[1] == kind} for kind in STEP_KINDS}
+MADE = {name: bit_made(name) for name in ROUNDS}
 MOST_KNOWN = 65536  # requests whose accesses are kept
 
 
@@ -36,20 +27,11 @@ class Mismatch(Exception):
     """A schedule meets another access or request than it expects."""
 
 
-class Play:
-    """Takes requests of the test, and returns what answers them.
-
-    Requests and answers are bytes, as they come from the test and from the server. A request ends with its newline.
-    A request on its way to the server is a tuple: its text, who made it, its access if it is one (`Known`), what is
-    recorded of the access (`Met`), the deviation that it was drawn for, the digits of a frame that was offered, and the
-    outcomes of a step by its answer if the server doesn't log it. Rows need the log. Without them, the server logs only
-    the steps of `settle`.
-    """
-    # Python finds attributes faster in slots, if there are many.
-    __slots__ = ("shadow", "memory", "known", "waiting", "size", "untold", "round", "access_number", "is_logged", "stop",
-                 "at_stop", "begun", "out", "offered", "offers", "met", "idle", "places", "rows", "reached", "others",
-                 "accesses", "script", "told", "answers", "counts", "rest", "is_direct", "tells_events", "server", "draw",
-                 "begins", "checkpoint", "is_strict", "has_places", "has_rows", "has_script", "has_log", "schedule", "left", "named")
+class Play(Talk):
+    """Takes requests of the test, and returns what answers them, after what a schedule plays before them."""
+    __slots__ = ("memory", "access_number", "at_stop", "offered", "offers", "idle", "accesses", "script", "told",
+                 "answers", "counts", "rest", "is_direct", "draw", "checkpoint", "is_strict", "has_places",
+                 "has_script", "schedule", "left", "named")
 
     def __init__(self, base=DEFAULT_REGISTERS, memory=0):
         self.shadow, self.memory = Shadow(base), memory  # of `memory` bytes, the finder knows that they are there
@@ -64,22 +46,25 @@ class Play:
         self.begun = []  # the requests before this place
         self.begins = None  # the place of a request on its way, if its row is marked
         self.out = []  # lines for the test
-        self.offered, self.offers = [], 0  # frames that wait for their arrival, the oldest one first; how many there were
+        self.offered, self.offers = [], 0  # frames that wait for their arrival, the oldest one first; how many
         self.met, self.idle = [], []  # the deviations that did something, and those that did nothing
         self.places, self.rows = [], []
         self.reached = 0  # a bit for each item of reached.py
         self.others = 0  # steps of engines that did something, and arrivals of offered frames, from round 1 on
         self.accesses = 0  # from round 1 on, in rounds before this one
-        self.told, self.answers = [], hashlib.sha1()  # what the test was told, and the hash of what it was told before that
-        # For all requests that the test made at once: these, what it was told then, and the round and the access after that
+        self.told, self.answers = [], hashlib.sha1()  # what the test was told, and the hash of what it was told before
+        # For all requests that the test made at once: these, what it was told then, the round and the access after that
         self.script = []
         self.tells_events = None  # whether the test gets lines `frame`, `arrived` and `fault`
+        self.kept = Kept()  # what the lines for frames and faults had while the test didn't get them
+        self.is_raised = False  # whether the interrupt line is asserted
         self.counts = Counter()  # of accesses, by their names, if the schedule needs them
 
     def copy(self):
         """Another run in the same state."""
         other = copy(self)
         other.shadow, other.answers, other.counts = self.shadow.copy(), self.answers.copy(), self.counts.copy()
+        other.kept = self.kept.copy()
         for name in ("waiting", "begun", "out", "offered", "met", "idle", "places", "rows", "told", "script"):
             setattr(other, name, [*getattr(self, name)])
         return other
@@ -104,7 +89,7 @@ class Play:
         self.look_ahead()
 
     def look_ahead(self):
-        """Notes whether from now on nothing but default steps is played, and nothing is recorded but what is reached."""
+        """Notes whether from now on only default steps are played, and nothing is recorded but what is reached."""
         has_more = self.left or self.named or self.draw or self.stop or self.checkpoint
         self.is_direct = not (has_more or self.has_places or self.is_logged)
 
@@ -112,124 +97,6 @@ class Play:
         """The number of requests from the first one on that begins a round: those that begin one, and accesses; and of
         the steps of engines that did something, and arrivals of offered frames, since then."""
         return self.others + self.accesses + (self.access_number if self.round else 0) + self.round
-
-    # The server
-
-    def set_log(self, has_log):
-        """Turns the log of the server on or off."""
-        if self.has_log != has_log:
-            self.queue(LOG_ON if has_log else LOG_OFF, DEFAULT)
-            self.has_log = has_log
-
-    def queue(self, request, owner, known=None, met=None, drawn=None, frame=None, outcomes=None):
-        self.size += len(request)
-        if self.size > MOST_AT_ONCE and self.waiting:
-            self.flush()
-            self.size = len(request)
-        self.waiting.append((request, owner, known, met, drawn, frame, outcomes))
-        if owner is not TOLD:
-            self.untold += 1
-
-    def flush(self):
-        """Sends all requests that wait, and returns their answers."""
-        waiting = self.waiting
-        if not waiting:
-            return waiting
-        self.waiting, self.size, self.untold = [], 0, 0
-        requests = [one[0] for one in waiting]
-        if self.stop:
-            self.begun += [request for request in requests if request not in (LOG_ON, LOG_OFF)]
-        self.server.send(b"".join(requests))
-        answer = self.answer
-        return [answer(*one) for one in waiting]
-
-    def answer(self, _, owner, known, met, drawn, frame, outcomes):
-        """Returns the answer to a request, after the lines before it."""
-        line, at = self.server.line(), len(self.out) + self.is_logged
-        if line[0] not in ANSWERS:
-            line = self.hear_all(line, owner, met)
-        if owner is TEST:
-            self.out.append(line)
-        if known:
-            if line[0] == OK:
-                self.reached |= known.bit
-                if met:
-                    self.places.append(met)
-                if known.has_effect:
-                    self.hear_access(known, owner, line)
-        elif outcomes and line in outcomes:
-            self.take_step(*outcomes[line])
-        elif line in FATES:
-            self.reached |= FATES[line]
-            self.shadow.arrive(line == b"OK stored")
-            if frame:
-                self.others += 1
-                if self.tells_events:  # after the line of the log, before the interrupt line
-                    self.out.insert(at, b"arrived %b %b" % (line[3:], frame))
-        if drawn and line not in IDLE:
-            self.met.append(drawn)
-        return line
-
-    def hear_all(self, line, owner, met):
-        """Hears this line and those after it, up to an answer, which is returned."""
-        row = None
-        while line[0] not in ANSWERS:
-            if line in STEPS:
-                self.hear_step(line, owner)
-            else:
-                row = self.hear(line, owner, met) or row
-            line = self.server.line()
-        if row:
-            row.answer = text_of(line[3:])
-        return line
-
-    def hear_access(self, known, owner, line):
-        """A valid access of a register after which something is known."""
-        if known.is_causes:
-            self.reached |= bits_of_causes(causes_of(number_in(known.access, text_of(line[3:])) or 0))
-        elif known.matters and owner is not TOLD:
-            self.write(known)
-
-    def take_step(self, bit, kind, outcome, is_idle):
-        """The adapter took a step. Returns the slot that it used, or None."""
-        self.reached |= bit
-        if not is_idle and self.round and kind in ENGINES:
-            self.others += 1
-        return self.shadow.step(kind, outcome)
-
-    def hear_step(self, line, owner):
-        """A line of the log for a step."""
-        step = STEPS[line]
-        slot = self.take_step(*step)
-        if not (self.has_rows or self.is_logged) or step[2] == "nothing" and owner is not TEST:
-            return
-        if self.has_rows:
-            self.rows.append(Row(text_of(line), owner, None, slot, self.marked(owner)))
-        if self.is_logged:
-            self.out.append(line)
-
-    def hear(self, line, owner, met):
-        """Another line before the answer to a request. Returns the row of an access or an arrival."""
-        is_request = line.startswith(b"#")
-        if self.is_logged if is_request else self.tells_events or line.startswith(b"IRQ"):
-            self.out.append(line)
-        if not self.has_rows:
-            return None
-        place, name = met[:2] if is_request and met else (None, None)
-        self.rows.append(Row(text_of(line), owner, place, name, self.marked(owner) if is_request else None))
-        return self.rows[-1] if is_request else None
-
-    def marked(self, owner):
-        """The place of the request that begins a round, for its row, which is the next one that the test causes."""
-        begins = self.begins if owner is TEST else None
-        if begins:
-            self.begins = None
-        return begins
-
-    def write(self, known):
-        """A register was written. If a ring has moved, names of accesses are other ones."""
-        if self.shadow.write(known.register, known.access.value):
-            self.known = {}
 
     # The test
 
@@ -272,6 +139,9 @@ class Play:
     def take(self, request):
         """A request of the test that isn't an access."""
         words = words_of(text_of(request[:-1]))
+        is_round = begins_round(request, words)
+        if self.places and not is_round:
+            self.cut()
         if words in LOG:
             self.flush()
             self.is_logged = words == ["log", "on"]
@@ -288,7 +158,7 @@ class Play:
         elif words[:1] in OURS:
             self.flush()
             self.out.append(b"FAIL unknown")
-        elif begins_round(request, words):
+        elif is_round:
             self.begin_round(request, words)
         elif settles(words):
             self.settle(request)
@@ -300,8 +170,22 @@ class Play:
             self.queue(request, TEST)
             if self.flush()[-1] == b"OK":
                 self.shadow.set_wire(words == ["wire", "free"])
+        elif words in REQUESTS and not self.server.tells_events:
+            self.flush()
+            self.out.append(self.kept.fetch(words))
         else:
             self.queue(request, TEST)
+            if words[:1] == ["pace"] and len(words) == 2 and number_of(words[1]):
+                self.reached |= PACE
+
+    def cut(self):
+        """Before another request, which may change what a step does: none before the last access commutes with it."""
+        self.flush()
+        self.places[-1] = self.places[-1]._replace(commuting=())
+
+    def waits(self):
+        """What waits for later requests of the test or for later deviations."""
+        return len(self.offered), self.kept.digest()
 
     def learn(self, request):
         """The access of a request, or None if it is none, or is refused."""
@@ -325,8 +209,12 @@ class Play:
     def begin_round(self, request, words):
         if self.stop:
             self.reach(Place(self.round + 1, 0))
-        self.accesses += self.access_number if self.round else 0
+        if self.round:
+            self.accesses += self.access_number
+        else:
+            self.flush()  # these accesses are in round 0
         self.round, self.access_number = self.round + 1, 0
+        self.reached |= MADE[words[0]]
         if not self.is_direct:
             self.before_round(words[0])
         if words[0] == "offer":
@@ -369,7 +257,8 @@ class Play:
         if self.checkpoint and not (self.left or self.named):
             self.checkpoint()
         if self.has_places:
-            self.places.append(Met(place, name, () if self.draw else self.possible(), ()))
+            enabled = () if self.draw else self.possible()
+            self.places.append(Met(place, name, enabled, (), self.commuting(enabled, name)))
         if self.has_rows and len(self.met) > count:
             self.mark(place, name)
 
@@ -384,7 +273,7 @@ class Play:
         """An access of the test, after what the schedule plays before it."""
         self.access_number += 1
         shadow = self.shadow
-        met = None if self.is_direct and not (shadow.eeprom or shadow.phy) else self.before(known.name)
+        met = None if self.is_direct and not (shadow.eeprom or shadow.phy) else self.before(known.name, known)
         if known.is_quiet and not (self.untold or self.is_logged or self.has_rows):
             self.queue(request, TOLD, known, met)
             self.out.append(b"OK")
@@ -395,7 +284,7 @@ class Play:
         if known.matters:
             self.flush()
 
-    def before(self, name):
+    def before(self, name, known):
         """Plays what is due before an access with this name. Returns what is recorded of the access, or None."""
         if self.stop:
             self.reach((self.round, self.access_number))
@@ -412,8 +301,15 @@ class Play:
             self.checkpoint()
         if not self.has_places:
             return None
-        # No schedule gets longer than a drawn one.
-        return Met(Place(self.round, self.access_number), name, () if self.draw else self.possible(), holds)
+        place = Place(self.round, self.access_number)
+        if self.draw:
+            return Met(place, name, (), holds)  # no schedule gets longer than a drawn one
+        enabled = self.enabled()
+        return Met(place, name, enabled, holds, self.commuting(enabled, name, known))
+
+    def commuting(self, enabled, name, known=None):
+        """The enabled steps that commute with this access or request: none if the test wants the log, which has all."""
+        return () if self.is_logged else commuting(enabled, self.shadow, name, known, self.is_raised, self.tells_events)
 
     def due(self, name):
         """The deviations before this access or request, in the order in which the schedule has them."""
@@ -488,6 +384,7 @@ class Play:
         if did:
             action = deviation.action if len(did) == len(steps) else did[0]
             self.met.append(Deviation(Place(self.round, self.access_number), action, name))
+            self.reached |= bit_played(name)
         else:
             self.idle.append(deviation)
 

@@ -1,16 +1,24 @@
-"""What runs reached: registers, causes, outcomes of steps and fates of arrivals; and what they never reached.
+"""What runs reached: registers, causes, outcomes of steps, fates of arrivals, rings, accesses after a deviation; and what
+they never reached.
 
 What a run reached is a number, which has a bit for each item.
 """
 
+from functools import lru_cache
+
 from race_finder.names import CAUSES, REGISTERS
-from race_finder.schedule import ENGINES
+from race_finder.schedule import ENGINES, ROUNDS
 
 NAMES = tuple(dict.fromkeys(name.partition("[")[0] for name in REGISTERS.values()))
 OTHER = "other offsets"
 STEP_KINDS = *ENGINES, "eeprom", "phy"
 OUTCOMES = ("took", "put", "wirefull", "part", "moved", "done", "ticked", "nothing", "fault")
-# What a test may reach. Reads that always return 0, and writes that are always ignored, are left out.
+# What accesses go to in memory: the rings, and everything else.
+MEMORY = ("rx", "tx", "memory")
+# Accesses and requests before which deviations are played, by what they go to.
+PLAYED = *(f"{kind} {name}" for kind in ("read", "write") for name in (*NAMES, OTHER, *MEMORY)), *ROUNDS
+# What a test may reach. Reads that always return 0, and writes that are always ignored, are left out. Of `played`, what
+# never came up has only accesses and requests that the runs made from round 1 on.
 ALL = {
     "read": tuple(name for name in NAMES if name not in ("ICS", "IMC")),
     "written": tuple(name for name in NAMES if name not in ("STATUS", "MPC", "GPRC", "GPTC", "RNBC")),
@@ -18,13 +26,28 @@ ALL = {
     "steps": ("txtake took", "txtake fault", "txput put", "txput wirefull", "rxdata part", "rxdata moved",
               "rxdata fault", "rxdone done", "eeprom ticked", "phy ticked"),
     "fates": ("stored", "missed", "filtered", "illegal", "off"),
+    "rings": ("receive", "transmit"),
+    "played": PLAYED,
 }
 TITLES = {"read": "registers read", "written": "registers written", "causes": "causes read from ICR",
-          "steps": "steps of the adapter", "fates": "fates of arrivals"}
-# What can be reached, in the order in which it is shown.
+          "steps": "steps of the adapter", "fates": "fates of arrivals", "rings": "rings without a free descriptor",
+          "played": "deviations came before"}
+# What can be reached, in the order in which it is shown; and what isn't shown.
 ITEMS = [*((key, name) for key in ("read", "written") for name in (*NAMES, OTHER)),
-         *((key, name) for key in ("causes", "steps", "fates") for name in ALL[key])]
-BITS = {item: 1 << at for at, item in enumerate(ITEMS)}
+         *((key, name) for key in ("causes", "steps", "fates", "rings", "played") for name in ALL[key])]
+HIDDEN = [*(("made", target) for target in PLAYED), ("sent", "pace")]
+BITS = {item: 1 << at for at, item in enumerate([*ITEMS, *HIDDEN])}
+PACE = BITS["sent", "pace"]
+PACE_LINE = "The test sends `pace`: then the adapter works after each access, and most races can't happen."
+
+
+def target_of(name):
+    """An access or a request by its name, without the numbers of slots, addresses and words of tables."""
+    kind, _, target = name.partition(" ")
+    if not target:
+        return kind
+    target = "memory" if target[0] == "0" else OTHER if target.startswith("register") else target.partition("[")[0]
+    return f"{kind} {target}"
 
 
 def access_bit(kind, register):
@@ -33,6 +56,17 @@ def access_bit(kind, register):
         return 0
     name = OTHER if register.startswith("register") else register.partition("[")[0]
     return BITS["read" if kind == "read" else "written", name]
+
+
+def bit_made(name):
+    """The bit of the access or the request with this name, which was made after round 0."""
+    return BITS["made", target_of(name)]
+
+
+@lru_cache(maxsize=4096)
+def bit_played(name):
+    """The bit of the access or the request with this name, before which a deviation did something."""
+    return BITS["played", target_of(name)]
 
 
 def bits_of_causes(names):
@@ -54,8 +88,9 @@ def bits_of_steps():
 
 def tables_of(reached):
     """What was reached, and what never was: the names for each key of ALL, in a fixed order."""
-    return ({key: [name for one, name in ITEMS if one == key and reached & BITS[one, name]] for key in ALL},
-            {key: [name for name in names if not reached & BITS[key, name]] for key, names in ALL.items()})
+    never = {key: [name for name in names if not reached & BITS[key, name]] for key, names in ALL.items()}
+    never["played"] = [target for target in never["played"] if reached & BITS["made", target]]
+    return {key: [name for one, name in ITEMS if one == key and reached & BITS[one, name]] for key in ALL}, never
 
 
 def lines_of(reached):
@@ -63,4 +98,4 @@ def lines_of(reached):
     lines = []
     for title, table in zip(("reached", "never"), tables_of(reached)):
         lines += [f"{title}:", *(f"  {TITLES[key]}: {', '.join(names) or 'none'}" for key, names in table.items())]
-    return lines
+    return [*lines, PACE_LINE] if reached & PACE else lines

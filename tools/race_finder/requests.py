@@ -4,7 +4,7 @@ import re
 from typing import NamedTuple
 
 from race_finder.names import number_of
-from race_finder.reached import STEP_KINDS, access_bit
+from race_finder.reached import STEP_KINDS, access_bit, bit_made
 from race_finder.schedule import ROUNDS, Place
 from race_finder.shadow import MATTER
 
@@ -16,12 +16,13 @@ QUIET = ("RDT", "TDT")
 
 
 class Met(NamedTuple):
-    """An access of a run, or a request that began a round: its place, its name, and the deviations before it that would
-    do something."""
+    """An access of a run, or a request that began a round: its place, its name, the deviations before it that would do
+    something, and those that would do the same after it (`commuting`)."""
     place: Place
     name: str
     enabled: tuple
     holds: tuple
+    commuting: tuple = ()
 
 
 class Row:
@@ -38,12 +39,13 @@ class Row:
 
 class Known:
     """The access of a request: its name, its register (None for memory), and what follows from these."""
-    __slots__ = ("access", "register", "name", "bit", "matters", "is_quiet", "is_causes", "has_effect")
+    __slots__ = ("access", "register", "name", "bit", "bits", "matters", "is_quiet", "is_causes", "has_effect")
 
     def __init__(self, access, register, name, memory):
         is_write = access.kind == "write"
         self.access, self.register, self.name = access, register, name
-        self.bit = access_bit(access.kind, register)
+        self.bit = access_bit(access.kind, register)  # in round 0
+        self.bits = self.bit | bit_made(name)  # in later rounds
         self.matters = is_write and register in MATTER
         is_stored = register is None and 0 < access.size <= memory - access.address
         self.is_quiet = is_write and (register in QUIET or is_stored)

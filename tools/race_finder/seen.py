@@ -1,6 +1,6 @@
 """States of runs that are known: from there on, a run is the same as an earlier one.
 
-A state is what the test was told so far, the place, the number of frames that wait, and the digest of the server. If no
+A state is what the test was told so far, the place, what waits in the finder, and the digest of the server. If no
 deviation is left, it decides the rest of the run: the test has made the same requests, and makes the same ones.
 """
 
@@ -34,8 +34,8 @@ class Known(Exception):
 
 
 class States:
-    """The rests of runs by their states. A rest has the hash of all answers of the run, the number of offers in the run,
-    the number of events in the rest, and what is reached in the rest.
+    """The rests of runs by their states. A rest has the hash of all answers of the run, the number of offers in the
+    run, the number of events in the rest, and what is reached in the rest.
     """
 
     def __init__(self, most):
@@ -54,20 +54,20 @@ class Checks:
     def __init__(self, states, play, server, ends):
         self.states, self.play, self.server, self.ends = states, play, server, ends
         self.left, self.state = CHECKS, 0  # the state stands for all that the test was told
-        self.passed = []  # the states so far, each with the events up to there, and what is reached since the one before
+        self.passed = []  # the states so far, each with the events up to there, and what is reached since the last one
         play.checkpoint = self.check
 
     def check(self):
-        """The run is before an access or a request, and no deviation is left."""
+        """The run is before an access or a request, and no deviation is left. A state has all answers before that."""
         play = self.play
+        play.flush()
         if play.access_number and self.left <= CHECKS - NEAR or play.out:
             return
         self.left -= 1
         if not self.left:
             play.checkpoint = None
             play.look_ahead()
-        play.flush()
-        state = self.state, play.round, play.access_number, len(play.offered), self.server.ask(b"digest\n")
+        state = self.state, play.round, play.access_number, play.waits(), self.server.ask(b"digest\n")
         if self.ends and state in self.states.rests:
             raise Known(self.states.rests[state])
         self.passed.append((state, play.events(), play.reached))

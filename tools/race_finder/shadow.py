@@ -33,6 +33,7 @@ class Shadow:
         self.waiting = 0  # frames in the receive packet buffer
         self.taken = []  # the slots of the frames in the transmit packet buffer
         self.piece = None  # the slot of the piece in progress
+        self.piece_at, self.is_last = 0, False  # the address of its descriptor; whether the frame ends in it
         self.stopped = set()  # engines that a fault has stopped
         self.found = None  # what `enabled` returned, if nothing has changed since then
 
@@ -59,11 +60,31 @@ class Shadow:
     def name_of(self, address):
         """The name of an address in memory."""
         for letter, ring in (("R", "rx"), ("T", "tx")):
-            base = self.registers[f"{letter}DBAL"] | self.registers[f"{letter}DBAH"] << 32
+            base = self.base_of(letter)
             if 0 <= address - base < self.registers[f"{letter}DLEN"]:
                 slot, byte = divmod(address - base, DESCRIPTOR)
                 return f"{ring}[{slot}]" + (f"+{byte}" if byte else "")
         return f"{address:#x}"
+
+    def base_of(self, letter):
+        """The address of a ring."""
+        return self.registers[f"{letter}DBAL"] | self.registers[f"{letter}DBAH"] << 32
+
+    def size_of(self, letter):
+        """The number of descriptors of a ring, or 1."""
+        return max(1, self.registers[f"{letter}DLEN"] // DESCRIPTOR)
+
+    def left_of(self, letter):
+        """The number of descriptors of a ring that the driver offers to the adapter."""
+        return (self.registers[f"{letter}DT"] - self.registers[f"{letter}DH"]) % self.size_of(letter)
+
+    def is_dry(self):
+        """Whether the adapter has used all receive descriptors."""
+        return self.registers["RDH"] == self.registers["RDT"]
+
+    def is_full(self):
+        """Whether no transmit descriptor is free: one is never offered."""
+        return self.left_of("T") == self.size_of("T") - 1 > 0
 
     def write(self, register, value):
         """A register was written. Returns whether places in memory may have other names now."""
@@ -105,7 +126,7 @@ class Shadow:
     def advance(self, letter):
         """The head of a ring advances; returns the slot that it was at."""
         slot = self.registers[f"{letter}DH"]
-        self.registers[f"{letter}DH"] = (slot + 1) % max(1, self.registers[f"{letter}DLEN"] // DESCRIPTOR)
+        self.registers[f"{letter}DH"] = (slot + 1) % self.size_of(letter)
         return slot
 
     def step(self, kind, outcome):
@@ -119,7 +140,8 @@ class Shadow:
             self.stopped.add(kind[:2])
         elif outcome in ("part", "moved"):
             slot = self.piece = self.advance("R")
-            self.waiting -= outcome == "moved"
+            self.piece_at, self.is_last = self.base_of("R") + DESCRIPTOR * slot, outcome == "moved"
+            self.waiting -= self.is_last
         elif outcome == "done":
             slot, self.piece = self.piece, None
         elif outcome == "took":

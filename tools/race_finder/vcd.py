@@ -8,7 +8,7 @@ or the access that causes them.
 import re
 
 from race_finder.names import REGISTERS, access_of, number_in
-from race_finder.play import DEVIATION
+from race_finder.talk import DEVIATION
 from race_finder.reached import ALL
 from race_finder.schedule import HOLDS
 from race_finder.shadow import Shadow

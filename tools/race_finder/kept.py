@@ -1,0 +1,34 @@
+"""Frames on the wire and faults that a test isn't told about. It can request them later, by `frames` and `faults`."""
+
+import hashlib
+
+FRAMES, FAULTS = ["frames"], ["faults"]
+REQUESTS = FRAMES, FAULTS
+
+
+class Kept:
+    def __init__(self, frames=(), faults=()):
+        self.frames, self.faults = [*frames], [*faults]  # as they are in the answers
+
+    def copy(self):
+        return Kept(self.frames, self.faults)
+
+    def hear(self, line):
+        """Keeps the frame or the fault of a line, if it has one."""
+        word, _, rest = line.partition(b" ")
+        if word == b"frame":
+            self.frames.append(b" 0x" + rest)
+        elif word == b"fault":
+            self.faults.append(b" " + rest)
+
+    def fetch(self, request):
+        """The answer to a request, whose words these are. What it returns isn't kept any longer."""
+        some = self.frames if request == FRAMES else self.faults
+        answer = b"OK" + b"".join(some)
+        some.clear()
+        return answer
+
+    def digest(self):
+        """Stands for all that is kept."""
+        both = [*self.frames, b"/", *self.faults]
+        return hashlib.sha1(b"".join(both)).digest() if len(both) > 1 else b""
