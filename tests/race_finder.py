@@ -179,14 +179,14 @@ def explored(server):
     wanted = ("depth 0: 1 schedules, none fails, 1 different lists of answers\n"
               "depth 1: 8 schedules, none fails, 7 different lists of answers\n"  # before each access `rxdata` or `rx`
               "depth 2: 6 schedules, none fails, 9 different lists of answers\n"  # `rxdata` before one, and `rxdone` before a later one
-              "depth 3: 0 schedules, none fails, 9 different lists of answers\n"
-              "none of 15 schedules fails\n")
+              "depth 3: 0 schedules, so there are none with more deviations\n"
+              "all schedules of up to 3 deviations, without holds: none of 15 fails\n")
     status, out, errors = find(server, "--explore", "3", command=["sh", "small"])
     server.check("explored: a test that passes", (status, without_reached(out), errors), (PASSES, wanted, ""))
     status, out, errors = find(server, "--explore", "2", "--out", "found", command=["sh", "small", "fails"])
     begin = "".join(wanted.splitlines(True)[:2])
     server.check("explored: a test that fails", (status, out.startswith(begin), errors), (FOUND, True, ""))
-    server.check("explored: it is smallest", "\nsmallest: no schedule with fewer deviations fails\n" in out, True)
+    server.check("explored: it is smallest", "\nsmallest: no schedule with fewer deviations fails, apart from holds\n" in out, True)
     schedule = (server.get("found") or b"").decode()
     server.check("explored: its schedule", schedule, f"# sh small fails\n# exit status 1: finished too late\n{SMALLEST}")
 
@@ -196,7 +196,7 @@ def drawn(server):
     server.put("small", SMALL.encode())
     status, out, errors = find(server, "--runs", "200", command=["sh", "small", "fails"])
     server.check("drawn: it is found", (status, errors), (FOUND, ""))
-    wanted = "\n9 smaller schedules were tried, and pass\nsmallest: no schedule with fewer deviations fails\n"
+    wanted = "\n9 smaller schedules were tried, and pass\nsmallest: no schedule with fewer deviations fails, apart from holds\n"
     server.check("drawn: all smaller schedules were tried", wanted in out, True)
     log = [f"# {request}" for request in re.findall(r'ask "(.*?)"', SMALL)]
     log[4:] = [f"# arrive {FRAME}"[:110] + "..", log[5], "# step rxdata -> moved", *log[6:8], "# step rxdone -> done", log[8]]
@@ -328,7 +328,8 @@ def errors(server):
     wanted = (NOT_RUN, "", "races: ./none: No such file or directory\n")
     server.check("errors: a server that isn't there", find(server, "--server", "./none", command=["true"]), wanted)
     status, out, told = find(server, "--options", "--rxa 3", command=["true"])
-    server.check("errors: a server that ends", (status, out, told.splitlines()[-1:]), (NOT_RUN, "", ["races: the server has ended with exit status 2"]))
+    server.check("errors: options that the server refuses", (status, out, told.splitlines()[-2:]), (
+        USAGE, "", ["races: the server refuses these options: --rxa 3", more.strip()]))
     helped = subprocess.run([*FINDER, "--help"], capture_output=True, timeout=LIMIT)
     server.check("errors: the help", (helped.returncode, helped.stdout.startswith(b"Finds races"), helped.stderr), (PASSES, True, b""))
 

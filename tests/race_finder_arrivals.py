@@ -98,9 +98,10 @@ def searches(server):
     server.put("offered", OFFERED.encode())
     status, out, errors = find(server, "--explore", "2", command=["sh", "offered"])
     # Before the second offer, each of the accesses in round 2, and the settling, a frame arrives; after that, there or before each of those that are
-    # left, `arrive` (if the second frame is offered), `rxdata` or `rx`.
+    # left, `arrive` (if the second frame is offered), `rxdata` or `rx`. Of these, one before the second offer is the same as after it.
     counts = re.findall(r"^depth \d: (\d+) schedules, none fails", out, re.M)
-    server.check("arrivals: explored", (status, counts, errors), (PASSES, ["1", "5", "44"], ""))
+    same = re.findall(r"; (.*) the same as these$", out, re.M)
+    server.check("arrivals: explored", (status, counts, same, errors), (PASSES, ["1", "5", "43"], ["1 more is"], ""))
     for name, words in [("explored", ["--explore", "2"]), ("drawn", ["--runs", "100"]), ("drawn by PCT", ["--pct", "3", "--runs", "200"])]:
         status, out, errors = find(server, *words, "--out", "charts/", command=FAILS)
         found = (server.get("charts/schedule.txt") or b"").decode().splitlines()[2:]
@@ -135,7 +136,7 @@ def drivers(server):
     server.check("arrivals: forked runs", script(server, f"COMMAND = {[*STAGED, 'offers', 'late']!r}\n{SAME}"), (
         0, "True 15 False\nTrue 15 True\nTrue 15 True\nTrue 15 True\nTrue\n", ""))
     status, out, errors = find(server, "--explore", "1", command=[*STAGED, "arrives", "rxo"])
-    server.check("arrivals: by request, no schedule of depth 1 shows it", (status, "schedules fails" in without_reached(out), errors), (PASSES, True, ""))
+    server.check("arrivals: by request, no schedule of depth 1 shows it", (status, "without holds: none of " in without_reached(out), errors), (PASSES, True, ""))
     status, out, errors = find(server, "--runs", "30", command=[*STAGED, "arrives", "rxo"])
     server.check("arrivals: by request, no drawn schedule shows it", (status, "\nno run fails\n" in out, errors), (PASSES, True, ""))
     for name in RIGHT:

@@ -469,7 +469,7 @@ def files(server):
     server.check("files: a schedule alone", server.get("found"), schedule)
     for path in ("small/", "none/x", "found/"):
         status, _, errors = replay(server, "", "--out", path, command=["true"])
-        is_told = re.fullmatch(r"races: \S+: [A-Z][a-z ]+\n", errors) is not None
+        is_told = re.fullmatch(r"races: --out: \S+: [A-Z][a-z ]+\nFor more information, try '--help'.\n", errors) is not None
         server.check(f"files: {path} can't be written", (status, is_told), (USAGE, True))
     shutil.rmtree(server.path("charts"))
     server.check("files: fields and bits", script(server, FIELDS), (0, FIELDS_TOLD, ""))

@@ -162,11 +162,11 @@ def reached(server):
 
 
 def json_of(got):
-    """The exit status, the object on standard output except for what was reached, the same as lists, and the errors."""
+    """The exit status, the object on standard output except for what was searched and reached, what was reached as lists, and the errors."""
     status, out, errors = got
     result = json.loads(out)
     tables = [result[key] and [names for one, names in result[key].items() if one != "played"] for key in ("reached", "never")]
-    return status, {key: value for key, value in result.items() if key not in ("reached", "never")}, tables, errors
+    return status, {key: value for key, value in result.items() if key not in ("search", "reached", "never")}, tables, errors
 
 
 FAULT, FAILS = "exit status 1: finished too late", ["sh", "small", "fails"]
@@ -256,7 +256,8 @@ def shards(server):
     for shard, count in [("1/4", 2), ("2/4", 2), ("3/4", 1), ("4/4", 1), ("7/9", 0)]:
         status, out, errors = find(server, "--explore", "2", "--shard", shard, command=["sh", "small"])
         out = re.sub(r"(depth 2.*), \d+ different lists of answers", r"\1", without_reached(out))
-        wanted = f"{lower}depth 2: {count} of 6 schedules, none fails\nnone of {9 + count} schedules fails\n"
+        wanted = f"{lower}depth 2: {count} of 6 schedules, none fails\npart {shard} of all schedules of up to 2 deviations, without holds: " \
+                 f"none of {9 + count} fails\n"
         server.check(f"shards: {shard} of an exploration", (status, out, errors), (PASSES, wanted, ""))
     for shard, count in [("1/3", 4), ("2/3", 3), ("3/3", 3), ("11/11", 0)]:
         out = find(server, "--runs", "10", "--json", "--shard", shard, command=["true"])[1]
@@ -288,7 +289,8 @@ def parallel(server):
         ran = subprocess.run(here.replace("COMMAND", words), shell=True, cwd=server.folder, capture_output=True, timeout=LIMIT)
         out = ran.stdout.decode()
         wanted = 2 if status == PASSES else 0
-        server.check(f"parallel: {words}", (ran.returncode, out.count("\nnone of 12 schedules fails\n")), (status, wanted))
+        server.check(f"parallel: {words}", (ran.returncode, out.count(" of all schedules of up to 2 deviations, without holds: none of 12 fails\n")),
+                     (status, wanted))
         found = [server.get(f"found{part}/schedule.txt") for part in (1, 2) if os.path.exists(server.path(f"found{part}/schedule.txt"))]
         server.check(f"parallel: {words}, what is stored", any(text.decode().endswith(SMALLEST) for text in found), status == FOUND)
 

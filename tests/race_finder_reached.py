@@ -54,7 +54,7 @@ for command in COMMANDS:
     run = target.play()
     target.prepare(run)
     same = [*both(run, [], 60)]
-    for _, schedule in choose.sample([child for child in children(run, False) if child[1][0].place.round], 8):
+    for schedule in choose.sample([[one] for _, one, _ in children(run, False) if one.place.round], 8):
         same += both(target.play(schedule), schedule, 10)
     print(len(same) > 20, all(same))
     target.close()

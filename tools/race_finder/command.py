@@ -16,6 +16,8 @@ fails is made smaller, and printed with the end of the log and a chart.
                        fetching and the putting of frames to be sent, and the wire if COMMAND offers frames. Prints the
                        least probability with which a run finds a race of this depth
   --explore DEPTH      tries all schedules of up to DEPTH deviations instead
+  --from A, --to B     --explore tries only deviations at places from A to B, such as 4.6 or 10.0
+  --all                goes on after a run that fails, prints all that fail, and makes the first schedule smaller
   --shard K/N          only each Nth of these runs, or of the schedules with DEPTH deviations, from the Kth on
   --holds              also leaves out steps of the EEPROM and the PHY
   --smaller N          tries at most N schedules with fewer deviations than the one that fails (default 1000)
@@ -25,7 +27,7 @@ fails is made smaller, and printed with the end of the log and a chart.
   --replay FILE        plays one schedule
   --shrink FILE        plays one schedule, and if it fails, makes it smaller
   --reached            prints what the runs reached and what they never did, also if one fails
-  --json               prints one JSON object instead of the text
+  --json               prints one JSON object instead of the text, also of what was searched
   --any-access         --replay and --shrink don't compare the names of accesses
   --seconds N          the time for a run, in seconds (default 10)
   --apart              starts a process for each run. Otherwise a COMMAND python3 SCRIPT.py .. is loaded once, up to its
@@ -45,15 +47,15 @@ from contextlib import closing
 
 from race_finder.chart import chart, end_of
 from race_finder.draw import Pct, Uniform, actors_of, bound_of
-from race_finder.explore import Search, explore
+from race_finder.explore import WHOLE, Search, Window, explore, fails
 from race_finder.jobs import MOST_JOBS, in_order, processors
 from race_finder.play import Mismatch
 from race_finder.reached import lines_of, tables_of
 from race_finder.requests import kind_of
-from race_finder.schedule import HOLDS, TICKS, ScheduleError, by_name, parse, text_of
+from race_finder.schedule import HOLDS, TICKS, ScheduleError, by_name, parse, place_of, text_of
 from race_finder.server import ServerEnded
 from race_finder.shrink import Shrinker
-from race_finder.store import store
+from race_finder.store import check, store
 from race_finder.target import CannotRun, Target
 
 TOP = os.path.dirname(os.path.dirname(os.path.dirname(os.path.abspath(__file__))))
@@ -63,8 +65,11 @@ LOG_LINES, LONGEST_LINE = 30, 110
 DEEPEST = 100  # of --pct
 NUMBERS = {"runs": 1000, "seed": 1, "explore": None, "smaller": 1000, "seconds": 10, "jobs": processors(), "pct": None}
 TEXTS = {"server": os.path.join(TOP, ".build", "nicbench"), "options": None, "out": None, "replay": None, "shrink": None,
-         "shard": "1/1"}
-FLAGS = ("holds", "any-access", "by-name", "reached", "json", "apart", "no-digest")
+         "shard": "1/1", "from": None, "to": None}
+FLAGS = ("holds", "any-access", "by-name", "reached", "json", "apart", "no-digest", "all")
+OF_SEARCH = ("explore", "pct", "all")  # those that a given schedule doesn't go with
+# How a server ends that refuses its options
+REFUSED = "the server has ended with exit status 2"
 
 
 class UsageError(Exception):
@@ -81,26 +86,56 @@ def arguments_of(words):
         if not option.startswith("--") or name not in given:
             raise UsageError(f"unexpected argument {option!r}")
         if name in FLAGS:
+            if separator:
+                raise UsageError(f"{option} takes no value")
             given[name] = True
             continue
         if not separator:
             if not words or words[0] == "--":
                 raise UsageError(f"{option} has no value")
             value = words.pop(0)
+        if not value and name != "options":
+            raise UsageError(f"{option}: the value is empty")
         if name in NUMBERS and not (value.isascii() and value.isdigit() and len(value) < 10):
             raise UsageError(f"{option}: {value!r} isn't a number below 1,000,000,000")
         given[name] = int(value) if name in NUMBERS else value
+    if len(words) < 2:
+        raise UsageError("no COMMAND after '--'")
+    check_values(given)
+    return given, words[1:]
+
+
+def check_values(given):
+    """Checks values, and which options go together. Replaces the texts of the shard and the window."""
     if not 1 <= given["jobs"] <= MOST_JOBS:
         raise UsageError(f"--jobs: use a number from 1 to {MOST_JOBS}")
+    if not given["seconds"]:
+        raise UsageError("--seconds: use a number from 1 on")
     is_alone = given["explore"] is None and not given["holds"]
     if given["pct"] is not None and not (1 <= given["pct"] <= DEEPEST and is_alone):
         raise UsageError(f"--pct: use a depth from 1 to {DEEPEST}, without --explore and --holds")
     if given["replay"] and given["shrink"]:
         raise UsageError("use either --replay or --shrink")
+    for name in OF_SEARCH if given["replay"] or given["shrink"] else ():
+        if given[name] is not None and given[name] is not False:
+            raise UsageError(f"--{name}: use it without --replay and --shrink")
     given["shard"] = shard_of(given["shard"])
-    if len(words) < 2:
-        raise UsageError("no COMMAND after '--'")
-    return given, words[1:]
+    given["window"] = window_of(given["from"], given["to"])
+    if any(given["window"]) and given["explore"] is None:
+        raise UsageError("--from and --to: use them with --explore")
+
+
+def window_of(*texts):
+    """The places from the one with the first text to that with the second one."""
+    places = []
+    for name, text in zip(("from", "to"), texts):
+        try:
+            places.append(text and place_of(text))
+        except ScheduleError as error:
+            raise UsageError(f"--{name}: {error}") from None
+    if all(places) and places[1] < places[0]:
+        raise UsageError(f"--from: {places[0]} is after {places[1]}")
+    return Window(*places)
 
 
 def shard_of(text):
@@ -139,11 +174,19 @@ class Finder:
         self.is_given = given["replay"] or given["shrink"]  # whether a schedule is given
         self.result = {"result": "passes", "seed": None}  # what --json prints
         self.note("passes", None, [])
+        self.search = self.result["search"] = self.nothing_searched()
 
     def note(self, result, fault, schedule):
         """Keeps a result for --json."""
         lines = text_of(schedule, self.target.options).splitlines()
         self.result.update(result=result, fault=fault, schedule=lines)
+
+    def nothing_searched(self):
+        """For --json, what is to be searched, and that nothing was searched yet."""
+        search = {"answers": None, "complete": None, "tried": [], "same": 0, "smallest": None}
+        search.update({name: self.given[name] for name in ("holds", "from", "to")})
+        search["shard"] = "{}/{}".format(*self.given["shard"])
+        return {**search, "failed": []} if self.given["all"] else search
 
     def drawing(self, seed):
         """What draws the schedule of this seed."""
@@ -162,11 +205,11 @@ class Finder:
         return run if run.fault else None
 
     def draw(self):
-        """Draws schedules until one fails."""
+        """Draws schedules until one fails, or all."""
         failed = self.measure() if self.given["pct"] is not None else None
         if failed:
             return self.report(failed)
-        began, answers, line, run = time.monotonic(), set(), "", None
+        began, answers, line, found = time.monotonic(), set(), "", []
         first, step = self.given["shard"]
         seeds = range(self.given["seed"] + first - 1, self.given["seed"] + self.given["runs"], step)
         calls = ({"draw": self.drawing(seed), "has_places": False} for seed in seeds)
@@ -177,22 +220,60 @@ class Finder:
                 line = f"{number} runs, {rate:.0f} a second, {len(answers)} different lists of answers"
                 progress(line)
                 if run.fault:
-                    break
-        if run and run.fault:
-            self.say(f"{line}\nseed {seed}: {run.fault}")
-            self.result["seed"] = seed
-            return self.report(run)
+                    failed = failed or run
+                    found.append((seed, run.fault))
+                    if not self.given["all"]:
+                        break
+        self.search.update(answers=len(answers), complete=not failed or self.given["all"])
+        if failed:
+            self.say(line)
+            self.list_seeds(found, number)
+            return self.report(failed)
         self.say(f"{line}\nno run fails" if line else "no run fails")
         return PASSES
 
+    def list_seeds(self, found, count):
+        """Prints the seeds that fail, each with its fault."""
+        self.result["seed"] = found[0][0]
+        if self.given["all"]:
+            self.say(f"{len(found)} of {count} runs {fails(len(found))}")
+            self.search["failed"] = [{"seed": seed, "fault": fault} for seed, fault in found]
+        for seed, fault in found:
+            self.say(f"seed {seed}: {fault}")
+
     def explore(self):
-        search = explore(self.target, self.given["explore"], self.given["holds"], say=self.say, progress=progress,
-                         shard=self.given["shard"])
+        given = self.given
+        search = explore(self.target, given["explore"], given["holds"], self.say, progress, given["shard"],
+                         given["window"], self.note_failed if given["all"] else None)
+        self.note_tried(search)
+        self.search.update(answers=len(search.answers), complete=not search.is_over())
+        if not search.is_over():
+            failed = sum(search.failed)
+            self.say(f"{self.searched()}: {failed or 'none'} of {sum(search.counts)} {fails(failed)}")
         if search.found is None:
-            self.say(f"none of {sum(search.counts)} schedules fails")
             return PASSES
-        self.say(f"depth {len(search.found.met)}: schedule {search.counts[-1]} fails: {search.found.fault}")
+        self.say(f"depth {len(search.found.met)}: schedule {search.number} fails: {search.found.fault}")
         return self.report(search.found, is_smallest=True)
+
+    def note_tried(self, search):
+        """Keeps how many schedules a search has tried for --json."""
+        self.search.update(tried=search.counts, same=search.same)
+
+    def searched(self):
+        """All schedules that --explore tries, or the part of them."""
+        shard, window = self.given["shard"], self.given["window"]
+        part = "part {}/{} of ".format(*shard) if shard != WHOLE else ""
+        places = f"{window}, " if any(window) else ""
+        holds = "with holds" if self.given["holds"] else "without holds"
+        return f"{part}all schedules of up to {deviations(self.given['explore'])}, {places}{holds}"
+
+    def note_failed(self, run):
+        """Prints a schedule that fails on one line."""
+        schedule = self.shown(run)
+        self.say(f"{'; '.join(map(str, schedule)) or 'no deviation'}: {run.fault}")
+        if self.given["json"]:
+            lines = text_of(schedule, self.target.options).splitlines()
+            self.search["failed"].append({"schedule": lines, "fault": run.fault})
 
     def report(self, run, is_smallest=False):
         """Makes a schedule smaller, and prints what is left."""
@@ -203,17 +284,27 @@ class Finder:
                      " Does the test use a clock, threads or random numbers?")
             self.note("unrepeatable", run.fault, run.met)
             return FOUND
+        with_holds = self.given["holds"]
         if is_smallest or len(small.met) < 2:
             small, is_smallest = self.shrink(shrinker, small), True
         else:
-            small, is_smallest = self.smallest(shrinker, small)
+            with_holds |= any(deviation.action in HOLDS for deviation in small.met)
+            small, is_smallest = self.smallest(shrinker, small, with_holds)
         if not small.met:
             self.say("no race: the test fails by itself, without any deviation")
         elif is_smallest:
-            self.say("smallest: no schedule with fewer deviations fails")
+            self.say(f"smallest: {self.passing(len(small.met), with_holds)}")
+        self.search.update(smallest=is_smallest, holds=with_holds)
         self.note("fails", small.fault, self.shown(small))
         self.show(small)
         return FOUND
+
+    def passing(self, count, with_holds):
+        """Which schedules with fewer deviations than this number were searched, and pass."""
+        if count == 1:
+            return "no schedule with fewer deviations fails"  # only that without deviations has fewer
+        window = f" {self.given['window']}" if any(self.given["window"]) else ""
+        return f"no schedule with fewer deviations{window} fails" + ("" if with_holds else ", apart from holds")
 
     def shrink(self, shrinker, run):
         """The run of a schedule from which no deviation can be left out."""
@@ -223,16 +314,16 @@ class Finder:
             self.say(f"{deviations(len(run.met))} shrunk to {len(small.met)} by {self.target.runs - runs} runs")
         return small
 
-    def smallest(self, shrinker, run):
+    def smallest(self, shrinker, run, with_holds):
         """Looks for a schedule with few deviations. Returns its run, and whether none with fewer fails.
 
         Those with one deviation are tried first: this is less than it takes to shrink a long schedule.
         """
-        with_holds = self.given["holds"] or any(deviation.action in HOLDS for deviation in run.met)
         search = Search(self.target, with_holds, self.given["smaller"], progress, shrinker.seen)
         search.up_to(1, is_last=False)
         small = run if search.found else self.shrink(shrinker, run)
         search.up_to(len(small.met) - 1)
+        self.note_tried(search)
         tried = f"{sum(search.counts)} smaller schedules were tried"
         if not search.found:
             # One step more of the EEPROM or the PHY isn't searched.
@@ -323,8 +414,18 @@ class Finder:
         return FOUND if self.result["result"] != "passes" else PASSES
 
 
+def check_out(path):
+    """Before a search: checks that its result can be stored."""
+    try:
+        if path:
+            check(path)
+    except OSError as error:
+        raise UsageError(f"--out: {error.filename}: {error.strerror}") from None
+
+
 def call(words):
     given, command = arguments_of(words)
+    check_out(given["out"])
     options, schedule = given["options"] and given["options"].split(), []
     path = given["replay"] or given["shrink"]
     if path:
@@ -337,12 +438,22 @@ def call(words):
     is_forked = not (given["apart"] or given["replay"])
     target = Target(given["server"], command, options or (), given["seconds"], given["jobs"], is_forked, not given["no-digest"])
     with closing(target):
-        finder = Finder(given, target)
-        if given["replay"]:
-            return finder.end(finder.replay(schedule))
-        if given["shrink"]:
-            return finder.end(finder.shrink_given(schedule))
-        return finder.end(finder.draw() if given["explore"] is None else finder.explore())
+        try:
+            return run(Finder(given, target), schedule)
+        except ServerEnded as error:
+            if options and str(error) == REFUSED:
+                raise UsageError(f"the server refuses these options: {' '.join(options)}") from None
+            raise
+
+
+def run(finder, schedule):
+    """Does what is asked for, with the schedule that is given."""
+    given = finder.given
+    if given["replay"]:
+        return finder.end(finder.replay(schedule))
+    if given["shrink"]:
+        return finder.end(finder.shrink_given(schedule))
+    return finder.end(finder.draw() if given["explore"] is None else finder.explore())
 
 
 def main():

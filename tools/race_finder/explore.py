@@ -1,30 +1,65 @@
 """Searches all schedules up to a number of deviations."""
 
-from race_finder.jobs import first_to_fail
-from race_finder.schedule import HOLDS, PAIRS, Deviation, keys_of
+from array import array
+from collections import deque
+from contextlib import closing
+from itertools import islice
+from typing import NamedTuple, Optional
+
+from race_finder.jobs import in_order
+from race_finder.schedule import HOLDS, PAIRS, Deviation, Place, keys_of
 
 # Before one access, deviations of different actors can be exchanged; so they are tried in this order of actors.
 ACTORS = {"hold eeprom": 0, "hold phy": 1, "txtake": 2, "txput": 2, "tx": 2, "rxdata": 3, "rxdone": 3, "rx": 3,
           "arrive": 3}
+MANY = 40  # schedules that are worth a preparation
+WHOLE = (1, 1)  # the only shard
 
 
-def children(run, with_holds):
-    """Schedules with one deviation more than that of a run, which comes last. Each does something.
+class Window(NamedTuple):
+    """The places from the first one to the last one. None is no bound."""
+    first: Optional[Place] = None
+    last: Optional[Place] = None
 
-    Each is returned with the number of accesses from its first deviation to its last one.
+    def has(self, place):
+        return (self.first is None or self.first <= place) and (self.last is None or place <= self.last)
+
+    def __str__(self):
+        return f"from {self.first or 'the start'} to {self.last or 'the end'}"
+
+
+EVERYWHERE = Window()
+
+
+def children(run, with_holds, window=EVERYWHERE):
+    """The deviations that make schedules of a run's schedule, as their last one. Each does something.
+
+    Each is returned with the number of accesses from the first deviation to it, and whether the run is the same as with
+    this deviation at the next place.
     """
     last, first = (run.met[-1], run.met[0].place) if run.met else (None, None)
     begin = next((at for at, met in enumerate(run.places) if met.place == first), None)
     for at, met in enumerate(run.places):
-        if last and met.place < last.place:
+        if last and met.place < last.place or not window.has(met.place):
             continue
-        actions = [*met.enabled, *(pair for pair, steps in PAIRS.items() if steps[0] in met.enabled)]
-        if with_holds:
-            actions += [hold for hold in met.holds if hold in HOLDS]
-        for action in actions:
-            if last and met.place == last.place and not is_after(last.action, action):
-                continue
-            yield 0 if begin is None else at - begin, [*run.met, Deviation(met.place, action, met.name)]
+        same = same_as_next(run.places, at, with_holds, window)
+        for action in actions_at(met, with_holds):
+            if not last or met.place != last.place or is_after(last.action, action):
+                yield 0 if begin is None else at - begin, Deviation(met.place, action, met.name), action in same
+
+
+def actions_at(met, with_holds):
+    """What can be played at a place."""
+    pairs = (pair for pair, steps in PAIRS.items() if steps[0] in met.enabled)
+    return [*met.enabled, *pairs, *(hold for hold in met.holds if with_holds and hold in HOLDS)]
+
+
+def same_as_next(places, at, with_holds, window):
+    """The actions that lead to the same run if they are played at the next place, where they are tried, too."""
+    commuting, following = places[at].commuting, places[at + 1:at + 2]
+    if not (commuting and following and window.has(following[0].place)):
+        return ()
+    return [action for action in actions_at(following[0], with_holds) if action in commuting]
 
 
 def is_after(last, action):
@@ -32,63 +67,168 @@ def is_after(last, action):
     return ACTORS[last] <= ACTORS[action] and (last, action) not in PAIRS.values()
 
 
-MANY = 40  # schedules that are worth a preparation
+class Level:
+    """Schedules with the same number of deviations, in the order in which they are tried: by the number of accesses
+    from the first deviation to the last one.
+
+    There may be millions, so each takes 8 bytes: the number of its parent, which has one deviation less, and the number
+    of the last deviation. With `is_last`, longer schedules aren't tried, so one that is the same as another one is only
+    counted.
+    """
+
+    def __init__(self, is_last=False):
+        self.is_last, self.same = is_last, 0
+        self.parents, self.ends = [], {}  # a deviation has the same number in all schedules that end with it
+        self.parts = {}  # by distances: the parents, and twice the ends, and 1 more if it is the same as another one
+
+    def add(self, parent, found):
+        """Adds schedules with one deviation more than this parent, as `children` finds them."""
+        for distance, deviation, is_same in found:
+            self.same += is_same
+            if not (is_same and self.is_last):
+                self.append(distance, len(self.parents), deviation, is_same)
+        self.parents.append(parent)
+
+    def append(self, distance, parent, deviation, is_same):
+        if distance not in self.parts:
+            self.parts[distance] = array("I"), array("I")
+        parents, ends = self.parts[distance]
+        parents.append(parent)
+        ends.append(2 * self.ends.setdefault(deviation, len(self.ends)) + is_same)
+
+    def count(self, is_last):
+        """The number of schedules. If they are the last ones, without those that are the same as others."""
+        return sum(len(ends) for _, ends in self.parts.values()) - (self.same if is_last and not self.is_last else 0)
+
+    def schedules(self, is_last):
+        """These schedules, in their order."""
+        deviations = list(self.ends)
+        for distance in sorted(self.parts):
+            for parent, end in zip(*self.parts[distance]):
+                if not (is_last and end % 2):
+                    yield [*self.parents[parent], deviations[end // 2]]
+
+
+class Root:
+    """The schedule without deviations, as a level."""
+    same = 0
+
+    def count(self, _):
+        return 1
+
+    def schedules(self, _):
+        return iter([[]])
 
 
 class Search:
     """Tries all schedules by their number of deviations, up to the first one that fails, or until `most` were tried.
 
     Of those of one size, schedules with deviations close together are tried first: a race is a matter of few accesses.
+    With `on_fault`, goes on after one that fails, and calls this for each of them with its run. But if the empty one
+    fails, this is no race, and nothing else is tried.
     """
 
-    def __init__(self, target, with_holds=False, most=None, progress=lambda line: None, seen=None):
+    def __init__(self, target, with_holds=False, most=None, progress=lambda line: None, seen=None, window=EVERYWHERE,
+                 on_fault=None):
         self.target, self.with_holds, self.most, self.progress = target, with_holds, most, progress
-        self.seen = {} if seen is None else seen  # gets the runs that fail, or None, by the keys of their schedules
-        self.counts, self.answers, self.level = [], set(), [(0, [])]
-        self.found = None  # the run of the first schedule that fails
+        self.window, self.on_fault = window, on_fault
+        self.seen = seen  # if it is given, gets the runs that fail, or None, by the keys of their schedules
+        self.counts, self.answers, self.level = [], set(), Root()
+        self.same = 0  # of the last size: how many aren't tried, as each is the same as another one
+        self.failed = []  # for each size, the number of those that failed
+        self.found = self.number = None  # the run of the first schedule that fails, and its number in its size
         self.is_complete = True  # whether all schedules of the sizes in `counts` were tried, up to the one that fails
+
+    def is_over(self):
+        """Whether a schedule was found, and no other one is looked for."""
+        return self.found is not None and (self.on_fault is None or self.failed[0] > 0)
 
     def left(self):
         """How many schedules may still be tried."""
         return None if self.most is None else self.most - sum(self.counts)
 
-    def next_size(self, is_last):
-        """Tries all schedules of the next size. If it `is_last`, longer ones aren't tried later."""
-        tried, size, following = self.level[:self.left()], len(self.counts), []
-        self.is_complete = len(tried) == len(self.level)
+    def next_size(self, last=None, shard=WHOLE):
+        """Tries all schedules of the next size, or those of a shard.
+
+        Schedules that are longer than `last` aren't tried later; with None, they may be.
+        """
+        size, following = len(self.counts), Level(len(self.counts) + 1 == last)
+        is_last = size == last
+        wanted = range(shard[0] - 1, self.level.count(is_last), shard[1])
+        tried = wanted[:self.left()]
+        self.is_complete = tried == wanted
+        self.same = self.level.same if is_last else 0
         self.counts.append(0)
-        for schedule, run in first_to_fail(self.target, (schedule for _, schedule in tried), has_places=not is_last):
+        self.failed.append(0)
+        schedules = islice(self.level.schedules(is_last), tried.start, tried.stop, tried.step) if tried else ()
+        for schedule, run in self.played(schedules, has_places=not is_last):
             self.counts[-1] += 1
-            self.progress(f"depth {size}: {self.counts[-1]} of {len(self.level)} schedules")
+            self.progress(f"depth {size}: {self.counts[-1]} of {len(wanted)} schedules")
             self.answers.add(run.answers)
-            self.seen[keys_of(schedule)] = run if run.fault else None
-            if run.fault:
-                self.found = run
-            elif not is_last and len(run.met) == len(schedule):
-                following += children(run, self.with_holds)
-                if not schedule and len(following) >= MANY:
+            self.keep(schedule, run)
+            if not (is_last or self.is_over()) and len(run.met) == len(schedule):
+                following.add(tuple(run.met), children(run, self.with_holds, self.window))
+                if not schedule and following.count(following.is_last) >= MANY:
                     self.target.prepare(run)
-        self.level = sorted(following, key=lambda one: one[0])
+        self.level = following
+
+    def keep(self, schedule, run):
+        """Keeps what is needed of a run."""
+        if self.seen is not None:
+            self.seen[keys_of(schedule)] = run if run.fault else None
+        if run.fault:
+            self.failed[-1] += 1
+            if not self.found:
+                self.found, self.number = run, self.counts[-1]
+            if self.on_fault:
+                self.on_fault(run)
+
+    def played(self, schedules, has_places):
+        """Plays schedules in their order, each when its turn comes, until the search is over: yields a pair of each and
+        its run."""
+        begun = deque()
+
+        def calls():
+            for schedule in schedules:
+                begun.append(schedule)
+                yield {"schedule": schedule, "has_places": has_places}
+
+        with closing(in_order(self.target, calls(), self.target.jobs)) as runs:
+            for run in runs:
+                yield begun.popleft(), self.target.count(run)
+                if self.is_over():
+                    break
 
     def up_to(self, depth, is_last=True):
-        """Tries all schedules with up to this number of deviations."""
-        while len(self.counts) <= depth and not self.found and self.is_complete:
-            self.next_size(is_last and len(self.counts) == depth)
+        """Tries all schedules with up to this number of deviations. If `is_last`, longer ones aren't tried later."""
+        while len(self.counts) <= depth and not self.is_over() and self.is_complete:
+            self.next_size(depth if is_last else None)
 
 
-def explore(target, depth, with_holds=False, say=lambda line: None, progress=lambda line: None, shard=(1, 1)):
+def explore(target, depth, with_holds=False, say=lambda line: None, progress=lambda line: None, shard=WHOLE,
+            window=EVERYWHERE, on_fault=None):
     """Tries all schedules with up to `depth` deviations, and returns the search.
 
     With a shard (K, N), tries only each Nth of the schedules with `depth` deviations, from the Kth on.
     """
-    search = Search(target, with_holds, progress=progress)
+    search = Search(target, with_holds, progress=progress, window=window, on_fault=on_fault)
     for size in range(depth + 1):
-        all_of = ""
-        if size == depth and shard != (1, 1):
-            all_of, search.level = f" of {len(search.level)}", search.level[shard[0] - 1::shard[1]]
-        search.up_to(size, is_last=size == depth)
-        if search.found:
+        is_last = size == depth
+        count = search.level.count(is_last)
+        if not count:
+            search.counts.append(0)
+            say(f"depth {size}: 0 schedules, so there are none with more deviations")
             break
-        say(f"depth {size}: {search.counts[-1]}{all_of} schedules, none fails,"
-            f" {len(search.answers)} different lists of answers")
+        search.next_size(depth, shard if is_last else WHOLE)
+        if search.is_over():
+            break
+        all_of = f" of {count}" if is_last and shard != WHOLE else ""
+        same = f"; {search.same} more {'are' if search.same > 1 else 'is'} the same as these" if search.same else ""
+        say(f"depth {size}: {search.counts[-1]}{all_of} schedules, {search.failed[-1] or 'none'}"
+            f" {fails(search.failed[-1])}, {len(search.answers)} different lists of answers{same}")
     return search
+
+
+def fails(count):
+    """The verb for this number of schedules or runs."""
+    return "fail" if count > 1 else "fails"

@@ -79,13 +79,13 @@ def steps_of(action):
     return (action,) if action in ENGINES or action in TICKS else PAIRS.get(action, ())
 
 
-def place_of(word):
-    """The place in a word, or None for the first word of a deviation, which has none."""
+def place_of(word, others=()):
+    """The place in a word, or None for one of some other words."""
     found = PLACE.fullmatch(word)
     place = found and Place(int(found[1]), int(found[2]))
     if place == (0, 0):
         raise ScheduleError(f"{word!r} isn't a place: round 0 begins with the run, not with a request")
-    if not place and word not in {action.split()[0] for action in ACTIONS}:
+    if not place and word not in others:
         raise ScheduleError(f"{word!r} isn't a place: use ROUND.ACCESS, such as 4.6; or ROUND.0 for the request that"
                             " begins the round")
     return place
@@ -103,7 +103,7 @@ def check_place(place, name):
 def deviation_of(line):
     """The deviation in a line without comment. Raises ScheduleError with what is wrong."""
     words = line.split()
-    place = place_of(words[0])
+    place = place_of(words[0], {action.split()[0] for action in ACTIONS})
     words = words[place is not None:]
     end = words.index("before") if "before" in words else len(words)
     action, found = " ".join(words[:end]), BEFORE.fullmatch(" ".join(words[end + 1:]))

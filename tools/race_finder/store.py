@@ -1,5 +1,6 @@
 """Stores a run: its schedule, its log, and its charts."""
 
+import errno
 import os
 
 from race_finder.chart import chart
@@ -15,6 +16,25 @@ def log_of(run):
 def is_folder(path):
     """Whether a path names a folder: one that is there, or one that is to be made."""
     return path.endswith("/") or os.path.isdir(path)
+
+
+def check(path):
+    """Checks that something can be stored there, and makes nothing. Raises OSError."""
+    if os.path.exists(path) and not path.endswith("/"):
+        check_access(path)
+        return
+    folder = os.path.dirname(path) or "."
+    while path.endswith("/") and not os.path.lexists(folder):
+        folder = os.path.dirname(folder) or "."  # the ones after it are made
+    os.stat(folder)
+    if not os.path.isdir(folder):
+        raise OSError(errno.ENOTDIR, os.strerror(errno.ENOTDIR), folder)
+    check_access(folder)
+
+
+def check_access(path):
+    if not os.access(path, os.W_OK):
+        raise OSError(errno.EACCES, os.strerror(errno.EACCES), path)
 
 
 def texts_of(run, schedule):
