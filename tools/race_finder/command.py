@@ -35,18 +35,22 @@ fails is made smaller, and printed with the end of the log and a chart.
   --no-digest          --explore plays each run to its end, also from a state that it knows from an earlier run
 
 Exit status: 0 if no run fails, 1 if a run or the replay fails, 2 if an argument or the schedule is invalid, and 3 if COMMAND
-or the server couldn't be run.
+or the server couldn't be run, the output couldn't be written, or the finder itself fails. If a signal ends the search,
+128 and its number: 130 after Ctrl-C, 143 after SIGTERM. If nobody reads the output any more, 141.
 """
 
 import json
 import os
 import re
+import signal
 import sys
 import time
+import traceback
 from contextlib import closing
 
 from race_finder.chart import chart, end_of
 from race_finder.draw import Pct, Uniform, actors_of, bound_of
+from race_finder.ends import BY_SIGNAL, Ended, Unprinted, check_output, holding, listen, prepare_output, say, tell
 from race_finder.explore import WHOLE, Search, Window, explore, fails
 from race_finder.jobs import MOST_JOBS, in_order, processors
 from race_finder.play import Mismatch
@@ -60,7 +64,6 @@ from race_finder.target import CannotRun, Target
 
 TOP = os.path.dirname(os.path.dirname(os.path.dirname(os.path.abspath(__file__))))
 PASSES, FOUND, USAGE, NOT_RUN = range(4)
-INTERRUPTED = 130
 LOG_LINES, LONGEST_LINE = 30, 110
 DEEPEST = 100  # of --pct
 NUMBERS = {"runs": 1000, "seed": 1, "explore": None, "smaller": 1000, "seconds": 10, "jobs": processors(), "pct": None}
@@ -160,9 +163,10 @@ def lack_of(run, deviation):
 
 
 def progress(line):
-    """Shows a line on a terminal until the next line is printed."""
+    """Shows a line on a terminal until the next line is printed. Raises Unprinted if nobody reads the output any more."""
+    check_output()
     if sys.stderr.isatty():
-        print(f"\r{line}\033[K\r", end="", file=sys.stderr, flush=True)
+        tell(f"\r{line}\033[K\r", end="")
 
 
 class Finder:
@@ -170,7 +174,7 @@ class Finder:
 
     def __init__(self, given, target):
         self.given, self.target = given, target
-        self.say = (lambda *words, **options: None) if given["json"] else print
+        self.say = (lambda *words, **options: None) if given["json"] else say
         self.is_given = given["replay"] or given["shrink"]  # whether a schedule is given
         self.result = {"result": "passes", "seed": None}  # what --json prints
         self.note("passes", None, [])
@@ -357,7 +361,7 @@ class Finder:
             if self.given["out"]:
                 store(self.given["out"], run, text)
         except OSError as error:
-            print(f"races: {error.filename}: {error.strerror}", file=sys.stderr)
+            tell(f"races: {error.filename}: {error.strerror}")
             return False
         return True
 
@@ -366,9 +370,9 @@ class Finder:
         reached = self.target.reached
         if self.given["json"]:
             tables = tables_of(reached) if self.target.runs else (None, None)
-            print(json.dumps({**self.result, "runs": self.target.runs, **dict(zip(("reached", "never"), tables))}))
+            say(json.dumps({**self.result, "runs": self.target.runs, **dict(zip(("reached", "never"), tables))}))
         elif self.target.runs and (self.given["reached"] or status == PASSES and not self.is_given):
-            print(*lines_of(reached), sep="\n")
+            say(*lines_of(reached), sep="\n")
         return status
 
     def play(self, schedule):
@@ -436,8 +440,11 @@ def call(words):
             raise UsageError(f"{path}: {getattr(error, 'strerror', error)}") from None
         options = stored if options is None else options
     is_forked = not (given["apart"] or given["replay"])
-    target = Target(given["server"], command, options or (), given["seconds"], given["jobs"], is_forked, not given["no-digest"])
-    with closing(target):
+    server = given["server"]
+    if server == TEXTS["server"] and not os.path.exists(server):
+        raise CannotRun(f"{server}: No such file or directory; run ./nicbench --help to build it")
+    target = Target(server, command, options or (), given["seconds"], given["jobs"], is_forked, not given["no-digest"])
+    with closing(target), holding():
         try:
             return run(Finder(given, target), schedule)
         except ServerEnded as error:
@@ -456,20 +463,36 @@ def run(finder, schedule):
     return finder.end(finder.draw() if given["explore"] is None else finder.explore())
 
 
+def answer(words):
+    """Does what the arguments ask for. Returns the exit status."""
+    prepare_output()
+    if words == ["--help"]:
+        say(__doc__.strip())
+        return PASSES
+    if not words:
+        tell(__doc__.strip())
+        return USAGE
+    return call(words)
+
+
 def main():
-    if sys.argv[1:] in ([], ["--help"]):
-        print(__doc__.strip(), file=sys.stdout if sys.argv[1:] else sys.stderr)
-        return PASSES if sys.argv[1:] else USAGE
     try:
-        return call(sys.argv[1:])
+        listen()
+        with holding():
+            return answer(sys.argv[1:])
     except (UsageError, ScheduleError) as error:
-        print(f"races: {error}\nFor more information, try '--help'.", file=sys.stderr)
+        tell(f"races: {error}\nFor more information, try '--help'.")
         return USAGE
     except (CannotRun, ServerEnded) as error:
-        print(f"races: {error}", file=sys.stderr)
+        tell(f"races: {error}")
         return NOT_RUN
-    except KeyboardInterrupt:
-        return INTERRUPTED
-    except BrokenPipeError:
-        os.dup2(os.open(os.devnull, os.O_WRONLY), sys.stdout.fileno())  # nobody reads what is printed
-        return FOUND
+    except Unprinted as error:
+        if error.is_unread:
+            return BY_SIGNAL + signal.SIGPIPE
+        tell(f"races: {error}")
+        return NOT_RUN
+    except Ended as error:
+        return error.status
+    except Exception:
+        tell(traceback.format_exc(), end="")
+        return NOT_RUN

@@ -13,10 +13,10 @@ import time
 from contextlib import suppress
 from pickle import UnpicklingError
 
-from race_finder.host import DOUBT, HOST, MARK, MISMATCH, RAN, READY, RUN, WARM
+from race_finder.host import ASK, DOUBT, HOST, LATE, MARK, MISMATCH, RAN, READY, RUN, WARM
 from race_finder.messages import SIZE, receive, send
 from race_finder.play import Mismatch
-from race_finder.run import unpacked
+from race_finder.run import late, unpacked
 from race_finder.schedule import Place
 
 TOOLS = os.path.dirname(os.path.dirname(os.path.abspath(__file__)))
@@ -25,7 +25,10 @@ FLAGS = re.compile(r"-[bBEIOPqsSu]+")
 FIRST, ROUND_1 = Place(0, 0), Place(1, 0)
 SPACING, MOST_HOSTS = 16, 40  # the least number of accesses from one host to the next; hosts after round 1
 MOST_SERVERS = 256  # of all hosts
+MOST_MEMORY = 512 << 20  # bytes of all servers: there are no more hosts than this allows
+OTHER_MEMORY = 512 << 10  # bytes of a server besides its memory and the saved one
 END = 5  # seconds until a host that hasn't ended by itself is killed
+GRACE = 5  # seconds more than a run has: until a child must have told what its run showed, after it was asked
 BEGIN = """
 import sys
 before, sys.dont_write_bytecode = sys.dont_write_bytecode, True
@@ -59,22 +62,24 @@ class Late(Lost):
 class Child:
     """A child that plays a run, and the socket from which its result is read."""
 
-    def __init__(self, file, end, wake):
-        self.file, self.end, self.wake, self.data = file, end, wake, b""
+    def __init__(self, file, seconds, wake):
+        self.file, self.seconds, self.wake, self.data = file, seconds, wake, b""
+        self.end = time.monotonic() + seconds
         try:
-            mark = self.take(len(MARK) + SIZE)
+            while len(self.data) < len(MARK) + SIZE:
+                self.read()
         except Late:
             raise Lost from None  # it is the host that does nothing
+        mark, self.data = self.data[:len(MARK) + SIZE], self.data[len(MARK) + SIZE:]
         if not mark.startswith(MARK):
             raise Lost
         self.number = int.from_bytes(mark[len(MARK):], "little")
 
-    def take(self, size):
-        """The next bytes that the child writes."""
-        while len(self.data) < size:
+    def message(self):
+        """The bytes of the result."""
+        while len(self.data) < SIZE or len(self.data) < SIZE + int.from_bytes(self.data[:SIZE], "little"):
             self.read()
-        taken, self.data = self.data[:size], self.data[size:]
-        return taken
+        return self.data[SIZE:]
 
     def read(self):
         ready = select.select([self.file, self.wake], [], [], max(0, self.end - time.monotonic()))[0]
@@ -87,12 +92,24 @@ class Child:
             raise Lost
         self.data += more
 
-    def result(self):
-        """The kind and the value of the result. Ends the child if it has none in time."""
+    def late_message(self):
+        """The bytes of the result of a child that is late: what its run showed so far."""
+        os.kill(self.number, ASK)
+        self.end = time.monotonic() + self.seconds + GRACE
+        return self.message()
+
+    def result(self, trusts_late):
+        """The kind and the value of the result. A child that has none in time is ended, or asked for it first."""
         is_ended = False
         try:
-            kind, value = marshal.loads(self.take(int.from_bytes(self.take(SIZE), "little")))
-            value, is_ended = unpacked(value) if kind == RAN else value, True
+            try:
+                message = self.message()
+            except Late:
+                if not trusts_late:
+                    raise
+                message = self.late_message()
+            kind, value = marshal.loads(message)
+            value, is_ended = unpacked(value) if kind in (RAN, LATE) else value, True
         except (ValueError, TypeError, EOFError, UnpicklingError):
             raise Lost from None  # the test has written there by other means
         finally:
@@ -102,42 +119,49 @@ class Child:
 
 
 def kill(number):
-    """Ends a child and the processes that it has started."""
+    """Ends a process that has a group of its own, and the processes that it has started."""
     try:
         os.killpg(number, signal.SIGKILL)
-    except ProcessLookupError:
-        pass
+    except (ProcessLookupError, PermissionError):
+        pass  # all of them have ended
 
 
 class Forks:
     """The hosts of a test: processes that wait before places of the run without deviations, and are forked there."""
 
-    def __init__(self, command, settings, seconds, jobs):
+    def __init__(self, command, settings, seconds, jobs, wake):
         self.command, self.settings, self.seconds = command, settings, seconds
+        self.wake = wake  # can be read while runs must end
         self.jobs, self.slots = jobs, queue.LifoQueue()  # numbers of servers that no run uses
         for slot in range(jobs):
             self.slots.put(slot)
         self.lost = set()  # servers whose runs were ended, each as a pair of a host and a slot
-        self.lock, self.process = threading.Lock(), None
+        self.lock, self.process, self.life = threading.Lock(), None, None
         self.hosts = []  # pairs of a place and a socket, the last place first
-        self.is_usable, self.is_warm = True, False
+        self.is_usable, self.is_warm, self.has_begun = True, False, False
+        # Whether children that are late are asked what their runs showed: after a process of its own has confirmed
+        # that the test may take too long (None before), as long as they answer.
+        self.trusts_late = None
 
     def start(self):
         """Starts the host before the first answer, and the one before round 1."""
         ours, theirs = socket.socketpair()
+        self.life, life = socket.socketpair()
         self.hosts.append((FIRST, ours))
         python, script = self.command
-        words, null = [*python, "-c", BEGIN, TOOLS, str(theirs.fileno()), *script], subprocess.DEVNULL
+        files, null = [theirs.fileno(), life.fileno()], subprocess.DEVNULL
+        words = [*python, "-c", BEGIN, TOOLS, *map(str, files), *script]
         try:
-            self.process = subprocess.Popen(words, stdin=null, stdout=null, stderr=null, pass_fds=[theirs.fileno()],
+            self.process = subprocess.Popen(words, stdin=null, stdout=null, stderr=null, pass_fds=files,
                                             start_new_session=True)
             send(ours.fileno(), self.settings)
         except OSError:
             self.is_usable = False  # a process of its own shows why
-        else:
-            self.add([ROUND_1])
         finally:
             theirs.close()
+            life.close()
+        if self.is_usable:
+            self.add([ROUND_1])
 
     def add(self, places):
         """Starts a host for each of these places that the run without deviations reaches."""
@@ -147,17 +171,22 @@ class Forks:
                 hosts.append((place, begin(parent, HOST, tuple(place))))
         except OSError:
             pass  # the parent has ended: so have these
-        self.hosts += [host for host in hosts if is_ready(host[1], self.seconds)]
+        self.hosts += [host for host in hosts if is_ready(host[1], self.seconds, self.wake)]
         self.hosts.sort(key=lambda host: host[0], reverse=True)
 
     def prepare(self, run):
         """Before many schedules are played: starts hosts all along the run without deviations."""
         places = [met.place for met in run.places if met.place.round]
-        count = max(1, min(MOST_HOSTS, MOST_SERVERS // self.jobs))
+        count = self.most_hosts()
         spacing = max(SPACING, -(-len(places) // (count + 1)))
         with self.lock:
             if self.is_usable and self.process and len(self.hosts) == 2:
                 self.add(places[spacing::spacing][:count])
+
+    def most_hosts(self):
+        """How many hosts there may be after round 1. Both hosts before, and the players, have servers, too."""
+        memory = 2 * self.settings[-1] + OTHER_MEMORY
+        return max(0, min(MOST_HOSTS, MOST_SERVERS // self.jobs, MOST_MEMORY // memory // self.jobs - 3))
 
     def host_of(self, schedule, draw):
         """The last host before the first deviation."""
@@ -165,7 +194,7 @@ class Forks:
             FIRST if draw and draw.draws_holds else ROUND_1
         return next(control for place, control in self.hosts if place <= first)
 
-    def play(self, schedule, draw, is_strict, has_places, has_rows, has_script, wake):
+    def play(self, schedule, draw, is_strict, has_places, has_rows, has_script):
         """A run, or None if only a process of its own can show it. Raises Mismatch or Stopped."""
         with self.lock:
             if self.is_usable and self.process is None:
@@ -175,7 +204,7 @@ class Forks:
         slot = self.slots.get()
         try:
             asked = has_places, has_rows or not self.is_warm, has_script
-            kind, value = self.result(slot, wake, schedule, draw, is_strict, *asked)
+            kind, value = self.result(slot, schedule, draw, is_strict, *asked)
         except Late:
             return None
         except (Lost, OSError):
@@ -185,6 +214,8 @@ class Forks:
             self.slots.put(slot)
         if kind == MISMATCH:
             raise Mismatch(value)
+        if kind == LATE:
+            value.fault = late(self.seconds)
         if kind == RAN and not self.is_warm:
             self.warm(value)
         if kind == DOUBT:
@@ -192,7 +223,7 @@ class Forks:
             return None
         return value
 
-    def result(self, slot, wake, schedule, draw, *words):
+    def result(self, slot, schedule, draw, *words):
         """The kind and the value of the result of a run that uses the server in this slot."""
         host, is_ended = self.host_of(schedule, draw), False
         message = [deviation.words() for deviation in schedule], draw and draw.words(), *words
@@ -200,11 +231,16 @@ class Forks:
             control = begin(host, RUN, message, slot, (host, slot) in self.lost)
             self.lost.discard((host, slot))
         try:
-            result = Child(control.fileno(), time.monotonic() + self.seconds, wake).result()
+            child = Child(control.fileno(), self.seconds, self.wake)
+            self.has_begun = True
+            result = child.result(self.trusts_late)
             is_ended = True
             return result
+        except Late:
+            self.trusts_late = False if self.trusts_late else None
+            raise
         finally:
-            control.close()
+            control.close()  # a child that has no result yet ends
             if not is_ended:
                 self.lost.add((host, slot))
 
@@ -221,11 +257,12 @@ class Forks:
         for _, control in self.hosts:
             control.close()
         if self.process:
-            try:
-                self.process.wait(END)
-            except subprocess.TimeoutExpired:
-                kill(self.process.pid)
-                self.process.wait()
+            with suppress(subprocess.TimeoutExpired):
+                self.process.wait(END if self.has_begun else 0)  # without a run, the test may never have read an answer
+            kill(self.process.pid)
+            self.process.wait()
+        if self.life:
+            self.life.close()
 
 
 def begin(host, kind, message, slot=0, is_lost=False):
@@ -241,11 +278,11 @@ def begin(host, kind, message, slot=0, is_lost=False):
     return ours
 
 
-def is_ready(control, seconds):
+def is_ready(control, seconds, wake):
     """Waits until a host has reached its place. Ends it if it doesn't."""
     number, end = None, time.monotonic() + seconds
     try:
-        while select.select([control], [], [], max(0, end - time.monotonic()))[0]:
+        while select.select([control, wake], [], [], max(0, end - time.monotonic()))[0] == [control]:
             message = receive(control.fileno())
             if message == READY:
                 return True

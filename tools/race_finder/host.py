@@ -3,7 +3,8 @@
 `forks.py` starts `main` in the interpreter of the test. The test runs until it reads its first answer. Then this
 process is forked for each run. In the child, the test goes on: its standard streams lead to `Play` in the same process,
 which asks a server. Other hosts are children that go on until a later place of the run without deviations, and are forked
-there. A host has some servers in the state at its place, which are restored for each run (`Servers`).
+there. A host has some servers in the state at its place, which are restored for each run (`Servers`). A child ends when
+the finder closes the socket for its result (`end_with`), also if the finder is killed.
 
 A test isn't forked if its runs could differ from those of a process of its own: if it starts processes, opens files for
 writing, or uses its standard streams from other threads, or by other means than `sys.stdin` and `sys.stdout`. Then the
@@ -16,6 +17,7 @@ import fcntl
 import gc
 import io
 import os
+import signal
 import socket
 import sys
 import termios
@@ -37,7 +39,8 @@ MARK = b"\0race"
 HEAD, WITH_SOCKET = 3, socket.CMSG_SPACE(4)
 RUN, HOST, WARM = range(3)
 # The kinds of results
-RAN, MISMATCH, DOUBT = "ran", "mismatch", "doubt"
+RAN, MISMATCH, DOUBT, LATE = "ran", "mismatch", "doubt", "late"
+ASK = signal.SIGXCPU  # asks a child that is late for what its run showed so far
 READY = "ready"  # a host has reached its place
 # The most bytes of requests and answers that a test hasn't read. With more, it could wait for its pipes for ever.
 MOST_UNREAD = 60_000
@@ -95,7 +98,8 @@ class Host:
         self.asked = ()  # whether places, rows and the script of the run are wanted
         self.shared = 0  # how much of the script is that of the run without deviations
         self.requests = self.unread = b""
-        self.is_doubtful = self.is_watched = False
+        self.is_doubtful = self.is_late = False
+        self.is_watched = False  # whether the code of the test runs
         self.number, self.thread = None, get_ident()
         self.servers = Servers(settings)
 
@@ -130,6 +134,8 @@ class Host:
         if not self.unread or get_ident() != self.thread:
             self.doubt()  # without an answer, a process of its own waits for ever
         self.is_watched = True
+        if self.is_late:
+            self.end_late()
         data = self.unread
         self.unread = data[most:]
         return data[:most]
@@ -197,6 +203,7 @@ class Host:
 
     def become_run(self, result, begun, slot, schedule, drawing, is_strict, *asked):
         self.result, self.asked = result, asked
+        end_with(result)
         os.write(result, MARK + self.number.to_bytes(SIZE, "little"))
         os.dup2(result, 1)
         self.renew()
@@ -210,6 +217,7 @@ class Host:
         self.control = socket.socket(fileno=control)
         self.servers.leave()
         self.renew()
+        end_with(control)
         send(control, self.number)
         self.begin(self.servers.new(begun), (), None, False)
         self.play.stop, self.play.at_stop, self.play.begun = place, self.at_stop, [*begun]
@@ -224,6 +232,7 @@ class Host:
         self.check_host()
         self.servers.keep(self.play.server)
         self.play.digest()  # or each run would do this
+        end_with(self.control.fileno(), False)  # from now on, `serve` notices the end
         send(self.control.fileno(), READY)
         self.serve(self.play.begun)
 
@@ -241,7 +250,7 @@ class Host:
         tasks, files = (set(os.listdir(f"/proc/self/{folder}")) for folder in ("task", "fd"))
         is_used = self.was_read() or has_bytes(self.unwritten[0])
         if self.is_doubtful or len(tasks) > 1 or is_used or not self.has_few(files):
-            os._exit(1)
+            self.leave()
 
     def has_few(self, files):
         """Whether no more files are open than before the test ran, and in a child those of its server."""
@@ -256,13 +265,31 @@ class Host:
 
     def end(self, kind, value):
         """Ends this process with a result."""
-        if self.result is not None and os.getpid() == self.number:
-            try:
-                send(self.result, (kind, value))
-            except OSError:
-                pass  # nobody reads it
-            self.servers.leave_alone(self.play and self.play.server)
+        if self.result is None or os.getpid() != self.number:
+            os._exit(1)
+        end_with(self.result, False)
+        try:
+            send(self.result, (kind, value))
+        except OSError:
+            pass  # nobody reads it
+        self.servers.leave_alone(self.play and self.play.server)
+        self.leave()
+
+    def leave(self):
+        """Ends this process, and those that the test may have started."""
+        if self.is_doubtful:
+            os.killpg(0, signal.SIGKILL)
         os._exit(1)
+
+    def end_late(self, *_):
+        """Ends a run that is late with what it showed so far, as soon as the code of the test runs."""
+        self.is_late = True
+        if not self.is_watched:
+            return
+        self.is_watched = False
+        if self.is_doubtful or self.was_read():
+            self.doubt()
+        self.end(LATE, run_of(LATE, self.play, self.shared).reduced(*self.asked).packed())
 
     def finish(self, status):
         """Ends a run after the test has ended with this exit status."""
@@ -295,6 +322,17 @@ class Host:
         writes = event == "open" and self.result is not None and arguments[2] & WRITES and ".pyc." not in str(arguments[0])
         if self.is_watched and (event in DOUBTFUL or writes):
             self.is_doubtful = True
+
+
+def end_with(file, ends=True):
+    """Lets the kernel end the group of this process when the other end of a socket, which writes nothing, is closed."""
+    try:
+        if ends:
+            fcntl.fcntl(file, fcntl.F_SETOWN, -os.getpid())
+            fcntl.fcntl(file, fcntl.F_SETSIG, signal.SIGKILL)
+        fcntl.fcntl(file, fcntl.F_SETFL, os.O_ASYNC if ends else 0)
+    except OSError:
+        pass  # this system can't do it
 
 
 def reap(children, options):
@@ -352,14 +390,17 @@ def status_of(code):
     return 1
 
 
-def main(control, script, *arguments):
+def main(control, life, script, *arguments):
     control = socket.socket(fileno=int(control))
     control.set_inheritable(False)
+    os.set_inheritable(int(life), False)
+    end_with(int(life))  # or the finder's end wouldn't be noticed while the test runs
     sys.argv = [script, *arguments]
     if sys.path[:1] == [""]:
         sys.path[0] = os.path.dirname(os.path.realpath(script))
     host = Host(control, receive(control.fileno()))
     host.open_streams()
+    signal.signal(ASK, host.end_late)
     host.files = len(os.listdir("/proc/self/fd"))
     sys.addaudithook(host.audit)
     host.is_watched = True

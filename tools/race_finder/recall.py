@@ -176,17 +176,20 @@ class Recall:
 
     def play(self, schedule, has_places):
         """The run of a schedule, or None if a process of the test is needed."""
-        control = self.free.get()
+        control, found = self.free.get(), None
         try:
+            if control is None:
+                return None  # no player is free, as one didn't answer
             scripts, self.scripts[control] = self.scripts[control], []
             rests, self.rests[control] = self.rests[control], []
             send(control.fileno(), (scripts, rests, [deviation.words() for deviation in schedule], has_places))
             is_ready = select.select([control], [], [], self.seconds)[0]
             found = is_ready and receive(control.fileno())
         except OSError:
-            found = None
+            pass
         finally:
-            self.free.put(control)
+            # A player that didn't answer isn't used again: its next answer would be that for this schedule.
+            self.free.put(control if found else None)
         if not found:
             self.is_usable = False  # a process of the test shows what it is
             return None

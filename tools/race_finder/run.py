@@ -43,6 +43,11 @@ def run_of(fault, play, shared=0):
     return run
 
 
+def late(seconds):
+    """The fault of a run that doesn't end in time."""
+    return f"no end within {seconds:g} seconds"
+
+
 def unpacked(value):
     return pickle.loads(value) if isinstance(value, bytes) else Run(*value)
 
@@ -52,5 +57,13 @@ def fault_of(status, errors):
     if status == 0:
         return None
     lines = errors.decode(errors="replace").strip().splitlines()
-    kind = f"exit status {status}" if status > 0 else f"ended by {signal.Signals(-status).name}"
+    kind = f"exit status {status}" if status > 0 else f"ended by {signal_of(-status)}"
     return f"{kind}: {lines[-1]}" if lines else kind
+
+
+def signal_of(number):
+    """The name of a signal. Most real-time signals have none."""
+    try:
+        return signal.Signals(number).name
+    except ValueError:
+        return f"signal {number}"

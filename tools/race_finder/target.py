@@ -2,16 +2,15 @@
 
 import os
 import select
-import signal
 import subprocess
 import tempfile
 import time
 
-from race_finder.forks import Forks, Stopped, script_of
+from race_finder.forks import Forks, Stopped, kill, script_of
 from race_finder.names import DEFAULT_MEMORY, DEFAULT_REGISTERS, number_of
 from race_finder.play import Play
 from race_finder.recall import Recall
-from race_finder.run import fault_of, run_of
+from race_finder.run import fault_of, late, run_of
 from race_finder.server import Server
 from race_finder.workers import Workers
 
@@ -45,16 +44,18 @@ class Target:
         self.runs, self.reached = 0, 0  # of the runs that are counted
         self.wake = os.pipe()  # holds a byte while runs must end
         script = script_of(command) if is_forked else None
-        self.forks = Forks(script, (server, self.options, *addresses_of(self.options)), seconds, jobs) if script else None
+        settings = server, self.options, *addresses_of(self.options)
+        self.forks = Forks(script, settings, seconds, jobs, self.wake[0]) if script else None
         self.workers = self.recall = None
 
     def start(self):
         """Before several runs at once, and before there are threads: starts workers if runs aren't forked."""
-        if self.jobs > 1 and not self.workers and not (self.forks and self.forks.is_usable):
-            self.workers = Workers(self.play_reduced, self.jobs)
+        if not self.workers and not (self.forks and self.forks.is_usable):
+            self.workers = Workers(self.play_reduced, self.jobs, self.wake[1])
 
     def close(self):
-        """Ends what was started for the runs."""
+        """Ends what was started for the runs, and those that are still in progress after a signal."""
+        self.stop()
         for runs in filter(None, (self.workers, self.recall, self.forks)):  # workers have files of the others, too
             runs.end()
 
@@ -98,9 +99,16 @@ class Target:
                 run = self.workers.play(schedule, draw, is_strict, has_places)
             else:
                 run = self.play_apart(schedule, draw, is_strict)
-            if self.forks and run.fault != self.late():
-                self.forks.is_usable = False  # it had no result in time
+            if self.forks:
+                self.confirm(run)
         return run
+
+    def confirm(self, run):
+        """After a forked run had no result: a process of its own had none in time either, or forks can't be used."""
+        if run.fault == late(self.seconds):
+            self.forks.trusts_late = self.forks.trusts_late is not False
+        else:
+            self.forks.is_usable = False
 
     def recalls(self, schedule, draw, is_strict, has_rows):
         """Whether a run may be played without the test, by what earlier runs have shown."""
@@ -111,18 +119,14 @@ class Target:
     def play_forked(self, schedule, draw, is_strict, has_places, has_rows):
         """A forked run, or None. If it fails, the same is played again and recorded."""
         has_script = not draw and (not schedule or self.recalls(schedule, draw, is_strict, has_rows))
-        run = self.forks.play(schedule, draw, is_strict, has_places, has_rows, has_script, self.wake[0])
+        run = self.forks.play(schedule, draw, is_strict, has_places, has_rows, has_script)
         if run and run.fault and not run.rows:
             same = schedule if draw is None else run.met
-            again = self.forks.play(same, None, False, True, True, False, self.wake[0])
+            again = self.forks.play(same, None, False, True, True, False)
             return again if again and again.fault == run.fault else run
         if run and run.script and not run.fault and self.recall:
             self.recall.learn(run.script)
         return run
-
-    def late(self):
-        """The fault of a run that doesn't end in time."""
-        return f"no end within {self.seconds:g} seconds"
 
     def play_reduced(self, schedule, draw, is_strict, has_places):
         return self.play_apart(schedule, draw, is_strict).reduced(has_places, has_rows=False)
@@ -145,16 +149,15 @@ class Target:
                                     bufsize=0, start_new_session=True)
         except OSError as error:
             raise CannotRun(f"{self.command[0]}: {error.strerror}") from None
-        end, is_late = time.monotonic() + self.seconds, True
+        end = time.monotonic() + self.seconds
         try:
             serve(test, play, end, self.wake[0])
             test.stdin.close()
             status = test.wait(max(0, end - time.monotonic()))
-            is_late = False
         except (TooLong, subprocess.TimeoutExpired):
-            return self.late()
+            return late(self.seconds)
         finally:
-            stop(test, is_late)
+            stop(test)
         errors.seek(0)
         return fault_of(status, errors.read())
 
@@ -194,13 +197,9 @@ def write(sink, data, end, wake):
     return True
 
 
-def stop(test, is_late):
-    """Ends a test that still runs, or whose children keep its streams open."""
-    if is_late:
-        try:
-            os.killpg(test.pid, signal.SIGKILL)
-        except ProcessLookupError:
-            pass
-        test.wait()
+def stop(test):
+    """Ends a test and the processes that it has started."""
+    kill(test.pid)
+    test.wait()
     for stream in (test.stdin, test.stdout):
         stream.close()

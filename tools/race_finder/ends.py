@@ -1,0 +1,113 @@
+"""How the finder ends: by a signal, or because its output can't be written."""
+
+import os
+import select
+import signal
+import sys
+import time
+from contextlib import contextmanager, suppress
+
+SIGNALS = (signal.SIGINT, signal.SIGTERM, signal.SIGHUP)
+BY_SIGNAL = 128  # and the number of the signal: an exit status
+PATIENCE = 1  # seconds: a signal that comes later than this after the first one ends the finder at once
+
+
+class Ended(BaseException):
+    """A signal ends the search."""
+
+    def __init__(self, number):
+        super().__init__(number)
+        self.status = BY_SIGNAL + number
+
+
+class Unprinted(Exception):
+    """Standard output can't be written."""
+
+    def __init__(self, error):
+        super().__init__(f"standard output: {error.strerror}")
+        self.is_unread = isinstance(error, BrokenPipeError)
+
+
+# Signals
+
+def handle(handler):
+    """Lets these signals call this, except for those that are ignored, such as SIGHUP below `nohup`."""
+    for number in SIGNALS:
+        if signal.getsignal(number) != signal.SIG_IGN:
+            signal.signal(number, handler)
+
+
+def nothing(*_):
+    """Handles a signal that does nothing. Unlike one that is ignored, it isn't ignored by programs that are started."""
+
+
+def end(number, _):
+    hold()
+    raise Ended(number)
+
+
+def listen():
+    """From now on, the first of these signals raises Ended in the main thread."""
+    handle(end)
+
+
+def hold():
+    """From now on, these signals don't interrupt, as processes are being ended. After some time they end the finder."""
+    begun = time.monotonic()
+
+    def again(number, _):
+        if time.monotonic() - begun > PATIENCE:
+            os._exit(BY_SIGNAL + number)
+
+    handle(again)
+
+
+@contextmanager
+def holding():
+    """At its end, `hold`."""
+    try:
+        yield
+    finally:
+        hold()
+
+
+# Output
+
+def prepare_output():
+    """Prints what a stream can't show by its code. Without a standard error, messages are dropped."""
+    sys.stderr = sys.stderr or open(os.devnull, "w")
+    for stream in filter(None, (sys.stdout, sys.stderr)):
+        stream.reconfigure(errors="backslashreplace")
+    if sys.stdout is None:
+        raise Unprinted(OSError(0, "it is closed"))
+
+
+def say(*words, **options):
+    """Prints on standard output, at once. Raises Unprinted."""
+    try:
+        print(*words, **options, flush=True)
+    except OSError as error:
+        discard(sys.stdout)
+        raise Unprinted(error) from None
+
+
+def check_output():
+    """Raises Unprinted if standard output is a pipe that nobody reads any more: then a search needn't go on."""
+    poll = select.poll()
+    poll.register(sys.stdout, 0)
+    if any(events & select.POLLERR for _, events in poll.poll(0)):
+        raise Unprinted(BrokenPipeError())
+
+
+def tell(text, end="\n"):
+    """Prints a message on standard error, if this is possible."""
+    try:
+        print(text, end=end, file=sys.stderr, flush=True)
+    except OSError:
+        discard(sys.stderr)
+
+
+def discard(stream):
+    """Drops what a stream still has, and what is printed later."""
+    with suppress(OSError):
+        os.dup2(os.open(os.devnull, os.O_WRONLY), stream.fileno())
