@@ -1,8 +1,6 @@
 -- An access or an arrival, the rounds after it, and its answer.
 use Rattle.std.proofs.Common.{◌≡◌, ◌++◌, ◌∙◌, ℕ, List, [], Bool, true, false, Option, ap, append_assoc, cond, refl, subst, sym}
-use Rattle.std.proofs.lemmas.List.{append-nil}
-use Rattle.std.specs.Prelude.{Err, IsErr, Ok, Result}
-use Rattle.std.specs.Io.KnownBytes.{Appends}
+use Rattle.std.specs.Prelude.{Result}
 use Rattle.bus.specs.Machines.{MachineState, after_event, is_asserted}
 use Rattle.adapter.specs.World.{World}
 use Rattle.bus.specs.Trails.{Occurs}
@@ -11,19 +9,21 @@ use Rattle.bus.specs.declared.event.Event.{Event}
 use Rattle.bus.specs.declared.event.Event.TheVariants.{Accesses, Arrives}
 use Rattle.rx_engine.specs.declared.arrival.Fate.{Fate}
 use Rattle.adapter_server.specs.Answers.{Accessed, PacedThen, TellsAnswer}
-use Rattle.adapter_server.specs.Devices.{Events, Happened, Prints, TellsEvents, told}
-use Rattle.adapter_server.specs.Happenings.{Logged}
-use Rattle.server_output.specs.Order.{Both, Says, Tells, TellsPart, WritesPart}
-use Rattle.adapter_server.specs.Sessions.{ComesBefore, OnDevice, Paced, TellsRounds, before_of, logged_text, reported}
-use Rattle.adapter_server.specs.Sessions.{target_of, write_to}
+use Rattle.served_device.specs.Devices.{Events, Happened, Prints, told}
+use Rattle.served_device.specs.Happenings.{Logged}
+use Rattle.server_output.specs.Order.{Both, Says, Tells, TellsPart}
+use Rattle.served_session.specs.Sessions.{ComesBefore, OnDevice, Paced, before_of, logged_text, reported}
+use Rattle.served_session.specs.Sessions.{target_of, write_to}
 use Rattle.server_output.specs.Texts.{Text, line_moved, said_log}
-use Rattle.adapter_server.specs.declared.device.Device.{Device}
-use Rattle.adapter_server.specs.declared.session.Place.{Place}
-use Rattle.adapter_server.specs.declared.session.Place.TheVariants.{Memory, Register}
-use Rattle.adapter_server.specs.declared.session.Session.{Session}
-use Rattle.server_output.proofs.PartsWritten.{part_so, part_then}
-use Rattle.adapter_server.proofs.Printing.{answers_then, kept_none, prints}
-use Rattle.adapter_server.proofs.Stopping.{events_none, events_of_before, events_one, events_then}
+use Rattle.served_device.specs.declared.device.Device.{Device}
+use Rattle.served_session.specs.declared.session.Place.{Place}
+use Rattle.served_session.specs.declared.session.Place.TheVariants.{Memory, Register}
+use Rattle.served_session.specs.declared.session.Session.{Session}
+use Rattle.server_output.proofs.PartsWritten.{part_then}
+use Rattle.adapter_server.proofs.Printing.{answers_then}
+use Rattle.served_device.proofs.Printing.{kept_none, prints}
+use Rattle.served_session.proofs.Playing.{events_of_before}
+use Rattle.served_device.proofs.Stopping.{events_one, events_then}
 use Rattle.server_output.proofs.Writing.{appends_then}
 
 abbrev no_text : Text
@@ -67,40 +67,6 @@ events_of_access access said a m text all =
     (events_then a.device all.middle.device m.device all.first all.rest
     (events_of_before (before_of access) (target_of access a) a all.middle all.first all.happens)
     (events_one (Logged (Accesses access) said) all.middle.device m.device all.rest all.goes_on.happens))
-
--- It was printed, and rounds after it were played.
-pub rounds_told : {T E : Type 0} (result : Result T E) (said : Text) (a b : Session) (before now after : Option (List ℕ))
-    → Appends before now (logged_text said a.device) → TellsEvents result now after (told a.device) (λ value. Paced (reported a) b)
-    → TellsRounds result before after said a b
-rounds_told (Ok value) said a b before now after written rounds = record {
-  text = logged_text said a.device ++ rounds.text;
-  holds = record {
-    first = logged_text said a.device;
-    rest = rounds.text;
-    happens = refl;
-    goes_on = rounds.holds;
-    text_is = refl;
-  };
-  written = appends_then before now after (logged_text said a.device) rounds.text written rounds.written;
-}
-rounds_told (Err error) said a b before now after written part =
-    part_then (λ (text : Text). text ≡ logged_text said a.device) (Happened (told a.device)) _ before now after
-    (λ first later same happened. record { first = first; rest = later; happens = same; goes_on = happened; text_is = refl })
-    (record { text = logged_text said a.device; holds = refl; written = written }) part
-
--- Its printing stopped.
-pub printing_stopped : {T E : Type 0} (result : Result T E) (said : Text) (a b : Session) (before after : Option (List ℕ)) → IsErr result
-    → WritesPart before after (logged_text said a.device) → TellsRounds result before after said a b
-printing_stopped (Ok value) said a b before after is part = absurd (cc)
-printing_stopped (Err error) said a b before after is part =
-    part_so (λ (text : Text). text ≡ logged_text said a.device) _ before after
-    (λ text same. record {
-      first = text;
-      rest = [];
-      happens = same;
-      goes_on = (told a.device, events_none (told a.device));
-      text_is = sym (append-nil text);
-    }) part
 
 -- An access or an arrival happened, rounds were played, and the answer was printed.
 pub rounds_answer : {T E : Type 0} (answer : Result T E) (a moved b : Session) (said line : Text) (Starts : Text → Type 0)

@@ -2,14 +2,16 @@
 use Rattle.std.proofs.Common.{◌++◌, ℕ, List, Option, refl}
 use Rattle.std.specs.Prelude.{Err, Ok, Result}
 use Rattle.adapter_server.specs.Answers.{Answered, SettlesAll, SettlesUntil, TellsAnswer}
-use Rattle.adapter_server.specs.Devices.{Settles, TellsEvents, most_rounds}
+use Rattle.served_device.specs.Devices.{Settles, TellsEvents, most_rounds}
 use Rattle.server_output.specs.Order.{Says, Tells}
-use Rattle.adapter_server.specs.Sessions.{AllArrive, OnDevice}
+use Rattle.served_session.specs.Sessions.{AllArrive, OnDevice}
 use Rattle.server_output.specs.Texts.{Text}
-use Rattle.adapter_server.specs.declared.device.Device.{Device}
-use Rattle.adapter_server.specs.declared.session.Session.{Session}
-use Rattle.adapter_server.proofs.Printing.{answers_then, joined, on_device}
-use Rattle.adapter_server.proofs.Stopping.{events_of_all, stopped_after}
+use Rattle.served_device.specs.declared.device.Device.{Device}
+use Rattle.served_session.specs.declared.session.Session.{Session}
+use Rattle.adapter_server.proofs.Printing.{answers_then, joined}
+use Rattle.served_session.proofs.Playing.{on_device}
+use Rattle.served_session.proofs.Playing.{events_of_all}
+use Rattle.served_device.proofs.Stopping.{stopped_after}
 
 -- All offered frames arrived, and rounds were played.
 pub settled_all : {E : Type 0} (result : Result ℕ E) (a middle : Session) (device : Device) (before now after : Option (List ℕ))

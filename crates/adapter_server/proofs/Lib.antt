@@ -1,12 +1,9 @@
 pub mod Accesses
 pub mod Clocks
-pub mod Places
 pub mod Printing
-pub mod PutFrames
 pub mod ReadRequests
-pub mod Rounds
+pub mod Requests
 pub mod ServedLines
 pub mod ServedParts
 pub mod Slices
-pub mod Stepping
 pub mod Stopping

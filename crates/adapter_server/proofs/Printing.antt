@@ -1,68 +1,15 @@
--- What is printed for an event and for its request.
-use Rattle.std.proofs.Common.{◌≡◌, ◌++◌, ℕ, Bool, true, false, List, [], Option, ap, cond, inr, refl, subst, sym, ◌∙◌}
-use Rattle.engine_faults.specs.declared.engine_fault.EngineFault.{EngineFault}
-use Rattle.std.proofs.lemmas.List.{append-nil}
+-- What is printed for a request.
+use Rattle.std.proofs.Common.{◌≡◌, ◌++◌, ℕ, List, [], Option, ap, inr, refl, subst, sym}
 use Rattle.std.specs.Prelude.{Err, Ok, OnOk, Result}
-use Rattle.bus.specs.Machines.{MachineState, after_event, is_asserted}
-use Rattle.bus.specs.Trails.{Occurs}
 use Rattle.adapter_server.specs.Answers.{Answered, Changes, OnSession, Reaches, Replies, TellsAnswer}
-use Rattle.adapter_server.specs.Devices.{Prints, TellsEvents, keeping, told}
-use Rattle.adapter_server.specs.Happenings.{Happening, event_of, faults_of, put_by, said_of, shown_of}
 use Rattle.server_output.specs.Order.{Joins, Says, Tells}
-use Rattle.adapter_server.specs.Sessions.{OnDevice}
-use Rattle.server_output.specs.Texts.{Text, line_moved, ok_line, said_log}
-use Rattle.adapter_server.specs.declared.device.Device.{Device}
-use Rattle.adapter_server.specs.declared.session.Session.{Session}
+use Rattle.server_output.specs.Texts.{Text, ok_line}
+use Rattle.served_device.specs.declared.device.Device.{Device}
+use Rattle.served_session.specs.declared.session.Session.{Session}
 use Rattle.adapter_server.specs.declared.snapshot.Server.{Server}
 use Rattle.server_output.proofs.PartsWritten.{part_so, part_then}
-use Rattle.adapter_server.proofs.Stopping.{answer_so, stopped_in}
-use Rattle.server_output.proofs.Writing.{appends_then, tells_so}
-
--- the text of what happens
-abbrev pub text_of : Happening → Device → MachineState → Text
-text_of one a machine =
-    said_log a.log (said_of one) ++ (shown_of a.events one ++ line_moved machine.reported (is_asserted machine.world.adapter))
-
--- the device after it, with the machine after it
-abbrev pub kept : Happening → Device → MachineState → Device
-kept one a machine = told (keeping (put_by one) (faults_of one) (record a { machine = machine }))
-
-same_kept : {T : Type 0} (events : Bool) (wait : List T) → cond events wait (wait ++ []) ≡ wait
-same_kept true wait = refl
-same_kept false wait = append-nil wait
-
--- Of an event that puts no frame and is no fault nothing is kept.
-pub kept_none : (a : Device) (machine : MachineState)
-    → told (keeping [] [] (record a { machine = machine })) ≡ told (record a { machine = machine })
-kept_none a machine =
-    ap (λ (put : List (List ℕ)). told (record a {
-      machine = machine;
-      put = put;
-      faults = cond a.events a.faults (a.faults ++ []);
-    })) (same_kept a.events a.put)
-    ∙ ap (λ (faults : List EngineFault). told (record a { machine = machine; faults = faults })) (same_kept a.events a.faults)
-
--- It happened, and this is its text.
-pub prints : (one : Happening) (a b : Device) (machine : MachineState) → Occurs (event_of one) a.machine.world
-    → machine ≡ after_event (event_of one) a.machine → b ≡ kept one a machine → Prints one a b (text_of one a machine)
-prints one a b machine occurs state tells = record {
-  occurs = occurs;
-  after = tells ∙ ap (kept one a) state;
-  text_is = rw (tells, state) refl;
-}
-
--- It happened and was printed.
-pub printed : {T E : Type 0} (result : Result T E) (one : Happening) (a b : Device) (machine : MachineState)
-    (before after : Option (List ℕ)) → Occurs (event_of one) a.machine.world → machine ≡ after_event (event_of one) a.machine
-    → b ≡ kept one a machine → Says result before after (text_of one a machine)
-    → TellsEvents result before after a (λ value. Prints one a b)
-printed (Ok value) one a b machine before after occurs state tells said = record {
-  text = text_of one a machine;
-  holds = prints one a b machine occurs state tells;
-  written = said;
-}
-printed (Err error) one a b machine before after occurs state tells said =
-    stopped_in one a b (text_of one a machine) before after (prints one a b machine occurs state tells) said
+use Rattle.adapter_server.proofs.Stopping.{answer_so}
+use Rattle.server_output.proofs.Writing.{appends_then}
 
 -- Something was told, and then the line of an answer.
 pub answers_then : {T E S : Type 0} (answer : Result T E) (a : Device) (Answers : S → Text → Type 0) (b : S) (P : Text → Type 0)
@@ -76,13 +23,6 @@ answers_then (Ok value) a Answers b P line before now after so tells said = reco
 answers_then (Err error) a Answers b P line before now after so tells said =
     part_then P (λ (text : Text). text ≡ line) (Reaches Answers a) before now after
     (λ first later holds same. inr (b, subst (λ (t : Text). Answers b (first ++ t)) (sym same) (so first holds))) tells said
-
--- Something happened to the device.
-pub on_device : (Happens : Device → Device → Text → Type 0) (a : Session) (device : Device) (before after : Option (List ℕ))
-    → Tells before after (Happens a.device device) → Tells before after (OnDevice Happens a (record a { device = device }))
-on_device Happens a device before after tells =
-    tells_so (Happens a.device device) (OnDevice Happens a (record a { device = device })) before after
-    (λ text happens. record { happens = happens; after = refl }) tells
 
 -- One thing happened, and then another.
 pub joined : {S : Type 0} (First Later : S → Text → Type 0) (middle : S) (before now after : Option (List ℕ))

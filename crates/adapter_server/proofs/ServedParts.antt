@@ -10,7 +10,7 @@ use Rattle.server_requests.specs.LinesRead.{BothKnown, IsLong, IsNextLine, IsWho
 use Rattle.adapter_server.specs.Serving.{AnswersNext, BeginsNext, ServesBegun, Turns}
 use Rattle.adapter_server.specs.Statuses.{ended_by}
 use Rattle.server_output.specs.Texts.{Text}
-use Rattle.adapter_server.specs.declared.device.Device.{Device}
+use Rattle.served_device.specs.declared.device.Device.{Device}
 use Rattle.server_output.specs.declared.answer_error.AnswerError.{AnswerError}
 use Rattle.server_requests.specs.declared.line_reader.NextLine.{NextLine}
 use Rattle.server_requests.specs.declared.line_reader.NextLine.TheVariants.{End, Whole, Long}
@@ -21,7 +21,8 @@ use Rattle.adapter_server.specs.declared.snapshot.Server.{Server}
 use Rattle.server_output.proofs.PartsWritten.{part_whole}
 use Rattle.server_requests.proofs.ReadingLines.{lines_some}
 use Rattle.adapter_server.proofs.ServedLines.{Served, ServesOn, long_turn, never_read, short_turn, tells_sent}
-use Rattle.adapter_server.proofs.Stopping.{events_none, part_reached}
+use Rattle.served_device.proofs.Stopping.{events_none}
+use Rattle.adapter_server.proofs.Stopping.{part_reached}
 use Rattle.server_output.proofs.Writing.{appends_then, tells_so}
 
 begins_nothing : (lines : List Text) (a : Server) → BeginsNext lines a []

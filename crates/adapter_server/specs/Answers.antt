@@ -13,27 +13,27 @@ use Rattle.adapter.specs.declared.step.StepKind.{StepKind}
 use Rattle.pci_function.specs.Ports.{after_write, answer_at}
 use Rattle.pci_function.specs.declared.port_width.PortWidth.{PortWidth}
 use Rattle.rx_engine.specs.declared.arrival.Fate.{Fate}
-use Rattle.adapter_server.specs.Devices.{Happened, Prints, Settles, Steps, most_rounds}
-use Rattle.adapter_server.specs.Happenings.{Logged}
+use Rattle.served_device.specs.Devices.{Happened, Prints, Settles, Steps, most_rounds}
+use Rattle.served_device.specs.Happenings.{Logged}
 use Rattle.server_output.specs.Order.{Both, Joins, Tells, TellsPart}
 use Rattle.server_requests.specs.Reading.{request_in}
-use Rattle.adapter_server.specs.Sessions.{AllArrive, ComesBefore, OnDevice, Paced, RoundBegins}
-use Rattle.adapter_server.specs.Sessions.{before_of, place_in, target_of, with_setting, write_to}
+use Rattle.served_session.specs.Sessions.{AllArrive, ComesBefore, OnDevice, Paced, RoundBegins}
+use Rattle.served_session.specs.Sessions.{before_of, place_in, target_of, with_setting, write_to}
 use Rattle.server_output.specs.Texts.{Text, decimal_line, fate_word, faults_line, frames_line, line_moved, number_line, ok_line}
 use Rattle.server_output.specs.Texts.{outcome_word, word_line}
 use Rattle.server_output.specs.ReadLines.{answer_line}
 use Rattle.server_requests.specs.Refusals.{refusal_line}
 use Rattle.server_requests.specs.Widths.{size_of}
 use Rattle.server_requests.specs.Words.{words_of}
-use Rattle.adapter_server.specs.declared.device.Device.{Device}
+use Rattle.served_device.specs.declared.device.Device.{Device}
 use Rattle.server_requests.specs.declared.refusal.Refusal.{Refusal}
 use Rattle.server_requests.specs.declared.refusal.Refusal.TheVariants as refusals
 use Rattle.server_requests.specs.declared.request.Request.{Request}
 use Rattle.server_requests.specs.declared.request.Request.TheVariants as requests
 use Rattle.server_requests.specs.declared.request.Wanted.{Wanted}
-use Rattle.adapter_server.specs.declared.session.Place.{Place}
-use Rattle.adapter_server.specs.declared.session.Place.TheVariants.{Register, Memory}
-use Rattle.adapter_server.specs.declared.session.Session.{Session}
+use Rattle.served_session.specs.declared.session.Place.{Place}
+use Rattle.served_session.specs.declared.session.Place.TheVariants.{Register, Memory}
+use Rattle.served_session.specs.declared.session.Session.{Session}
 use Rattle.adapter_server.specs.declared.snapshot.Server.{Server}
 
 -- Answers, whatever they are about.
@@ -188,30 +188,33 @@ abbrev pub Restores : (saved : Option Session) → Server → Server → Text �
 Restores (Some session) a b text = Replies (line_between a.session session ++ ok_line) (record a { session = session }) b text
 Restores None a b text = Refuses refusals.Saved a b text
 
+-- A request is answered by the adapter that is served. At `save` and `restore`, which the server answers, nothing happens.
+abbrev pub SessionDoes : Request → (said : Text) → Session → Session → Text → Type 0
+SessionDoes (requests.Read wanted address) said a b text = ReadsAt (place_in a address (size_of wanted)) wanted address said a b text
+SessionDoes (requests.Write address bytes) said a b text = WritesAt (place_in a address (length bytes)) address bytes said a b text
+SessionDoes (requests.ReadPort width port) said a b text = AnswersPort width port a b text
+SessionDoes (requests.WritePort width port value) said a b text = Changes (with_port_written width port value) a b text
+SessionDoes requests.Endianness said a b text = Replies (word_line (codes "little")) a b text
+SessionDoes (requests.Step kind) said a b text = AnswersStep kind a b text
+SessionDoes (requests.Arrive frame) said a b text = AnswersArrival frame said a b text
+SessionDoes requests.Settle said a b text = AnswersSettle a b text
+SessionDoes (requests.Set setting) said a b text = Changes (with_setting setting) a b text
+SessionDoes requests.Line said a b text = AnswersLevel a b text
+SessionDoes requests.Digest said a b text = AnswersDigest a b text
+SessionDoes (requests.ClockStep nanoseconds) said a b text = MovesClock (time_after a.clock nanoseconds) a b text
+SessionDoes (requests.ClockSet time) said a b text = MovesClock (Some (max a.clock time)) a b text
+SessionDoes requests.Intercept said a b text = Replies ok_line a b text
+SessionDoes requests.Frames said a b text = AnswersFrames a b text
+SessionDoes requests.Faults said a b text = AnswersFaults a b text
+SessionDoes (requests.Offer frame) said a b text = Changes (with_offered frame) a b text
+SessionDoes requests.Save said a b text = (b ≡ a) × (text ≡ [])
+SessionDoes requests.Restore said a b text = (b ≡ a) × (text ≡ [])
+
 -- A request is answered.
 abbrev pub Does : Request → (said : Text) → Server → Server → Text → Type 0
-Does (requests.Read wanted address) said a b text =
-    OnSession (ReadsAt (place_in a.session address (size_of wanted)) wanted address said) a b text
-Does (requests.Write address bytes) said a b text =
-    OnSession (WritesAt (place_in a.session address (length bytes)) address bytes said) a b text
-Does (requests.ReadPort width port) said a b text = OnSession (AnswersPort width port) a b text
-Does (requests.WritePort width port value) said a b text = OnSession (Changes (with_port_written width port value)) a b text
-Does requests.Endianness said a b text = Replies (word_line (codes "little")) a b text
-Does (requests.Step kind) said a b text = OnSession (AnswersStep kind) a b text
-Does (requests.Arrive frame) said a b text = OnSession (AnswersArrival frame said) a b text
-Does requests.Settle said a b text = OnSession AnswersSettle a b text
-Does (requests.Set setting) said a b text = OnSession (Changes (with_setting setting)) a b text
-Does requests.Line said a b text = OnSession AnswersLevel a b text
-Does requests.Digest said a b text = OnSession AnswersDigest a b text
-Does (requests.ClockStep nanoseconds) said a b text =
-    OnSession (MovesClock (time_after a.session.clock nanoseconds)) a b text
-Does (requests.ClockSet time) said a b text = OnSession (MovesClock (Some (max a.session.clock time))) a b text
-Does requests.Intercept said a b text = Replies ok_line a b text
-Does requests.Frames said a b text = OnSession AnswersFrames a b text
-Does requests.Faults said a b text = OnSession AnswersFaults a b text
-Does (requests.Offer frame) said a b text = OnSession (Changes (with_offered frame)) a b text
 Does requests.Save said a b text = Replies ok_line (record a { saved = Some a.session }) b text
 Does requests.Restore said a b text = Restores a.saved a b text
+Does request said a b text = OnSession (SessionDoes request said) a b text
 
 -- What comes before a request is played, and then the request is answered.
 abbrev pub Obeys : Request → (said : Text) → Server → Server → Text → Type 0

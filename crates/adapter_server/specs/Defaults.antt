@@ -2,7 +2,6 @@
 use Rattle.std.specs.Prelude.{ℕ, List, [], ◌∷◌, ◌^◌}
 use Rattle.eeprom.specs.Image.{image_with}
 use Rattle.mdic_phy.specs.declared.phy.Link.{Link}
-use Rattle.eeprom.specs.Image.{image_with}
 use Rattle.mdic_phy.specs.declared.phy.Link.TheVariants.{After}
 use Rattle.adapter_server.specs.declared.options.ServeOptions.{ServeOptions}
 

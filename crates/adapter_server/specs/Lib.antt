@@ -1,11 +1,5 @@
 pub mod Statuses
-pub mod Outcomes
-pub mod Kinds
-pub mod Moves
-pub mod Choices
-pub mod Happenings
 pub mod Defaults
-pub mod Devices
-pub mod Sessions
+pub mod NewSessions
 pub mod Answers
 pub mod Serving

@@ -3,7 +3,7 @@ use Rattle.std.specs.Prelude.{◌≡◌, ◌++◌, ℕ, List, [], ◌∷◌, Mat
 use Rattle.adapter_server.specs.Answers.{AnswersLine, Reaches, Refuses}
 use Rattle.server_requests.specs.Lines.{lines_of, most_line_bytes}
 use Rattle.server_output.specs.Order.{Begins, InOrder, Tells}
-use Rattle.adapter_server.specs.Sessions.{new_session}
+use Rattle.adapter_server.specs.NewSessions.{new_session}
 use Rattle.server_output.specs.Texts.{Text}
 use Rattle.server_requests.specs.declared.line_reader.NextLine.{NextLine}
 use Rattle.server_requests.specs.declared.line_reader.NextLine.TheVariants.{End, Whole, Long}

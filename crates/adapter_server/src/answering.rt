@@ -1,74 +1,115 @@
 // Answers to requests.
 
-use crate::device::MOST_ROUNDS;
-use crate::session::Session;
+ghost use Rattle.adapter_server.specs.Answers.{AnswersArrival, AnswersSettle, AnswersStep, SessionDoes, SettlesAll};
+ghost use Rattle.adapter_server.specs.Answers.{TellsAnswer};
+ghost use Rattle.served_device.specs.Devices.{TellsEvents};
+
+use crate::access::{read, write};
+use crate::small_answers::{
+    change, fetch_faults, fetch_frames, offer, read_port, say_digest, say_level, set_clock,
+    step_clock, write_port,
+};
 use crate::snapshot::Server;
 use adapter::StepKind;
+use served_device::MOST_ROUNDS;
+use served_session::Session;
 use server_output::{AnswerError, fate_word, outcome_word, refuse, say, say_number, say_word};
 use server_requests::{NextLine, Refusal, Request, Stop, read_line};
 use std::alloc::Global;
 use std::io::Write;
 
-impl Session {
-    ghost use Rattle.adapter_server.specs.Answers.{AnswersArrival, AnswersSettle, AnswersStep, SettlesAll, TellsAnswer};
-    ghost use Rattle.adapter_server.specs.Devices.{TellsEvents};
+/// `step`.
+fn take_step<W: Write>(
+    session: &mut Session,
+    alloc: Global,
+    out: &mut W,
+    kind: StepKind,
+) -> Result<(), AnswerError>
+    ensures { TellsAnswer result (W.contents out.old) (W.contents out.new) session.old.device
+        (AnswersStep kind session.old) session.new }
+{
+    let outcome = session.device.step(alloc, out, kind)?;
+    say_word(alloc, out, outcome_word(outcome))
+}
 
-    /// `step`.
-    fn take_step<W: Write>(
-        &mut self,
-        alloc: Global,
-        out: &mut W,
-        kind: StepKind,
-    ) -> Result<(), AnswerError>
-        ensures { TellsAnswer result (W.contents out.old) (W.contents out.new) self.old.device
-            (AnswersStep kind self.old) self.new }
-    {
-        let outcome = self.device.step(alloc, out, kind)?;
-        say_word(alloc, out, outcome_word(outcome))
-    }
+/// `arrive`.
+fn deliver<W: Write>(
+    session: &mut Session,
+    alloc: Global,
+    out: &mut W,
+    said: &[u8],
+    frame: &[u8],
+) -> Result<(), AnswerError>
+    ensures { TellsAnswer result (W.contents out.old) (W.contents out.new) session.old.device
+        (AnswersArrival frame.now said.now session.old) session.new }
+{
+    let fate = session.device.machine.arrive(frame);
+    session.finish(alloc, out, said)?;
+    say_word(alloc, out, fate_word(fate))
+}
 
-    /// `arrive`.
-    fn deliver<W: Write>(
-        &mut self,
-        alloc: Global,
-        out: &mut W,
-        said: &[u8],
-        frame: &[u8],
-    ) -> Result<(), AnswerError>
-        ensures { TellsAnswer result (W.contents out.old) (W.contents out.new) self.old.device
-            (AnswersArrival frame.now said.now self.old) self.new }
-    {
-        let fate = self.device.machine.arrive(frame);
-        self.finish(alloc, out, said)?;
-        say_word(alloc, out, fate_word(fate))
-    }
+/// Delivers all offered frames, and plays rounds until one does nothing. Returns the number of steps that did
+/// something.
+pub(crate) fn settle_all<W: Write>(
+    session: &mut Session,
+    alloc: Global,
+    out: &mut W,
+) -> Result<u64, AnswerError>
+    ensures { TellsEvents result (W.contents out.old) (W.contents out.new) session.old.device
+        (λ moved. SettlesAll moved session.old session.new) }
+{
+    session.deliver_all(alloc, out)?;
+    session.device.settle(alloc, out, MOST_ROUNDS)
+}
 
-    /// Delivers all offered frames, and plays rounds until one does nothing. Returns the number of steps that did
-    /// something.
-    pub(crate) fn settle_all<W: Write>(
-        &mut self,
-        alloc: Global,
-        out: &mut W,
-    ) -> Result<u64, AnswerError>
-        ensures { TellsEvents result (W.contents out.old) (W.contents out.new) self.old.device
-            (λ moved. SettlesAll moved self.old self.new) }
-    {
-        self.deliver_all(alloc, out)?;
-        self.device.settle(alloc, out, MOST_ROUNDS)
-    }
+/// `settle`.
+fn settle<W: Write>(session: &mut Session, alloc: Global, out: &mut W) -> Result<(), AnswerError>
+    ensures { TellsAnswer result (W.contents out.old) (W.contents out.new) session.old.device
+        (AnswersSettle session.old) session.new }
+{
+    let moved = settle_all(session, alloc, out)?;
+    say_number(alloc, out, moved)
+}
 
-    /// `settle`.
-    fn settle<W: Write>(&mut self, alloc: Global, out: &mut W) -> Result<(), AnswerError>
-        ensures { TellsAnswer result (W.contents out.old) (W.contents out.new) self.old.device
-            (AnswersSettle self.old) self.new }
-    {
-        let moved = self.settle_all(alloc, out)?;
-        say_number(alloc, out, moved)
+/// Answers a request to the adapter that is served. At `save` and `restore` it does nothing.
+fn answer_session<W: Write>(
+    session: &mut Session,
+    alloc: Global,
+    out: &mut W,
+    said: &[u8],
+    request: &Request,
+) -> Result<(), AnswerError>
+    ensures { TellsAnswer result (W.contents out.old) (W.contents out.new) session.old.device
+        (SessionDoes request.now said.now session.old) session.new }
+{
+    match request {
+        Request::Read(wanted, address) => read(session, alloc, out, said, *wanted, *address),
+        Request::Write(address, bytes) => {
+            write(session, alloc, out, said, *address, bytes.as_slice())
+        }
+        Request::ReadPort(width, port) => read_port(session, alloc, out, *width, *port),
+        Request::WritePort(width, port, value) => {
+            write_port(session, out, *width, *port, *value)
+        }
+        Request::Endianness => say_word(alloc, out, b"little"),
+        Request::Step(kind) => take_step(session, alloc, out, *kind),
+        Request::Arrive(frame) => deliver(session, alloc, out, said, frame.as_slice()),
+        Request::Settle => settle(session, alloc, out),
+        Request::Set(setting) => change(session, out, *setting),
+        Request::Line => say_level(session, alloc, out),
+        Request::Digest => say_digest(session, alloc, out),
+        Request::ClockStep(nanoseconds) => step_clock(session, alloc, out, *nanoseconds),
+        Request::ClockSet(time) => set_clock(session, alloc, out, *time),
+        Request::Intercept => say(out, b"OK\n"),
+        Request::Frames => fetch_frames(session, alloc, out),
+        Request::Faults => fetch_faults(session, alloc, out),
+        Request::Offer(frame) => offer(session, alloc, out, frame.as_slice()),
+        Request::Save | Request::Restore => Ok(()),
     }
 }
 
 impl Server {
-    ghost use Rattle.adapter_server.specs.Answers.{AnswersLine, Does, Obeys, TellsAnswer};
+    ghost use Rattle.adapter_server.specs.Answers.{AnswersLine, Does, Obeys};
     ghost use Rattle.adapter_server.specs.Serving.{AnswersNext};
 
     /// Answers a request.
@@ -82,31 +123,10 @@ impl Server {
         ensures { TellsAnswer result (W.contents out.old) (W.contents out.new) self.old.session.device
             (Does request.now said.now self.old) self.new }
     {
-        let session = &mut self.session;
         match request {
-            Request::Read(wanted, address) => session.read(alloc, out, said, *wanted, *address),
-            Request::Write(address, bytes) => {
-                session.write(alloc, out, said, *address, bytes.as_slice())
-            }
-            Request::ReadPort(width, port) => session.read_port(alloc, out, *width, *port),
-            Request::WritePort(width, port, value) => session.write_port(
-                out, *width, *port, *value,
-            ),
-            Request::Endianness => say_word(alloc, out, b"little"),
-            Request::Step(kind) => session.take_step(alloc, out, *kind),
-            Request::Arrive(frame) => session.deliver(alloc, out, said, frame.as_slice()),
-            Request::Settle => session.settle(alloc, out),
-            Request::Set(setting) => session.change(out, *setting),
-            Request::Line => session.say_level(alloc, out),
-            Request::Digest => session.say_digest(alloc, out),
-            Request::ClockStep(nanoseconds) => session.step_clock(alloc, out, *nanoseconds),
-            Request::ClockSet(time) => session.set_clock(alloc, out, *time),
-            Request::Intercept => say(out, b"OK\n"),
-            Request::Frames => session.fetch_frames(alloc, out),
-            Request::Faults => session.fetch_faults(alloc, out),
-            Request::Offer(frame) => session.offer(alloc, out, frame.as_slice()),
             Request::Save => self.save(out),
             Request::Restore => self.restore(out),
+            _ => answer_session(&mut self.session, alloc, out, said, request),
         }
     }
 

@@ -8,13 +8,10 @@
 
 mod access;
 mod answering;
-mod device;
-mod interleaving;
-mod moves;
+mod beginning;
 mod options;
 mod serve_error;
 mod server;
-mod session;
 mod small_answers;
 mod snapshot;
 

@@ -3,9 +3,10 @@
 ghost use Rattle.std.specs.Prelude.{◌≡◌, IfOk, Some};
 ghost use Rattle.server_output.specs.Texts.{ok_line};
 
+use crate::beginning::new_session;
 use crate::options::ServeOptions;
-use crate::session::Session;
 use schedule_player::Player;
+use served_session::Session;
 use server_output::{AnswerError, refuse, restored_text, say};
 use server_requests::Refusal;
 use std::alloc::Global;
@@ -40,7 +41,7 @@ impl Server {
         ensures { IfOk result (λ server. server ≡ new_server options.now player) }
     {
         Ok(Server {
-            session: Session::new(alloc, options, player)?,
+            session: new_session(alloc, options, player)?,
             saved: None,
         })
     }

@@ -4,7 +4,7 @@ use Rattle.std.proofs.lemmas.Bool.Decides.{nat_tests}
 use Rattle.rand_pcg.specs.Lcg.{Lcg}
 use Rattle.adapter.specs.declared.outcome.Outcome.{Outcome}
 use Rattle.adapter.specs.declared.step.StepKind.{StepKind}
-use Rattle.adapter_server.specs.Sessions.{drawn_count}
+use Rattle.served_device.specs.Draws.{drawn_count}
 use Rattle.bus.proofs.Trails.{event_happens}
 use Rattle.bus.specs.Trails.{Occurs}
 use Rattle.bus.specs.declared.event.Event.TheVariants.{Accesses}

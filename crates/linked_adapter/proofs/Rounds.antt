@@ -5,7 +5,7 @@ use Rattle.std.specs.Prelude.{All, sum}
 use Rattle.std.proofs.lemmas.Bool.Decides.{nat_tests}
 use Rattle.std.proofs.lemmas.List.Elements.{All-append, All-cons, All-nil}
 use Rattle.std.proofs.lemmas.List.Sums.{sum_by-append}
-use Rattle.adapter_server.specs.Devices.{most_rounds, with_last}
+use Rattle.served_device.specs.Devices.{most_rounds, with_last}
 use Rattle.linked_adapter.specs.LinkedAdapters.{Round, Settles}
 use Rattle.linked_adapter.specs.Order.{InOrder}
 use Rattle.linked_adapter.specs.declared.linked_adapter.LinkedAdapter.{LinkedAdapter}

@@ -9,9 +9,9 @@ use Rattle.adapter.specs.Registers.{after_write, new_adapter}
 use Rattle.adapter.specs.State.{AdapterState}
 use Rattle.adapter.specs.declared.outcome.Outcome.{Outcome}
 use Rattle.adapter.specs.declared.step.StepKind.{StepKind}
-use Rattle.adapter_server.specs.Devices.{most_rounds, round, with_last}
-use Rattle.adapter_server.specs.Outcomes.{moved_by}
-use Rattle.adapter_server.specs.Sessions.{drawn, drawn_count, pba}
+use Rattle.served_device.specs.Devices.{most_rounds, round, with_last}
+use Rattle.served_device.specs.Outcomes.{moved_by}
+use Rattle.served_device.specs.Draws.{drawn, drawn_count}
 use Rattle.rand_pcg.specs.Lcg.{Lcg}
 use Rattle.bus.specs.LivelyBuses.{most_accesses}
 use Rattle.bus.specs.Machines.{after_event, is_asserted}
@@ -33,6 +33,10 @@ use Rattle.linked_adapter.specs.declared.numbers.AdapterOptions.{AdapterOptions}
 use Rattle.linked_adapter.specs.declared.scheduling.ScheduledStep.{ScheduledStep}
 
 -- A new adapter.
+
+-- PBA's offset (13.4.18 "Packet Buffer Allocation")
+abbrev pub pba : ℕ
+pba = 0x1000
 
 -- the adapter before the first call: new, except for one write of PBA
 abbrev pub adapter_of : AdapterOptions → Link → AdapterState

@@ -4,9 +4,9 @@ use Rattle.adapter.specs.declared.outcome.Outcome.{Outcome}
 use Rattle.adapter.specs.declared.outcome.Outcome.TheVariants.{Took, Put, WireFull, Part, Moved, Done, Delivered, Ticked, Nothing, Fault}
 use Rattle.adapter.specs.declared.step.StepKind.{StepKind}
 use Rattle.adapter.specs.declared.step.StepKind.TheVariants.{PhyTick}
-use Rattle.adapter_server.specs.Choices.{choice_numbered}
-use Rattle.adapter_server.specs.declared.interleaving.Choice.{Choice}
-use Rattle.adapter_server.specs.declared.interleaving.Choice.TheVariants.{Arrival, Step}
+use Rattle.served_device.specs.Choices.{choice_numbered}
+use Rattle.served_device.specs.declared.choices.Choice.{Choice}
+use Rattle.served_device.specs.declared.choices.Choice.TheVariants.{Arrival, Step}
 use Rattle.mdic_phy.specs.declared.phy.Link.{Link}
 use Rattle.mdic_phy.specs.declared.phy.Link.TheVariants.{After, Never}
 use Rattle.rx_engine.specs.declared.arrival.Fate.{Fate}

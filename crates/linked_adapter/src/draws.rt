@@ -1,7 +1,7 @@
 // The steps before an access, which the generator draws.
 
 ghost use Rattle.std.specs.Prelude.{◌≡◌};
-ghost use Rattle.adapter_server.specs.Sessions.{drawn_count};
+ghost use Rattle.served_device.specs.Draws.{drawn_count};
 ghost use Rattle.linked_adapter.specs.LinkedAdapters.{Interleaves, Prepares, counted, drawn_kind};
 
 use crate::linked_adapter::LinkedAdapter;

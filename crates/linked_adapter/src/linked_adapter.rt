@@ -2,13 +2,12 @@
 
 ghost use Rattle.std.specs.Prelude.{◌≡◌, ◌<◌, ◌++◌, length, IfOk, IfSome};
 ghost use Rattle.adapter.specs.Registers.{after_write, new_adapter};
-ghost use Rattle.adapter_server.specs.Sessions.{pba};
 ghost use Rattle.bus.specs.Machines.{is_asserted};
 ghost use Rattle.bus.specs.Trails.{Occurs};
 ghost use Rattle.eeprom.specs.Image.{image_with};
 ghost use Rattle.linked_adapter.specs.LinkedAdapters.{AnswersArrival, AnswersInterleave, AnswersStep};
 ghost use Rattle.linked_adapter.specs.LinkedAdapters.{AnswersTaking, IsNew, after_step, new_linked, next_frames};
-ghost use Rattle.linked_adapter.specs.LinkedAdapters.{step_of};
+ghost use Rattle.linked_adapter.specs.LinkedAdapters.{pba, step_of};
 
 use crate::numbers::{
     AdapterOptions, REFUSED, fate_number, is_receive_share, kind_with, link_with, outcome_number,

@@ -1,7 +1,7 @@
 // Rounds of steps, until one does nothing.
 
 ghost use Rattle.std.specs.Prelude.{◌≡◌, ◌≤◌};
-ghost use Rattle.adapter_server.specs.Outcomes as outcomes;
+ghost use Rattle.served_device.specs.Outcomes as outcomes;
 ghost use Rattle.linked_adapter.specs.LinkedAdapters.{Round, Settles};
 
 use crate::linked_adapter::LinkedAdapter;

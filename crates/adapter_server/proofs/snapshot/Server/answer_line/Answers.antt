@@ -2,7 +2,8 @@ use Rattle.adapter_server.specs.Answers.{AnswersLine, Obeys, Refuses}
 use Rattle.adapter_server.specs.declared.snapshot.Server.{Server}
 use Rattle.adapter_server.proofs.Printing.{replied}
 use Rattle.adapter_server.proofs.ReadRequests.{answers_read, answers_refused}
-use Rattle.adapter_server.proofs.Stopping.{answer_so, stopped_answer, stopped_before}
+use Rattle.adapter_server.proofs.Stopping.{answer_so, stopped_answer}
+use Rattle.served_device.proofs.Stopping.{stopped_before}
 use Rattle.adapter_server.proofs.snapshot.Server.answer_line.Goals as goal
 
 pub returns-in-Ok : goal.returns-in-Ok

@@ -1,8 +1,9 @@
 use Rattle.std.proofs.Common.{refl}
 use Rattle.adapter_server.specs.Answers.{Does, Obeys}
-use Rattle.adapter_server.specs.Sessions.{RoundBegins}
+use Rattle.served_session.specs.Sessions.{RoundBegins}
 use Rattle.adapter_server.specs.declared.snapshot.Server.{Server}
-use Rattle.adapter_server.proofs.Stopping.{answer_after, answer_stops, events_of_round_begin}
+use Rattle.adapter_server.proofs.Stopping.{answer_after, answer_stops}
+use Rattle.served_session.proofs.Playing.{events_of_round_begin}
 use Rattle.adapter_server.proofs.snapshot.Server.obey.Goals as goal
 
 pub returns-in_err-begin_round : goal.returns-in_err-begin_round

@@ -1,9 +1,10 @@
 use Rattle.std.proofs.Common.{◌≡◌, ◌∙◌, Option, Some, ap, rules, subst, sym}
 use Rattle.adapter_server.specs.Answers.{Replies, TellsAnswer}
 use Rattle.server_output.specs.Texts.{ok_line}
-use Rattle.adapter_server.specs.declared.session.Session.{Session}
+use Rattle.served_session.specs.declared.session.Session.{Session}
 use Rattle.adapter_server.proofs.Printing.{replied}
-use Rattle.adapter_server.proofs.Stopping.{answer_stops, stopped_before}
+use Rattle.adapter_server.proofs.Stopping.{answer_stops}
+use Rattle.served_device.proofs.Stopping.{stopped_before}
 use Rattle.adapter_server.proofs.snapshot.Server.save.Goals as goal
 
 pub returns-in_err-copy : goal.returns-in_err-copy

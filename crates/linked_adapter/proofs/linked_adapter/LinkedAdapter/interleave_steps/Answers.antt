@@ -1,6 +1,6 @@
 use Rattle.std.proofs.Common.{◌≡◌, ◌∙◌, ℕ, List, arith, refl, replicate, subst}
 use Rattle.std.proofs.lemmas.List.{replicate_more}
-use Rattle.adapter_server.specs.Sessions.{drawn_count}
+use Rattle.served_device.specs.Draws.{drawn_count}
 use Rattle.linked_adapter.specs.LinkedAdapters.{DrawsStep}
 use Rattle.linked_adapter.specs.Order.{InOrder, Times}
 use Rattle.linked_adapter.specs.declared.linked_adapter.LinkedAdapter.{LinkedAdapter}

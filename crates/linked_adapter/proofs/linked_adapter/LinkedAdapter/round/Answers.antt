@@ -2,8 +2,8 @@ use Rattle.std.proofs.Common.{◌≡◌, ◌+◌, ◌++◌, ◌∷◌, [], List,
 use Rattle.std.proofs.lemmas.List.{take_more}
 use Rattle.adapter.specs.declared.step.StepKind.{StepKind}
 use Rattle.adapter.specs.declared.step.StepKind.TheVariants.{TxTake}
-use Rattle.adapter_server.proofs.Rounds.{moved_little}
-use Rattle.adapter_server.specs.Devices.{round}
+use Rattle.served_device.proofs.Rounds.{moved_little}
+use Rattle.served_device.specs.Devices.{round}
 use Rattle.linked_adapter.specs.LinkedAdapters.{PlaysInRound}
 use Rattle.linked_adapter.specs.Order.{InOrder}
 use Rattle.linked_adapter.proofs.Playing.{in_order_more}

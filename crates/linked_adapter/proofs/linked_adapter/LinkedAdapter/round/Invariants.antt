@@ -1,5 +1,5 @@
 use Rattle.std.proofs.Common.{◌≤◌, take}
-use Rattle.adapter_server.specs.Devices.{round}
+use Rattle.served_device.specs.Devices.{round}
 use Rattle.linked_adapter.specs.LinkedAdapters.{PlaysInRound}
 use Rattle.linked_adapter.specs.Order.{InOrder}
 use Rattle.linked_adapter.proofs.linked_adapter.LinkedAdapter.round.Given as goal
