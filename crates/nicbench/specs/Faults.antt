@@ -3,6 +3,9 @@ use Rattle.std.specs.Prelude.{ℕ}
 use Rattle.adapter_server.specs.Statuses as server
 use Rattle.drive.specs.Statuses as drive
 use Rattle.pcap_bench.specs.ProgramErrors as program
+use Rattle.pcap_bench.specs.declared.program_error.ProgramError.TheVariants as errors
+use Rattle.program_files.specs.declared.file_error.FileError.{FileError}
+use Rattle.program_files.specs.declared.file_error.FileError.TheVariants as files
 use Rattle.scenario.specs.Statuses as refusals
 use Rattle.scenario_bench.specs.Errors as bench
 use Rattle.step_schedules.specs.declared.schedule_error.ScheduleError.{ScheduleError}
@@ -28,3 +31,9 @@ abbrev pub schedule_fault : ScheduleError → Fault
 schedule_fault (schedules.Line line fault) = faults.Schedule (schedules.Line line fault)
 schedule_fault schedules.Text = faults.Schedule schedules.Text
 schedule_fault schedules.Memory = faults.Memory
+
+-- the fault of an input or an output that can't be used
+abbrev pub file_fault : FileError → Fault
+file_fault files.Open = faults.Program errors.Open
+file_fault (files.Read error) = faults.Program (errors.Read error)
+file_fault files.Memory = faults.Memory

@@ -1,17 +1,40 @@
 //! The command `drive`.
+ghost use Rattle.std.specs.Prelude.{◌<◌};
 
 use crate::fault::Fault;
-use crate::files::{create, read_trace};
-use crate::progress::Watched;
 use command_line::DriveJob;
 use drive::{DriveCounts, DriveLimits, drive};
-use pcap_bench::ProgramError;
+use pcap_bench::{Frames, ProgramError, Sink};
+use program_files::{Watched, create, read_trace};
 use qtest_bus::QtestBus;
 use std::io::{self, BufReader, Input};
 use std::rt::Files;
 
 /// After how many turns without a frame a drive ends, unless the job says otherwise.
 const IDLE: u64 = 1_000;
+
+/// Sends frames to the adapter, whose answers come from standard input, and writes those that it gives.
+fn drive_adapter<R: Input + Print + AllocGlobal, S: Sink>(
+    rt: &R,
+    job: &DriveJob<'_>,
+    frames: &Frames,
+    sink: &mut S,
+) -> Result<DriveCounts, Fault>
+    requires { S.failures sink.old < u64.MAX }
+{
+    let Ok(input) = BufReader::new(rt.alloc(), rt.reader()) else {
+        return Err(Fault::Memory);
+    };
+    let mut bus = QtestBus::new(rt.alloc(), input, io::writer(rt), job.registers, job.memory);
+    let limits = DriveLimits {
+        expect: job.expect,
+        idle: job.idle.unwrap_or(IDLE),
+    };
+    match drive(rt.alloc(), &mut bus, frames, &limits, sink) {
+        Ok(counts) => Ok(counts),
+        Err(error) => Err(Fault::Drive(error)),
+    }
+}
 
 /// Sends the frames of IN and writes OUT. Returns the counts, and whether all that was asked for was done.
 fn exchange<R: Files + Input + Print + Watched + AllocGlobal>(
@@ -24,15 +47,7 @@ fn exchange<R: Files + Input + Print + Watched + AllocGlobal>(
     }
     let trace = read_trace(rt, job.send)?;
     let mut sink = create(rt, job.receive)?;
-    let Ok(input) = BufReader::new(rt.alloc(), rt.reader()) else {
-        return Err(Fault::Memory);
-    };
-    let mut bus = QtestBus::new(rt.alloc(), input, io::writer(rt), job.registers, job.memory);
-    let limits = DriveLimits {
-        expect: job.expect,
-        idle: job.idle.unwrap_or(IDLE),
-    };
-    let counts = drive(rt.alloc(), &mut bus, &trace.frames, &limits, &mut sink)?;
+    let counts = drive_adapter(rt, job, &trace.frames, &mut sink)?;
     Ok((counts, counts.is_all(trace.frames.len() as u64, job.expect)))
 }
 

@@ -1,16 +1,17 @@
 //! Why the program ended.
 ghost use Rattle.std.specs.Prelude.{◌≡◌};
-ghost use Rattle.nicbench.specs.Faults.{schedule_fault, status_of};
+ghost use Rattle.nicbench.specs.Faults.{file_fault, schedule_fault, status_of};
 ghost use Rattle.nicbench.specs.declared.fault.Fault.TheVariants as faults;
 
 use adapter_server::ServeError;
 use drive::DriveError;
-use pcap_bench::{PassError, ProgramError, ReadError, WriteError};
+use pcap_bench::{ProgramError, WriteError};
+use program_files::FileError;
 use scenario::Refusal;
 use scenario_bench::BenchError;
 use std::alloc::{AllocError, AllocFailed};
+use std::fmt::{self, Display};
 use step_schedules::ScheduleError;
-use thiserror::Error;
 
 /// The exit status where an image was refused.
 const BAD_IMAGE: u8 = 1;
@@ -24,42 +25,50 @@ const FEWER_FRAMES: u8 = 1;
 /// The exit status where memory was refused.
 const NO_MEMORY: u8 = 4;
 
-/// Why the program ended: its text is what stands behind `nicbench: ` on standard error.
-#[derive(Clone, Copy, Debug, PartialEq, Eq, Error)]
+/// Why the program ended.
+#[derive(Clone, Copy)]
 pub(crate) enum Fault {
     /// A trace was refused, or didn't pass, or a file failed.
-    #[error("{0}")]
     Program(ProgramError),
     /// A scenario was refused.
-    #[error("{0}")]
     Scenario(Refusal),
     /// A scenario wasn't run to its end.
-    #[error("{0}")]
     Bench(BenchError),
     /// A server ended before its input did.
-    #[error("{0}")]
     Serve(ServeError),
     /// A drive ended before it was done.
-    #[error("{0}")]
     Drive(DriveError),
     /// A drive became idle before all frames were sent and received.
-    #[error("E69 Fewer")]
     Fewer,
     /// The image of an EEPROM hasn't 128 bytes.
-    #[error("E58 Image")]
     Image,
     /// A text isn't a schedule.
-    #[error("E70 Schedule {0}")]
     Schedule(ScheduleError),
     /// A schedule is for an adapter with other options.
-    #[error("E70 Schedule options")]
     Options,
     /// Deviations of a schedule weren't met.
-    #[error("E71 Unmet")]
     Unmet,
     /// Memory was refused elsewhere.
-    #[error("E57 Memory")]
     Memory,
+}
+
+/// Its text is what stands behind `nicbench: ` on standard error.
+impl Display for Fault {
+    fn fmt<W: fmt::Write>(&self, f: &mut fmt::Formatter<W>) -> fmt::Result {
+        match self {
+            Fault::Program(error) => error.fmt(f),
+            Fault::Scenario(refusal) => refusal.fmt(f),
+            Fault::Bench(error) => error.fmt(f),
+            Fault::Serve(error) => error.fmt(f),
+            Fault::Drive(error) => error.fmt(f),
+            Fault::Schedule(error) => write!(f, "E70 Schedule {error}"),
+            Fault::Fewer => f.write_str("E69 Fewer"),
+            Fault::Image => f.write_str("E58 Image"),
+            Fault::Options => f.write_str("E70 Schedule options"),
+            Fault::Unmet => f.write_str("E71 Unmet"),
+            Fault::Memory => f.write_str("E57 Memory"),
+        }
+    }
 }
 
 impl Fault {
@@ -90,23 +99,15 @@ impl Fault {
     }
 }
 
-impl From<ProgramError> for Fault {
-    ghost from_gives = { λ e f. f ≡ faults.Program e };
+impl From<FileError> for Fault {
+    ghost from_gives = { λ e f. f ≡ file_fault e };
 
-    fn from(error: ProgramError) -> Fault {
-        Fault::Program(error)
-    }
-}
-
-impl From<ReadError> for Fault {
-    fn from(error: ReadError) -> Fault {
-        Fault::Program(ProgramError::Read(error))
-    }
-}
-
-impl From<PassError> for Fault {
-    fn from(error: PassError) -> Fault {
-        Fault::Program(ProgramError::Pass(error))
+    fn from(error: FileError) -> Fault {
+        match error {
+            FileError::Open => Fault::Program(ProgramError::Open),
+            FileError::Read(error) => Fault::Program(ProgramError::Read(error)),
+            FileError::Memory => Fault::Memory,
+        }
     }
 }
 
@@ -121,30 +122,6 @@ impl From<Refusal> for Fault {
 
     fn from(refusal: Refusal) -> Fault {
         Fault::Scenario(refusal)
-    }
-}
-
-impl From<BenchError> for Fault {
-    ghost from_gives = { λ e f. f ≡ faults.Bench e };
-
-    fn from(error: BenchError) -> Fault {
-        Fault::Bench(error)
-    }
-}
-
-impl From<ServeError> for Fault {
-    ghost from_gives = { λ e f. f ≡ faults.Serve e };
-
-    fn from(error: ServeError) -> Fault {
-        Fault::Serve(error)
-    }
-}
-
-impl From<DriveError> for Fault {
-    ghost from_gives = { λ e f. f ≡ faults.Drive e };
-
-    fn from(error: DriveError) -> Fault {
-        Fault::Drive(error)
     }
 }
 

@@ -3,13 +3,15 @@ ghost use Rattle.std.specs.Prelude.{◌≡◌, ◌+◌, All, IfOk, OnOk, length}
 ghost use Rattle.nicbench.specs.Sinks.{sockets_in, wires_in};
 
 use crate::fault::Fault;
-use crate::files::{FileSink, create, find_folder, read_bytes, read_trace};
-use crate::progress::{Watched, report_play};
 use command_line::RunJob;
 use network_plan::HostPlan;
-use pcap_bench::{ProgramError, Sink, Trace, WriterSink};
+use pcap_bench::{Sink, Trace, WriterSink};
+use program_files::{
+    FileSink, Watched, create_all, find_folder, read_bytes, read_trace, report_play,
+};
 use scenario::Scenario;
 use scenario_bench::{Summary, bench, bench_wires, print_summary, wires};
+use std::alloc::{AllocError, Global};
 use std::io::{self, Input};
 use std::rt::Files;
 
@@ -34,43 +36,47 @@ fn read_traces<R: Files + Input + Watched + AllocGlobal>(
     Ok(traces)
 }
 
-/// The file of a socket, `DIRECTORY/HOST.SOCKET.pcap`. One in another folder isn't made.
-fn create_one<R: Files + AllocGlobal>(
-    rt: &R,
-    directory: &str,
-    host: &str,
-    socket: usize,
-) -> Result<FileSink<R::File>, Fault>
-    ensures { IfOk result (λ sink. ⟦<FileSink<R::File> as Sink>⟧.failures sink ≡ 0) }
-{
-    if host.contains('/') {
-        return Err(Fault::Program(ProgramError::Open));
-    }
-    let path = format!(in rt.alloc(); "{directory}/{host}.{socket}.pcap")?;
-    let sink = create(rt, path.as_str())?;
-    Ok(sink)
-}
-
-/// Appends the files of a host's sockets.
-fn push_sinks<R: Files + AllocGlobal>(
-    rt: &R,
-    directory: &str,
+/// Appends the names of the files of a host's sockets, `HOST.SOCKET.pcap`.
+fn push_socket_files(
+    alloc: Global,
     plan: &HostPlan,
-    sinks: &mut Vec<FileSink<R::File>>,
-) -> Result<(), Fault>
-    requires { All (λ sink. ⟦<FileSink<R::File> as Sink>⟧.failures sink ≡ 0) sinks.old.items }
-    ensures count { OnOk result (length sinks.new.items ≡ length sinks.old.items + length plan.now.sockets.items) }
-    ensures countable { OnOk result
-        (All (λ sink. ⟦<FileSink<R::File> as Sink>⟧.failures sink ≡ 0) sinks.new.items) }
+    names: &mut Vec<String>,
+) -> Result<(), AllocError>
+    ensures { OnOk result (length names.new.items ≡ length names.old.items + length plan.now.sockets.items) }
 {
+    let host = plan.name.as_str();
     for socket in 0..plan.sockets.len() {
-        sinks.push(create_one(rt, directory, plan.name.as_str(), socket)?)?;
+        names.push(format!(in alloc; "{host}.{socket}.pcap")?)?;
     }
     Ok(())
 }
 
-/// A file for each socket, hosts in order and the sockets of each in order.
-fn create_sinks<R: Files + AllocGlobal>(
+/// The name of the file of each socket, hosts in order and the sockets of each in order.
+fn socket_files(alloc: Global, plans: &[HostPlan]) -> Result<Vec<String>, AllocError>
+    ensures { IfOk result (λ names. length names.items ≡ sockets_in plans.now) }
+{
+    let mut names = Vec::new(alloc);
+    for plan in plans {
+        push_socket_files(alloc, plan, &mut names)?;
+    }
+    Ok(names)
+}
+
+/// The name of the file of each wire, `WIRE.pcap`, in the order in which the hosts first name them. It is no socket's
+/// file: the name of a wire has no dot, and the name of a socket's file has a second one.
+fn wire_files(alloc: Global, plans: &[HostPlan]) -> Result<Vec<String>, AllocError>
+    ensures { IfOk result (λ names. length names.items ≡ wires_in plans.now) }
+{
+    let found = wires(alloc, plans)?;
+    let mut names = Vec::new(alloc);
+    for wire in found.as_slice() {
+        names.push(format!(in alloc; "{wire}.pcap")?)?;
+    }
+    Ok(names)
+}
+
+/// A file for each socket, in a folder that must be there.
+fn create_socket_sinks<R: Files + AllocGlobal>(
     rt: &R,
     directory: &str,
     plans: &[HostPlan],
@@ -80,31 +86,12 @@ fn create_sinks<R: Files + AllocGlobal>(
         All (λ sink. ⟦<FileSink<R::File> as Sink>⟧.failures sink ≡ 0) sinks.items) }
 {
     find_folder(rt, directory)?;
-    let mut sinks = Vec::new(rt.alloc());
-    for plan in plans {
-        push_sinks(rt, directory, plan, &mut sinks)?;
-    }
+    let names = socket_files(rt.alloc(), plans)?;
+    let sinks = create_all(rt, directory, names.as_slice())?;
     Ok(sinks)
 }
 
-/// The file of a wire, `DIRECTORY/WIRE.pcap`. One in another folder isn't made. It is no socket's file: a name has no
-/// dot, and the name of a socket's file has a second one.
-fn create_wire<R: Files + AllocGlobal>(
-    rt: &R,
-    directory: &str,
-    wire: &str,
-) -> Result<FileSink<R::File>, Fault>
-    ensures { IfOk result (λ sink. ⟦<FileSink<R::File> as Sink>⟧.failures sink ≡ 0) }
-{
-    if wire.contains('/') {
-        return Err(Fault::Program(ProgramError::Open));
-    }
-    let path = format!(in rt.alloc(); "{directory}/{wire}.pcap")?;
-    let sink = create(rt, path.as_str())?;
-    Ok(sink)
-}
-
-/// A file for each wire, in the order in which the hosts first name them.
+/// A file for each wire.
 fn create_wire_sinks<R: Files + AllocGlobal>(
     rt: &R,
     directory: &str,
@@ -114,12 +101,36 @@ fn create_wire_sinks<R: Files + AllocGlobal>(
     ensures countable { IfOk result (λ sinks.
         All (λ sink. ⟦<FileSink<R::File> as Sink>⟧.failures sink ≡ 0) sinks.items) }
 {
-    let names = wires(rt.alloc(), plans)?;
-    let mut sinks = Vec::new(rt.alloc());
-    for name in names.as_slice() {
-        sinks.push(create_wire(rt, directory, name)?)?;
-    }
+    let names = wire_files(rt.alloc(), plans)?;
+    let sinks = create_all(rt, directory, names.as_slice())?;
     Ok(sinks)
+}
+
+/// Makes sure that the files of the wires can be written, too, plays a scenario, and writes the files of the sockets
+/// and then those of the wires.
+fn play_wires<R: Files + Watched + AllocGlobal>(
+    rt: &R,
+    directory: &str,
+    scenario: &Scenario,
+    traces: &[Trace],
+    sinks: &mut [FileSink<R::File>],
+) -> Result<Summary, Fault>
+    requires traces { length traces.now ≡ length scenario.now.traces.items }
+    requires sinks { length sinks.old ≡ sockets_in scenario.now.plan.hosts.items }
+    requires countable { All (λ sink. ⟦<FileSink<R::File> as Sink>⟧.failures sink ≡ 0) sinks.old }
+{
+    let mut wire_sinks = create_wire_sinks(rt, directory, scenario.plan.hosts.as_slice())?;
+    report_play(rt, traces);
+    match bench_wires(
+        rt.alloc(),
+        scenario,
+        traces,
+        sinks,
+        wire_sinks.as_mut_slice(),
+    ) {
+        Ok(summary) => Ok(summary),
+        Err(error) => Err(Fault::Bench(error)),
+    }
 }
 
 /// Makes sure that the files in OUTDIR can be written, plays a scenario, and writes the files: those of the sockets,
@@ -132,22 +143,15 @@ fn play<R: Files + Watched + AllocGlobal>(
 ) -> Result<Summary, Fault>
     requires { length traces.now ≡ length scenario.now.traces.items }
 {
-    let plans = scenario.plan.hosts.as_slice();
-    let mut sinks = create_sinks(rt, job.directory, plans)?;
-    if !job.wires {
-        report_play(rt, traces);
-        return Ok(bench(rt.alloc(), scenario, traces, sinks.as_mut_slice())?);
+    let mut sinks = create_socket_sinks(rt, job.directory, scenario.plan.hosts.as_slice())?;
+    if job.wires {
+        return play_wires(rt, job.directory, scenario, traces, sinks.as_mut_slice());
     }
-    let mut wire_sinks = create_wire_sinks(rt, job.directory, plans)?;
     report_play(rt, traces);
-    let summary = bench_wires(
-        rt.alloc(),
-        scenario,
-        traces,
-        sinks.as_mut_slice(),
-        wire_sinks.as_mut_slice(),
-    )?;
-    Ok(summary)
+    match bench(rt.alloc(), scenario, traces, sinks.as_mut_slice()) {
+        Ok(summary) => Ok(summary),
+        Err(error) => Err(Fault::Bench(error)),
+    }
 }
 
 /// Reads SCENARIO and the traces that it feeds, plays the scenario, writes its files, and prints a line for each host.

@@ -1,10 +1,10 @@
 //! Schedules of `serve`: one that is played, and one that is recorded.
 
 use crate::fault::Fault;
-use crate::files::{create_file, read_bytes};
-use crate::late_file::LateFile;
-use command_line::{Job, LineError, ServeJob, line};
+use command_line::ServeJob;
 use pcap_bench::{ProgramError, WriteError};
+use program_files::{LateFile, create_file, read_bytes};
+use schedule_options::is_for;
 use schedule_player::Player;
 use std::alloc::Global;
 use std::fs::OpenFile;
@@ -15,61 +15,8 @@ use step_schedules::Schedule;
 /// The path that stands for standard input, from which requests come.
 const STANDARD_INPUT: &str = "-";
 
-/// The options of `serve` that aren't options of the adapter.
-const RUN_OPTIONS: [&str; 3] = ["--schedule", "--record", "--seed"];
-
 /// The first line of a recorded schedule.
 const COMMENT: &[u8] = b"# recorded by nicbench serve\n";
-
-/// The words of the command line that are options of the adapter.
-pub(crate) fn adapter_options(alloc: Global, words: &[String]) -> Result<Vec<String>, Fault> {
-    let mut options = Vec::new(alloc);
-    let mut is_value = false;
-    for word in words.iter().skip(2) {
-        let word = word.as_str();
-        if is_value {
-            is_value = false;
-        } else if RUN_OPTIONS.contains(&word) {
-            is_value = true;
-        } else if !is_run_option(word) {
-            options.push(String::from_str(alloc, word)?)?;
-        }
-    }
-    Ok(options)
-}
-
-/// Whether a word is an option that isn't an option of the adapter, together with its value.
-fn is_run_option(word: &str) -> bool {
-    match word.split_once('=') {
-        Some((name, _)) => RUN_OPTIONS.contains(&name),
-        None => false,
-    }
-}
-
-/// Whether two jobs have the same adapter.
-fn is_same_adapter(job: &ServeJob<'_>, other: &ServeJob<'_>) -> bool {
-    job.memory == other.memory
-        && job.registers == other.registers
-        && job.image == other.image
-        && job.link == other.link
-        && job.receive_kilobytes == other.receive_kilobytes
-        && job.missed == other.missed
-}
-
-/// Whether a schedule that has these options is for the adapter of this job.
-fn is_for(alloc: Global, options: &[String], job: &ServeJob<'_>) -> Result<bool, Fault> {
-    let mut words = Vec::new(alloc);
-    words.push("nicbench")?;
-    words.push("serve")?;
-    for option in options {
-        words.push(option.as_str())?;
-    }
-    match line(alloc, words.as_slice()) {
-        Ok(Job::Serve(wanted)) => Ok(is_same_adapter(&wanted, job)),
-        Err(LineError::Memory) => Err(Fault::Memory),
-        _ => Ok(false),
-    }
-}
 
 /// Reads the schedule at a path, which must be for the adapter of this job.
 fn read_schedule<R: Files + Input + AllocGlobal>(

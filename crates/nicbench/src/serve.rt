@@ -3,12 +3,13 @@ ghost use Rattle.std.specs.Prelude.{◌≡◌, IfOk};
 ghost use Rattle.nicbench.specs.Served.{IsImageFor, link_of, options_of};
 
 use crate::fault::Fault;
-use crate::files::read_front;
-use crate::schedules::{adapter_options, player_of, record_of, report_unmet, store};
+use crate::schedules::{player_of, record_of, report_unmet, store};
 use adapter_server::{ServeOptions, serve};
 use command_line::{ServeImage, ServeJob, ServeLink};
 use eeprom::{Image, WORDS};
 use mdic_phy::Link;
+use program_files::read_front;
+use schedule_options::adapter_options;
 use schedule_player::Player;
 use std::io::{self, BufReader, BufWriter, Input};
 use std::rt::Files;
@@ -81,8 +82,10 @@ fn serve_input<R: Input + Print + AllocGlobal>(
     let Ok(mut output) = BufWriter::new(alloc, io::writer(rt)) else {
         return Err(Fault::Memory);
     };
-    let left = serve(alloc, options, player, input, &mut output)?;
-    Ok(left)
+    match serve(alloc, options, player, input, &mut output) {
+        Ok(left) => Ok(left),
+        Err(error) => Err(Fault::Serve(error)),
+    }
 }
 
 /// The words of the program are those of the job. A schedule that was recorded is stored at the end, and deviations

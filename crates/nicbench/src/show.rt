@@ -1,10 +1,9 @@
 //! The command `show`.
 
 use crate::fault::Fault;
-use crate::files::read_trace;
-use crate::progress::Watched;
 use command_line::ShowJob;
 use pcap_bench::{WriterSink, show};
+use program_files::{Watched, read_trace};
 use std::io::{self, Input};
 use std::rt::Files;
 

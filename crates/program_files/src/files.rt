@@ -1,10 +1,10 @@
 //! Inputs and outputs: files, pipes and standard input.
-ghost use Rattle.std.specs.Prelude.{◌≡◌, IfOk};
+ghost use Rattle.std.specs.Prelude.{◌≡◌, All, IfOk, length};
 
-use crate::fault::Fault;
+use crate::file_error::FileError;
 use crate::late_file::LateFile;
 use crate::progress::{ReportingReader, Watched};
-use pcap_bench::{ProgramError, ReadError, ReaderSource, Sink, SliceSource, Trace, WriterSink};
+use pcap_trace::{ReadError, ReaderSource, Sink, SliceSource, Trace, WriterSink};
 use std::alloc::Global;
 use std::fs::{self, Metadata, OpenFile, OpenOptions};
 use std::io::{ErrorKind, Input, Read};
@@ -18,7 +18,7 @@ const STANDARD_INPUT: &str = "-";
 const MOST_PIPED: u64 = 1 << 30;
 
 /// A file as a sink.
-pub(crate) type FileSink<F> = WriterSink<LateFile<F>>;
+pub type FileSink<F> = WriterSink<LateFile<F>>;
 
 /// An input that was opened.
 #[derive(Drop)]
@@ -30,37 +30,37 @@ enum Opened<F> {
 }
 
 /// Reads all bytes up to a limit.
-fn read_up_to<S: Read + Drop>(alloc: Global, reader: S, limit: u64) -> Result<Vec<u8>, Fault> {
+fn read_up_to<S: Read + Drop>(alloc: Global, reader: S, limit: u64) -> Result<Vec<u8>, FileError> {
     let mut bytes = Vec::new(alloc);
     match reader.take(limit).read_to_end(&mut bytes) {
         Ok(_) => Ok(bytes),
-        Err(error) if error.kind() == ErrorKind::OutOfMemory => Err(Fault::Memory),
-        Err(_) => Err(Fault::from(ReadError::Read)),
+        Err(error) if error.kind() == ErrorKind::OutOfMemory => Err(FileError::Memory),
+        Err(_) => Err(FileError::Read(ReadError::Read)),
     }
 }
 
 /// Reads standard input or a pipe to its end, which has to come within [`MOST_PIPED`] bytes.
-fn read_pipe<S: Read + Drop>(alloc: Global, reader: S) -> Result<Vec<u8>, Fault> {
+fn read_pipe<S: Read + Drop>(alloc: Global, reader: S) -> Result<Vec<u8>, FileError> {
     let bytes = read_up_to(alloc, reader, MOST_PIPED + 1)?;
     if bytes.len() as u64 > MOST_PIPED {
-        return Err(Fault::Memory);
+        return Err(FileError::Memory);
     }
     Ok(bytes)
 }
 
 /// Opens a path, and looks what it is.
-fn open_path<R: Files>(rt: &R, path: &str) -> Result<(R::File, Metadata), ProgramError> {
+fn open_path<R: Files>(rt: &R, path: &str) -> Result<(R::File, Metadata), FileError> {
     let Ok(file) = fs::open(rt, path) else {
-        return Err(ProgramError::Open);
+        return Err(FileError::Open);
     };
     let Ok(metadata) = file.metadata() else {
-        return Err(ProgramError::Open);
+        return Err(FileError::Open);
     };
     Ok((file, metadata))
 }
 
 /// Opens an input. A pipe is read to its end. A device may have no end, so it is refused.
-fn open<R: Files + Input + AllocGlobal>(rt: &R, path: &str) -> Result<Opened<R::File>, Fault> {
+fn open<R: Files + Input + AllocGlobal>(rt: &R, path: &str) -> Result<Opened<R::File>, FileError> {
     if path == STANDARD_INPUT {
         return Ok(Opened::Piped(read_pipe(rt.alloc(), rt.reader())?));
     }
@@ -71,17 +71,17 @@ fn open<R: Files + Input + AllocGlobal>(rt: &R, path: &str) -> Result<Opened<R::
     } else if kind.is_fifo() {
         Ok(Opened::Piped(read_pipe(rt.alloc(), file)?))
     } else if kind.is_dir() {
-        Err(Fault::from(ReadError::Read))
+        Err(FileError::Read(ReadError::Read))
     } else {
-        Err(Fault::from(ProgramError::Open))
+        Err(FileError::Open)
     }
 }
 
 /// Reads a trace.
-pub(crate) fn read_trace<R: Files + Input + Watched + AllocGlobal>(
+pub fn read_trace<R: Files + Input + Watched + AllocGlobal>(
     rt: &R,
     path: &str,
-) -> Result<Trace, Fault> {
+) -> Result<Trace, FileError> {
     let trace = match open(rt, path)? {
         Opened::File(file, length) => {
             let reader = ReportingReader::new(rt, file, length);
@@ -95,10 +95,10 @@ pub(crate) fn read_trace<R: Files + Input + Watched + AllocGlobal>(
 }
 
 /// Reads all bytes of an input. What a file grows by after it was opened isn't read.
-pub(crate) fn read_bytes<R: Files + Input + AllocGlobal>(
+pub fn read_bytes<R: Files + Input + AllocGlobal>(
     rt: &R,
     path: &str,
-) -> Result<Vec<u8>, Fault> {
+) -> Result<Vec<u8>, FileError> {
     match open(rt, path)? {
         Opened::File(file, length) => read_up_to(rt.alloc(), file, length),
         Opened::Piped(bytes) => Ok(bytes),
@@ -106,11 +106,11 @@ pub(crate) fn read_bytes<R: Files + Input + AllocGlobal>(
 }
 
 /// Reads the first bytes of an input, up to a limit. Standard input and pipes are read to their end.
-pub(crate) fn read_front<R: Files + Input + AllocGlobal>(
+pub fn read_front<R: Files + Input + AllocGlobal>(
     rt: &R,
     path: &str,
     limit: u64,
-) -> Result<Vec<u8>, Fault> {
+) -> Result<Vec<u8>, FileError> {
     match open(rt, path)? {
         Opened::File(file, _) => read_up_to(rt.alloc(), file, limit),
         Opened::Piped(bytes) => Ok(bytes),
@@ -118,24 +118,56 @@ pub(crate) fn read_front<R: Files + Input + AllocGlobal>(
 }
 
 /// A file that is written. It is made if there is none; else it keeps its bytes until the first new byte.
-pub(crate) fn create_file<R: Files>(rt: &R, path: &str) -> Result<LateFile<R::File>, ProgramError> {
+pub fn create_file<R: Files>(rt: &R, path: &str) -> Result<LateFile<R::File>, FileError> {
     match OpenOptions::new().write(true).create(true).open(rt, path) {
         Ok(file) => Ok(LateFile::new(file)),
-        Err(_) => Err(ProgramError::Open),
+        Err(_) => Err(FileError::Open),
     }
 }
 
 /// A file as a sink. It is made if there is none; else it keeps its bytes until the sink's first byte.
-pub(crate) fn create<R: Files>(rt: &R, path: &str) -> Result<FileSink<R::File>, ProgramError>
+pub fn create<R: Files>(rt: &R, path: &str) -> Result<FileSink<R::File>, FileError>
     ensures { IfOk result (λ sink. ⟦<FileSink<R::File> as Sink>⟧.failures sink ≡ 0) }
 {
     Ok(WriterSink::new(create_file(rt, path)?))
 }
 
+/// A file of this name in a folder, as a sink. One in another folder isn't made.
+fn create_in<R: Files + AllocGlobal>(
+    rt: &R,
+    directory: &str,
+    name: &str,
+) -> Result<FileSink<R::File>, FileError>
+    ensures { IfOk result (λ sink. ⟦<FileSink<R::File> as Sink>⟧.failures sink ≡ 0) }
+{
+    if name.contains('/') {
+        return Err(FileError::Open);
+    }
+    let path = format!(in rt.alloc(); "{directory}/{name}")?;
+    create(rt, path.as_str())
+}
+
+/// A file for each of these names in a folder, in order.
+pub fn create_all<R: Files + AllocGlobal>(
+    rt: &R,
+    directory: &str,
+    names: &[String],
+) -> Result<Vec<FileSink<R::File>>, FileError>
+    ensures count { IfOk result (λ sinks. length sinks.items ≡ length names.now) }
+    ensures countable { IfOk result (λ sinks.
+        All (λ sink. ⟦<FileSink<R::File> as Sink>⟧.failures sink ≡ 0) sinks.items) }
+{
+    let mut sinks = Vec::new(rt.alloc());
+    for name in names {
+        sinks.push(create_in(rt, directory, name.as_str())?)?;
+    }
+    Ok(sinks)
+}
+
 /// Looks whether a folder is there.
-pub(crate) fn find_folder<R: Files>(rt: &R, path: &str) -> Result<(), ProgramError> {
+pub fn find_folder<R: Files>(rt: &R, path: &str) -> Result<(), FileError> {
     match fs::metadata(rt, path) {
         Ok(metadata) if metadata.is_dir() => Ok(()),
-        _ => Err(ProgramError::Open),
+        _ => Err(FileError::Open),
     }
 }

@@ -1,6 +1,6 @@
 //! How far a long job is, for somebody who waits at a terminal.
 
-use pcap_bench::Trace;
+use pcap_trace::Trace;
 use std::io::{self, IsTerminal, Read};
 
 /// The shortest file of which it is reported how much was read: 256 MiB.
@@ -15,7 +15,7 @@ const MANY_FRAMES: u64 = 100_000;
 const MEBIBYTE: u64 = 1 << 20;
 
 /// Standard error, with the knowledge whether somebody reads it while the program runs.
-pub(crate) trait Watched: Eprint {
+pub trait Watched: Eprint {
     /// Whether standard error is a terminal.
     fn is_watched(&self) -> bool;
 }
@@ -78,7 +78,7 @@ fn frames_of(traces: &[Trace]) -> u64 {
 }
 
 /// Reports that a run begins to play its scenario, if it feeds many frames and somebody watches.
-pub(crate) fn report_play<R: Watched>(rt: &R, traces: &[Trace]) {
+pub fn report_play<R: Watched>(rt: &R, traces: &[Trace]) {
     let frames = frames_of(traces);
     if frames >= MANY_FRAMES && rt.is_watched() {
         let _ = eprintln!(rt; "nicbench: playing the scenario, which feeds {frames} frames");

@@ -1,8 +1,8 @@
 use Rattle.std.proofs.Common.{◌≡◌, length}
 use Rattle.std.specs.Prelude.{All}
-use Rattle.nicbench.proofs.run.create_wire_sinks.Given as goal
+use Rattle.program_files.proofs.files.create_all.Given as goal
 
--- the files of the wires so far are there, and have not failed
+-- the files so far are there, and have not failed
 abbrev pub invariant-loop-name : goal.invariant-loop-name
 invariant-loop-name g l = record {
   count : length l.sinks.items ≡ l.name-index;

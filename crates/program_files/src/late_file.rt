@@ -6,14 +6,14 @@ use std::io::{self, Write};
 /// A file that is written from its front. What it had is dropped before the first byte is written: a program that ends
 /// before that leaves the file as it was.
 #[derive(Drop)]
-pub(crate) struct LateFile<F> {
+pub struct LateFile<F> {
     file: F,
     has_old_bytes: bool,
 }
 
 impl<F: OpenFile> LateFile<F> {
     /// A file that was opened for writing, and not truncated.
-    pub(crate) fn new(file: F) -> LateFile<F> {
+    pub fn new(file: F) -> LateFile<F> {
         LateFile {
             file,
             has_old_bytes: true,

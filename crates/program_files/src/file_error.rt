@@ -1,0 +1,41 @@
+//! Why an input or an output can't be used.
+ghost use Rattle.std.specs.Prelude.{◌≡◌};
+ghost use Rattle.program_files.specs.declared.file_error.FileError.TheVariants as errors;
+
+use pcap_trace::ReadError;
+use std::alloc::{AllocError, AllocFailed};
+
+/// Why an input or an output can't be used.
+#[derive(Clone, Copy)]
+pub enum FileError {
+    /// E68: a file can't be opened or created.
+    Open,
+    /// A trace is refused, or an input can't be read.
+    Read(ReadError),
+    /// E57: memory was refused.
+    Memory,
+}
+
+impl From<ReadError> for FileError {
+    ghost from_gives = { λ e f. f ≡ errors.Read e };
+
+    fn from(error: ReadError) -> FileError {
+        FileError::Read(error)
+    }
+}
+
+impl From<AllocError> for FileError {
+    ghost from_gives = { λ _ e. e ≡ errors.Memory };
+
+    fn from(_error: AllocError) -> FileError {
+        FileError::Memory
+    }
+}
+
+impl<T: Drop> From<AllocFailed<T>> for FileError {
+    ghost from_gives = { λ _ e. e ≡ errors.Memory };
+
+    fn from(_error: AllocFailed<T>) -> FileError {
+        FileError::Memory
+    }
+}

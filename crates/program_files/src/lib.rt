@@ -1,0 +1,14 @@
+//! The inputs and outputs of the program: files, pipes and standard input.
+#![tactic(auto)]
+
+mod file_error;
+mod files;
+mod late_file;
+mod progress;
+
+pub use file_error::FileError;
+pub use files::{
+    FileSink, create, create_all, create_file, find_folder, read_bytes, read_front, read_trace,
+};
+pub use late_file::LateFile;
+pub use progress::{Watched, report_play};

@@ -1,0 +1,2 @@
+pub mod Adapters
+pub mod Words
