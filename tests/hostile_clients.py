@@ -195,7 +195,9 @@ LARGE = [("x" * (LONGEST + 1), "ERR long"), ("read 0x10000 65536", "OK 0x" + "00
          ("memset 0x10000 65536 0", "OK"), ("arrive " + "00" * 65_000, "OK illegal")]
 BLOCK = 100_000
 BLOCKS = 100
-ROOM = 256
+# Kilobytes by which the most resident memory may grow: pages of the program's file that are read late count, too. A server
+# that kept one byte of each request would need 9,668 more.
+ROOM = 2048
 
 
 def block():
