@@ -1,11 +1,12 @@
 -- What happens first and then, host by host.
-use Rattle.std.proofs.Common.{◌≡◌, ◌+◌, ◌++◌, ◌∷◌, [], ◌==◌, ◌&&◌, not, ℕ, Option, List, length, if◌then◌else◌, refl, ap, subst, ◌∙◌}
+use Rattle.std.proofs.Common.{◌≡◌, ◌≢◌, ◌+◌, ◌++◌, ◌∷◌, [], ◌==◌, ◌&&◌, not, ℕ, Option, List, drop, if◌then◌else◌, refl, ap, subst, ◌∙◌}
 use Rattle.std.proofs.Common.{append_assoc, arith, sym}
 use Rattle.std.proofs.lemmas.Grind.{flat_map-append}
+use Rattle.std.proofs.lemmas.List.{append-nil, drop-drop}
 use Rattle.std.proofs.lemmas.List.Sums.{sum_by-append}
 use Rattle.rx_engine.specs.Arriving.{kept}
 use Rattle.rx_engine.specs.Registers.{FilterRegisters}
-use Rattle.delivery.specs.Fates.{AreRightByCounting, AreRightFates, Came, Left, Mark, left_in, mark_by, marks, stored_in}
+use Rattle.delivery.specs.Fates.{AreRightByList, AreRightFates, Came, Left, Mark, buffered_after, left_in, mark_by, marks, stored_in}
 use Rattle.delivery.specs.Happenings.{
   Accepted,
   Given,
@@ -85,36 +86,37 @@ waits-append k wires others first later old mid new same one two =
 
 -- Fates.
 
-pub fates-append : (filter : FilterRegisters) (most n m l : ℕ) (first later : List Mark) → AreRightFates filter most n first m
-    → AreRightFates filter most m later l → AreRightFates filter most n (first ++ later) l
-fates-append filter most n m l [] later one two = subst (λ (count : ℕ). AreRightFates filter most count later l) one two
-fates-append filter most n m l (Came frame fate ∷ first) later one two =
-    (one.0, fates-append filter most (n + length (kept fate frame)) m l first later one.1 two)
-fates-append filter most n m l (Left ∷ first) later one two =
-    (one.0, one.1, fates-append filter most one.0 m l first later one.2 two)
+pub fates-append : (filter : FilterRegisters) (room : ℕ) (n m l : List (List ℕ)) (first later : List Mark)
+    → AreRightFates filter room n first m → AreRightFates filter room m later l → AreRightFates filter room n (first ++ later) l
+fates-append filter room n m l [] later one two = subst (λ (frames : List (List ℕ)). AreRightFates filter room frames later l) one two
+fates-append filter room n m l (Came frame fate ∷ first) later one two =
+    (one.0, fates-append filter room (n ++ kept fate frame) m l first later one.1 two)
+fates-append filter room n m l (Left ∷ first) later one two =
+    (one.0, fates-append filter room (drop 1 n) m l first later one.1 two)
 
--- Up to each mark frames are counted.
-pub record Counted (filter : FilterRegisters) (most n : ℕ) (first later : List Mark) (final : ℕ) : Type 0 where
-  pub count : ℕ
-  pub counted : count + left_in first ≡ n + stored_in first
-  pub behind : AreRightFates filter most count later final
+-- Whether the oldest leaves before the others come, or with those that leave after.
+drop-more : (frames more : List (List ℕ)) (k : ℕ) → frames ≢ [] → drop k (drop 1 frames ++ more) ≡ drop (k + 1) (frames ++ more)
+drop-more [] more k some = absurd (some refl)
+drop-more (frame ∷ frames) more k some =
+    let order : 1 + k ≡ k + 1 = omega arith in
+    drop-drop k 1 (frame ∷ frames ++ more) ∙ ap (λ (n : ℕ). drop n (frame ∷ frames ++ more)) order
 
-pub counted-first : (filter : FilterRegisters) (most n m : ℕ) (first later : List Mark) → AreRightFates filter most n (first ++ later) m
-    → Counted filter most n first later m
-counted-first filter most n m [] later are = record { count = n; counted = refl; behind = are }
-counted-first filter most n m (Came frame fate ∷ first) later are =
-    let rest = counted-first filter most (n + length (kept fate frame)) m first later are.1 in
-    record { count = rest.count; counted = omega (arith, rest.counted); behind = rest.behind }
-counted-first filter most n m (Left ∷ first) later are =
-    let rest = counted-first filter most are.0 m first later are.2 in
-    let one = are.1 in
-    record { count = rest.count; counted = omega (arith, rest.counted, one); behind = rest.behind }
+-- Right fates are right from any mark on.
+fates-after : (filter : FilterRegisters) (room : ℕ) (n final : List (List ℕ)) (first later : List Mark)
+    → AreRightFates filter room n (first ++ later) final → AreRightFates filter room (buffered_after n first) later final
+fates-after filter room n final [] later are =
+    subst (λ (frames : List (List ℕ)). AreRightFates filter room frames later final) (sym (append-nil n)) are
+fates-after filter room n final (Came frame fate ∷ first) later are =
+    subst (λ (frames : List (List ℕ)). AreRightFates filter room (drop (left_in first) frames) later final)
+    (append_assoc n (kept fate frame) (stored_in first))
+    (fates-after filter room (n ++ kept fate frame) final first later are.1)
+fates-after filter room n final (Left ∷ first) later are =
+    subst (λ (frames : List (List ℕ)). AreRightFates filter room frames later final)
+    (drop-more n (stored_in first) (left_in first) are.0)
+    (fates-after filter room (drop 1 n) final first later are.1)
 
-pub fates-by_counting : (filter : FilterRegisters) (most n m : ℕ) (all : List Mark) → AreRightFates filter most n all m
-    → AreRightByCounting filter most n all
-fates-by_counting filter most n m all are = λ before later frame fate is.
-    let parts =
-    counted-first filter most n m before (Came frame fate ∷ later)
-    (subst (λ (list : List Mark). AreRightFates filter most n list m) is are)
-    in
-    record { count = parts.count; counted = parts.counted; right = parts.behind.0 }
+pub fates-by_list : (filter : FilterRegisters) (room : ℕ) (n final : List (List ℕ)) (all : List Mark)
+    → AreRightFates filter room n all final → AreRightByList filter room n all
+fates-by_list filter room n final all are = λ before later frame fate is.
+    (fates-after filter room n final before (Came frame fate ∷ later)
+    (subst (λ (list : List Mark). AreRightFates filter room n list final) is are)).0

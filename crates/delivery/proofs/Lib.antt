@@ -1,5 +1,6 @@
 pub mod Joining
 pub mod Telling
+pub mod ToldAround
 pub mod Numbering
 pub mod HostLists
 pub mod Waiting

@@ -1,6 +1,7 @@
 -- Along atomic steps the fates of frames are right.
-use Rattle.std.proofs.Common.{◌≡◌, ◌≢◌, ◌⊎◌, ◌+◌, ◌/◌, ◌++◌, ◌∷◌, [], ℕ, Bool, true, false, Option, Some, None, List, All, drop, length}
-use Rattle.std.proofs.Common.{arith, inl, inr, length-append, refl, subst, sym, ap, ◌∙◌}
+use Rattle.std.proofs.Common.{◌≡◌, ◌⊎◌, ◌/◌, ◌++◌, ◌∷◌, [], ℕ, Bool, true, false, Option, Some, None, List, All}
+use Rattle.std.proofs.Common.{inl, inr, refl, subst, sym, ◌∙◌}
+use Rattle.std.proofs.lemmas.List.{append-nil}
 use Rattle.std.specs.List.{flat_map}
 use Rattle.std.specs.Prelude.{IfSome}
 use Rattle.registers.specs.Bits.{HasBit}
@@ -54,22 +55,18 @@ receives-append a b c first later one two = record {
   filter = two.filter ∙ one.filter;
   kilobytes = two.kilobytes ∙ one.kilobytes;
   fates =
-      fates-append a.filter (room a) (length a.receiver.buffer) (length b.receiver.buffer) (length c.receiver.buffer) first later one.fates
-      (subst (λ (f : FilterRegisters). AreRightFates f (room a) (length b.receiver.buffer) later (length c.receiver.buffer)) one.filter
-      (subst (λ (n : ℕ). AreRightFates b.filter (n / 2) (length b.receiver.buffer) later (length c.receiver.buffer)) one.kilobytes
+      fates-append a.filter (room a) a.receiver.buffer b.receiver.buffer c.receiver.buffer first later one.fates
+      (subst (λ (f : FilterRegisters). AreRightFates f (room a) b.receiver.buffer later c.receiver.buffer) one.filter
+      (subst (λ (n : ℕ). AreRightFates b.filter (n / 2) b.receiver.buffer later c.receiver.buffer) one.kilobytes
       two.fates));
 }
 
 -- Nothing came or left.
 same : (a b : AdapterState) → b.filter ≡ a.filter → b.receive_kilobytes ≡ a.receive_kilobytes → b.receiver.buffer ≡ a.receiver.buffer
     → ReceivesRightly a [] b
-same a b filter kilobytes buffer = record { filter = filter; kilobytes = kilobytes; fates = ap length buffer }
+same a b filter kilobytes buffer = record { filter = filter; kilobytes = kilobytes; fates = buffer }
 
 -- Steps.
-
-one-fewer : (frames : List (List ℕ)) → frames ≢ [] → length frames ≡ length (drop 1 frames) + 1
-one-fewer [] some = absurd (some refl)
-one-fewer (frame ∷ frames) some = omega arith
 
 phy-receives : (told : Option Ticked) (a : AdapterState) → ReceivesRightly a [] (after_phy_told told a)
 phy-receives None a = receives-none a
@@ -91,7 +88,7 @@ step-receives TxPut wire_free _ w answers = receives-none w.adapter
 step-receives RxData wire_free outcome.Moved w answers = record {
   filter = refl;
   kilobytes = refl;
-  fates = (length (drop 1 w.adapter.receiver.buffer), one-fewer w.adapter.receiver.buffer answers.0.ready.frames, refl);
+  fates = (answers.0.ready.frames, refl);
 }
 step-receives RxData wire_free outcome.Part w answers = same w.adapter _ refl refl refl
 step-receives RxData wire_free outcome.Fault w answers = same w.adapter _ refl refl refl
@@ -107,7 +104,7 @@ step-receives PhyTick wire_free _ w answers = phy-receives (mdi.told w.adapter.m
 -- Arrivals.
 
 right-fate : (fate : Fate) (frame : List ℕ) (a : AdapterState) → HasBit a.filter.rctl rctl_en → IsFate a frame fate
-    → IsRightFate a.filter (room a) (length a.receiver.buffer) frame fate
+    → IsRightFate a.filter (room a) a.receiver.buffer frame fate
 right-fate Off frame a enabled is = is enabled
 right-fate Illegal frame a enabled is = is.1
 right-fate Filtered frame a enabled is = (is.1, is.2)
@@ -118,15 +115,15 @@ arrival-receives : (fate : Fate) (frame : List ℕ) (a : AdapterState) → HasBi
     → ReceivesRightly a (Came frame fate ∷ []) (after_arrive fate frame a)
 arrival-receives Off frame a enabled is = absurd (is enabled)
 arrival-receives Illegal frame a enabled is =
-    record { filter = refl; kilobytes = refl; fates = (right-fate Illegal frame a enabled is, omega arith) }
+    record { filter = refl; kilobytes = refl; fates = (right-fate Illegal frame a enabled is, sym (append-nil a.receiver.buffer)) }
 arrival-receives Filtered frame a enabled is =
-    record { filter = refl; kilobytes = refl; fates = (right-fate Filtered frame a enabled is, omega arith) }
+    record { filter = refl; kilobytes = refl; fates = (right-fate Filtered frame a enabled is, sym (append-nil a.receiver.buffer)) }
 arrival-receives Missed frame a enabled is =
-    record { filter = refl; kilobytes = refl; fates = (right-fate Missed frame a enabled is, omega arith) }
+    record { filter = refl; kilobytes = refl; fates = (right-fate Missed frame a enabled is, sym (append-nil a.receiver.buffer)) }
 arrival-receives Stored frame a enabled is = record {
   filter = refl;
   kilobytes = refl;
-  fates = (right-fate Stored frame a enabled is, length-append a.receiver.buffer (frame ∷ []));
+  fates = (right-fate Stored frame a enabled is, refl);
 }
 
 -- Accesses.

@@ -45,9 +45,13 @@ IsCounted receive transmit (Stores address bytes) = ⊤
 
 -- RCTL and TCTL are these words and the rings are these: both sides are enabled, and heads and tails are slots.
 pub record AreEnabled (receive_control transmit_control : ℕ) (receive_ring transmit_ring : Ring) : Type 0 where
+  -- RCTL.EN is set.
   pub receives : HasBit receive_control rctl_en
+  -- TCTL.EN is set.
   pub transmits : HasBit transmit_control tctl_en
+  -- RDH and RDT are indices of descriptors in the ring.
   pub receive : HasValidIndices receive_ring
+  -- TDH and TDT are indices of descriptors in the ring.
   pub transmit : HasValidIndices transmit_ring
 
 -- What initialisation leaves, and each call keeps.

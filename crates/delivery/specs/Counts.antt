@@ -38,6 +38,7 @@ pub record RingCounts : Type 0 where
 
 -- of the side that receives
 pub record ReceiveCounts : Type 0 where
+  -- the numbers of the receive ring
   pub ring : RingCounts
   -- the size of a receive buffer in bytes, by RCTL.BSIZE
   pub buffer_size : ℕ
@@ -48,18 +49,23 @@ pub record ReceiveCounts : Type 0 where
 
 -- of the side that transmits
 pub record TransmitCounts : Type 0 where
+  -- the numbers of the transmit ring
   pub ring : RingCounts
   -- the frames in the packet buffer
   pub buffered : ℕ
 
+-- The numbers of frames and descriptors of a host that determine the outcomes of its steps.
 pub record HostCounts : Type 0 where
+  -- the numbers of the side that receives
   pub receive : ReceiveCounts
+  -- the numbers of the side that transmits
   pub transmit : TransmitCounts
   -- whether a read of EERD is pending
   pub is_reading : Bool
   -- for how many ticks on MDIC and the PHY have something to do
   pub phy_ticks : ℕ
 
+-- The numbers of a ring.
 abbrev pub ring_counts : Ring → RingCounts
 ring_counts ring = record { slots = count_of ring; tail = ring.tail; offered = distance_of ring ring.head ring.tail }
 
@@ -74,10 +80,12 @@ abbrev pub ticks_left : MdicState → PhyState → ℕ
 ticks_left mdic phy = if is_some mdic.pending then suc (negotiation_ticks (phy_after_tick mdic phy).negotiation)
     else negotiation_ticks phy.negotiation
 
+-- The number of bytes to be moved of each frame, if so many of the oldest frame's bytes have been moved.
 abbrev pub bytes_left : (moved : ℕ) → List (List ℕ) → List ℕ
 bytes_left moved [] = []
 bytes_left moved (frame ∷ later) = (length frame - moved) ∷ map length later
 
+-- The numbers of a host, by its adapter.
 abbrev pub counts_of : AdapterState → HostCounts
 counts_of state = record {
   receive = record {
@@ -114,6 +122,7 @@ after_piece size (oldest ∷ later) = (oldest - size) ∷ later
 abbrev pub with_piece : (left : List ℕ) → ReceiveCounts → ReceiveCounts
 with_piece left counts = record counts { ring = one_fewer counts.ring; left = left; is_working = true }
 
+-- The numbers after a tick of the EEPROM or of the PHY that did something.
 abbrev pub after_tick : StepKind → HostCounts → HostCounts
 after_tick EepromTick counts = record counts { is_reading = false }
 after_tick PhyTick counts = record counts { phy_ticks = counts.phy_ticks - 1 }
@@ -144,6 +153,7 @@ after_write (Some (Transmit Tail)) value counts =
     record counts { transmit = record counts.transmit { ring = counts_with_tail (tail_of value) counts.transmit.ring } }
 after_write _ value counts = counts
 
+-- The numbers after an access: only a write of RDT or TDT changes them.
 abbrev pub after_access : Access → HostCounts → HostCounts
 after_access (Reads offset value) counts = counts
 after_access (Writes offset value) counts = after_write (register_at offset) value counts

@@ -9,7 +9,8 @@ use Rattle.bus.specs.TickGroups.{played_in, waiting_after, without_go}
 use Rattle.bus.specs.PastOfStretch.{Past}
 use Rattle.bus.specs.declared.event.Access.{Access}
 use Rattle.bus.specs.declared.event.Access.TheVariants.{Writes}
-use Rattle.stations.specs.AtomicSteps.{AtomicStep, Plays, tick_of}
+use Rattle.bus.specs.declared.event.Event.TheVariants.{Accesses}
+use Rattle.stations.specs.AtomicSteps.{At, AtomicStep, Plays, tick_of}
 use Rattle.stations.specs.Stations.{StationState, backlog_at, wire_at, world_at}
 use Rattle.adapter.specs.Outcomes.{FrameOutcome}
 use Rattle.stations.specs.declared.tick.Tick.{Tick}
@@ -18,8 +19,10 @@ use Rattle.stations.specs.AtomicRuns.{IsTick, LeadsTo, counted_of, is_go, noted_
 use Rattle.stations.specs.Retelling.{Finished, Retells}
 use Rattle.stations.specs.declared.lent_bus.LentBus.{LentBus}
 use Rattle.stations.specs.declared.observer.Observer.{Ghosts as OfObserver}
-use Rattle.delivery.specs.Fates.{AreRightByCounting, AreRightFates, Mark, marks}
-use Rattle.delivery.specs.Happenings.{Happening, accepted, given, happened_in, missed, put, reached, stored, told, told_alone, toward}
+use Rattle.stations.specs.declared.outcomes.Numbered.{Numbered}
+use Rattle.delivery.specs.Fates.{AreRightByList, AreRightFates, Mark, marks}
+use Rattle.delivery.specs.Happenings.{Happening, accepted, given, happened_in, missed, put, reached, stored, told, told_alone}
+use Rattle.delivery.specs.Happenings.{told_around, toward}
 use Rattle.delivery.specs.Reception.{LeavesReception, ReceivesRightly}
 use Rattle.delivery.specs.TickNumbers.{numbers, noted_numbers}
 
@@ -67,6 +70,26 @@ abbrev pub LentCallsAreTold : {O : Type 0} → OfObserver O → Type 0
 LentCallsAreTold {O} g =
     (a m b : LentBus O g) (past : Past) (told : Retells a m past) (finished : Finished m b) → a.accesses ≡ 0
     → IsToldCall a m b past told.steps finished.plays.steps
+
+-- If a call itself did nothing, only its ticks are told.
+abbrev pub OnlyTicksAreTold : Type 0
+OnlyTicksAreTold = (ticks : List Tick) (outcomes : List Numbered) → told_around [] ticks outcomes ≡ told ticks outcomes
+
+-- What a call with one access itself did is at this access.
+abbrev pub OneAccessIsToldAtItsPlace : Type 0
+OneAccessIsToldAtItsPlace =
+    (caller : ℕ) (ticks : List Tick) (access : Access) (first last : List AtomicStep) (middle : List Happening)
+    → All IsTick first → All IsTick last
+    → without_go is_go (map tick_of (first ++ At caller (Accesses access) ∷ last)) ≡ without_go is_go ticks
+    → told_around middle ticks (noted_of 0 (first ++ At caller (Accesses access) ∷ last))
+    ≡ happened_in first ++ (middle ++ happened_in last)
+
+-- What a call without an access itself did is at the end.
+abbrev pub NoAccessIsToldAtTheEnd : Type 0
+NoAccessIsToldAtTheEnd =
+    (ticks : List Tick) (steps : List AtomicStep) (middle : List Happening) → All IsTick steps
+    → without_go is_go (map tick_of steps) ≡ without_go is_go ticks
+    → told_around middle ticks (noted_of 0 steps) ≡ happened_in steps ++ middle
 
 -- The outcome of a tick by itself tells what its step did, too.
 abbrev pub OneOutcomeTellsItsStep : Type 0
@@ -147,8 +170,8 @@ WaitsJoin =
 -- Right fates join.
 abbrev pub RightFatesJoin : Type 0
 RightFatesJoin =
-    (filter : FilterRegisters) (most n m l : ℕ) (first later : List Mark) → AreRightFates filter most n first m
-    → AreRightFates filter most m later l → AreRightFates filter most n (first ++ later) l
+    (filter : FilterRegisters) (room : ℕ) (n m l : List (List ℕ)) (first later : List Mark) → AreRightFates filter room n first m
+    → AreRightFates filter room m later l → AreRightFates filter room n (first ++ later) l
 
 -- So does what an adapter receives.
 abbrev pub ReceptionsJoin : Type 0
@@ -156,8 +179,8 @@ ReceptionsJoin =
     (a b c : AdapterState) (first later : List Mark) → ReceivesRightly a first b → ReceivesRightly b later c
     → ReceivesRightly a (first ++ later) c
 
--- Right fates are right one by one, by counting.
-abbrev pub RightFatesAreCounted : Type 0
-RightFatesAreCounted =
-    (filter : FilterRegisters) (most buffered final : ℕ) (all : List Mark) → AreRightFates filter most buffered all final
-    → AreRightByCounting filter most buffered all
+-- Right fates are right one by one, by the frames that are in the buffer when a frame comes.
+abbrev pub FatesAreJudgedByTheBuffer : Type 0
+FatesAreJudgedByTheBuffer =
+    (filter : FilterRegisters) (room : ℕ) (buffered final : List (List ℕ)) (all : List Mark)
+    → AreRightFates filter room buffered all final → AreRightByList filter room buffered all

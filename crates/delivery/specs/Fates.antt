@@ -1,6 +1,5 @@
--- Which fate a frame meets, found by counting the frames in the receive packet buffer (our choice; the filter: "3.2.1 Packet Address
--- Filtering").
-use Rattle.std.specs.Prelude.{◌≡◌, ◌≤◌, ◌<◌, ◌+◌, ◌++◌, ℕ, List, [], ◌∷◌, length}
+-- Which fate a frame meets, by the frames in the receive packet buffer (our choice; the filter: "3.2.1 Packet Address Filtering").
+use Rattle.std.specs.Prelude.{◌≡◌, ◌≢◌, ◌≤◌, ◌<◌, ◌+◌, ◌++◌, ℕ, List, [], ◌∷◌, drop, length}
 use Rattle.std.specs.List.{flat_map}
 use Rattle.descriptors.specs.Frames.{IsLegal}
 use Rattle.rx_engine.specs.Arriving.{kept}
@@ -17,6 +16,7 @@ pub data Mark : Type 0 where
   -- the oldest frame left
   Left : Mark
 
+-- The mark of a happening, if it is at host k.
 abbrev pub mark_by : ℕ → Happening → List Mark
 mark_by k (Accepted host frame) = []
 mark_by k (Put host frame) = []
@@ -28,32 +28,28 @@ mark_by k (Given host socket frame) = []
 abbrev pub marks : ℕ → List Happening → List Mark
 marks k happened = flat_map (mark_by k) happened
 
--- What frames occupy in the receive packet buffer: each occupies as much as any other.
-abbrev pub occupied_by : List (List ℕ) → ℕ
-occupied_by frames = length frames
+-- The buffer contains these frames, and has room for one more. Its room is a number of frames.
+abbrev pub HasRoomFor : (room : ℕ) → (buffered : List (List ℕ)) → (frame : List ℕ) → Type 0
+HasRoomFor room buffered frame = length buffered < room
 
--- The buffer, which has room for `most`, and of which `count` is occupied, has room for one more frame, or lacks it.
-abbrev pub HasRoomFor : (most count : ℕ) → (frame : List ℕ) → Type 0
-HasRoomFor most count frame = count < most
+-- It has no room for one more.
+abbrev pub LacksRoomFor : (room : ℕ) → (buffered : List (List ℕ)) → (frame : List ℕ) → Type 0
+LacksRoomFor room buffered frame = room ≤ length buffered
 
-abbrev pub LacksRoomFor : (most count : ℕ) → (frame : List ℕ) → Type 0
-LacksRoomFor most count frame = most ≤ count
+-- The first fate that applies, if the buffer contains these frames. Off is never right.
+abbrev pub IsRightFate : FilterRegisters → (room : ℕ) → (buffered : List (List ℕ)) → List ℕ → Fate → Type 0
+IsRightFate filter room buffered frame Off = ⊥
+IsRightFate filter room buffered frame Illegal = ¬ (IsLegal frame)
+IsRightFate filter room buffered frame Filtered = IsLegal frame × (¬ (Passes (filter_of filter) frame))
+IsRightFate filter room buffered frame Missed = IsLegal frame × Passes (filter_of filter) frame × LacksRoomFor room buffered frame
+IsRightFate filter room buffered frame Stored = IsLegal frame × Passes (filter_of filter) frame × HasRoomFor room buffered frame
 
--- The first fate that applies. Off is never right.
-abbrev pub IsRightFate : FilterRegisters → (most count : ℕ) → List ℕ → Fate → Type 0
-IsRightFate filter most count frame Off = ⊥
-IsRightFate filter most count frame Illegal = ¬ (IsLegal frame)
-IsRightFate filter most count frame Filtered = IsLegal frame × (¬ (Passes (filter_of filter) frame))
-IsRightFate filter most count frame Missed = IsLegal frame × Passes (filter_of filter) frame × LacksRoomFor most count frame
-IsRightFate filter most count frame Stored = IsLegal frame × Passes (filter_of filter) frame × HasRoomFor most count frame
-
--- Each fate is right. At the start `count` of the buffer is occupied, and at the end `final`.
-abbrev pub AreRightFates : FilterRegisters → (most count : ℕ) → List Mark → (final : ℕ) → Type 0
-AreRightFates filter most count [] final = final ≡ count
-AreRightFates filter most count (Came frame fate ∷ later) final =
-    IsRightFate filter most count frame fate × AreRightFates filter most (count + occupied_by (kept fate frame)) later final
-AreRightFates filter most count (Left ∷ later) final =
-    (fewer : ℕ) × (count ≡ fewer + 1) × AreRightFates filter most fewer later final
+-- Each fate is right. The buffer contains `buffered` at the start and `final` at the end. The oldest frame can leave only if there is one.
+abbrev pub AreRightFates : FilterRegisters → (room : ℕ) → (buffered : List (List ℕ)) → List Mark → (final : List (List ℕ)) → Type 0
+AreRightFates filter room buffered [] final = final ≡ buffered
+AreRightFates filter room buffered (Came frame fate ∷ later) final =
+    IsRightFate filter room buffered frame fate × AreRightFates filter room (buffered ++ kept fate frame) later final
+AreRightFates filter room buffered (Left ∷ later) final = (buffered ≢ []) × AreRightFates filter room (drop 1 buffered) later final
 
 -- The same, fate by fate.
 
@@ -63,21 +59,18 @@ left_in [] = 0
 left_in (Came frame fate ∷ later) = left_in later
 left_in (Left ∷ later) = left_in later + 1
 
--- how many were stored
-abbrev pub stored_in : List Mark → ℕ
-stored_in [] = 0
-stored_in (Came frame fate ∷ later) = length (kept fate frame) + stored_in later
+-- the frames that were stored, in order
+abbrev pub stored_in : List Mark → List (List ℕ)
+stored_in [] = []
+stored_in (Came frame fate ∷ later) = kept fate frame ++ stored_in later
 stored_in (Left ∷ later) = stored_in later
 
--- A frame's fate is right if the packet buffer contains the frames of the start and those stored since, except those that left.
-pub record IsRightByCounting (filter : FilterRegisters) (most buffered : ℕ) (before : List Mark) (frame : List ℕ) (fate : Fate)
-    : Type 0 where
-  pub count : ℕ
-  pub counted : count + left_in before ≡ buffered + stored_in before
-  pub right : IsRightFate filter most count frame fate
+-- the frames of the start, then those stored since, without those that left
+abbrev pub buffered_after : (buffered : List (List ℕ)) → List Mark → List (List ℕ)
+buffered_after buffered before = drop (left_in before) (buffered ++ stored_in before)
 
--- So is each.
-abbrev pub AreRightByCounting : FilterRegisters → (most buffered : ℕ) → List Mark → Type 0
-AreRightByCounting filter most buffered all =
+-- Each frame's fate is right if the buffer contains these frames when it comes.
+abbrev pub AreRightByList : FilterRegisters → (room : ℕ) → (buffered : List (List ℕ)) → List Mark → Type 0
+AreRightByList filter room buffered all =
     (before later : List Mark) (frame : List ℕ) (fate : Fate) → all ≡ before ++ Came frame fate ∷ later
-    → IsRightByCounting filter most buffered before frame fate
+    → IsRightFate filter room (buffered_after buffered before) frame fate

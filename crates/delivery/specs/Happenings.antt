@@ -11,6 +11,7 @@ use Rattle.adapter.specs.declared.outcome.Outcome.TheVariants as outcome
 use Rattle.stations.specs.declared.tick.Tick.{Tick}
 use Rattle.stations.specs.declared.tick.Tick.TheVariants.{Deliver, Go, Step}
 
+-- What happened to a frame at a host.
 pub data Happening : Type 0 where
   -- a host was given a frame to send, and accepted it
   Accepted : (host : ℕ) (frame : List ℕ) → Happening
@@ -47,6 +48,19 @@ told (Step host kind ∷ ticks) (one ∷ outcomes) = told_of host one.outcome ++
 told (Deliver host ∷ ticks) [] = []
 told (Deliver host ∷ ticks) (one ∷ outcomes) = told_of host one.outcome ++ told ticks outcomes
 
+-- The same, with what the call itself did (`middle`) after the outcomes with number 0 and before the first other outcome.
+abbrev pub told_around : (middle : List Happening) → List Tick → List Numbered → List Happening
+told_around middle [] outcomes = middle
+told_around middle (Go ∷ ticks) outcomes = told_around middle ticks outcomes
+told_around middle (Step host kind ∷ ticks) [] = middle
+told_around middle (Step host kind ∷ ticks) (one ∷ outcomes) =
+    if one.accesses == 0 then told_of host one.outcome ++ told_around middle ticks outcomes
+    else middle ++ told (Step host kind ∷ ticks) (one ∷ outcomes)
+told_around middle (Deliver host ∷ ticks) [] = middle
+told_around middle (Deliver host ∷ ticks) (one ∷ outcomes) =
+    if one.accesses == 0 then told_of host one.outcome ++ told_around middle ticks outcomes
+    else middle ++ told (Deliver host ∷ ticks) (one ∷ outcomes)
+
 -- a tick by itself has one outcome
 abbrev pub told_alone : Tick → List Numbered → List Happening
 told_alone tick [] = []
@@ -54,10 +68,12 @@ told_alone tick (one ∷ outcomes) = told_of (tick_host tick) one.outcome
 
 -- What atomic steps do.
 
+-- What happened in an atomic step.
 abbrev pub happened_by : AtomicStep → List Happening
 happened_by (At host event) = told_of host (outcome_of_event event)
 happened_by (Idles tick) = []
 
+-- What happened in atomic steps, in order.
 abbrev pub happened_in : List AtomicStep → List Happening
 happened_in steps = flat_map happened_by steps
 
@@ -67,6 +83,7 @@ happened_in steps = flat_map happened_by steps
 abbrev pub of_host : {T : Type 0} → (k host : ℕ) → List T → List T
 of_host k host some = if k == host then some else []
 
+-- The frame that host k accepted in this happening, if any, as a list.
 abbrev pub accepted_in_one : ℕ → Happening → List (List ℕ)
 accepted_in_one k (Accepted host frame) = of_host k host (frame ∷ [])
 accepted_in_one k (Put host frame) = []
@@ -74,6 +91,7 @@ accepted_in_one k (Reached host frame fate) = []
 accepted_in_one k (Moved host) = []
 accepted_in_one k (Given host socket frame) = []
 
+-- The frame that host k put on its wire in this happening, if any, as a list.
 abbrev pub put_by : ℕ → Happening → List (List ℕ)
 put_by k (Accepted host frame) = []
 put_by k (Put host frame) = of_host k host (frame ∷ [])
@@ -81,6 +99,7 @@ put_by k (Reached host frame fate) = []
 put_by k (Moved host) = []
 put_by k (Given host socket frame) = []
 
+-- The frame that reached host k in this happening, if any, as a list.
 abbrev pub reached_by : ℕ → Happening → List (List ℕ)
 reached_by k (Accepted host frame) = []
 reached_by k (Put host frame) = []
@@ -96,6 +115,7 @@ stored_by k (Reached host frame fate) = of_host k host (kept fate frame)
 stored_by k (Moved host) = []
 stored_by k (Given host socket frame) = []
 
+-- The frame that a socket of host k returned in this happening, if any, as a list.
 abbrev pub given_in_one : (k socket : ℕ) → Happening → List (List ℕ)
 given_in_one k s (Accepted host frame) = []
 given_in_one k s (Put host frame) = []
@@ -125,23 +145,30 @@ toward_by wires k (Reached host frame fate) = []
 toward_by wires k (Moved host) = []
 toward_by wires k (Given host socket frame) = []
 
+-- The frames that host k accepted, in order.
 abbrev pub accepted : ℕ → List Happening → List (List ℕ)
 accepted k happened = flat_map (accepted_in_one k) happened
 
+-- The frames that host k put on its wire, in order.
 abbrev pub put : ℕ → List Happening → List (List ℕ)
 put k happened = flat_map (put_by k) happened
 
+-- The frames that reached host k, in order.
 abbrev pub reached : ℕ → List Happening → List (List ℕ)
 reached k happened = flat_map (reached_by k) happened
 
+-- The frames that host k's adapter stored, in order.
 abbrev pub stored : ℕ → List Happening → List (List ℕ)
 stored k happened = flat_map (stored_by k) happened
 
+-- The frames that this socket of host k returned, in order.
 abbrev pub given : (k socket : ℕ) → List Happening → List (List ℕ)
 given k socket happened = flat_map (given_in_one k socket) happened
 
+-- The number of frames that host k's adapter missed.
 abbrev pub missed : ℕ → List Happening → ℕ
 missed k happened = sum_by (missed_of k) happened
 
+-- The frames that other hosts put on host k's wire, in order.
 abbrev pub toward : (wires : ℕ → Option ℕ) → (k : ℕ) → List Happening → List (List ℕ)
 toward wires k happened = flat_map (toward_by wires k) happened

@@ -8,7 +8,7 @@ use Rattle.adapter.specs.declared.register.Register.TheVariants.{Receive, Transm
 use Rattle.adapter.specs.declared.register.RingRegister.TheVariants.{Tail}
 use Rattle.bus.specs.declared.event.Access.{Access}
 use Rattle.bus.specs.declared.event.Access.TheVariants.{Loads, Reads, Stores, Writes}
-use Rattle.delivery.specs.Fates.{AreRightFates, Mark, occupied_by}
+use Rattle.delivery.specs.Fates.{AreRightFates, Mark}
 
 -- RDT or TDT
 abbrev pub IsTail : Register → Type 0
@@ -26,6 +26,9 @@ LeavesReception (Stores address bytes) = ⊤
 
 -- From one state of an adapter to another its filter and its room stay, and the fates of what came are right.
 pub record ReceivesRightly (a : AdapterState) (all : List Mark) (b : AdapterState) : Type 0 where
+  -- The registers of the receive filter, RCTL among them, don't change.
   pub filter : b.filter ≡ a.filter
+  -- RXA of PBA doesn't change.
   pub kilobytes : b.receive_kilobytes ≡ a.receive_kilobytes
-  pub fates : AreRightFates a.filter (room a) (occupied_by a.receiver.buffer) all (occupied_by b.receiver.buffer)
+  -- Each frame that came met the right fate, by the frames that were in the packet buffer.
+  pub fates : AreRightFates a.filter (room a) a.receiver.buffer all b.receiver.buffer

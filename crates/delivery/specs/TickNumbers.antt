@@ -12,5 +12,6 @@ numbers (Go ∷ ticks) i n = numbers ticks (i + 1) n
 numbers (Step host kind ∷ ticks) i n = min i n ∷ numbers ticks i n
 numbers (Deliver host ∷ ticks) i n = min i n ∷ numbers ticks i n
 
+-- The number of accesses before each outcome.
 abbrev pub noted_numbers : List Numbered → List ℕ
 noted_numbers outcomes = map (λ (one : Numbered). one.accesses) outcomes

@@ -24,6 +24,7 @@ waiting_after_step start host (At other event) waiting =
     else waiting ++ come_to (is_same_wire (wire_at start host) (wire_at start other)) (past_of_event event).put
 waiting_after_step start host (Idles tick) waiting = waiting
 
+-- The frames that wait at a host's end after these steps, by those that waited before them.
 abbrev pub waiting_behind : (start : List StationState) (host : ℕ) → List AtomicStep → List (List ℕ) → List (List ℕ)
 waiting_behind start host [] waiting = waiting
 waiting_behind start host (step ∷ later) waiting = waiting_behind start host later (waiting_after_step start host step waiting)
@@ -34,7 +35,11 @@ waiting_at start steps host = waiting_behind start host steps (backlog_at start 
 
 -- At another end of the host's wire as many frames wait as may.
 pub record WireIsFull (start : List StationState) (steps : List AtomicStep) (host : ℕ) : Type 0 where
+  -- the number of the host at the other end
   pub other : ℕ
+  -- It isn't the same host.
   pub is_another : other ≢ host
+  -- Both hosts are on the same wire.
   pub on_wire : is_same_wire (wire_at start other) (wire_at start host) ≡ true
+  -- The other end has no room for one more frame.
   pub full : end_frames ≤ length (waiting_at start steps other)

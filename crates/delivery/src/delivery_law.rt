@@ -1,9 +1,10 @@
 // Laws of what happens to frames.
 
-ghost use Rattle.delivery.specs.DeliveryLaws.{DeliveriesJoin, FatesAreRight, LentCallsAreTold, OneOutcomeTellsItsStep};
-ghost use Rattle.delivery.specs.DeliveryLaws.{OneTickLeads, OutcomesTellSteps, ReceptionsJoin, RightFatesAreCounted};
-ghost use Rattle.delivery.specs.DeliveryLaws.{RightFatesJoin, StepsMoveFrames, TailWritesLeaveReception, WaitsJoin};
-ghost use Rattle.delivery.specs.DeliveryLaws.{WiresDecideToward};
+ghost use Rattle.delivery.specs.DeliveryLaws.{DeliveriesJoin, FatesAreJudgedByTheBuffer, FatesAreRight};
+ghost use Rattle.delivery.specs.DeliveryLaws.{LentCallsAreTold, NoAccessIsToldAtTheEnd, OneAccessIsToldAtItsPlace};
+ghost use Rattle.delivery.specs.DeliveryLaws.{OneOutcomeTellsItsStep, OneTickLeads, OnlyTicksAreTold};
+ghost use Rattle.delivery.specs.DeliveryLaws.{OutcomesTellSteps, ReceptionsJoin, RightFatesJoin, StepsMoveFrames};
+ghost use Rattle.delivery.specs.DeliveryLaws.{TailWritesLeaveReception, WaitsJoin, WiresDecideToward};
 
 use stations::Observer;
 
@@ -24,6 +25,16 @@ pub fn lent_calls_are_told<O: Observer>()
     ensures { LentCallsAreTold O.Observer }
 {}
 
+/// `told_around` adds what a call itself did to the happenings of the call's ticks.
+/// - `nothing`: if the call itself did nothing, the happenings are those of its ticks.
+/// - `access`: if the call made one access, what it did is between the ticks before this access and the ticks after it.
+/// - `none`: if the call made no access, what it did is after all its ticks.
+pub fn calls_say_at_their_access()
+    ensures nothing { OnlyTicksAreTold }
+    ensures access { OneAccessIsToldAtItsPlace }
+    ensures none { NoAccessIsToldAtTheEnd }
+{}
+
 /// What atomic steps do to the frames of each host. Those that it put, stored and missed are those of
 /// its past. The frames that waited at its end, and then those that other hosts on its wire put, in
 /// order, have reached it in this order or wait there. Hosts and wires stay, and no frame is accepted or
@@ -35,7 +46,7 @@ pub fn steps_move_frames()
 /// Fates are right while RCTL.EN is 1 and a host loads, stores, reads registers, and writes none but RDT
 /// and TDT.
 /// - `fates`: each frame that reaches it meets the first fate that applies, by the filter, which stays, and
-///   by how many frames are in the packet buffer, whose room stays.
+///   by the frames in the packet buffer, whose room stays.
 /// - `tails`: writes of RDT and TDT are among these accesses.
 pub fn fates_are_right()
     ensures fates { FatesAreRight }
@@ -57,8 +68,8 @@ pub fn deliveries_join()
     ensures receptions { ReceptionsJoin }
 {}
 
-/// Fates that are right are right one by one: of a frame that came the packet buffer had the frames of
-/// the start and those stored since, but for those that left since.
-pub fn fates_are_judged_by_counting()
-    ensures { RightFatesAreCounted }
+/// Fates that are right are right one by one, by the frames in the packet buffer when a frame comes. These are the
+/// frames of the start, then the frames stored since, without those that left since.
+pub fn fates_are_judged_by_the_buffer()
+    ensures { FatesAreJudgedByTheBuffer }
 {}

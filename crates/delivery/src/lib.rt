@@ -9,6 +9,6 @@ pub use answers_law::{
     idle_ticks_answer_nothing, tails_offer_slots, ticks_are_answered_by_counting,
 };
 pub use delivery_law::{
-    deliveries_join, fates_are_judged_by_counting, fates_are_right, lent_calls_are_told,
-    outcomes_tell_steps, steps_move_frames,
+    calls_say_at_their_access, deliveries_join, fates_are_judged_by_the_buffer, fates_are_right,
+    lent_calls_are_told, outcomes_tell_steps, steps_move_frames,
 };

@@ -6,7 +6,7 @@ use Rattle.std.specs.Io.KnownBytes.{Appends}
 use Rattle.std.proofs.KnownBytes.{Appends-nil, Appends-trans}
 use Rattle.std.proofs.lemmas.Grind.{common_steps}
 use Rattle.std.proofs.lemmas.List.{append-nil, map-append}
-use Rattle.std.specs.Prelude.{◌↔◌, if◌then◌else◌}
+use Rattle.std.specs.Prelude.{⊤, ◌↔◌, if◌then◌else◌}
 use Rattle.descriptors.specs.Frames.{is_sendable, longest_frame, shortest_sent}
 use Rattle.driver.specs.declared.transmit.SendError.TheVariants.{RingFull, TooLong, TooShort}
 use Rattle.dma_memory.specs.Layout.{size_of}
@@ -20,10 +20,12 @@ use Rattle.driver_law.specs.Calls.{FlowsTo}
 use Rattle.driver_law.proofs.Stretches.{flows_join}
 use Rattle.driver.specs.SendSteps.{SendAnswer, accepted_by}
 use Rattle.driver.specs.declared.interrupt.Handled.{Handled}
-use Rattle.driver.specs.declared.interrupt.Handled.TheVariants as answers
-use Rattle.packet_socket.specs.HostCalls.{Given, HostFlowsTo, HostGoesTo, HostHandles, HostMoment, HostTransmits, IsReadyHost, ReturnsBy}
-use Rattle.packet_socket.specs.HostCalls.{HostInWorld, HostDid, WhereReadyHost, did, given_first, in_world}
-use Rattle.packet_socket.proofs.Stretches.{host-happens, host-join, interval-of}
+use Rattle.packet_socket.specs.HostActs.{OverBus, CallsOver, CallsUp, Effect, Ends, PassesStages, CallStages, Then}
+use Rattle.packet_socket.specs.HostCalls.{Given, HostFlowsTo, HostGoesTo, HostMoment, IsReadyHost}
+use Rattle.packet_socket.specs.HostCalls.{HostInWorld, HostDid, did, in_world}
+use Rattle.packet_socket.specs.HostEffects.{InterruptEffect, RecvEffect, SendEffect, given_by}
+use Rattle.packet_socket.proofs.Effects.{Maps, flows-changed, interrupt-map, recv-map, send-map}
+use Rattle.packet_socket.proofs.Stretches.{host-happens, host-join}
 use Rattle.pcap_trace.specs.Format.{packet_of}
 use Rattle.drive.specs.Exchanging.{ExchangeMoment, Exchanges, HostFlows, exchange_at, accepted_of, given_of, host_moment}
 use Rattle.drive.specs.Numbering.{next_number, packets_of}
@@ -105,60 +107,61 @@ too-short frame short = grind (arith, common_steps)
 too-long : (frame : List ℕ) → longest_frame < length frame → is_sendable frame ≡ false
 too-long frame long = grind (arith, common_steps)
 
+-- The stages of a call are reported as one interval.
+passes-reports : {B : Type 0} (bus : Ghosts B) → Composes bus.happened bus.lent_stays → (stages : CallStages) (old new : B) (past : Past)
+    → PassesStages bus stages old new past → bus.happened old new past
+passes-reports {B} bus composes Ends old new past it =
+    subst (λ (p : Past). bus.happened old new p) (sym it.1)
+    (subst (λ (b : B). bus.happened old b nothing) (sym it.0) (composes.stays old))
+passes-reports {B} bus composes (Then made Holds later) old new past it =
+    subst (λ (p : Past). bus.happened old new p) (sym it.whole)
+    (composes.joins old it.middle new it.before it.behind it.reports
+    (passes-reports bus composes later it.middle new it.behind it.later))
+
+-- What flows in a call, whatever its effect is.
+effect-flows : {B : Type 0} (bus : Ghosts B) → Composes bus.happened bus.lent_stays → (old new : HostMoment B) (received : List (List ℕ))
+    (accepted : List (List ℕ)) (Does : Effect) → Maps Does → bus.honest new.bus
+    → Does old.host new.host (OverBus bus true (map given_of received) accepted old new) (bus.world old.bus)
+    → HostFlows bus accepted received old new
+effect-flows bus composes old new received accepted Does maps honest does =
+    (maps (HostFlows bus accepted received old new) old.host new.host (bus.world old.bus)
+    (OverBus bus true (map given_of received) accepted old new) (λ flows act. ⊤)
+    (λ act it. (
+      record {
+        honest = honest;
+        taken = act.taken;
+        past = it.past;
+        reports = passes-reports bus composes act.stages old.bus new.bus it.past it.stages;
+        flows = record {
+          sizes = it.changed.sizes;
+          driver = flows-changed act.reads_icr true _ _ _ _ it.changed.driver;
+          accounts = it.changed.accounts;
+        };
+      },
+      tt,
+    )) does).0
+
 -- A frame is handed to the driver.
-pub exchange-sends : {B : Type 0} (bus : Ghosts B) (old new : HostMoment B) (frame : List ℕ) (result : SendAnswer) (text : Option
-    (List ℕ))
-    (number : ℕ)
-    → Keeps bus old.bus new.bus → new.host.driver.layout ≡ old.host.driver.layout → HostTransmits bus frame result old new
+pub exchange-sends : {B : Type 0} (bus : Ghosts B) → Composes bus.happened bus.lent_stays → (old new : HostMoment B) (frame : List ℕ)
+    (result : SendAnswer) (text : Option (List ℕ)) (number : ℕ)
+    → Keeps bus old.bus new.bus → new.host.driver.layout ≡ old.host.driver.layout
+    → CallsUp bus [] (accepted_by result frame) old new (SendEffect frame result)
     → Exchanges bus (accepted_by result frame) (exchange_at old.bus old.host text number) (exchange_at new.bus new.host text number)
-exchange-sends bus old new frame result text number keeps layout transmits = record {
+exchange-sends bus composes old new frame result text number keeps layout sends = record {
   keeps = keeps;
   layout = layout;
   received = [];
   written = Appends-nil text;
   count = refl;
-  flows = λ is.
-      let it = transmits is in
-      record {
-        honest = keeps.honest is.honest;
-        taken = [];
-        past = it.sends.ran.past;
-        reports = it.sends.ran.reports;
-        flows = interval-of bus (FlowsTo true) old new (did [] [] (accepted_by result frame)) it.sends.ran.past it.sends.ran.goes.flows
-            it.sockets;
-      };
+  flows = λ is. effect-flows bus composes old new [] (accepted_by result frame) (SendEffect frame result) (send-map frame result)
+      (keeps.honest is.honest) (sends is);
 }
-
-handles-flows : {B : Type 0} (bus : Ghosts B) → Composes bus.happened bus.lent_stays → (old new : HostMoment B) (result : Handled)
-    → bus.honest new.bus → HostHandles bus result true old new → HostFlows bus [] [] old new
-handles-flows bus composes old new answers.NotMine honest it =
-    let asked = it.asked in
-    record {
-      honest = honest;
-      taken = [];
-      past = asked.reads.past;
-      reports = subst (λ b. bus.happened old.bus b asked.reads.past) (sym it.then_does.driver.still) asked.reads.reports;
-      flows = interval-of bus (FlowsTo true) old new (did [] [] []) asked.reads.past it.then_does.driver.flows it.then_does.sockets;
-    }
-handles-flows bus composes old new (answers.Handled n) honest it =
-    let asked = it.asked in
-    let does = it.then_does in
-    let past = joined asked.reads.past does.driver.works.ran.past in
-    record {
-      honest = honest;
-      taken = Rattle.driver.specs.Parts.joined_frames does.taken;
-      past = past;
-      reports = composes.joins old.bus asked.after_read new.bus asked.reads.past does.driver.works.ran.past asked.reads.reports
-          does.driver.works.ran.reports;
-      flows = interval-of bus (FlowsTo true) old new (did (Rattle.driver.specs.Parts.joined_frames does.taken) [] []) past
-          does.driver.flows does.sockets;
-    }
 
 -- An interrupt is handled.
 pub exchange-handles : {B : Type 0} (bus : Ghosts B) → Composes bus.happened bus.lent_stays → (old new : HostMoment B) (result : Handled)
     (text : Option (List ℕ)) (number : ℕ)
     → Keeps bus old.bus new.bus → new.host.driver.layout ≡ old.host.driver.layout
-    → WhereReadyHost bus old new (HostHandles bus result)
+    → CallsOver bus [] [] old new (InterruptEffect result)
     → Exchanges bus [] (exchange_at old.bus old.host text number) (exchange_at new.bus new.host text number)
 exchange-handles bus composes old new result text number keeps layout handles = record {
   keeps = keeps;
@@ -166,32 +169,25 @@ exchange-handles bus composes old new result text number keeps layout handles = 
   received = [];
   written = Appends-nil text;
   count = refl;
-  flows = λ is. handles-flows bus composes old new result (keeps.honest is.honest) (handles true is);
+  flows = λ is. effect-flows bus composes old new [] [] (InterruptEffect result) (interrupt-map result) (keeps.honest is.honest)
+      (handles true is);
 }
 
 -- A frame is returned by the socket, and written.
-pub exchange-receives : {B : Type 0} (bus : Ghosts B) (old new : HostMoment B) (size : ℕ) (into : List ℕ) (text text' : Option (List ℕ))
-    (number : ℕ)
+pub exchange-receives : {B : Type 0} (bus : Ghosts B) → Composes bus.happened bus.lent_stays → (old new : HostMoment B) (size : ℕ)
+    (into : List ℕ) (text text' : Option (List ℕ)) (number : ℕ)
     → Keeps bus old.bus new.bus → new.host.driver.layout ≡ old.host.driver.layout
-    → WhereReadyHost bus old new (ReturnsBy bus (given_first 0 into) (Ok size))
+    → CallsOver bus (given_by 0 (Ok (take size into))) [] old new (RecvEffect 0 (Ok (take size into)))
     → Appends text text' (packet_of (record { time = number; frame = take size into }))
     → Exchanges bus [] (exchange_at old.bus old.host text number) (exchange_at new.bus new.host text' (next_number number))
-exchange-receives bus old new size into text text' number keeps layout receives written = record {
+exchange-receives bus composes old new size into text text' number keeps layout receives written = record {
   keeps = keeps;
   layout = layout;
   received = take size into ∷ [];
   written = subst (Appends text text') (sym (append-nil (packet_of (record { time = number; frame = take size into })))) written;
   count = refl;
-  flows = λ is.
-      let it = (receives true is).ran in
-      record {
-        honest = keeps.honest is.honest;
-        taken = [];
-        past = it.ran.past;
-        reports = it.ran.reports;
-        flows = interval-of bus (FlowsTo true) old new (did [] (given_of (take size into) ∷ []) []) it.ran.past it.ran.goes.flows
-            it.sockets;
-      };
+  flows = λ is. effect-flows bus composes old new (take size into ∷ []) [] (RecvEffect 0 (Ok (take size into)))
+      (recv-map 0 (Ok (take size into))) (keeps.honest is.honest) (receives true is);
 }
 
 -- The rings and buffers still lie in memory.

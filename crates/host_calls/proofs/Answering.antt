@@ -1,6 +1,5 @@
 -- What an interrupt handler answers, put together.
-use Rattle.std.proofs.Common.{◌≡◌, ◌⊎◌, ◌++◌, ◌∷◌, [], ℕ, true, List, Option, inl, inr, refl, sym, ap, subst, ◌∙◌, append_assoc}
-use Rattle.std.specs.Prelude.{◌↔◌}
+use Rattle.std.proofs.Common.{◌≡◌, ◌++◌, ◌∷◌, [], ℕ, List, Option, inl, inr, refl, sym, ap, subst, ◌∙◌, append_assoc}
 use Rattle.std.specs.List.{All}
 use Rattle.registers.specs.Bits.{HasBit, Meet, union}
 use Rattle.registers.specs.Laws.{HasBit-union}
@@ -21,21 +20,23 @@ use Rattle.bus.specs.declared.event.Event.TheVariants.{Accesses}
 use Rattle.stations.specs.AtomicSteps.{At, AtomicStep}
 use Rattle.stations.specs.Stations.{StationState, world_at}
 use Rattle.stations.proofs.HostTrails.{steps-alone, trail-of}
-use Rattle.stations.specs.AtomicRuns.{IsTick, LeadsTo, events_at}
+use Rattle.stations.specs.AtomicRuns.{IsTick, LeadsTo, events_at, past_at}
 use Rattle.stations.specs.Retelling.{Retells, world_here}
 use Rattle.stations.specs.declared.lent_bus.LentBus.{LentBus}
 use Rattle.stations.specs.declared.observer.Observer.{Ghosts as OfObserver}
 use Rattle.driver.specs.declared.interrupt.Handled.{Handled}
 use Rattle.driver.specs.declared.interrupt.Handled.TheVariants.{NotMine}
 use Rattle.driver.specs.declared.interrupt.Handled.TheVariants as answers
-use Rattle.packet_socket.specs.HostCalls.{HostHandles, HostHandlesBy, HostReady, driver_at, host_at}
-use Rattle.driver.specs.HandlerSteps.{Asked}
+use Rattle.packet_socket.specs.HostCalls.{Given, HostReady}
+use Rattle.packet_socket.specs.HostEffects.{InterruptEffect}
 use Rattle.packet_socket.specs.HostState.{HostState}
 use Rattle.host_calls.proofs.FirstAccess.{first-access}
 use Rattle.host_calls.proofs.QuietEvents.{common, leaves-alone, meets, quiet-events}
 use Rattle.host_calls.proofs.SilentEvents.{did-or_silent, silent-events}
-use Rattle.host_calls.specs.LentCalls.{lent}
-use Rattle.host_calls.specs.InterruptCauses.{AnswersCauses, DidSomething, ReadsIcrFirst, TellsCauses}
+use Rattle.host_calls.specs.CallsInSteps.{InSteps}
+use Rattle.host_calls.specs.CausesLaws.{AnswerTells}
+use Rattle.host_calls.specs.ConnectedHosts.{ConnectedHost}
+use Rattle.host_calls.specs.InterruptCauses.{HadCause, ReadsIcrFirst, TellsCauses, WasQuiet}
 
 -- A read of ICR answers the recorded causes.
 icr-answers : (adapter : AdapterState) → answer_at ICR adapter ≡ adapter.causes.recorded
@@ -57,7 +58,8 @@ sums caller early a b causes run =
 -- No handled cause was read.
 pub quiet-answer : (caller : ℕ) (early : List AtomicStep) (a b : List StationState) (causes oldest_receive oldest_transmit : ℕ)
     → EarlyRun caller early a b causes → Sound oldest_receive oldest_transmit (world_at a caller)
-    → ¬ (Meet causes handled_causes) → AnswersCauses NotMine caller (world_at a caller).adapter early
+    → ¬ (Meet causes handled_causes)
+    → WasQuiet caller (world_at a caller).adapter early
 quiet-answer caller early a b causes r t run sound none =
     let events = events_at caller early in
     let recorded = (world_at a caller).adapter.causes.recorded in
@@ -76,7 +78,7 @@ quiet-answer caller early a b causes r t run sound none =
 -- One was.
 pub mine-answer : (caller : ℕ) (early : List AtomicStep) (a b : List StationState) (causes : ℕ) → EarlyRun caller early a b causes
     → Meet causes handled_causes
-    → Meet (world_at a caller).adapter.causes.recorded handled_causes ⊎ DidSomething caller early
+    → HadCause caller (world_at a caller).adapter early
 mine-answer caller early a b causes run some =
     let events = events_at caller early in
     let recorded = (world_at a caller).adapter.causes.recorded in
@@ -93,55 +95,45 @@ mine-answer caller early a b causes run some =
       ]
     ]
 
-by-answer : {O : Type 0} {g : OfObserver O} (a m : LentBus O g) (h h' : HostState) (asked : Asked lent true
-    (driver_at lent (host_at a h))) (result : Handled)
-    (early : List AtomicStep) (b : List StationState)
-    → HostReady h (world_here a) → HostHandlesBy lent result (host_at a h) (host_at m h') asked
-    → EarlyRun a.host early a.stations.now b asked.causes
-    → AnswersCauses result a.host (world_here a).adapter early
-by-answer a m h h' asked NotMine early b ready behind run =
-    quiet-answer a.host early a.stations.now b asked.causes _ _ run ready.ready.law.sound
-    behind.driver.none
-by-answer a m h h' asked (answers.Handled taken) early b ready behind run =
-    mine-answer a.host early a.stations.now b asked.causes run behind.driver.some
-
--- The answer is that of the causes read.
-by-causes : {O : Type 0} {g : OfObserver O} (a m : LentBus O g) (h h' : HostState) (asked : Asked lent true
-    (driver_at lent (host_at a h))) (result : Handled)
-    → HostHandlesBy lent result (host_at a h) (host_at m h') asked
-    → ((result ≡ NotMine) ↔ (¬ (Meet asked.causes handled_causes)))
-by-causes a m h h' asked NotMine behind = (λ is. behind.driver.none, λ none. refl)
-by-causes a m h h' asked (answers.Handled taken) behind = (λ is. absurd (cc), λ none. absurd (none behind.driver.some))
-
-pub calls-tell_causes : {O : Type 0} {g : OfObserver O} (a m b : LentBus O g) (h h' : HostState) (result : Handled) (past : Past)
-    (more : List Access)
-    → HostReady h (world_here a) → (handles : HostHandles lent result true (host_at a h) (host_at m h')) → (retells : Retells a b past)
-    → past.accesses ≡ Reads ICR handles.asked.causes ∷ more
-    → TellsCauses a.host retells.steps handles.asked.causes (world_here a).adapter result
-calls-tell_causes a m b h h' result past more ready handles retells reads =
-    let only = sym (ap (λ (p : Past). p.accesses) retells.past_is) ∙ reads in
-    let causes = handles.asked.causes in
-    let first = first-access a.host retells.steps a.stations.now b.stations.now (Reads ICR causes) more retells.leads only in
+-- Whatever the call is: if its first access reads ICR, its steps tell what the read showed.
+pub steps-tell_causes : (caller : ℕ) (steps : List AtomicStep) (a b : List StationState) (causes : ℕ) (more : List Access) (h : HostState)
+    → HostReady h (world_at a caller) → LeadsTo caller steps a b → (past_at caller steps).accesses ≡ Reads ICR causes ∷ more
+    → TellsCauses caller steps causes (world_at a caller).adapter
+steps-tell_causes caller steps a b causes more h ready leads reads =
+    let first = first-access caller steps a b (Reads ICR causes) more leads reads in
+    let run : EarlyRun caller first.early a first.middle causes = record {
+      ticks = first.ticks;
+      leads = first.leads;
+      answered = first.answered ∙ icr-answers (world_at first.middle caller).adapter;
+    } in
     record {
       early = first.early;
       first = record { later = first.later; split = first.split; ticks = first.ticks };
-      not_mine = by-causes a m h h' handles.asked result handles.then_does;
-      answer =
-          by-answer a m h h' handles.asked result first.early first.middle ready handles.then_does
-          (record {
-            ticks = first.ticks;
-            leads = first.leads;
-            answered = first.answered ∙ icr-answers (world_at first.middle a.host).adapter;
-          });
+      quiet = quiet-answer caller first.early a first.middle causes _ _ run ready.ready.law.sound;
+      mine = mine-answer caller first.early a first.middle causes run;
     }
 
-pub answers-tell_causes : {O : Type 0} {g : OfObserver O} (a m : LentBus O g) (h h' : HostState) (result : Handled)
-    → HostReady h (world_here a)
-    → (handles : HostHandles lent result true (host_at a h) (host_at m h'))
-    → TellsCauses a.host handles.asked.reads.reports.steps handles.asked.causes (world_here a).adapter result
-answers-tell_causes a m h h' result ready handles =
-    let reads = handles.asked.reads in
-    calls-tell_causes a m handles.asked.after_read h h' result reads.past [] ready handles reads.reports reads.only
+pub calls-tell_causes : {O : Type 0} {g : OfObserver O} (a b : LentBus O g) (h : HostState) (causes : ℕ) (past : Past)
+    (more : List Access) → HostReady h (world_here a) → (retells : Retells a b past) → past.accesses ≡ Reads ICR causes ∷ more
+    → TellsCauses a.host retells.steps causes (world_here a).adapter
+calls-tell_causes a b h causes past more ready retells reads =
+    steps-tell_causes a.host retells.steps a.stations.now b.stations.now causes more h ready retells.leads
+    (sym (ap (λ (p : Past). p.accesses) retells.past_is) ∙ reads)
+
+pub answers-tell_causes : (caller : ℕ) (given : List Given) (steps : List AtomicStep) (result : Handled) (old new : ConnectedHost)
+    → InterruptEffect result old.host new.host (InSteps caller given steps old new) (world_at old.stations caller)
+    → AnswerTells result caller steps (world_at old.stations caller).adapter
+answers-tell_causes caller given steps NotMine old new it =
+    let tells = it.runs.icr it.causes [] refl in
+    record { causes = it.causes; tells = tells; not_mine = (λ is. it.none, λ none. refl); answer = tells.quiet it.none }
+answers-tell_causes caller given steps (answers.Handled n) old new it =
+    let tells = it.runs.icr it.causes _ refl in
+    record {
+      causes = it.causes;
+      tells = tells;
+      not_mine = (λ is. absurd (cc), λ none. absurd (none it.some));
+      answer = tells.mine it.some;
+    }
 
 pub first-reads_stay : (caller : ℕ) (steps early more : List AtomicStep) (causes : ℕ) → ReadsIcrFirst caller steps early causes
     → ReadsIcrFirst caller (steps ++ more) early causes

@@ -1,6 +1,6 @@
 -- The calls of the host in a drain.
 use Rattle.std.proofs.Common.{◌≡◌, ◌≢◌, ◌≤◌, ◌<◌, ◌+◌, ◌++◌, ◌∷◌, [], ℕ, Bool, zero, suc, None, List, bit_and, length, map, min}
-use Rattle.std.proofs.Common.{refl, ap, subst, ◌∙◌, arith, if◌then◌else◌, ⊎_elim}
+use Rattle.std.proofs.Common.{refl, ap, subst, take, ◌∙◌, arith, if◌then◌else◌, ⊎_elim}
 use Rattle.std.specs.List.{All}
 use Rattle.std.specs.Prelude.{Err, Ok, Result}
 use Rattle.std.specs.Int.Bits.{and_zero_l}
@@ -14,14 +14,15 @@ use Rattle.adapter.specs.World.{World}
 use Rattle.adapter.specs.declared.offsets.TheConstants.{ICR}
 use Rattle.bus.specs.TickGroups.{without_go}
 use Rattle.bus.specs.Trails.{Trail, past_of}
-use Rattle.bus.specs.declared.event.Access.{Access}
 use Rattle.bus.specs.declared.event.Access.TheVariants.{Reads}
 use Rattle.bus.specs.declared.event.Event.{Event}
 use Rattle.bus.specs.declared.event.Event.TheVariants.{Accesses}
 use Rattle.dma_memory.specs.Layout.{Counts}
 use Rattle.driver.specs.declared.interrupt.Handled.{Handled}
-use Rattle.driver.specs.declared.receiver.Received.{Received}
-use Rattle.driver.specs.Parts.{joined_frames}
+use Rattle.driver.specs.declared.interrupt.Handled.TheVariants.{NotMine}
+use Rattle.driver.specs.declared.interrupt.Handled.TheVariants as answers
+use Rattle.packet_socket.specs.HostEffects.{InterruptEffect, RecvEffect, given_by}
+use Rattle.driver.specs.declared.receiver.Received.{Received as Entry}
 use Rattle.stations.specs.AtomicSteps.{At, AtomicStep, tick_of}
 use Rattle.stations.specs.ToldTicks.{TickTold}
 use Rattle.stations.specs.Stations.{StationState, world_at}
@@ -32,10 +33,15 @@ use Rattle.packet_socket.specs.HostState.{HostState, all_of, queue_at}
 use Rattle.packet_socket.specs.HostCalls.{Given, HostReady, did, given_for}
 use Rattle.packet_socket.specs.declared.receive.RecvError.{RecvError}
 use Rattle.packet_socket.specs.declared.receive.RecvError.TheVariants.{Empty, NoSocket}
-use Rattle.host_calls.specs.InterruptCauses.{ReadsIcrFirst}
-use Rattle.host_calls.specs.CallAnswers.{AnswersRecv, InterruptRuns, given_by}
-use Rattle.host_calls.specs.CallsOfHosts.{CallRuns, HostRuns, IsOfDriver}
-use Rattle.host_calls.specs.ConnectedHosts.{connected, played_call}
+use Rattle.host_calls.specs.CallsInSteps.{Calls, InSteps}
+use Rattle.host_calls.specs.InterruptCauses.{ReadsIcrFirst, TellsCauses}
+use Rattle.packet_socket.specs.CallEffects.{EffectOf, OfAnswer, Receiving, answer_in, given_in, interrupted_in, received_in}
+use Rattle.packet_socket.specs.declared.call.HostAnswer.{HostAnswer}
+use Rattle.packet_socket.specs.declared.call.HostAnswer.TheVariants.{Interrupted, Received, Sent}
+use Rattle.packet_socket.specs.HostActs.{HostAct}
+use Rattle.host_calls.specs.CallsOfHosts.{CallRuns, HostRuns}
+use Rattle.packet_socket.specs.HostActs.{IsOfDriver}
+use Rattle.host_calls.specs.ConnectedHosts.{ConnectedHost, PlayedCall, connected, played_call}
 use Rattle.packet_socket.specs.QueueLaws.{queue-within}
 use Rattle.host_calls.specs.DrainedHosts.{IsDrainStep, count_frames, pieces_left}
 use Rattle.host_calls.specs.DrainSteps.{StepsOn, count_line}
@@ -166,53 +172,93 @@ clears number played early a b counts causes leads none own first =
     (subst (λ (list : List Event). All (IsOfDriver counts) (past_of list).accesses) is own)
     (subst (λ (list : List Event). Trail list (world_at a number) (world_at b number)) is trail)
 
+-- It reads ICR first.
+reads-first : (result : Handled) (k : ℕ) (steps : List AtomicStep) (old new : ConnectedHost)
+    → InterruptEffect result old.host new.host (InSteps k [] steps old new) (world_at old.stations k)
+    → ((causes : ℕ) × TellsCauses k steps causes (world_at old.stations k).adapter)
+reads-first NotMine k steps old new does = (does.causes, does.runs.icr does.causes _ refl)
+reads-first (answers.Handled n) k steps old new does = (does.causes, does.runs.icr does.causes _ refl)
+
 pub handled-steps : (result : Handled) (number : ℕ) (a b : List StationState) (heard : List TickTold → Type 0) (accesses : ℕ)
     (h h' : HostState)
-    → HostReady h (world_at a number) → InterruptRuns (played_call number [] heard accesses) result (connected h a) (connected h' b)
+    → HostReady h (world_at a number)
+    → Calls (played_call number [] heard accesses) [] [] (InterruptEffect result) (connected h a) (connected h' b)
     → (world_at a number).adapter.receiver.work ≡ None
     → Meet (world_at a number).adapter.causes.recorded (world_at a number).adapter.causes.mask
     → StepsOn 1 number [] (connected h a) (connected h' b)
-handled-steps result number a b heard accesses h h' ready runs free meets =
-    let of_call = runs.runs.of_call in
-    let recorded = clears number runs.runs.steps runs.states.reads.tells.early a b h.driver.layout runs.states.reads.causes of_call.leads
-    of_call.played
-    runs.runs.runs.accesses runs.states.reads.tells.first in
+handled-steps result number a b heard accesses h h' ready calls free meets =
+    let runs = calls.runs in
+    let of_call = runs.of_call in
+    let reads = reads-first result number runs.steps (connected h a) (connected h' b) calls.does in
+    let recorded = clears number runs.steps reads.1.early a b h.driver.layout reads.0 of_call.leads of_call.played
+    runs.runs.accesses reads.1.first in
     let causes = (world_at b number).adapter.causes in
     let none : bit_and causes.recorded causes.mask ≡ 0 =
     ap (λ (r : ℕ). bit_and r causes.mask) recorded ∙ and_zero_l causes.mask in
-    one-call number (length h.queues + length h'.queues) runs.runs.steps a b h h' (joined_frames runs.taken) [] ready of_call.leads
-    of_call.played runs.runs.runs (omega arith) (omega arith) (omega arith) free (omega arith) (omega (arith, none, meets))
+    one-call number (length h.queues + length h'.queues) runs.steps a b h h' runs.taken [] ready of_call.leads
+    of_call.played runs.runs (omega arith) (omega arith) (omega arith) free (omega arith) (omega (arith, none, meets))
 
 -- A frame that is given.
 
-queue-there : (queues : List (List Received)) (socket : ℕ) → queue_at queues socket ≢ [] → socket < length queues
+queue-there : (queues : List (List Entry)) (socket : ℕ) → queue_at queues socket ≢ [] → socket < length queues
 queue-there [] socket some = absurd (some refl)
 queue-there (queue ∷ later) zero some = omega arith
 queue-there (queue ∷ later) (suc socket) some = let rest = queue-there later socket some in omega (arith, rest)
 
 pub given-steps : (number socket : ℕ) (frame : List ℕ) (a b : List StationState) (heard : List TickTold → Type 0) (accesses : ℕ)
-    (h h' : HostState) (made : List Access → Type 0)
+    (h h' : HostState)
     → HostReady h (world_at a number)
-    → CallRuns (played_call number [] heard accesses) (did [] (given_by socket (Ok frame)) []) made (connected h a) (connected h' b)
+    → CallRuns (played_call number [] heard accesses) (given_by socket (Ok frame)) [] (connected h a) (connected h' b)
     → (world_at a number).adapter.receiver.work ≡ None → StepsOn 1 number (given_by socket (Ok frame)) (connected h a) (connected h' b)
-given-steps number socket frame a b heard accesses h h' made ready runs free =
+given-steps number socket frame a b heard accesses h h' ready runs free =
     let of_call = runs.of_call in
     let n = length h.queues + (length h'.queues + (socket + 1)) in
     let calm = quiet number runs.steps a b h.driver.layout of_call.leads of_call.played runs.runs.accesses in
     let line = line-stays (world_at a number).adapter (world_at b number).adapter calm.engine in
     let known = given-sum n (record { socket = socket; frame = frame }) (omega arith) in
-    one-call number n runs.steps a b h h' [] (given_by socket (Ok frame)) ready of_call.leads of_call.played runs.runs
+    one-call number n runs.steps a b h h' runs.taken (given_by socket (Ok frame)) ready of_call.leads of_call.played runs.runs
     (omega arith) (omega arith) (omega (arith, known)) free (omega arith) (omega (arith, line))
 
 -- One was given, as one waited.
-pub not-refused : (result : Result (List ℕ) RecvError) (error : RecvError) (socket : ℕ) (h : HostState) (world : World)
-    → AnswersRecv result socket h world → socket < length h.kinds → queue_at h.queues socket ≢ [] → result ≡ Err error → ⊥
-not-refused result Empty socket h world answers known some is =
-    some (Rattle.bus.proofs.Lists.map-empty
-    (Rattle.packet_socket.specs.HostCalls.waiting_frame h.driver.layout world.memory) (queue_at h.queues socket)
-    (answers.empty.0 is).1)
-not-refused result NoSocket socket h world answers known some is =
-    let none = answers.no_socket.0 is in omega (arith, none, known)
+pub not-refused : (result : Result (List ℕ) RecvError) (error : RecvError) (socket : ℕ) (h h' : HostState) (Runs : HostAct → Type 0)
+    (world : World) → RecvEffect socket result h h' Runs world → socket < length h.kinds → queue_at h.queues socket ≢ []
+    → result ≡ Err error → ⊥
+not-refused (Ok frame) error socket h h' Runs world does known some is = absurd (cc)
+not-refused (Err Empty) error socket h h' Runs world does known some is = some does.1
+not-refused (Err NoSocket) error socket h h' Runs world does known some is = let none = does.0 in omega (arith, none, known)
+
+-- A call with this answer.
+
+pub interrupted-call : (answer : HostAnswer (List ℕ)) (call : PlayedCall) (old new : ConnectedHost)
+    → Calls call [] [] (OfAnswer (interrupted_in answer) InterruptEffect) old new
+    → ((result : Handled) × Calls call [] [] (InterruptEffect result) old new)
+interrupted-call (Sent result) call old new calls = absurd calls.does
+interrupted-call (Received result) call old new calls = absurd calls.does
+interrupted-call (Interrupted result) call old new calls = (result, record { runs = calls.runs; does = calls.does })
+
+pub received-call : (answer : HostAnswer (List ℕ)) (socket : ℕ) (call : PlayedCall) (old new : ConnectedHost)
+    → Calls call (given_in (Receiving socket) answer) [] (OfAnswer (received_in answer) (RecvEffect socket)) old new
+    → ((result : Result (List ℕ) RecvError) × (answer ≡ Received result)
+    × Calls call (given_by socket result) [] (RecvEffect socket result) old new)
+received-call (Sent result) socket call old new calls = absurd calls.does
+received-call (Received result) socket call old new calls = (result, refl, record { runs = calls.runs; does = calls.does })
+received-call (Interrupted result) socket call old new calls = absurd calls.does
+
+pub returned-call : (socket size : ℕ) (into : List ℕ) (answer : HostAnswer ℕ) (received : Result ℕ RecvError) (call : PlayedCall)
+    (old new : ConnectedHost) → answer ≡ Received received → received ≡ Ok size
+    → Calls call (given_in (Receiving socket) (answer_in into answer)) [] (EffectOf (Receiving socket) (answer_in into answer)) old new
+    → Calls call (given_by socket (Ok (take size into))) [] (RecvEffect socket (Ok (take size into))) old new
+returned-call socket size into answer received call old new is same calls =
+    subst (λ (a : HostAnswer ℕ). Calls call (given_in (Receiving socket) (answer_in into a)) []
+    (EffectOf (Receiving socket) (answer_in into a)) old new)
+    (is ∙ ap Received same) calls
+
+pub no-other : (socket : ℕ) (into : List ℕ) (answer : HostAnswer ℕ) (h h' : HostState) (Runs : HostAct → Type 0) (world : World)
+    → ((received : Result ℕ RecvError) → answer ≢ Received received)
+    → EffectOf (Receiving socket) (answer_in into answer) h h' Runs world → ⊥
+no-other socket into (Sent result) h h' Runs world not does = does
+no-other socket into (Received result) h h' Runs world not does = not result refl
+no-other socket into (Interrupted result) h h' Runs world not does = does
 
 -- There is room for it.
 pub room-left : (h : HostState) (world : World) (socket left : ℕ) → queue_at h.queues socket ≢ [] → count_frames h world ≤ left
@@ -222,6 +268,6 @@ room-left h world socket left some room =
     let within = queue-within h.queues socket in
     omega (arith, one, within, room)
   where
-    some-long : (queue : List Received) → queue ≢ [] → 0 < length queue
+    some-long : (queue : List Entry) → queue ≢ [] → 0 < length queue
     some-long [] some = absurd (some refl)
     some-long (received ∷ queue) some = omega arith

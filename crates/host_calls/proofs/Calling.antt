@@ -24,7 +24,8 @@ use Rattle.packet_socket.specs.HostCalls.{Given, HostDid, HostFlowsTo, HostGoesT
 use Rattle.packet_socket.specs.HostState.{HostState}
 use Rattle.delivery.proofs.Laws.{lent-calls, outcomes-tell}
 use Rattle.delivery.specs.TickNumbers.{numbers}
-use Rattle.host_calls.specs.CallsOfHosts.{CallRuns, HostRuns, IsOfDriver, OnlyLastWrites}
+use Rattle.host_calls.specs.CallsOfHosts.{CallRuns, HostRuns}
+use Rattle.packet_socket.specs.HostActs.{IsOfDriver, OnlyLastWrites}
 use Rattle.host_calls.proofs.HostTrails.{happens-alone, happens-elsewhere, none-alone, none-elsewhere}
 use Rattle.host_calls.specs.ConnectedHosts.{PlayedCall, connected, played_call}
 
@@ -106,17 +107,17 @@ lent_call {O} {g} a b = played_call a.host a.ticks.now (g.heard a.observer.now b
 -- A call of which the lent bus tells, and the ticks that are left.
 pub call-runs_by : {O : Type 0} {g : OfObserver O} → ComposesTold g.heard
     → (a m b : LentBus O g) (past : Past) (h h' : HostState) (taken : List (List ℕ)) (given : List Given)
-    (accepted : List (List ℕ)) (made : List Access → Type 0)
+    (accepted : List (List ℕ))
     → a.accesses ≡ 0 → (retells : Retells a m past)
     → HostFlowsTo true (in_world h (world_here a)) (in_world h' (world_here m)) (did taken given accepted) past
-    → All (IsOfDriver h.driver.layout) past.accesses → OnlyLastWrites past.accesses → made past.accesses
+    → All (IsOfDriver h.driver.layout) past.accesses → OnlyLastWrites past.accesses
     → (HasNoForgottenWork h.driver (world_here a) → HasNoForgottenWork h'.driver (world_here m))
     → (IsRefilled h.driver → IsRefilled h'.driver)
     → (h.driver.staged ≡ [] → h'.driver.staged ≡ [])
     → (finished : Finished m b)
-    → ((runs : CallRuns (lent_call a b) (did taken given accepted) made (connected h a.stations.now) (connected h' b.stations.now))
-    × (runs.steps ≡ retells.steps ++ finished.plays.steps))
-call-runs_by composes a m b past h h' taken given accepted made zero retells flows accesses writes makes work refilled offered finished =
+    → ((runs : CallRuns (lent_call a b) given accepted (connected h a.stations.now) (connected h' b.stations.now))
+    × (runs.steps ≡ retells.steps ++ finished.plays.steps) × (runs.taken ≡ taken))
+call-runs_by composes a m b past h h' taken given accepted zero retells flows accesses writes work refilled offered finished =
     let first = retells.steps in
     let last = finished.plays.steps in
     let leads = leads_join a.host first last a.stations.now m.stations.now b.stations.now retells.leads (finished.plays.leads a.host) in
@@ -156,6 +157,7 @@ call-runs_by composes a m b past h h' taken given accepted made zero retells flo
           numbered = sym tells.numbered ∙ ap (numbers a.ticks.now 0) (sym call.count);
           counted = call.count ∙ sym tells.counted;
         };
+        taken = taken;
         runs =
             subst (λ (list : List (List ℕ)). Whole (did list given accepted))
             (append-nil taken)
@@ -165,25 +167,10 @@ call-runs_by composes a m b past h h' taken given accepted made zero retells flo
         last_writes =
             subst OnlyLastWrites same_accesses
             (subst (λ (p : Past). OnlyLastWrites p.accesses) retells.past_is writes);
-        makes = subst made same_accesses (subst (λ (p : Past). made p.accesses) retells.past_is makes);
       },
       refl,
+      refl,
     )
-
-pub call-runs : {O : Type 0} {g : OfObserver O} → ComposesTold g.heard
-    → (a m b : LentBus O g) (past : Past) (h h' : HostState) (taken : List (List ℕ)) (given : List Given) (accepted : List (List ℕ))
-    (made : List Access → Type 0)
-    → a.accesses ≡ 0 → Retells a m past
-    → HostFlowsTo true (in_world h (world_here a)) (in_world h' (world_here m)) (did taken given accepted) past
-    → All (IsOfDriver h.driver.layout) past.accesses → OnlyLastWrites past.accesses → made past.accesses
-    → (HasNoForgottenWork h.driver (world_here a) → HasNoForgottenWork h'.driver (world_here m))
-    → (IsRefilled h.driver → IsRefilled h'.driver)
-    → (h.driver.staged ≡ [] → h'.driver.staged ≡ [])
-    → Finished m b
-    → CallRuns (lent_call a b) (did taken given accepted) made (connected h a.stations.now) (connected h' b.stations.now)
-call-runs composes a m b past h h' taken given accepted made zero retells flows accesses writes makes work refilled offered finished =
-    (call-runs_by composes a m b past h h' taken given accepted made zero retells flows accesses writes makes work refilled offered
-    finished).0
 
 -- Every other host.
 pub others-run : (caller k : ℕ) (steps : List AtomicStep) (a b : List StationState) (h : HostState) → k ≢ caller

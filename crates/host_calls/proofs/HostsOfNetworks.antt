@@ -4,9 +4,8 @@ use Rattle.std.proofs.Common.{arith, refl, sym, ap, subst, ◌∙◌}
 use Rattle.std.proofs.lemmas.List.{set-get_or}
 use Rattle.std.proofs.lemmas.Option.{slice_get-get_or}
 use Rattle.circular_buffer.proofs.Places.{slice_get-set_same}
-use Rattle.packet_socket.specs.HostCalls.{HostDid, HostReady}
+use Rattle.packet_socket.specs.HostCalls.{Given, HostReady}
 use Rattle.packet_socket.specs.HostState.{HostState}
-use Rattle.bus.specs.declared.event.Access.{Access}
 use Rattle.stations.specs.Stations.{StationState, world_at}
 use Rattle.stations.proofs.Lengths.{length-event, length-stays}
 use Rattle.stations.specs.AtomicSteps.{At, AtomicStep, Idles, after}
@@ -80,8 +79,8 @@ others-stay hosts stations n k h' left shown below =
     ∙ ap (λ (one : HostState). slice_set n.hosts k one) (sym behind)
 
 -- A call leaves as many stations as there are hosts. They come back.
-pub same-stations : {done : HostDid} {made : List Access → Type 0} (call : PlayedCall) (hosts : List HostState)
-    (a left back : List StationState) (k : ℕ) (h h' : HostState) → CallRuns call done made (connected h a) (connected h' left)
+pub same-stations : {given : List Given} {accepted : List (List ℕ)} (call : PlayedCall) (hosts : List HostState)
+    (a left back : List StationState) (k : ℕ) (h h' : HostState) → CallRuns call given accepted (connected h a) (connected h' left)
     → back ≡ left → length a ≡ length hosts → length back ≡ length (slice_set hosts k h')
 same-stations call hosts a left back k h h' runs returned same =
     ap (λ (list : List StationState). length list) returned

@@ -1,10 +1,7 @@
 pub mod HostTrails
-pub mod DriversAccesses
 pub mod Calling
 pub mod Retellings
-pub mod Sending
-pub mod Receiving
-pub mod Interrupting
+pub mod Lifting
 pub mod FirstAccess
 pub mod PiecesLeft
 pub mod QuietEvents

@@ -24,7 +24,7 @@ use Rattle.stations.specs.declared.tick.Tick.TheVariants.{Deliver, Go, Step}
 use Rattle.stations.specs.declared.tick.Tick.{Tick}
 use Rattle.stations.specs.AtomicRuns.{LeadsTo, events_at, is_go}
 use Rattle.delivery.specs.Happenings.{happened_in}
-use Rattle.host_calls.specs.CallsOfHosts.{IsOfDriver, IsTailWrite}
+use Rattle.packet_socket.specs.HostActs.{IsOfDriver, IsTailWrite}
 use Rattle.host_calls.specs.DrainedHosts.{IsDrainStep}
 
 -- The engine, the filter and the mask of causes stay, and the recorded causes stay or are cleared.

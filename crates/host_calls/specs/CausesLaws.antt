@@ -1,5 +1,5 @@
--- Laws of what an interrupt handler answers.
-use Rattle.std.specs.Prelude.{◌≡◌, ◌==◌, ◌++◌, ◌∷◌, ℕ, true, List, filter, map}
+-- Laws of what an interrupt handler reads from ICR and answers (13.4.17 "Interrupt Cause Read Register"; the laws are our choice).
+use Rattle.std.specs.Prelude.{◌≡◌, ◌↔◌, ◌==◌, ◌++◌, ◌∷◌, ℕ, List, filter, map}
 use Rattle.adapter.specs.declared.offsets.TheConstants.{ICR}
 use Rattle.bus.specs.PastOfStretch.{Past}
 use Rattle.bus.specs.declared.event.Access.{Access}
@@ -10,27 +10,42 @@ use Rattle.stations.specs.AtomicRuns.{noted_of}
 use Rattle.stations.specs.Retelling.{Retells, world_here}
 use Rattle.stations.specs.declared.lent_bus.LentBus.{LentBus}
 use Rattle.stations.specs.declared.observer.Observer.{Ghosts as OfObserver}
+use Rattle.stations.specs.Stations.{world_at}
+use Rattle.registers.specs.Bits.{Meet}
+use Rattle.adapter.specs.State.{AdapterState}
+use Rattle.bring_up.specs.WrittenRegisters.{handled_causes}
 use Rattle.driver.specs.declared.interrupt.Handled.{Handled}
-use Rattle.packet_socket.specs.HostCalls.{HostHandles, HostReady, host_at}
+use Rattle.driver.specs.declared.interrupt.Handled.TheVariants.{NotMine}
+use Rattle.packet_socket.specs.HostCalls.{Given, HostReady}
+use Rattle.packet_socket.specs.HostEffects.{InterruptEffect}
 use Rattle.packet_socket.specs.HostState.{HostState}
-use Rattle.host_calls.specs.InterruptCauses.{ReadsIcrFirst, TellsCauses}
-use Rattle.host_calls.specs.LentCalls.{lent}
+use Rattle.host_calls.specs.CallsInSteps.{InSteps}
+use Rattle.host_calls.specs.ConnectedHosts.{ConnectedHost}
+use Rattle.host_calls.specs.InterruptCauses.{AnswersCauses, ReadsIcrFirst, TellsCauses}
 
--- A host that is ready handles an interrupt over a lent bus. The answer follows from its adapter when it was called, and from the ticks
--- played before ICR was read.
-abbrev pub AnswersTellCauses : {O : Type 0} → OfObserver O → Type 0
-AnswersTellCauses {O} g =
-    (a m : LentBus O g) (h h' : HostState) (result : Handled) → HostReady h (world_here a)
-    → (handles : HostHandles lent result true (host_at a h) (host_at m h'))
-    → TellsCauses a.host handles.asked.reads.reports.steps handles.asked.causes (world_here a).adapter result
-
--- The same, for a list of accesses that goes on after that first part, as that of the whole call does.
+-- A host that is ready is called over a lent bus, and its first access reads ICR. The causes that it shows follow from its adapter when it
+-- was called, and from the ticks played before.
 abbrev pub CallsTellCauses : {O : Type 0} → OfObserver O → Type 0
 CallsTellCauses {O} g =
-    (a m b : LentBus O g) (h h' : HostState) (result : Handled) (past : Past) (more : List Access) → HostReady h (world_here a)
-    → (handles : HostHandles lent result true (host_at a h) (host_at m h')) → (retells : Retells a b past)
-    → past.accesses ≡ Reads ICR handles.asked.causes ∷ more
-    → TellsCauses a.host retells.steps handles.asked.causes (world_here a).adapter result
+    (a b : LentBus O g) (h : HostState) (causes : ℕ) (past : Past) (more : List Access) → HostReady h (world_here a)
+    → (retells : Retells a b past) → past.accesses ≡ Reads ICR causes ∷ more
+    → TellsCauses a.host retells.steps causes (world_here a).adapter
+
+-- An interrupt's result, in the steps of its call. It follows from the adapter when the call began, and from the ticks before the read of
+-- ICR.
+pub record AnswerTells (result : Handled) (caller : ℕ) (steps : List AtomicStep) (adapter : AdapterState) : Type 0 where
+  pub causes : ℕ
+  pub tells : TellsCauses caller steps causes adapter
+  -- NotMine if and only if the value read contains no cause that a driver handles
+  pub not_mine : (result ≡ NotMine) ↔ (¬ (Meet causes handled_causes))
+  pub answer : AnswersCauses result caller adapter tells.early
+
+-- This holds of each result of an interrupt: it follows from the effect.
+abbrev pub AnswersTellCauses : Type 0
+AnswersTellCauses =
+    (caller : ℕ) (given : List Given) (steps : List AtomicStep) (result : Handled) (old new : ConnectedHost)
+    → InterruptEffect result old.host new.host (InSteps caller given steps old new) (world_at old.stations caller)
+    → AnswerTells result caller steps (world_at old.stations caller).adapter
 
 -- The first access is the first, whatever follows.
 abbrev pub FirstReadsStay : Type 0

@@ -1,6 +1,6 @@
 -- What the answer of an interrupt handler says of the adapter whose handler it is (13.4.17 "Interrupt Cause Read Register"; that a
 -- handler is called over a lent bus is our choice).
-use Rattle.std.specs.Prelude.{⊤, ◌≡◌, ◌≢◌, ◌↔◌, ◌⊎◌, ◌++◌, ◌∷◌, [], ℕ, Bool, true, false, List, All}
+use Rattle.std.specs.Prelude.{⊤, ◌≡◌, ◌≢◌, ◌⊎◌, ◌++◌, ◌∷◌, [], ℕ, Bool, true, false, List, All}
 use Rattle.registers.specs.Bits.{Meet}
 use Rattle.rx_engine.specs.declared.arrival.Fate.TheVariants.{Missed}
 use Rattle.adapter.specs.declared.offsets.TheConstants.{ICR}
@@ -32,7 +32,8 @@ ends_after ends Part = false
 ends_after ends Done = false
 ends_after ends outcome = ends
 
--- No frame was put or missed, and no frame's last piece was written back: nothing that sets TXDW, RXO or RXT0.
+-- No frame was put or missed, and no frame's last piece was written back: nothing that sets TXDW, RXO or RXT0. (A piece that
+-- was moved may set RXDMT0.)
 abbrev pub IsQuietOutcome : (ends : Bool) → FrameOutcome → Type 0
 IsQuietOutcome ends (Put frame) = ⊥
 IsQuietOutcome ends Done = ends ≡ false
@@ -53,17 +54,27 @@ pub record DidSomething (caller : ℕ) (early : List AtomicStep) : Type 0 where
   pub split : early ≡ before ++ At caller event ∷ behind
   pub something : outcome_of_event event ≢ Nothing
 
--- NotMine: when the call began no cause was recorded that a driver handles, and no early step at the caller put a frame, missed one, or
--- wrote back the last piece of one. Handled: such a cause was recorded then, or an early step at the caller did something.
-abbrev pub AnswersCauses : Handled → (caller : ℕ) → AdapterState → (early : List AtomicStep) → Type 0
-AnswersCauses NotMine caller adapter early =
+-- When the call began no cause was recorded that a driver handles, and no early step at the caller put a frame, missed one, or wrote back
+-- the last piece of one.
+abbrev pub WasQuiet : (caller : ℕ) → AdapterState → (early : List AtomicStep) → Type 0
+WasQuiet caller adapter early =
     (¬ (Meet adapter.causes.recorded handled_causes)) × AreQuietEvents (is_ending adapter.receiver.work) (events_at caller early)
-AnswersCauses (answers.Handled taken) caller adapter early = Meet adapter.causes.recorded handled_causes ⊎ DidSomething caller early
 
--- ICR is read first. The answer follows from the caller's adapter as it was when the call began, and from the steps before that read.
-pub record TellsCauses (caller : ℕ) (steps : List AtomicStep) (causes : ℕ) (adapter : AdapterState) (result : Handled) : Type 0 where
+-- Such a cause was recorded then, or an early step at the caller did something.
+abbrev pub HadCause : (caller : ℕ) → AdapterState → (early : List AtomicStep) → Type 0
+HadCause caller adapter early = Meet adapter.causes.recorded handled_causes ⊎ DidSomething caller early
+
+-- The first access reads ICR, with the value `causes`. What it implies of the caller's adapter when the call began, and of the steps before
+-- the read (`early`), that this value has a cause which a driver handles, and what, that it has none.
+pub record TellsCauses (caller : ℕ) (steps : List AtomicStep) (causes : ℕ) (adapter : AdapterState) : Type 0 where
   pub early : List AtomicStep
   pub first : ReadsIcrFirst caller steps early causes
-  -- NotMine exactly if no cause that a driver handles was read
-  pub not_mine : (result ≡ NotMine) ↔ (¬ (Meet causes handled_causes))
-  pub answer : AnswersCauses result caller adapter early
+  -- no such cause was read
+  pub quiet : ¬ (Meet causes handled_causes) → WasQuiet caller adapter early
+  -- such a cause was read
+  pub mine : Meet causes handled_causes → HadCause caller adapter early
+
+-- what the result of an interrupt says of the adapter and of the steps before the read of ICR
+abbrev pub AnswersCauses : Handled → (caller : ℕ) → AdapterState → (early : List AtomicStep) → Type 0
+AnswersCauses NotMine = WasQuiet
+AnswersCauses (answers.Handled taken) = HadCause

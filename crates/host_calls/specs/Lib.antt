@@ -2,9 +2,9 @@ pub mod ConnectedHosts
 pub mod Networks
 pub mod NetworkView
 pub mod CallsOfHosts
-pub mod CallAnswers
 pub mod InterruptCauses
 pub mod LentCalls
 pub mod CausesLaws
+pub mod CallsInSteps
 pub mod DrainedHosts
 pub mod DrainSteps

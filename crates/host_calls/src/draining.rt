@@ -12,7 +12,8 @@ ghost use Rattle.host_calls.specs.DrainSteps.{StepsInto, StepsOn, outlet, steps_
 use crate::Outlet;
 use crate::network::Network;
 use adapter::{Outcome, StepKind};
-use packet_socket::Host;
+use descriptors::Frame;
+use packet_socket::{Host, HostAnswer, HostCall};
 use rx_engine::MOST_FRAMES;
 use stations::Nobody;
 
@@ -107,7 +108,8 @@ impl Network {
         ensures steps { StepsOn 1 number [] (connected_at self.old number) (connected_at self.new number) }
         ensures others { OnlyHostChanges number self.old self.new }
     {
-        self.interrupt(number, &[], &mut Nobody);
+        let mut bytes = [0; 1518];
+        self.call(number, HostCall::Interrupt, &[], &mut Nobody, &mut bytes);
     }
 
     /// The third kind of step: the host gives the oldest frame that waits for a socket, to the sink, without ticks.
@@ -123,8 +125,12 @@ impl Network {
             (connected_at self.old number) (connected_at self.new number) }
         ensures others { OnlyHostChanges number self.old self.new }
     {
-        if let Ok(frame) = self.recv(number, socket, &[], &mut Nobody).answer {
-            sink.take(socket, &frame);
+        let mut bytes = [0; 1518];
+        let called = self.call(number, HostCall::Recv(socket), &[], &mut Nobody, &mut bytes);
+        if let HostAnswer::Received(received) = called.answer {
+            if let Ok(size) = received {
+                sink.take(socket, &Frame::from_slice(&bytes[..size]));
+            }
         }
     }
 

@@ -1,8 +1,10 @@
 -- Events and answers of calls, with the frame that a socket gave (our choice).
 use Rattle.std.specs.Prelude.{◌∷◌, [], Err, List, Ok, ℕ}
 use Rattle.stations.specs.declared.tick.Tick.{Tick}
+use Rattle.packet_socket.specs.declared.call.HostAnswer.{HostAnswer}
+use Rattle.packet_socket.specs.declared.call.HostAnswer.TheVariants.{Interrupted as InterruptedBy, Received as ReceivedBy, Sent as SentBy}
+use Rattle.network_plan.specs.EventCalls.{Alone, ByCall, CallOrTick, in_event}
 use Rattle.network_plan.specs.declared.event.Event.{Event}
-use Rattle.network_plan.specs.declared.event.Event.TheVariants.{Interrupt, Recv, Send, Tick as Alone}
 use Rattle.network_plan.specs.declared.reply.Answer.{Answer}
 use Rattle.network_plan.specs.declared.reply.Answer.TheVariants.{Interrupted, NoHost, Received, Sent, Ticked}
 
@@ -19,9 +21,16 @@ answer_with frame (Interrupted handled) = Interrupted handled
 answer_with frame Ticked = Ticked
 answer_with frame NoHost = NoHost
 
+-- the answer of an event that was a call
+abbrev pub event_answer : HostAnswer (List ℕ) → FrameAnswer
+event_answer (SentBy result) = Sent result
+event_answer (ReceivedBy result) = Received result
+event_answer (InterruptedBy result) = Interrupted result
+
 -- the ticks of an event, each Go among them
+abbrev pub ticks_by : CallOrTick → List Tick
+ticks_by (ByCall call) = call.ticks
+ticks_by (Alone tick) = tick ∷ []
+
 abbrev pub ticks_of : Event → List Tick
-ticks_of (Send host frame ticks) = ticks.items
-ticks_of (Recv host socket ticks) = ticks.items
-ticks_of (Interrupt host ticks) = ticks.items
-ticks_of (Alone tick) = tick ∷ []
+ticks_of event = ticks_by (in_event event)

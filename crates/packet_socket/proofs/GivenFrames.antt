@@ -1,33 +1,38 @@
 -- A host gives the oldest frame of a queue.
-use Rattle.std.proofs.Common.{Bool, true, false, cond, inl, inr, ◌≡◌, ◌≢◌, ◌++◌, ◌∷◌, [], ℕ, List, map}
+use Rattle.std.proofs.Common.{Bool, true, false, cond, inl, inr, ◌≡◌, ◌≢◌, ◌<◌, ◌+◌, ◌++◌, ◌∷◌, [], ℕ, List, length, map, take}
 use Rattle.std.proofs.Common.{refl, sym, ap, subst, ◌∙◌, arith}
-use Rattle.std.specs.Prelude.{◌==◌}
+use Rattle.std.specs.Prelude.{◌==◌, IfNone, None, Option, Some}
 use Rattle.std.specs.List.{All, flat_map}
 use Rattle.std.proofs.lemmas.Bool.Decides.{eqb_tells}
-use Rattle.std.proofs.lemmas.Grind.{flat_map-append}
+use Rattle.std.proofs.lemmas.Grind.{common_steps, flat_map-append}
 use Rattle.std.proofs.lemmas.List.{append-nil, get_or-set_other}
 use Rattle.std.proofs.lemmas.Simd.{map-map}
 use Rattle.dma_memory.specs.Layout.{Counts}
 use Rattle.bus.proofs.Lists.{all-head, all-right, all-without}
-use Rattle.bus.specs.PastOfStretch.{Past, joined}
+use Rattle.descriptors.specs.Frames.{longest_frame}
+use Rattle.bus.specs.PastOfStretch.{Past, joined, nothing}
 use Rattle.bus.specs.declared.bus.Bus.{Ghosts}
 use Rattle.bus.specs.declared.event.Access.{Access}
 use Rattle.driver_law.proofs.Accesses.{ran_by-join}
-use Rattle.driver_law.specs.Calls.{Ran, at, only, stores_from, tail_write}
+use Rattle.driver_law.proofs.Stretches.{joined-nothing, work_kept}
+use Rattle.driver_law.specs.Calls.{GoesTo, IsRefilled, Ran, at, driver_did, driver_in, only, stores_from, tail_write}
 use Rattle.driver_law.specs.DriverState.{DriverState, HandedOut, frame_of, holding, next_receive, numbers_of, with_owners}
 use Rattle.driver_law.specs.ReadyDrivers.{ReadyWith, Stands}
 use Rattle.driver.specs.RefillSteps.{Refills}
-use Rattle.driver.specs.Parts.{AreFrames, IsWholeFrame, buffers_in, part_loads, parts_of}
+use Rattle.driver.specs.Parts.{AreFrames, IsFrameSize, IsWholeFrame, buffers_in, part_loads, parts_of}
 use Rattle.driver.specs.declared.receiver.Received.{Received}
-use Rattle.packet_socket.specs.HostCalls.{Given, HostMoment, IsReadyHost, LeavesQueue, Receives, driver_at, driver_of, given_for}
-use Rattle.packet_socket.specs.HostCalls.{receive_accesses, waiting_frame, waiting_frames, waiting_piece, waiting_pieces}
+use Rattle.packet_socket.specs.HostActs.{OverBus}
+use Rattle.packet_socket.specs.HostEffects.{ReturnsFrame}
+use Rattle.packet_socket.specs.HostCalls.{Given, HostMoment, IsReadyHost, LeavesQueue, driver_at, driver_of, given_for}
+use Rattle.packet_socket.specs.HostCalls.{waiting_frame, waiting_frames, waiting_piece, waiting_pieces}
 use Rattle.packet_socket.specs.HostState.{HostState, SocketsState, all_of, queue_at}
 use Rattle.packet_socket.specs.InsideHost.{host_with}
 use Rattle.packet_socket.specs.declared.socket_kind.SocketKind.{SocketKind}
 use Rattle.packet_socket.proofs.Accounts.{accounts}
 use Rattle.packet_socket.proofs.QueueParts.{Splits}
 use Rattle.packet_socket.proofs.WaitingFrames.{AreLong, AreSame, IsLong, all-long, all-same, ends-as, parts-waiting, queue-frames-same}
-use Rattle.packet_socket.proofs.Stretches.{ran-as}
+use Rattle.driver_law.proofs.Places.{place-below}
+use Rattle.packet_socket.proofs.DriversAccesses.{receives-last, receives-of_driver}
 
 -- What is given, by sockets.
 given-here : (socket : ℕ) (frame : List ℕ) (other : ℕ) (goes : Bool) → (socket == other) ≡ goes
@@ -53,6 +58,15 @@ gives-others d d' before after driver kinds unclaimed =
     ∙ ap (λ (n : ℕ). let host : HostState = record
     { driver = made; kinds = before.kinds; queues = after.queues; unclaimed = n } in host) unclaimed
 
+-- what is known if there is none
+pub if-none : {X : Type 0} {P : Type 0} (found : Option X) → found ≡ None → IfNone found P → P
+if-none None is p = p
+if-none (Some x) is p = absurd (cc)
+
+-- The bytes that are returned are as many as they should be.
+pub front-long : (size : ℕ) (bytes : List ℕ) → length bytes ≡ longest_frame → IsFrameSize size → length (take size bytes) ≡ size
+front-long size bytes long legal = let fits = legal.most in grind (arith, common_steps)
+
 pub host-receives : {up : Bool} {B : Type 0} (bus : Ghosts B)
     → ((a b c : B) (first later : Past) → bus.happened a b first → bus.happened b c later → bus.happened a c (joined first later))
     → (old new : HostMoment B) (b : B) (socket size : ℕ) (received : Received) (bytes : List ℕ) → IsReadyHost bus up old
@@ -64,8 +78,15 @@ pub host-receives : {up : Bool} {B : Type 0} (bus : Ghosts B)
     → ((first pieces later : List HandedOut) → numbers_of pieces ≡ buffers_in received.parts
     → ReadyWith up (holding (first ++ (pieces ++ later)) old.host.driver) (bus.world b)
     → Refills bus up (at b (holding (first ++ (pieces ++ later)) old.host.driver)) (at new.bus (holding (first ++ later) new.host.driver)))
-    → Receives bus (record { socket = socket; frame = bytes }) size up old new
-host-receives {up} bus joins old new b socket size received bytes is parts leaves reads shows gives =
+    → length bytes ≡ size → socket < length old.host.kinds → IsRefilled new.host.driver
+    → new.host ≡ record old.host {
+      driver = with_owners old.host.driver new.host.driver.buffers [] new.host.driver.pool [];
+      queues =
+          new.host.queues;
+    }
+    → ReturnsFrame socket bytes old.host new.host (OverBus bus up (record { socket = socket; frame = bytes } ∷ []) [] old new)
+    (bus.world old.bus)
+host-receives {up} bus joins old new b socket size received bytes is parts leaves reads shows gives size_is known refilled changed =
     let a = old.bus in
     let c = new.bus in
     let h = old.host in
@@ -102,19 +123,19 @@ host-receives {up} bus joins old new b socket size received bytes is parts leave
     ran_by-join bus joins loads stores a b c d2 d2 e [] [] [] [] reads2 refills.ran in
     let from : Ran bus up (only (loads ++ stores)) (at a d) (at c e) = subst
     (λ (s : DriverState). Ran bus up (only (loads ++ stores)) (at a s) (at c e)) (sym split) both in
-    let size_is : h'.driver.layout ≡ counts = from.goes.flows.layout in
+    let same_layout : h'.driver.layout ≡ counts = from.goes.flows.layout in
     let left = parts.first ++ parts.last in
     let all : all_of h'.queues ≡ left = ap all_of leaves.others ∙ parts.behind in
     let stand : All (Stands counts mc) (flat_map waiting left) =
-    subst (λ (k : Counts). All (Stands k mc) (flat_map waiting left)) size_is
+    subst (λ (k : Counts). All (Stands k mc) (flat_map waiting left)) same_layout
     (subst (λ (list : List HandedOut). All (Stands h'.driver.layout mc) list)
     (sym (flat_map-append waiting parts.first parts.last)) from.goes.flows.ready.stand) in
     let same : AreSame counts m mc left = all-same counts m mc left (all-without Long parts.first received parts.last long) stand in
     let end : e ≡ driver_of h' (bus.world c) =
-    sym (ends-as h' (bus.world c) counts m left all size_is same
+    sym (ends-as h' (bus.world c) counts m left all same_layout same
     ∙ ap (λ (list : List HandedOut). holding list h'.driver) (flat_map-append waiting parts.first parts.last)) in
     let queue_frames : (s : ℕ) → waiting_frames h' s (bus.world c) ≡ map frame (queue_at h'.queues s) = λ s.
-    ap (λ (k : Counts). map (waiting_frame k mc) (queue_at h'.queues s)) size_is
+    ap (λ (k : Counts). map (waiting_frame k mc) (queue_at h'.queues s)) same_layout
     ∙ queue-frames-same counts m mc h'.queues (subst (AreSame counts m mc) (sym all) same) s in
     let shown : bytes ≡ frame received = shows first pieces later ready (parts-waiting counts m received.parts whole) in
     let front : waiting_frames h socket (bus.world a) ≡ bytes ∷ waiting_frames h' socket (bus.world c) =
@@ -137,18 +158,37 @@ host-receives {up} bus joins old new b socket size received bytes is parts leave
           ∙ others s (λ is. not.1 (sym is))
           ∙ sym (append-nil (waiting_frames h s (bus.world a)))
     ] in
+    let driver : GoesTo up (driver_in d (bus.world a)) (driver_in (driver_of h' (bus.world c)) (bus.world c)) (driver_did [] []) from.past =
+    subst (λ (last : DriverState). GoesTo up (driver_in d (bus.world a)) (driver_in last (bus.world c)) (driver_did [] []) from.past) end
+    from.goes in
+    let below : next_receive h'.driver < counts.rx = subst (λ (k : Counts). next_receive h'.driver < k.rx) same_layout
+    (place-below h'.driver.layout.rx h'.driver.oldest_receive (length h'.driver.buffers + length h'.driver.staged)
+    from.goes.flows.ready.driver_is.oldest_slot) in
     record {
+      known = known;
       received = received;
-      leaves = leaves;
-      front = front;
+      leaves = subst (λ (n : ℕ). LeavesQueue h h' socket n received) (sym size_is) leaves;
+      others = changed;
       offered = refills.numbers;
       newest = refills.offered;
-      ran = record {
-        ran = ran-as bus (loads ++ stores) (receive_accesses h.driver h'.driver received.parts refills.numbers)
-            a c d e (driver_of h' (bus.world c)) [] [] refl end from;
-        sockets = record {
+      runs = record {
+        past = from.past;
+        stages = record {
+          middle = c;
+          before = from.past;
+          reports = from.reports;
+          made_are = from.only;
+          holds = front;
+          behind = nothing;
+          later = (refl, refl);
+          whole = sym (joined-nothing from.past);
+        };
+        own = receives-of_driver counts h.driver h'.driver received.parts refills.numbers below;
+        last_writes = receives-last h.driver h'.driver received.parts refills.numbers;
+        changed = record {
           sizes = subst AreFrames (sym all)
               (all-without IsWholeFrame parts.first received parts.last (subst AreFrames parts.before host.sizes));
+          driver = driver;
           accounts =
               accounts h (bus.world a) h' (bus.world c) given [] from.past.stored leaves.kinds from.goes.flows.holds moved
               (record {
@@ -157,5 +197,10 @@ host-receives {up} bus joins old new b socket size received bytes is parts leave
                 exactly = λ below. omega (arith, leaves.unclaimed);
               });
         };
+        follows = from.follows;
+        work = λ work. let behind = work_kept d (driver_of h' (bus.world c)) (bus.world a) (bus.world c) [] [] from.past driver
+            (record { enabled = work.enabled; asked = work.asked }) in record { enabled = behind.enabled; asked = behind.asked };
+        refilled = λ before. refilled;
+        offered = λ before. ap (λ (host : HostState). host.driver.staged) changed;
       };
     }

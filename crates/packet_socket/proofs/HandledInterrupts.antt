@@ -1,7 +1,7 @@
 -- A host handles an interrupt.
-use Rattle.std.proofs.Common.{Bool, ◌≡◌, ◌≤◌, ◌+◌, ◌++◌, [], ℕ, List, length, map, refl, sym, ap, subst, ◌∙◌}
+use Rattle.std.proofs.Common.{Bool, ◌≡◌, ◌<◌, ◌≤◌, ◌+◌, ◌++◌, ◌∷◌, [], ℕ, List, length, map, refl, sym, ap, subst, ◌∙◌}
 use Rattle.std.proofs.Common.{length-append, arith}
-use Rattle.std.specs.List.{All, flat_map, slice_index_or}
+use Rattle.std.specs.List.{All, concat, flat_map, slice_index_or}
 use Rattle.std.proofs.lemmas.List.{length-map, map-append}
 use Rattle.std.proofs.lemmas.List.Elements.{All-append, All-map}
 use Rattle.std.proofs.lemmas.List.Sorted.{All-permutation}
@@ -9,14 +9,18 @@ use Rattle.dma_memory.specs.Layout.{Counts}
 use Rattle.dma_memory.specs.Owners.{copies}
 use Rattle.dma_memory.specs.OwnersLaws.{copies-append, length-no_second}
 use Rattle.adapter.specs.World.{World}
+use Rattle.bus.proofs.Composition.{happens_none}
 use Rattle.bus.proofs.Lists.{all-left, all-right}
-use Rattle.bus.specs.PastOfStretch.{joined}
+use Rattle.bus.specs.PastOfStretch.{joined, nothing}
 use Rattle.driver_law.proofs.TakenSlots.{buffers_can_come_back}
 use Rattle.bus.specs.declared.bus.Bus.{Ghosts}
-use Rattle.driver_law.specs.Calls.{at}
-use Rattle.driver_law.specs.DriverState.{DriverState, HandedOut, frame_of, holding, numbers_of, owners}
+use Rattle.driver_law.specs.Calls.{FlowsTo, FollowsWrites, GoesTo, at, driver_did, driver_in}
+use Rattle.driver_law.proofs.Stretches.{joined-nothing}
+use Rattle.driver_law.proofs.Places.{place-below}
+use Rattle.driver_law.specs.DriverState.{DriverState, HandedOut, frame_of, holding, next_receive, numbers_of, owners}
 use Rattle.driver_law.specs.ReadyDrivers.{ReadyWith, Stands}
-use Rattle.driver.specs.HandlerSteps.{Asked, DoesNothing, GrowsBy, Handles, HandlesIt, IfHandled, IfNotMine, IsPart, Scene, Serves}
+use Rattle.driver.specs.HandlerSteps.{Asked, DoesNothing, GrowsBy, Handles, HandlesIt, IfHandled, IfNotMine, IsPart, OnlyReceives}
+use Rattle.driver.specs.HandlerSteps.{Scene, Serves}
 use Rattle.driver.specs.HandlerSteps.{held_in}
 use Rattle.driver.specs.Parts.{buffers_of, joined_frames, pieces_of, received_of}
 use Rattle.driver.specs.declared.interrupt.Handled.{Handled}
@@ -24,19 +28,23 @@ use Rattle.driver.specs.declared.interrupt.Handled.TheVariants.{NotMine}
 use Rattle.driver.specs.declared.interrupt.Handled.TheVariants as answers
 use Rattle.driver.specs.declared.receiver.Received.{Received}
 use Rattle.driver.proofs.ShownRuns.{served-few}
-use Rattle.packet_socket.specs.HostCalls.{HostDoesNothing, HostHandles, HostHandlesIt, HostMoment, HostReadyWith, IsReadyHost, Queues}
+use Rattle.packet_socket.specs.HostActs.{OverBus}
+use Rattle.packet_socket.specs.HostCalls.{HostMoment, HostReadyWith, IsReadyHost, Queues}
 use Rattle.packet_socket.specs.HostCalls.{driver_at, driver_of, socket_entries, host_at, socket_frames, waiting_frame, waiting_frames}
 use Rattle.packet_socket.specs.HostCalls.{waiting_pieces, without_socket}
+use Rattle.packet_socket.specs.HostEffects.{FindsNoCause, HandlesFrames, InterruptEffect}
 use Rattle.packet_socket.specs.HostState.{HostState, SocketsState, all_of, queue_at}
 use Rattle.packet_socket.specs.InsideHost.{AreOfHost, host_with}
 use Rattle.packet_socket.specs.Sorting.{Sorts}
 use Rattle.packet_socket.proofs.Accounts.{accounts}
+use Rattle.packet_socket.proofs.DriversAccesses.{causes-of_driver, handles-last, handles-of_driver}
 use Rattle.packet_socket.proofs.ShownFrames.{part-length, queue-frames, unclaimed-frames}
 use Rattle.packet_socket.proofs.ConsistentHosts.{kept-copies}
 use Rattle.packet_socket.proofs.QueuedPieces.{all-joined, all-pieces, entries-fit, received-numbers, waiting-numbers}
 use Rattle.packet_socket.proofs.WaitingFrames.{AreLong, AreSame, IsLong, all-long, all-long-after, queue-frames-same, read-long}
 use Rattle.packet_socket.proofs.WaitingFrames.{read-pieces, read-stands}
-use Rattle.packet_socket.proofs.Stretches.{accounts-stay, driver-stays, flows-hold, goes-hold, queues-stand}
+use Rattle.driver_law.proofs.Steps.{goes-happens}
+use Rattle.packet_socket.proofs.Stretches.{accounts-stay, driver-stays, flows-hold, follows-join, goes-hold, queues-stand}
 
 -- a host's moment, of its driver and its sockets
 abbrev pub host_in : {B : Type 0} → Scene B SocketsState → HostMoment B
@@ -45,17 +53,56 @@ host_in now = record { bus = now.bus; host = host_with now.driver now.receiver }
 -- It does nothing.
 leaves : {up : Bool} {B : Type 0} (bus : Ghosts B) (old : HostMoment B) (new : B) (asked : Asked bus up (driver_at bus old))
     → IsReadyHost bus up old → DoesNothing bus (driver_at bus old) (at new (driver_at bus old).driver) asked
-    → HostDoesNothing bus old (host_at new old.host) asked
-leaves {up} bus old new asked is it =
+    → FindsNoCause old.host old.host (OverBus bus up [] [] old (host_at new old.host))
+leaves {up} {B} bus old new asked is it =
     let h = old.host in
+    let d = driver_of h (bus.world old.bus) in
+    let reads = asked.reads in
+    let read = bus.world asked.after_read in
     let stand = it.flows.ready.stand in
+    let here : d ≡ driver_of h (bus.world new) =
+    sym (driver-stays h h.driver (bus.world old.bus) (bus.world new) is.ready refl stand) in
     record {
+      causes = asked.causes;
+      none = it.none;
       stays = refl;
-      driver = subst (λ (end : DriverState). DoesNothing bus (driver_at bus old) (at new end) asked)
-          (sym (driver-stays h h.driver (bus.world old.bus) (bus.world new) is.ready refl stand)) it;
-      sockets = record {
-        sizes = is.ready.sizes;
-        accounts = accounts-stay h h.driver (bus.world old.bus) (bus.world new) asked.reads.past.stored is.ready refl stand it.flows.holds;
+      runs = record {
+        past = reads.past;
+        stages = record {
+          middle = asked.after_read;
+          before = reads.past;
+          reports = reads.reports;
+          made_are = reads.only;
+          holds = record { seen = reads.seen; cleared = reads.cleared };
+          behind = nothing;
+          later = (it.still, refl);
+          whole = sym (joined-nothing reads.past);
+        };
+        own = causes-of_driver h.driver.layout asked.causes;
+        last_writes = tt;
+        changed = record {
+          sizes = is.ready.sizes;
+          driver = record {
+            flows = subst (λ (end : DriverState). FlowsTo up (driver_in d (bus.world old.bus)) (driver_in end (bus.world new))
+                (driver_did [] []) reads.past) here it.flows;
+            asked = bus.world asked.after_read;
+            causes = asked.causes;
+            first = reads.past;
+            reads = reads.only;
+            later = nothing;
+            whole = sym (joined-nothing reads.past);
+            goes = subst (λ (end : DriverState). GoesTo up (driver_in d read) (driver_in end (bus.world new)) (driver_did [] []) nothing)
+                here
+                (subst (λ (b : B). GoesTo up (driver_in d read) (driver_in d (bus.world b)) (driver_did [] []) nothing) (sym it.still)
+                (goes-happens d read read nothing reads.flows.ready (happens_none read)));
+          };
+          accounts = accounts-stay h h.driver (bus.world old.bus) (bus.world new) reads.past.stored is.ready refl stand it.flows.holds;
+        };
+        follows = subst (λ (b : B). FollowsWrites (bus.world old.bus) (bus.world b) reads.past) (sym it.still) reads.follows;
+        work = λ work. let behind = it.work (record { enabled = work.enabled; asked = work.asked }) in record
+            { enabled = behind.enabled; asked = behind.asked };
+        refilled = λ refilled. refilled;
+        offered = λ offered. offered;
       };
     }
 
@@ -149,6 +196,13 @@ sorted {up} driver driver' before after a b taken kept sound sound' host counts 
           (queue-frames before.kinds socket frame kept taken part shown.claimed outs);
     }
 
+-- The buffers of frames, one frame after the other, are those of their pieces.
+numbers-joined : (taken : List (List HandedOut)) → numbers_of (pieces_of taken) ≡ concat (map numbers_of taken)
+numbers-joined [] = refl
+numbers-joined (pieces ∷ later) =
+    map-append (λ (one : HandedOut). one.number) pieces (pieces_of later)
+    ∙ ap (λ (numbers : List ℕ). numbers_of pieces ++ numbers) (numbers-joined later)
+
 -- It does its work.
 works : {up : Bool} {B : Type 0} (bus : Ghosts B) (old new : Scene B SocketsState) (n : ℕ)
     → AreOfHost old.driver old.receiver → AreOfHost new.driver new.receiver → IsReadyHost bus up (host_in old)
@@ -156,8 +210,9 @@ works : {up : Bool} {B : Type 0} (bus : Ghosts B) (old new : Scene B SocketsStat
     → HandlesIt bus (record { took = Sorts }) n (held_in (driver_at bus (host_in old)).driver.handed_out old)
     (held_in (driver_at bus (host_in old)).driver.handed_out new) asked
     → Serves (record { took = Sorts }) old.receiver new.receiver old.driver new.driver n
-    → HostHandlesIt bus n (host_in old) (host_in new) asked
-works {up} bus old new n sound sound' is asked it serves =
+    → OnlyReceives old.driver new.driver
+    → HandlesFrames n (host_in old).host (host_in new).host (OverBus bus up [] [] (host_in old) (host_in new)) (bus.world old.bus)
+works {up} bus old new n sound sound' is asked it serves only_receives =
     let before = old.receiver in
     let after = new.receiver in
     let driver' = new.driver in
@@ -166,23 +221,28 @@ works {up} bus old new n sound sound' is asked it serves =
     let a = bus.world old.bus in
     let b = bus.world new.bus in
     let d = driver_of h a in
-    let e = holding d.handed_out driver' in
     let frames = it.frames in
     let handles = it.driver in
+    let reads = asked.reads in
     let w = handles.works in
-    let last = holding (d.handed_out ++ pieces_of frames.kept) e in
+    let last = holding (d.handed_out ++ pieces_of frames.kept) (holding d.handed_out driver') in
     let joined_taken = joined_frames frames.taken in
-    let past = joined asked.reads.past w.ran.past in
+    let past = joined reads.past w.ran.past in
     let few : length frames.taken ≤ length old.driver.buffers =
     omega (arith, frames.count, served-few n old.driver driver' serves.runs serves.ring) in
     let all = sorted old.driver driver' before after a b frames.taken frames.kept sound sound' is.ready handles.flows.layout
     w.ran.goes.flows.ready frames.part few frames.shown in
-    let list = (driver_of h' b).handed_out in
     let grows : GrowsBy before.unclaimed after.unclaimed (without_socket before.kinds joined_taken) = subst
     (GrowsBy before.unclaimed after.unclaimed) (unclaimed-frames before.kinds frames.taken) frames.shown.unclaimed in
+    let below : next_receive driver' < h.driver.layout.rx = subst (λ (c : Counts). next_receive driver' < c.rx) handles.flows.layout
+    (place-below driver'.layout.rx driver'.oldest_receive (length driver'.buffers + length driver'.staged)
+    all.ready.driver_is.oldest_slot) in
     record {
+      causes = asked.causes;
+      some = handles.some;
+      missed = record { misses = w.misses.misses; missed = w.misses.missed; exact = w.misses.exact };
       taken = frames.taken;
-      sorted = record {
+      frames = record {
         count = frames.count;
         groups = frames.groups;
         each = frames.each;
@@ -192,44 +252,70 @@ works {up} bus old new n sound sound' is asked it serves =
           unclaimed = frames.shown.unclaimed;
         };
       };
-      driver = record {
-        some = handles.some;
-        works = record {
-          misses = record { misses = w.misses.misses; missed = w.misses.missed; exact = w.misses.exact };
-          served = record {
-            rest = w.served.rest;
-            offered = w.served.offered;
-            oldest = w.served.oldest;
-            newest = w.served.newest;
-            no_bad = w.served.no_bad;
-          };
-          loads = w.loads;
-          ran = record {
-            past = w.ran.past;
-            reports = w.ran.reports;
-            only = w.ran.only;
-            goes = goes-hold d (bus.world asked.after_read) last b joined_taken [] w.ran.past list w.ran.goes all.ready;
-            follows = w.ran.follows;
-          };
-          split = record {
+      unclaimed = grows;
+      least = handles.least;
+      served = record {
+        rest = w.served.rest;
+        offered = w.served.offered;
+        oldest = w.served.oldest ∙ ap (λ (list : List ℕ). list ++ w.served.rest) (numbers-joined frames.taken);
+        newest = w.served.newest;
+        no_bad = w.served.no_bad;
+      };
+      only_receives = only_receives;
+      loads = w.loads;
+      runs = record {
+        past = past;
+        stages = record {
+          middle = asked.after_read;
+          before = reads.past;
+          reports = reads.reports;
+          made_are = reads.only;
+          holds = record { seen = reads.seen; cleared = reads.cleared };
+          behind = w.ran.past;
+          later = record {
             middle = w.split.middle;
             before = w.split.before;
+            reports = w.split.reaches;
+            made_are = w.split.first_made;
+            holds = record { none_left = w.look.none_left; short = w.look.short; loads_are = w.look.loads_are };
             behind = w.split.behind;
-            reaches = w.split.reaches;
-            leaves = w.split.leaves;
+            later = record {
+              middle = new.bus;
+              before = w.split.behind;
+              reports = w.split.leaves;
+              made_are = w.split.later_made;
+              holds = λ enabled. let behind = handles.work enabled in record { enabled = behind.enabled; asked = behind.asked };
+              behind = nothing;
+              later = (refl, refl);
+              whole = sym (joined-nothing w.split.behind);
+            };
             whole = w.split.whole;
-            first_made = w.split.first_made;
-            later_made = w.split.later_made;
           };
-          look = record { none_left = w.look.none_left; short = w.look.short; loads_are = w.look.loads_are };
+          whole = refl;
         };
-        least = handles.least;
-        work = λ enabled. let behind = handles.work enabled in record { enabled = behind.enabled; asked = behind.asked };
-        flows = flows-hold d a last b joined_taken [] past list handles.flows all.ready;
-      };
-      sockets = record {
-        sizes = sound'.sizes;
-        accounts = accounts h a h' b [] joined_taken past.stored frames.shown.kinds handles.flows.holds all.frames grows;
+        own = handles-of_driver h.driver.layout h.driver asked.causes w.misses.misses (map numbers_of frames.taken) w.loads
+            w.served.offered (next_receive driver') below;
+        last_writes = handles-last h.driver asked.causes w.misses.misses (map numbers_of frames.taken) w.loads w.served.offered
+            (next_receive driver');
+        changed = record {
+          sizes = sound'.sizes;
+          driver = record {
+            flows = flows-hold d a last b joined_taken [] past (driver_of h' b).handed_out handles.flows all.ready;
+            asked = bus.world asked.after_read;
+            causes = asked.causes;
+            first = reads.past;
+            reads = reads.only;
+            later = w.ran.past;
+            whole = refl;
+            goes = goes-hold d (bus.world asked.after_read) last b joined_taken [] w.ran.past (driver_of h' b).handed_out w.ran.goes
+                all.ready;
+          };
+          accounts = accounts h a h' b [] joined_taken past.stored frames.shown.kinds handles.flows.holds all.frames grows;
+        };
+        follows = follows-join a (bus.world asked.after_read) b reads.past w.ran.past reads.follows w.ran.follows;
+        work = λ work. let behind = handles.work work.enabled in record { enabled = behind.enabled; asked = behind.asked };
+        refilled = λ before. serves.ring.refilled;
+        offered = λ before. ap (λ (d : DriverState). d.staged) serves.ring.others;
       };
     }
 
@@ -237,25 +323,21 @@ pub host-handles : {up : Bool} {B : Type 0} (bus : Ghosts B) (old new : Scene B 
     → AreOfHost old.driver old.receiver → AreOfHost new.driver new.receiver → IsReadyHost bus up (host_in old)
     → IfNotMine result ((new.driver ≡ old.driver) × (new.receiver ≡ old.receiver))
     → IfHandled result (Serves (record { took = Sorts }) old.receiver new.receiver old.driver new.driver)
+    → OnlyReceives old.driver new.driver
     → Handles bus (record { took = Sorts }) result up (held_in (driver_at bus (host_in old)).driver.handed_out old)
     (held_in (driver_at bus (host_in old)).driver.handed_out new)
-    → HostHandles bus result up (host_in old) (host_in new)
-host-handles {up} {B} bus old new NotMine sound sound' is stays serves it =
+    → InterruptEffect result (host_in old).host (host_in new).host (OverBus bus up [] [] (host_in old) (host_in new)) (bus.world old.bus)
+host-handles {up} {B} bus old new NotMine sound sound' is stays serves only_receives it =
     let d = (driver_at bus (host_in old)).driver in
     let same : host_with new.driver new.receiver ≡ (host_in old).host = ap (λ (s : DriverState). host_with s new.receiver) stays.0
     ∙ ap (host_with old.driver) stays.1 in
     let left : DoesNothing bus (driver_at bus (host_in old)) (at new.bus d) it.asked =
     subst (λ (s : DriverState). DoesNothing bus (driver_at bus (host_in old)) (at new.bus (holding d.handed_out s)) it.asked)
     stays.0 it.then_does in
-    record {
-      asked = it.asked;
-      then_does = subst (λ (end : HostState). HostDoesNothing bus (host_in old) (host_at new.bus end) it.asked) (sym same)
-          (leaves bus (host_in old) new.bus it.asked is left);
-    }
-host-handles {up} {B} bus old new (answers.Handled taken) sound sound' is stays serves it = record {
-  asked = it.asked;
-  then_does = works bus old new taken sound sound' is it.asked it.then_does serves;
-}
+    subst (λ (end : HostState). FindsNoCause (host_in old).host end (OverBus bus up [] [] (host_in old) (host_at new.bus end))) (sym same)
+    (leaves bus (host_in old) new.bus it.asked is left)
+host-handles {up} {B} bus old new (answers.Handled taken) sound sound' is stays serves only_receives it =
+    works bus old new taken sound sound' is it.asked it.then_does serves only_receives
 
 -- What holds if frames were taken says less, too.
 pub taken-less : (result : Handled) (P Q : ℕ → Type 0) → ((n : ℕ) → P n → Q n) → IfHandled result P → IfHandled result Q

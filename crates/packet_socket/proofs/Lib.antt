@@ -8,3 +8,6 @@ pub mod Stretches
 pub mod GivenFrames
 pub mod ShownFrames
 pub mod HandledInterrupts
+pub mod DriversAccesses
+pub mod Effects
+pub mod SentFrames

@@ -1,5 +1,5 @@
 -- Intervals of a host's run.
-use Rattle.std.proofs.Common.{Bool, true, ◌≡◌, ◌++◌, [], ℕ, List, map, refl, sym, ap, subst, ◌∙◌, arith}
+use Rattle.std.proofs.Common.{Bool, ◌≡◌, ◌++◌, [], ℕ, List, map, refl, sym, ap, subst, ◌∙◌, arith}
 use Rattle.std.specs.List.{All}
 use Rattle.std.proofs.lemmas.List.{append-nil}
 use Rattle.dma_memory.specs.Layout.{Counts}
@@ -7,17 +7,14 @@ use Rattle.adapter.specs.HostFrames.{frames_held}
 use Rattle.adapter.specs.World.{World}
 use Rattle.bus.specs.Law.{Happens}
 use Rattle.bus.specs.PastOfStretch.{Past, joined}
-use Rattle.bus.specs.declared.event.Access.{Access}
 use Rattle.driver_law.proofs.Steps.{goes-happens}
-use Rattle.bus.specs.declared.bus.Bus.{Ghosts}
-use Rattle.driver_law.specs.Calls.{DriverDid, DriverInWorld, FlowsTo, GoesTo, Moment, Ran, at, call_did, driver_did, driver_in, held_at}
-use Rattle.driver_law.specs.Calls.{in_world_of}
+use Rattle.driver_law.specs.Calls.{DriverDid, DriverInWorld, FlowsTo, FollowsWrites, GoesTo, driver_did, driver_in}
+use Rattle.bus.proofs.Links.{link_stretches_join}
+use Rattle.bus.proofs.Settings.{settings_join, while_off-joins}
 use Rattle.driver_law.specs.DriverState.{DriverState, HandedOut, holding}
 use Rattle.driver_law.specs.ReadyDrivers.{ReadyWith, Stands}
-use Rattle.driver.specs.SendSteps.{FreesFirst, IsTransmitAnswer, SendAnswer, Sends, accepted_by, accesses_by}
-use Rattle.packet_socket.specs.HostCalls.{Accounts, HostDid, HostGoesTo, HostInWorld, HostInterval, HostMoment, HostReadyWith, HostSends}
-use Rattle.packet_socket.specs.HostCalls.{IsReadyHost, did_both, did_nothing, driver_at, driver_of, host_at, in_world, waiting_frame}
-use Rattle.packet_socket.specs.HostCalls.{KeepsAccount, waiting_frames}
+use Rattle.packet_socket.specs.HostCalls.{Accounts, HostDid, HostGoesTo, HostInWorld, HostInterval, HostReadyWith}
+use Rattle.packet_socket.specs.HostCalls.{did_both, did_nothing, driver_of, in_world, waiting_frame, waiting_frames}
 use Rattle.packet_socket.specs.HostState.{HostState, all_of, queue_at}
 use Rattle.packet_socket.proofs.Accounts.{accounts, accounts-join}
 use Rattle.packet_socket.proofs.WaitingFrames.{AreSame, all-long, all-same, ends-as, queue-frames-same}
@@ -86,53 +83,14 @@ goes-hold d a e b taken sent past held goes ready = record {
   recorded = goes.recorded;
 }
 
--- An interval over a bus, with its accesses and its end written in another way.
-abbrev pub ran-as : {up : Bool} {B : Type 0} (bus : Ghosts B) (xs ys : List Access) (old new : B) (d e e' : DriverState)
-    (taken sent : List (List ℕ)) → xs ≡ ys → e ≡ e' → Ran bus up (call_did xs taken sent) (at old d) (at new e)
-    → Ran bus up (call_did ys taken sent) (at old d) (at new e')
-ran-as {up} bus xs ys old new d e e' taken sent accesses last ran = record {
-  past = ran.past;
-  reports = ran.reports;
-  only = ran.only ∙ accesses;
-  goes = subst
-      (λ (end : DriverState). GoesTo up (driver_in d (bus.world old)) (driver_in end (bus.world new)) (driver_did taken sent) ran.past) last
-      ran.goes;
-  follows = ran.follows;
+-- Settings over two intervals, one after the other.
+pub follows-join : (a b c : World) (first later : Past) → FollowsWrites a b first → FollowsWrites b c later
+    → FollowsWrites a c (joined first later)
+follows-join a b c first later one two = record {
+  set = settings_join a b c first later one.set two.set;
+  off = while_off-joins a b first later one.set one.off two.off;
+  link = link_stretches_join a b c first later one.link two.link;
 }
-
--- A frame is sent.
-pub host-transmits : {B : Type 0} (bus : Ghosts B) (old : HostMoment B) (new : Moment B) (frame : List ℕ) (result : SendAnswer)
-    → IsReadyHost bus true old → Sends bus frame result (driver_at bus old) (held_at (driver_at bus old).driver.handed_out new)
-    → HostSends bus frame result old (host_at new.bus (with_driver new.driver old.host))
-host-transmits bus old new frame result is sends =
-    let h = old.host in
-    let d = (driver_at bus old).driver in
-    let e = holding d.handed_out new.driver in
-    let e' = driver_of (with_driver new.driver h) (bus.world new.bus) in
-    let flows = sends.ran.goes.flows in
-    let end : e ≡ e' = sym (driver-stays h new.driver (bus.world old.bus) (bus.world new.bus) is.ready flows.layout flows.ready.stand) in
-    record {
-      sends = record {
-        ran = ran-as bus (accesses_by result d e frame) (accesses_by result d e' frame) old.bus new.bus d e e' []
-            (accepted_by result frame)
-            (ap (λ (s : DriverState). accesses_by result d s frame) end) end sends.ran;
-        answer = subst (λ (s : DriverState). IsTransmitAnswer bus result (driver_at bus old) (at new.bus s)) end sends.answer;
-        frees_first = subst (λ (s : DriverState). FreesFirst bus frame result (driver_at bus old) (at new.bus s)) end sends.frees_first;
-      };
-      sockets = record {
-        sizes = is.ready.sizes;
-        accounts = accounts-stay h new.driver (bus.world old.bus) (bus.world new.bus) sends.ran.past.stored is.ready flows.layout
-            flows.ready.stand flows.holds;
-      };
-    }
-
--- An interval of a host's run: the driver's, with the sockets' part.
-abbrev pub interval-of : {B : Type 0} (bus : Ghosts B) (Holds : DriverInWorld → DriverInWorld → DriverDid → Past → Type 0)
-    (old new : HostMoment B) (done : HostDid) (past : Past)
-    → Holds (in_world_of bus (driver_at bus old)) (in_world_of bus (driver_at bus new)) done.driver past
-    → KeepsAccount bus done.given past.stored old new
-    → HostInterval Holds (in_world old.host (bus.world old.bus)) (in_world new.host (bus.world new.bus)) done past
-interval-of bus Holds old new done past driver sockets = record { sizes = sockets.sizes; driver = driver; accounts = sockets.accounts }
 
 -- Whatever happens between two calls.
 pub host-happens : {up : Bool} (h : HostState) (a b : World) (past : Past) → HostReadyWith up h a → Happens a b past

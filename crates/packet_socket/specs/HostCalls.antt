@@ -1,7 +1,7 @@
 -- What a host holds for its sockets, and what it does in its calls (our choice).
-use Rattle.std.specs.Prelude.{⊤, ◌≡◌, ◌==◌, ◌≤◌, ◌<◌, ◌+◌, ◌-◌, ◌++◌, ◌∷◌, []}
-use Rattle.std.specs.Prelude.{ℕ, Bool, true, List, Result, Ok, Err, count_by}
-use Rattle.std.specs.Prelude.{All, drop, filter, flat_map, length, map, slice_set, take}
+use Rattle.std.specs.Prelude.{◌≡◌, ◌==◌, ◌≤◌, ◌<◌, ◌+◌, ◌-◌, ◌++◌, ◌∷◌, []}
+use Rattle.std.specs.Prelude.{ℕ, Bool, true, List, count_by}
+use Rattle.std.specs.Prelude.{All, drop, filter, flat_map, length, map, slice_set}
 use Rattle.std.specs.List.Sorted.{IsPermutation}
 use Rattle.dma_memory.specs.HostMemory.{bytes_at}
 use Rattle.dma_memory.specs.Layout.{Counts}
@@ -10,24 +10,19 @@ use Rattle.rx_engine.specs.Addresses.{ether_type}
 use Rattle.adapter.specs.HostFrames.{frames_held}
 use Rattle.adapter.specs.World.{World}
 use Rattle.bus.specs.declared.bus.Bus.{Ghosts}
-use Rattle.bus.specs.PastOfStretch.{Past, joined}
+use Rattle.bus.specs.PastOfStretch.{Past}
 use Rattle.bus.specs.declared.event.Access.{Access}
-use Rattle.driver_law.specs.Calls.{Did, DriverDid, DriverInWorld, FlowsTo, GoesTo, IsRefilled, Moment, Ran, driver_did, driver_in, only}
+use Rattle.driver_law.specs.Calls.{DriverDid, DriverInWorld, FlowsTo, GoesTo, IsRefilled, Moment, driver_did, driver_in}
 use Rattle.driver_law.specs.Calls.{stores_from, tail_write}
 use Rattle.driver_law.specs.DriverState.{DriverState, HandedOut, buffer_at, frame_of, holding, next_receive, numbers_of, with_owners}
 use Rattle.driver_law.specs.ReadyDrivers.{ReadyWith}
-use Rattle.driver.specs.HandlerSteps.{AreFramesOf, AreOfOneFrame, Asked, DoesNothing, GrowsBy, HandlesCauses, IsTaken, RunOfSlots}
+use Rattle.driver.specs.HandlerSteps.{AreFramesOf, AreOfOneFrame, GrowsBy, IsTaken, RunOfSlots}
 use Rattle.driver.specs.HandlerSteps.{ServesRing, count_limit}
 use Rattle.driver.specs.Parts.{AreFrames, IsFrameSize, part_loads, received_of}
 use Rattle.driver.specs.declared.parts.Part.{Part}
-use Rattle.driver.specs.SendSteps.{SendAnswer, Sends}
-use Rattle.driver.specs.declared.interrupt.Handled.{Handled}
-use Rattle.driver.specs.declared.interrupt.Handled.TheVariants.{NotMine}
-use Rattle.driver.specs.declared.interrupt.Handled.TheVariants as answers
 use Rattle.driver.specs.declared.receiver.Received.{Received}
 use Rattle.packet_socket.specs.HostState.{HostState, all_of, host_owners, queue_at}
 use Rattle.packet_socket.specs.SocketKinds.{goes_to, has_none, has_socket}
-use Rattle.packet_socket.specs.declared.receive.RecvError.{RecvError}
 use Rattle.packet_socket.specs.declared.socket_kind.SocketKind.{SocketKind}
 
 -- The frames that a host holds for its sockets, read from the bytes of memory.
@@ -163,39 +158,6 @@ pub record IsReadyHost {B : Type 0} (bus : Ghosts B) (up : Bool) (now : HostMome
   pub honest : bus.honest now.bus
   pub ready : HostReadyWith up now.host (bus.world now.bus)
 
--- If the bus obeys the law and the host is ready before a call, `Holds` relates the moments before and after it. The transmit side may be
--- set up or off.
-abbrev pub WhereReadyHost : {B : Type 0} → Ghosts B → (old new : HostMoment B) → (Bool → HostMoment B → HostMoment B → Type 0) → Type 0
-WhereReadyHost bus old new Holds = (up : Bool) → IsReadyHost bus up old → Holds up old new
-
--- The same, but only if the transmit side is set up.
-abbrev pub WhereUpHost : {B : Type 0} → Ghosts B → (old new : HostMoment B) → (HostMoment B → HostMoment B → Type 0) → Type 0
-WhereUpHost bus old new Holds = IsReadyHost bus true old → Holds old new
-
--- The sockets' part of an interval over a bus: they returned these frames, while these were stored. Each queued frame has 60 to 1,518
--- bytes at the end, and the account of frames holds.
-pub record KeepsAccount {B : Type 0} (bus : Ghosts B) (given : List Given) (stored : List (List ℕ)) (old new : HostMoment B) : Type 0 where
-  pub sizes : AreFrames (all_of new.host.queues)
-  pub accounts : Accounts old.host (bus.world old.bus) new.host (bus.world new.bus) given stored
-
--- From one moment to another the driver did exactly this, and the sockets returned these frames. So the host is ready at the end: `sizes`
--- of `sockets`, and `ready` of `ran.goes.flows`.
-pub record HostRan {B : Type 0} (bus : Ghosts B) (up : Bool) (done : Did) (given : List Given) (old new : HostMoment B) : Type 0 where
-  pub ran : Ran bus up done (driver_at bus old) (driver_at bus new)
-  pub sockets : KeepsAccount bus given ran.past.stored old new
-
--- Sending.
-
--- The driver's transmit, over the whole host. No socket returns a frame. The accesses don't depend on the frames that others hold, so they
--- are those of `old.host.driver` and `new.host.driver`, too. In `sends` the queued frames are held (`driver_at`). So for Ok, `slots` and
--- `more` of `frees_first` also state that the bytes of the queued frames don't change. For RingFull, `same` of `answer` states this.
-pub record HostSends {B : Type 0} (bus : Ghosts B) (frame : List ℕ) (result : SendAnswer) (old new : HostMoment B) : Type 0 where
-  pub sends : Sends bus frame result (driver_at bus old) (driver_at bus new)
-  pub sockets : KeepsAccount bus [] sends.ran.past.stored old new
-
-abbrev pub HostTransmits : {B : Type 0} → Ghosts B → List ℕ → SendAnswer → (old new : HostMoment B) → Type 0
-HostTransmits bus frame result old new = WhereUpHost bus old new (HostSends bus frame result)
-
 -- Receiving.
 
 -- The oldest entry of a socket's queue is removed, and nothing else of the sockets changes. `size` is the entry's length.
@@ -211,28 +173,6 @@ abbrev pub receive_accesses : (d d' : DriverState) → (parts : List Part) → (
 receive_accesses d d' parts offered =
     part_loads d.layout parts
     ++ (stores_from d.layout (next_receive d) offered ++ tail_write (next_receive d') (d.staged ++ offered))
-
--- The oldest frame of a socket's queue is returned, and its buffers go back to the driver.
-pub record Receives {B : Type 0} (bus : Ghosts B) (given : Given) (size : ℕ) (up : Bool) (old new : HostMoment B) : Type 0 where
-  pub received : Received
-  pub leaves : LeavesQueue old.host new.host given.socket size received
-  -- The frame returned is the frame at the front of the socket's queue, as it is in memory.
-  pub front : waiting_frames old.host given.socket (bus.world old.bus)
-      ≡ given.frame ∷ waiting_frames new.host given.socket (bus.world new.bus)
-  pub offered : List ℕ
-  -- The buffers of the outstanding receive slots after the call: those before it, then those staged before it, then `offered`.
-  pub newest : new.host.driver.buffers ≡ old.host.driver.buffers ++ (old.host.driver.staged ++ offered)
-  pub ran :
-      HostRan bus up (only (receive_accesses old.host.driver new.host.driver received.parts offered)) (given ∷ []) old new
-
--- The frame that a socket returns is the first `size` of these bytes.
-abbrev pub given_first : (socket : ℕ) → (into : List ℕ) → (size : ℕ) → Given
-given_first socket into size = record { socket = socket; frame = take size into }
-
--- By the answer: for Ok, the frame returned is the one given of this size. For an error, the clause `err` states that nothing changes.
-abbrev pub ReturnsBy : {B : Type 0} → Ghosts B → (given : ℕ → Given) → Result ℕ RecvError → Bool → (old new : HostMoment B) → Type 0
-ReturnsBy bus given (Ok size) = Receives bus (given size) size
-ReturnsBy bus given (Err error) = λ up old new. ⊤
 
 -- Over any bus: the oldest entry of a queue is removed, its buffers go back to the driver, and slots are offered. The caller's bytes are
 -- `into` before the call and `into'` after it; those after the entry's length don't change.
@@ -288,29 +228,3 @@ pub record AreSorted (n : ℕ) (h h' : HostState) (taken : List (List HandedOut)
   pub groups : All AreOfOneFrame (map numbers_of taken)
   pub each : All IsTaken taken
   pub sorted : SortsFrames h h' (map received_of taken)
-
--- It handles the interrupt: its driver does its work, and the frames are sorted. The frames of the queues are those that others hold.
-pub record HostHandlesIt {B : Type 0} (bus : Ghosts B) (n : ℕ) {up : Bool} (old new : HostMoment B)
-    (asked : Asked bus up (driver_at bus old)) : Type 0 where
-  pub taken : List (List HandedOut)
-  pub sorted : AreSorted n old.host new.host taken
-  pub driver : HandlesCauses bus taken n (driver_at bus old) (driver_at bus new) asked
-  pub sockets : KeepsAccount bus [] (joined asked.reads.past driver.works.ran.past).stored old new
-
--- It does nothing more: ICR had none of its causes.
-pub record HostDoesNothing {B : Type 0} (bus : Ghosts B) {up : Bool} (old new : HostMoment B) (asked : Asked bus up (driver_at bus old))
-    : Type 0 where
-  pub stays : new.host ≡ old.host
-  pub driver : DoesNothing bus (driver_at bus old) (driver_at bus new) asked
-  pub sockets : KeepsAccount bus [] asked.reads.past.stored old new
-
--- by the answer
-abbrev pub HostHandlesBy : {B : Type 0} (bus : Ghosts B) → Handled → {up : Bool} → (old new : HostMoment B)
-    → Asked bus up (driver_at bus old) → Type 0
-HostHandlesBy bus NotMine old new asked = HostDoesNothing bus old new asked
-HostHandlesBy bus (answers.Handled taken) old new asked = HostHandlesIt bus taken old new asked
-
--- It reads ICR first. What it does next depends on the causes read.
-pub record HostHandles {B : Type 0} (bus : Ghosts B) (result : Handled) (up : Bool) (old new : HostMoment B) : Type 0 where
-  pub asked : Asked bus up (driver_at bus old)
-  pub then_does : HostHandlesBy bus result old new asked

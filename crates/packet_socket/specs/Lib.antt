@@ -2,6 +2,9 @@ pub mod SocketKinds
 pub mod KindLaws
 pub mod HostState
 pub mod HostCalls
+pub mod HostActs
+pub mod HostEffects
+pub mod CallEffects
 pub mod Sorting
 pub mod QueueLaws
 pub mod SortingLaws

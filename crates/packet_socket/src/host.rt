@@ -1,6 +1,6 @@
 // A host: a driver with sockets above it.
 
-ghost use Rattle.std.specs.Prelude.{◌≡◌, ◌↔◌, ◌≤◌, ◌<◌, ◌+◌, ◌++◌, Err, IfErr, IfOk, IsTrue, length};
+ghost use Rattle.std.specs.Prelude.{◌≡◌, ◌↔◌, ◌≤◌, ◌<◌, ◌+◌, ◌++◌, [], Err, IfErr, IfOk, IsTrue, length};
 ghost use Rattle.dma_memory.specs.Layout.{size_of};
 ghost use Rattle.dma_memory.specs.Owners.{HasNoSecondOwner};
 ghost use Rattle.descriptors.specs.Frames.{longest_frame, shortest_sent};
@@ -11,10 +11,12 @@ ghost use Rattle.registers.specs.Counting.{greatest_count};
 ghost use Rattle.bus.specs.Keeping.{Keeps};
 ghost use Rattle.driver_law.specs.DriverState.{owners};
 ghost use Rattle.driver.specs.Initialisation.{Initialises, Refuses};
-ghost use Rattle.driver.specs.SendSteps.{HasWrongLength, with_transmit_slots};
+ghost use Rattle.driver.specs.SendSteps.{HasWrongLength, accepted_by, with_transmit_slots};
 ghost use Rattle.driver.specs.Parts.{AreFrames, buffers_of};
 ghost use Rattle.driver.specs.declared.transmit.SendError.TheVariants as SendError;
-ghost use Rattle.packet_socket.specs.HostCalls.{HostReady, HostTransmits, host_at};
+ghost use Rattle.packet_socket.specs.HostActs.{CallsUp};
+ghost use Rattle.packet_socket.specs.HostCalls.{HostReady, host_at};
+ghost use Rattle.packet_socket.specs.HostEffects.{SendEffect};
 ghost use Rattle.packet_socket.specs.HostState.{IsNewHost, all_of, queue_at};
 
 use crate::SocketKind;
@@ -145,7 +147,8 @@ impl Host {
         ensures full { result ≡ Err SendError.RingFull → self.new.driver.sending + 1 ≡ self.new.driver.layout.tx }
 
         // And over one that obeys the law.
-        ensures transmits { HostTransmits B.Bus frame.now result (host_at bus.old self.old) (host_at bus.new self.new) }
+        ensures sends { CallsUp B.Bus [] (accepted_by result frame.now) (host_at bus.old self.old)
+            (host_at bus.new self.new) (SendEffect frame.now result) }
     {
         self.driver.transmit(bus, frame)
     }

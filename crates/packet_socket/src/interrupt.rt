@@ -1,10 +1,12 @@
 // A host handles an interrupt.
 
-ghost use Rattle.std.specs.Prelude.{◌≡◌, ◌≤◌};
+ghost use Rattle.std.specs.Prelude.{◌≡◌, ◌≤◌, []};
 ghost use Rattle.dma_memory.specs.Layout.{size_of};
 ghost use Rattle.bus.specs.Keeping.{Keeps};
 ghost use Rattle.driver.specs.HandlerSteps.{IfHandled, IfNotMine, OnlyReceives};
-ghost use Rattle.packet_socket.specs.HostCalls.{HostHandles, HostServes, WhereReadyHost, host_at};
+ghost use Rattle.packet_socket.specs.HostActs.{CallsOver};
+ghost use Rattle.packet_socket.specs.HostCalls.{HostServes, host_at};
+ghost use Rattle.packet_socket.specs.HostEffects.{InterruptEffect};
 
 use crate::Host;
 use bus::Bus;
@@ -12,8 +14,8 @@ use driver::Handled;
 
 impl Host {
     /// Handles an interrupt by [`Driver::interrupt`](driver::Driver::interrupt). Each frame that it takes goes to the
-    /// end of its socket's queue; a frame without a socket is counted ([`unclaimed`](Host::unclaimed)). `bus` must have
-    /// at least `layout().size()` bytes.
+    /// end of its socket's queue; a frame without a socket is counted ([`unclaimed`](Host::unclaimed)). After the read
+    /// of ICR, causes are only added until the call ends. `bus` must have at least `layout().size()` bytes.
     pub fn interrupt<B: Bus>(&mut self, bus: &mut B) -> Handled
         requires memory { size_of self.old.driver.layout ≤ B.extent bus.old }
         ensures keeps { Keeps B.Bus bus.old bus.new }
@@ -24,8 +26,8 @@ impl Host {
         ensures serves { IfHandled result (HostServes self.old self.new) }
 
         // And over one that obeys the law.
-        ensures handles { WhereReadyHost B.Bus (host_at bus.old self.old) (host_at bus.new self.new)
-            (HostHandles B.Bus result) }
+        ensures handles { CallsOver B.Bus [] [] (host_at bus.old self.old) (host_at bus.new self.new)
+            (InterruptEffect result) }
     {
         self.driver.interrupt(bus, &mut self.sockets)
     }

@@ -1,6 +1,7 @@
 //! Packet sockets over a driver of the 82540EM: frames in and frames out, by EtherType.
 #![tactic(auto)]
 
+mod call;
 mod host;
 mod interrupt;
 mod law;
@@ -8,6 +9,7 @@ mod receive;
 mod socket_kind;
 mod sockets;
 
+pub use call::{HostAnswer, HostCall};
 pub use host::Host;
 pub use law::{host_stretches_join, hosts_go_on};
 pub use receive::RecvError;

@@ -3,7 +3,9 @@
 ghost use Rattle.std.specs.Prelude.{◌≡◌, ◌↔◌, ◌≤◌, ◌<◌, [], Err, IfErr, IfOk, length};
 ghost use Rattle.dma_memory.specs.Layout.{size_of};
 ghost use Rattle.bus.specs.Keeping.{Keeps};
-ghost use Rattle.packet_socket.specs.HostCalls.{Returns, ReturnsBy, WhereReadyHost, given_first, host_at};
+ghost use Rattle.packet_socket.specs.HostActs.{CallsOver};
+ghost use Rattle.packet_socket.specs.HostCalls.{Returns, host_at};
+ghost use Rattle.packet_socket.specs.HostEffects.{RecvEffect, frame_answer, given_by};
 ghost use Rattle.packet_socket.specs.HostState.{queue_at};
 ghost use Rattle.packet_socket.specs.declared.receive.RecvError.TheVariants as RecvError;
 
@@ -49,8 +51,8 @@ impl Host {
         ensures ok { IfOk result (Returns self.old self.new socket into.old into.new) }
 
         // And over one that obeys the law.
-        ensures receives { WhereReadyHost B.Bus (host_at bus.old self.old) (host_at bus.new self.new)
-            (ReturnsBy B.Bus (given_first socket into.new) result) }
+        ensures receives { CallsOver B.Bus (given_by socket (frame_answer into.new result)) []
+            (host_at bus.old self.old) (host_at bus.new self.new) (RecvEffect socket (frame_answer into.new result)) }
     {
         if socket >= self.sockets.len() {
             return Err(RecvError::NoSocket);

@@ -14,6 +14,7 @@ use Rattle.stations.specs.declared.outcomes.Numbered.{Numbered}
 use Rattle.stations.specs.declared.tick.Tick.{Tick}
 use Rattle.stations.specs.declared.tick.Tick.TheVariants.{Deliver, Go, Step}
 
+-- The tick is Go, which only ends a group of ticks.
 abbrev pub is_go : Tick → Bool
 is_go Go = true
 is_go (Step host kind) = false
@@ -40,18 +41,22 @@ IsTick (Idles tick) = is_go tick ≡ false
 
 -- What happened at one host.
 
+-- The event of an atomic step, if it is at this host.
 abbrev pub events_by : (host : ℕ) → AtomicStep → List Event
 events_by k (At host event) = if k == host then event ∷ [] else []
 events_by k (Idles tick) = []
 
+-- The events of atomic steps at one host, in order.
 abbrev pub events_at : (host : ℕ) → List AtomicStep → List Event
 events_at k steps = flat_map (events_by k) steps
 
+-- What happened at one host in these atomic steps.
 abbrev pub past_at : (host : ℕ) → List AtomicStep → Past
 past_at k steps = past_of (events_at k steps)
 
 -- Outcomes with the number of accesses before them.
 
+-- The outcome of an atomic step, with the number of accesses before it.
 abbrev pub numbered : ℕ → AtomicStep → List Numbered
 numbered n step = record { accesses = n; outcome = outcome_of step } ∷ []
 
@@ -62,28 +67,33 @@ noted_by n (At host (Arrives frame fate)) = numbered n (At host (Arrives frame f
 noted_by n (At host (Accesses access)) = []
 noted_by n (Idles tick) = numbered n (Idles tick)
 
+-- The number of accesses after an atomic step, by the number before it; it saturates.
 abbrev pub counted_by : ℕ → AtomicStep → ℕ
 counted_by n (At host (Steps kind wire_free answer)) = n
 counted_by n (At host (Arrives frame fate)) = n
 counted_by n (At host (Accesses access)) = min (n + 1) most_accesses
 counted_by n (Idles tick) = n
 
+-- The outcomes of atomic steps in order, each with the number of accesses before it.
 abbrev pub noted_of : ℕ → List AtomicStep → List Numbered
 noted_of n [] = []
 noted_of n (step ∷ later) = noted_by n step ++ noted_of (counted_by n step) later
 
 -- What an observer is told of them: each outcome with its tick.
 
+-- What an observer is told of an atomic step: its outcome with its tick; of an access, nothing.
 abbrev pub step_told : ℕ → AtomicStep → List TickTold
 step_told n (At host (Steps kind wire_free answer)) = tick_told (Step host kind) n answer ∷ []
 step_told n (At host (Arrives frame fate)) = tick_told (Deliver host) n (Delivered frame fate) ∷ []
 step_told n (At host (Accesses access)) = []
 step_told n (Idles tick) = tick_told tick n Nothing ∷ []
 
+-- What an observer is told of atomic steps, in order.
 abbrev pub steps_told : ℕ → List AtomicStep → List TickTold
 steps_told n [] = []
 steps_told n (step ∷ later) = step_told n step ++ steps_told (counted_by n step) later
 
+-- The number of accesses after atomic steps, by the number before them.
 abbrev pub counted_of : ℕ → List AtomicStep → ℕ
 counted_of n [] = n
 counted_of n (step ∷ later) = counted_of (counted_by n step) later

@@ -15,6 +15,7 @@ use Rattle.adapter.specs.declared.outcome.Outcome.TheVariants.{Delivered, Nothin
 use Rattle.stations.specs.declared.tick.Tick.{Tick}
 use Rattle.stations.specs.declared.tick.Tick.TheVariants.{Deliver, Go, Step}
 
+-- The smallest part of a run: one event at one host, or a tick that does nothing.
 pub data AtomicStep : Type 0 where
   -- an event at a host
   At : (host : ℕ) (event : Event) → AtomicStep
@@ -27,15 +28,18 @@ tick_of_event host (Steps kind wire_free answer) = Step host kind
 tick_of_event host (Arrives frame fate) = Deliver host
 tick_of_event host (Accesses access) = Go
 
+-- The outcome of an event at a host; that of an access is Nothing.
 abbrev pub outcome_of_event : Event → FrameOutcome
 outcome_of_event (Steps kind wire_free outcome) = outcome
 outcome_of_event (Arrives frame fate) = Delivered frame fate
 outcome_of_event (Accesses access) = Nothing
 
+-- The tick of an atomic step.
 abbrev pub tick_of : AtomicStep → Tick
 tick_of (At host event) = tick_of_event host event
 tick_of (Idles tick) = tick
 
+-- The outcome of an atomic step.
 abbrev pub outcome_of : AtomicStep → FrameOutcome
 outcome_of (At host event) = outcome_of_event event
 outcome_of (Idles tick) = Nothing
@@ -48,9 +52,13 @@ SuitsWire host wire (Accesses access) stations = ⊤
 
 -- The event can happen at this host.
 pub record OccursAt (host : ℕ) (event : Event) (stations : List StationState) : Type 0 where
+  -- The number of the host's wire.
   pub wire : ℕ
+  -- The host is on this wire.
   pub on_wire : wire_at stations host ≡ Some wire
+  -- The event can happen to the host's adapter and memory.
   pub occurs : Occurs event (world_at stations host)
+  -- The wire has room for a frame that is put, and a frame that arrives is the oldest that waits.
   pub suits_wire : SuitsWire host wire event stations
 
 -- The oldest frame that waits at a station's end is delivered, and meets this fate.
@@ -66,6 +74,7 @@ FindsNothing Go stations = ⊤
 FindsNothing (Step host kind) stations = slice_get stations host ≡ None
 FindsNothing (Deliver host) stations = backlog_at stations host ≡ []
 
+-- The atomic step can happen in this state of all stations.
 abbrev pub CanHappen : AtomicStep → List StationState → Type 0
 CanHappen (At host event) stations = OccursAt host event stations
 CanHappen (Idles tick) stations = FindsNothing tick stations
@@ -77,6 +86,7 @@ IsNoAccess (At host (Arrives frame fate)) = ⊤
 IsNoAccess (At host (Accesses access)) = ⊥
 IsNoAccess (Idles tick) = ⊤
 
+-- All stations after an atomic step.
 abbrev pub after : AtomicStep → List StationState → List StationState
 after (At host event) stations = stations_after host event stations
 after (Idles tick) stations = stations

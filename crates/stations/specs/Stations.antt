@@ -11,6 +11,7 @@ use Rattle.stations.specs.Ends.{end_frames}
 
 -- a host's adapter and memory, and its end of a wire
 pub record StationState : Type 0 where
+  -- The host's adapter and memory.
   pub world : World
   -- the wire that it is on
   pub wire : ℕ
@@ -19,24 +20,30 @@ pub record StationState : Type 0 where
 
 -- What is known of a host, also of one that isn't there: that one is on no wire, and no frame waits at its end.
 
+-- The adapter and the memory of a host.
 abbrev pub world_of : Option StationState → World
 world_of None = record { memory = []; adapter = new_adapter [] Never }
 world_of (Some station) = station.world
 
+-- The number of a host's wire, if there is such a host.
 abbrev pub wire_of : Option StationState → Option ℕ
 wire_of None = None
 wire_of (Some station) = Some station.wire
 
+-- The frames that wait at a host's end of its wire, the oldest first.
 abbrev pub backlog_of : Option StationState → List (List ℕ)
 backlog_of None = []
 backlog_of (Some station) = station.backlog
 
+-- The adapter and the memory of the host with this number.
 abbrev pub world_at : List StationState → (host : ℕ) → World
 world_at stations host = world_of (slice_get stations host)
 
+-- The number of the wire of the host with this number, if there is such a host.
 abbrev pub wire_at : List StationState → (host : ℕ) → Option ℕ
 wire_at stations host = wire_of (slice_get stations host)
 
+-- The frames that wait at the end of the host with this number, the oldest first.
 abbrev pub backlog_at : List StationState → (host : ℕ) → List (List ℕ)
 backlog_at stations host = backlog_of (slice_get stations host)
 
@@ -81,6 +88,7 @@ abbrev pub at_each : (ℕ → StationState → StationState) → ℕ → List St
 at_each change k [] = []
 at_each change k (station ∷ later) = change k station ∷ at_each change (suc k) later
 
+-- All stations after an event at a host, if there is such a host.
 abbrev pub all_after : Option StationState → (host : ℕ) → Event → List StationState → List StationState
 all_after None host event stations = stations
 all_after (Some station) host event stations = at_each (each_after host station.wire event) 0 stations

@@ -29,7 +29,8 @@ use Rattle.delivery.proofs.RightFates.{fates-right, receives-append, receives-no
 use Rattle.delivery.specs.Fates.{Mark, marks}
 use Rattle.delivery.specs.Happenings.{Happening, accepted, given, happened_in, missed, put, reached, stored, toward}
 use Rattle.delivery.specs.Reception.{LeavesReception, ReceivesRightly}
-use Rattle.host_calls.specs.CallsOfHosts.{HostRuns, IsOfDriver, IsTailWrite}
+use Rattle.host_calls.specs.CallsOfHosts.{HostRuns}
+use Rattle.packet_socket.specs.HostActs.{IsOfDriver, IsTailWrite}
 use Rattle.wire.specs.Equations.{CountsMisses, CountsUnclaimed, Delivers, kept, sum_of}
 use Rattle.host_calls.specs.ConnectedHosts.{connected}
 

@@ -1,12 +1,12 @@
 pub mod Delivering
 pub mod Tellings
+pub mod Calls
 pub mod AdaptersStay
 pub mod Standing
 pub mod Playing
 pub mod Ticking
 pub mod Running
 pub mod Telling
-pub mod Taking
 pub mod Bringing
 pub mod Draining
 pub mod OwnTicks

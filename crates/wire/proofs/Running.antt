@@ -1,5 +1,5 @@
 -- Events with their replies, and runs of them.
-use Rattle.std.proofs.Common.{◌≡◌, ◌++◌, ◌∷◌, [], ℕ, List, Some, Vec, Global, refl, sym, ap}
+use Rattle.std.proofs.Common.{◌≡◌, ◌++◌, ◌∷◌, [], ℕ, List, Some, refl, sym, ap}
 use Rattle.std.proofs.Common.{subst, ◌∙◌, append_assoc, arith}
 use Rattle.std.proofs.lemmas.List.{append-nil}
 use Rattle.std.proofs.lemmas.Option.{slice_get_within}
@@ -8,56 +8,52 @@ use Rattle.packet_socket.specs.HostState.{HostState}
 use Rattle.stations.specs.Stations.{StationState, wire_at}
 use Rattle.stations.specs.declared.tick.Tick.{Tick}
 use Rattle.delivery.proofs.Waiting.{wires-stay}
-use Rattle.delivery.specs.Happenings.{Happening, told, told_alone}
+use Rattle.delivery.specs.Happenings.{Happening, told_alone}
 use Rattle.network_plan.specs.declared.event.Event.{Event}
-use Rattle.network_plan.specs.declared.event.Event.TheVariants.{Interrupt, Recv, Send, Tick as Alone}
+use Rattle.network_plan.specs.EventCalls.{Alone, ByCall, CallOrTick, EventCall, in_event}
 use Rattle.network_plan.specs.declared.reply.Reply.{Reply}
 use Rattle.wire.specs.Equations.{Delivers, NetworkStands}
-use Rattle.wire.specs.Runs.{EventRuns, IsInterruptAnswer, IsRecvAnswer, IsSendAnswer, RunTold, RunsTo, StatesRun, accepted_of, caller_of}
-use Rattle.wire.specs.Runs.{given_of, happenings, said, ticked}
+use Rattle.wire.specs.Runs.{EventRuns, HostsGo, IsAnswer, IsReply, RunTold, RunsTo, StatesRun}
+use Rattle.wire.specs.Runs.{caller_in, caller_of, happenings, said, said_of}
 use Rattle.wire.specs.PlayedCalls.{CallPlayed, TickPlayed}
-use Rattle.host_calls.specs.Networks.{NetworkState}
+use Rattle.host_calls.specs.ConnectedHosts.{connected}
+use Rattle.host_calls.specs.Networks.{IsHost, NetworkState}
 use Rattle.stations.specs.ToldTicks.{ComposesTold, TickTold}
 use Rattle.wire.specs.RunObservers.{ComposesRuns, EventTold}
-use Rattle.wire.proofs.Delivering.{delivers-join, delivers-none}
+use Rattle.wire.proofs.Delivering.{Tells, delivers-join, delivers-none}
 use Rattle.wire.proofs.Playing.{ticks-go}
 use Rattle.wire.proofs.Tellings.{tells-steps}
 
--- Events. What is said of each is said of its call.
+-- Events. What is said of each is said of its call, or of its tick.
 
-pub send-event : (old new : NetworkState) (host : ℕ) (frame : Vec ℕ Global) (ticks : Vec Tick Global) (reply : Reply)
-    → CallPlayed (ticked host ticks.items) (accepted_of host frame.items reply.answer ++ told ticks.items reply.outcomes.list) reply
-    (IsSendAnswer host frame.items) old new → NetworkStands old
-    → EventRuns old (Send host frame ticks) reply new
-send-event old new host frame ticks reply played stood =
-    record { stood = stood; steps = played.steps; go = played.go; replied = played.replied; answer = played.answer }
+pub call-event : (old new : NetworkState) (event : Event) (call : EventCall) (reply : Reply) → in_event event ≡ ByCall call
+    → CallPlayed call reply old new → NetworkStands old → EventRuns old event reply new
+call-event old new event call reply is played stood = record {
+  stood = stood;
+  steps = played.steps;
+  go = subst (λ (part : CallOrTick). HostsGo (caller_in part) (said_of part reply) played.steps old new) (sym is) played.go;
+  replied = subst (λ (part : CallOrTick). IsReply part reply played.steps old new) (sym is) played.replied;
+  answer = subst (λ (part : CallOrTick). (h h' : HostState) → IsHost old (caller_in part) h → IsHost new (caller_in part) h'
+      → IsAnswer part reply.answer played.steps (connected h old.stations) (connected h' new.stations)) (sym is) played.answer;
+}
 
-pub recv-event : (old new : NetworkState) (host socket : ℕ) (ticks : Vec Tick Global) (reply : Reply)
-    → CallPlayed (ticked host ticks.items) (told ticks.items reply.outcomes.list ++ given_of host socket reply.answer) reply
-    (IsRecvAnswer host socket) old new → NetworkStands old
-    → EventRuns old (Recv host socket ticks) reply new
-recv-event old new host socket ticks reply played stood =
-    record { stood = stood; steps = played.steps; go = played.go; replied = played.replied; answer = played.answer }
-
-pub interrupt-event : (old new : NetworkState) (host : ℕ) (ticks : Vec Tick Global) (reply : Reply)
-    → CallPlayed (ticked host ticks.items) (told ticks.items reply.outcomes.list) reply (IsInterruptAnswer host) old new → NetworkStands old
-    → EventRuns old (Interrupt host ticks) reply new
-interrupt-event old new host ticks reply played stood =
-    record { stood = stood; steps = played.steps; go = played.go; replied = played.replied; answer = played.answer }
-
-pub tick-event : (old : NetworkState) (stations : List StationState) (tick : Tick) (reply : Reply) → NetworkStands old
-    → TickPlayed tick reply old.stations stations
-    → EventRuns old (Alone tick) reply (record { hosts = old.hosts; stations = stations })
-tick-event old stations tick reply stands played =
+pub tick-event : (old : NetworkState) (stations : List StationState) (event : Event) (tick : Tick) (reply : Reply)
+    → in_event event ≡ Alone tick → NetworkStands old → TickPlayed tick reply old.stations stations
+    → EventRuns old event reply (record { hosts = old.hosts; stations = stations })
+tick-event old stations event tick reply is stands played =
+    let new : NetworkState = record { hosts = old.hosts; stations = stations } in
     let go = ticks-go 0 (told_alone tick reply.outcomes.list) played.steps old stations stands played.are played.leads
-    (λ k. subst (λ (list : List Happening). Rattle.wire.proofs.Delivering.Tells k list played.steps (wire_at old.stations) [] [])
-    (sym played.said) (tells-steps k played.steps (wire_at old.stations))) in
+    (λ k. subst (λ (list : List Happening). Tells k list played.steps (wire_at old.stations) [] []) (sym played.said)
+    (tells-steps k played.steps (wire_at old.stations))) in
+    let replied = played.replied old.hosts in
     record {
       stood = stands;
       steps = played.steps;
-      go = go;
-      replied = played.replied old.hosts;
-      answer = λ was is then now. (played.replied old.hosts).answer;
+      go = subst (λ (part : CallOrTick). HostsGo (caller_in part) (said_of part reply) played.steps old new) (sym is) go;
+      replied = subst (λ (part : CallOrTick). IsReply part reply played.steps old new) (sym is) replied;
+      answer = subst (λ (part : CallOrTick). (h h' : HostState) → IsHost old (caller_in part) h → IsHost new (caller_in part) h'
+          → IsAnswer part reply.answer played.steps (connected h old.stations) (connected h' stations)) (sym is)
+          (λ was is then now. replied.answer);
     }
 
 -- Runs.

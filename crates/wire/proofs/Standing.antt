@@ -33,7 +33,8 @@ use Rattle.delivery.proofs.Ticks.{absent-nothing, counts-go, ticks-answered}
 use Rattle.delivery.specs.Counts.{tail_of}
 use Rattle.delivery.specs.CountedHosts.{CanAnswer, CanBeCounted, IsCounted, IsCountedWrite}
 use Rattle.host_calls.proofs.Calling.{others-run, ready-behind}
-use Rattle.host_calls.specs.CallsOfHosts.{HostRuns, IsOfDriver, IsTailWrite}
+use Rattle.host_calls.specs.CallsOfHosts.{HostRuns}
+use Rattle.packet_socket.specs.HostActs.{IsOfDriver, IsTailWrite}
 use Rattle.host_calls.specs.ConnectedHosts.{connected}
 use Rattle.wire.specs.Equations.{HostStands, NetworkStands}
 use Rattle.wire.specs.Runs.{HostsGo}

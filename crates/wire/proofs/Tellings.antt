@@ -15,7 +15,7 @@ use Rattle.delivery.specs.Fates.{Mark, marks}
 use Rattle.delivery.specs.Happenings.{Accepted, Given as WasGiven, Happening, accepted, given, happened_in, missed, of_host, put, reached}
 use Rattle.delivery.specs.Happenings.{stored, toward}
 use Rattle.network_plan.specs.declared.reply.Answer.TheVariants.{Received, Sent}
-use Rattle.host_calls.specs.CallAnswers.{given_by}
+use Rattle.packet_socket.specs.HostEffects.{given_by}
 use Rattle.wire.specs.Runs.{accepted_of, given_of}
 use Rattle.wire.proofs.Delivering.{Tells}
 

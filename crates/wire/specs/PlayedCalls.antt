@@ -2,6 +2,7 @@
 -- the contract of `Lan::run`: an `EventRuns` (specs/Runs) is built from it.
 use Rattle.std.specs.Prelude.{◌≡◌, ℕ, All, List}
 use Rattle.bus.specs.TickGroups.{without_go}
+use Rattle.packet_socket.specs.CallEffects.{request_of}
 use Rattle.packet_socket.specs.HostState.{HostState}
 use Rattle.stations.specs.AtomicRuns.{IsTick, LeadsTo, is_go, steps_told}
 use Rattle.stations.specs.AtomicSteps.{AtomicStep, Watched, watched}
@@ -9,24 +10,34 @@ use Rattle.stations.specs.PlayedTicks.{PlaysTicks}
 use Rattle.stations.specs.Stations.{StationState}
 use Rattle.stations.specs.declared.observer.Observer.{Ghosts as OfObserver}
 use Rattle.stations.specs.declared.tick.Tick.{Tick}
-use Rattle.delivery.specs.Happenings.{Happening, happened_in, told_alone}
-use Rattle.network_plan.specs.Answers.{FrameAnswer}
+use Rattle.delivery.specs.Happenings.{happened_in, told_alone}
+use Rattle.network_plan.specs.EventCalls.{Alone, ByCall, CallOrTick, EventCall}
 use Rattle.network_plan.specs.declared.event.Event.{Event}
 use Rattle.network_plan.specs.declared.reply.Answer.TheVariants.{NoHost}
 use Rattle.network_plan.specs.declared.reply.Reply.{Reply}
-use Rattle.host_calls.specs.ConnectedHosts.{ConnectedHost, connected}
+use Rattle.host_calls.specs.ConnectedHosts.{connected}
 use Rattle.host_calls.specs.Networks.{IsHost, NetworkState}
 use Rattle.wire.specs.RunObservers.{TellsReply, ending}
-use Rattle.wire.specs.Runs.{HostsGo, IsCallReply, IsTickReply, TickedCall}
+use Rattle.wire.specs.Runs.{AnswersCall, HostsGo, IsCallReply, IsTickReply, said_by}
+use Rattle.wire.specs.declared.events.Call.{Call}
+use Rattle.wire.specs.declared.events.Part.{Part}
+use Rattle.wire.specs.declared.events.Part.TheVariants as parts
+
+-- the values that a `Call` and a `Part` of the code stand for
+abbrev pub call_in : Call → EventCall
+call_in call = record { host = call.host; request = request_of call.call; ticks = call.ticks.now }
+
+abbrev pub part_in : Part → CallOrTick
+part_in (parts.Call call) = ByCall (call_in call)
+part_in (parts.Tick tick) = Alone tick
 
 -- A call was made, and this replies to it.
-pub record CallPlayed (call : TickedCall) (happened : List Happening) (reply : Reply)
-    (answers : FrameAnswer → List AtomicStep → ConnectedHost → ConnectedHost → Type 0) (old new : NetworkState) : Type 0 where
+pub record CallPlayed (call : EventCall) (reply : Reply) (old new : NetworkState) : Type 0 where
   pub steps : List AtomicStep
-  pub go : HostsGo call.host happened steps old new
-  pub replied : IsCallReply reply steps old new call
+  pub go : HostsGo call.host (said_by call reply) steps old new
+  pub replied : IsCallReply call reply steps old new
   pub answer : (h h' : HostState) → IsHost old call.host h → IsHost new call.host h'
-      → answers reply.answer steps (connected h old.stations) (connected h' new.stations)
+      → AnswersCall call reply.answer steps (connected h old.stations) (connected h' new.stations)
 
 -- The ticks of a call for a host that isn't there were played, and the observer was told that there is no such host.
 pub record AbsentTold {O : Type 0} (observers : OfObserver O) (ran : O → O → List Event → List Reply → Type 0) (event : Event)
@@ -43,4 +54,4 @@ pub record TickPlayed (tick : Tick) (reply : Reply) (old new : List StationState
   pub said : told_alone tick reply.outcomes.list ≡ happened_in steps
   -- whatever hosts there are
   pub replied : (hosts : List HostState)
-      → IsTickReply reply steps (record { hosts = hosts; stations = old }) (record { hosts = hosts; stations = new }) tick
+      → IsTickReply tick reply steps (record { hosts = hosts; stations = old }) (record { hosts = hosts; stations = new })

@@ -6,9 +6,9 @@ use Rattle.stations.specs.AtomicRuns.{is_go}
 use Rattle.stations.specs.Outcomes.{note_of}
 use Rattle.stations.specs.ToldTicks.{TickTold}
 use Rattle.network_plan.specs.Answers.{FrameAnswer, ticks_of}
+use Rattle.network_plan.specs.EventCalls.{Alone, ByCall, CallOrTick, in_event}
 use Rattle.stations.specs.declared.tick.Tick.{Tick}
 use Rattle.network_plan.specs.declared.event.Event.{Event}
-use Rattle.network_plan.specs.declared.event.Event.TheVariants.{Interrupt, Recv, Send, Tick as Alone}
 use Rattle.network_plan.specs.declared.reply.Reply.{Reply}
 
 -- It has room for the answer of this event, and for as many outcomes as the event has ticks, each Go counted.
@@ -18,11 +18,12 @@ pub record HasRoomForEvent {O : Type 0} (ready : O → Event → Type 0) (room_l
 
 -- The ticks of an event whose outcomes are told, in order: of a call each but a Go, for a Go only lets the host go on to its next
 -- access; and a tick by itself, also a Go.
+abbrev pub ticks_played : CallOrTick → List Tick
+ticks_played (ByCall call) = without_go is_go call.ticks
+ticks_played (Alone tick) = tick ∷ []
+
 abbrev pub played_ticks : Event → List Tick
-played_ticks (Send host frame ticks) = without_go is_go ticks.items
-played_ticks (Recv host socket ticks) = without_go is_go ticks.items
-played_ticks (Interrupt host ticks) = without_go is_go ticks.items
-played_ticks (Alone tick) = tick ∷ []
+played_ticks event = ticks_played (in_event event)
 
 abbrev pub tick_in : TickTold → Tick
 tick_in told = told.tick

@@ -4,23 +4,20 @@
 --   6. A run: `RunsTo`, `StatesRun`.
 --   5. One event with its reply: `EventRuns`, whose fields are records of parts 4, 3 and 2.
 --   4. What the reply says of the event's atomic steps: `IsCallReply` for a call, `IsTickReply` for a tick by itself.
---   3. What a host that is there answers: `IsSendAnswer`, `IsRecvAnswer`, `IsInterruptAnswer`.
+--   3. What a host that is there answers: `AnswersCall`.
 --   2. The atomic steps of an event, as every host finds them: `HostsGo`, `TicksAnswered`.
 --   1. What an event and its reply say of frames: `said`, `happenings`.
--- Part 7 is for `Lan::play` only. An atomic step is one access of a driver, or one tick that isn't Go with its outcome. Such a tick is a
--- step of an adapter or a delivery, and its outcome is Nothing if there was nothing to do. A station is an adapter with its host's memory
--- (`world_at stations k`) and its end of its wire.
-use Rattle.std.specs.Prelude.{◌≡◌, ◌≢◌, ◌≤◌, ◌↔◌, ◌++◌, ◌∷◌, [], ℕ, All, List, Ok, Option, Result, Some, length, map, slice_get}
-use Rattle.adapter.specs.HostFrames.{frames_held}
+-- Part 7 is for `Lan::play` only. An event is a call with its ticks, or a tick by itself (`in_event`, network_plan/specs/EventCalls). An
+-- atomic step is one access of a driver, or one tick that isn't Go with its outcome. Such a tick is a step of an adapter or a delivery, and
+-- its outcome is Nothing if there was nothing to do. A station is an adapter with its host's memory (`world_at stations k`) and its end of
+-- its wire.
+use Rattle.std.specs.Prelude.{◌≡◌, ◌≢◌, ◌≤◌, ◌↔◌, ◌++◌, ◌∷◌, [], ℕ, All, List, Ok, Option, Some, length, map, slice_get}
 use Rattle.adapter.specs.declared.outcome.Outcome.TheVariants.{Nothing}
 use Rattle.bus.specs.TickGroups.{without_go}
-use Rattle.driver_law.specs.DriverState.{HandedOut, numbers_of}
-use Rattle.driver.specs.Parts.{joined_frames}
-use Rattle.driver.specs.SendSteps.{SendAnswer}
-use Rattle.driver.specs.declared.interrupt.Handled.{Handled}
-use Rattle.packet_socket.specs.HostCalls.{socket_frames, waiting_frames}
+use Rattle.packet_socket.specs.CallEffects.{EffectOf, Interrupting, Receiving, Request, Sending, given_in}
+use Rattle.packet_socket.specs.HostActs.{IsOfDriver, OnlyLastWrites}
 use Rattle.packet_socket.specs.HostState.{HostState}
-use Rattle.packet_socket.specs.declared.receive.RecvError.{RecvError}
+use Rattle.packet_socket.specs.declared.call.HostAnswer.{HostAnswer}
 use Rattle.stations.specs.AtomicRuns.{LeadsTo, counted_of, is_go, noted_of, past_at}
 use Rattle.stations.specs.AtomicSteps.{AtomicStep, tick_of}
 use Rattle.stations.specs.Stations.{world_at}
@@ -31,13 +28,12 @@ use Rattle.delivery.specs.Counts.{counts_of}
 use Rattle.delivery.specs.Happenings.{Accepted, Given, Happening, told, told_alone}
 use Rattle.delivery.specs.StepAnswers.{AreAnswered, OfEachTick, counts_at}
 use Rattle.delivery.specs.TickNumbers.{numbers, noted_numbers}
-use Rattle.network_plan.specs.Answers.{FrameAnswer}
+use Rattle.network_plan.specs.Answers.{FrameAnswer, event_answer}
+use Rattle.network_plan.specs.EventCalls.{Alone, ByCall, CallOrTick, EventCall, in_event}
 use Rattle.network_plan.specs.declared.event.Event.{Event}
-use Rattle.network_plan.specs.declared.event.Event.TheVariants.{Interrupt, Recv, Send, Tick as Alone}
-use Rattle.network_plan.specs.declared.reply.Answer.TheVariants.{Interrupted, NoHost, Received, Sent, Ticked}
+use Rattle.network_plan.specs.declared.reply.Answer.TheVariants.{NoHost, Received, Sent, Ticked}
 use Rattle.network_plan.specs.declared.reply.Reply.{Reply}
-use Rattle.host_calls.specs.CallAnswers.{InterruptResult, MakesInterrupt, MakesRecv, MakesSend, RecvResult, SendResult}
-use Rattle.host_calls.specs.CallsOfHosts.{IsOfDriver, OnlyLastWrites}
+use Rattle.host_calls.specs.CallsInSteps.{InSteps}
 use Rattle.host_calls.specs.ConnectedHosts.{ConnectedHost, connected}
 use Rattle.host_calls.specs.Networks.{IsHost, NetworkState}
 use Rattle.wire.specs.Equations.{Delivers, NetworkStands}
@@ -54,14 +50,24 @@ abbrev pub given_of : (host socket : ℕ) → FrameAnswer → List Happening
 given_of host socket (Received (Ok frame)) = Given host socket frame ∷ []
 given_of host socket _ = []
 
--- First a frame that was accepted, then what the outcomes of its ticks tell, then a frame that was given. `told`: of each tick that isn't
--- Go with its outcome, a frame that was put on the wire, reached a host with its fate, or left the receive packet buffer for memory.
--- `told_alone`: the same of a tick by itself.
+-- Of a call: a frame that was accepted, what the outcomes of its ticks tell, and a frame that was given. `told`: of each tick that isn't Go
+-- with its outcome, a frame that was put on the wire, reached a host with its fate, or left the receive packet buffer for memory. The
+-- outcomes have the numbers of accesses before them, so what a call says can stand between two of them.
+abbrev pub said_in_call : (host : ℕ) → Request → FrameAnswer → (ticks : List Tick) → (outcomes : List Numbered) → List Happening
+said_in_call host (Sending frame) answer ticks outcomes = accepted_of host frame answer ++ told ticks outcomes
+said_in_call host (Receiving socket) answer ticks outcomes = told ticks outcomes ++ given_of host socket answer
+said_in_call host Interrupting answer ticks outcomes = told ticks outcomes
+
+abbrev pub said_by : EventCall → Reply → List Happening
+said_by call reply = said_in_call call.host call.request reply.answer call.ticks reply.outcomes.list
+
+-- `told_alone`: the same of a tick by itself
+abbrev pub said_of : CallOrTick → Reply → List Happening
+said_of (ByCall call) reply = said_by call reply
+said_of (Alone tick) reply = told_alone tick reply.outcomes.list
+
 abbrev pub said : Event → Reply → List Happening
-said (Send host frame ticks) reply = accepted_of host frame.items reply.answer ++ told ticks.items reply.outcomes.list
-said (Recv host socket ticks) reply = told ticks.items reply.outcomes.list ++ given_of host socket reply.answer
-said (Interrupt host ticks) reply = told ticks.items reply.outcomes.list
-said (Alone tick) reply = told_alone tick reply.outcomes.list
+said event reply = said_of (in_event event) reply
 
 -- those of several events, in order
 abbrev pub happenings : List Event → List Reply → List Happening
@@ -100,81 +106,30 @@ pub record HostsGo (caller : ℕ) (happened : List Happening) (steps : List Atom
   -- after it `HostStands` holds for each host: one owner for each buffer, no forgotten work, and more (specs/Equations)
   pub stands : NetworkStands new
 
--- 3. What a call of a host that is there answers. What each result means, and which accesses it goes with, is the contract of the call
--- itself: of `Network::send`, `recv_into` and `interrupt` (`SendResult`, `RecvResult`, `InterruptResult`, and `Makes..`, in
--- host_calls/specs/CallAnswers). These contracts have their own row in docs/CONTRACTS, "Where to begin". A `ConnectedHost` is a host with
--- all stations; `(past_at host steps).accesses` are the accesses of the host's driver among the steps.
+-- 3. What a call of a host that is there answers. A `ConnectedHost` is a host with all stations.
 
--- TooShort (E20) if and only if the frame has less than 14 bytes. TooLong (E21) if and only if it has more than 1,518 bytes. In both cases
--- the host doesn't change, and no access is made. RingFull (E22) only if the number of frames to be sent was one less than that of transmit
--- slots when the call began, and all transmit slots but one are outstanding when it ends. Right after the call's last load of a descriptor,
--- no outstanding slot is written back. Otherwise Ok: the frame is accepted. A send changes of the host at most which transmit slots are
--- outstanding.
-pub record IsSendAnswer (host : ℕ) (frame : List ℕ) (answer : FrameAnswer) (steps : List AtomicStep) (old new : ConnectedHost) : Type 0
-  where
-    pub result : SendAnswer
-    pub is : answer ≡ Sent result
-    -- what this result states of the host before and after the call
-    pub states : SendResult host frame result steps old new
-    -- the accesses of its driver are exactly these, in order
-    pub makes : MakesSend result frame old.host new.host (past_at host steps).accesses
-
--- NoSocket (E31) if and only if the host has no such socket. Empty (E30) if and only if it has the socket, and no frame is in its queue. In
--- both cases the host doesn't change, and no access is made. Otherwise Ok, with the oldest frame of the queue. This frame leaves the queue,
--- the other queues don't change, and of the driver only the owners of buffers change.
-pub record IsRecvAnswer (host socket : ℕ) (answer : FrameAnswer) (steps : List AtomicStep) (old new : ConnectedHost) : Type 0 where
-  pub result : Result (List ℕ) RecvError
-  pub is : answer ≡ Received result
-  -- what this result states of the host before and after the call
-  pub states : RecvResult host socket result steps old new
-  -- the accesses of its driver are exactly these, in order
-  pub makes : MakesRecv result socket old.host new.host (past_at host steps).accesses
-
--- The frames that the handler took off the receive ring are the beginning of this list: the frames that the host held when the call
--- began, then those that were stored during the call. Each socket's queue got those that go to it, in order, at its end. Those that go to
--- no socket are counted (`states` of `IsInterruptAnswer`, `unclaimed_is_counted` of specs/Equations).
-pub record TakesFrames (host : ℕ) (steps : List AtomicStep) (taken : List (List ℕ)) (old new : ConnectedHost) : Type 0 where
-  -- `frames_held`: the frames of the receive ring, from the driver's oldest slot on, then those of the receive packet buffer. `stored` are
-  -- the frames that the steps stored in this buffer.
-  pub left : taken ++ frames_held new.host.driver.oldest_receive (world_at new.stations host)
-      ≡ frames_held old.host.driver.oldest_receive (world_at old.stations host) ++ (past_at host steps).stored
-  -- `waiting_frames`: the frames in the socket's queue. `socket_frames`: the frames of a list that go to the socket.
-  pub queues : (socket : ℕ) → waiting_frames new.host socket (world_at new.stations host)
-      ≡ waiting_frames old.host socket (world_at old.stations host) ++ socket_frames old.host.kinds socket taken
-
--- NotMine if and only if the call's read of ICR returned none of TXDW, RXDMT0, RXO and RXT0. Then the host doesn't change, and no frame is
--- taken. Otherwise Handled, with the number of frames taken: at least as many as ended in finished slots when the call began. Right after
--- the last load of a descriptor, no frame ends in finished slots. The value that is read from MPC is added to the driver's sum.
-pub record IsInterruptAnswer (host : ℕ) (answer : FrameAnswer) (steps : List AtomicStep) (old new : ConnectedHost) : Type 0 where
-  pub result : Handled
-  pub is : answer ≡ Interrupted result
-  -- the frames that were taken off the receive ring, each in its pieces: none if the answer is NotMine
-  pub taken : List (List HandedOut)
-  -- what this result states of the host before and after the call
-  pub states : InterruptResult host taken result steps old new
-  -- these frames, each with its pieces joined, went to the queues of their sockets
-  pub takes : TakesFrames host steps (joined_frames taken) old new
-  -- the accesses of its driver are exactly these, in order (`numbers_of`: the numbers of a frame's buffers)
-  pub makes : MakesInterrupt result (map numbers_of taken) old.host new.host (past_at host steps).accesses
+-- The call answered this result and had its effect: `SendEffect`, `RecvEffect` or `InterruptEffect` of packet_socket/specs/HostEffects, the
+-- same that the contracts of `Host::send`, `recv` and `interrupt` state over a bus. There each result has its record, which says when it
+-- comes, what the host is afterwards, and which accesses were made in which stages.
+pub record AnswersCall (call : EventCall) (answer : FrameAnswer) (steps : List AtomicStep) (old new : ConnectedHost) : Type 0 where
+  -- the answer, with the bytes of the frame that a socket gave
+  pub result : HostAnswer (List ℕ)
+  pub is : answer ≡ event_answer result
+  -- In these steps (`InSteps`, host_calls/specs/CallsInSteps) the accesses of the host's driver are exactly those of the effect's stages,
+  -- in order, and what holds of a stage holds right after its last access. `given_in`: the frames that a socket gave.
+  pub does : EffectOf call.request result old.host new.host (InSteps call.host (given_in call.request result) steps old new)
+      (world_at old.stations call.host)
+  -- Each access is one of an initialized driver (`IsOfDriver`: a load, a store, a read of ICR or MPC, or a write of TDT or RDT), and only
+  -- the last may write a register.
+  pub accesses : All (IsOfDriver old.host.driver.layout) (past_at call.host steps).accesses
+  pub last_writes : OnlyLastWrites (past_at call.host steps).accesses
 
 -- 4. What a reply says of the steps. First of a call, then of a tick that is played in no call.
 
--- the host that is called, and the ticks that are played in the call
-pub record TickedCall : Type 0 where
-  pub host : ℕ
-  pub ticks : List Tick
-
-abbrev pub ticked : ℕ → List Tick → TickedCall
-ticked host ticks = record { host = host; ticks = ticks }
-
 -- What a reply says of the call and its ticks, whichever call it is.
-pub record IsCallReply (reply : Reply) (steps : List AtomicStep) (old new : NetworkState) (call : TickedCall) : Type 0 where
+pub record IsCallReply (call : EventCall) (reply : Reply) (steps : List AtomicStep) (old new : NetworkState) : Type 0 where
   -- The steps that aren't accesses are the ticks that aren't Go, in order. `tick_of` of an access is Go, so accesses are left out.
   pub played : without_go is_go (map tick_of steps) ≡ without_go is_go call.ticks
-  -- Each access is one of an initialized driver (`IsOfDriver`: a load, a store, a read of ICR or MPC, or a write of TDT or RDT), and only
-  -- the last may write a register.
-  pub accesses : (h : HostState) → IsHost old call.host h
-      → All (IsOfDriver h.driver.layout) (past_at call.host steps).accesses × OnlyLastWrites (past_at call.host steps).accesses
   -- a call of a host that isn't there makes no access
   pub unmade : length old.hosts ≤ call.host → (past_at call.host steps).accesses ≡ []
   -- it answers NoHost, and no other call does
@@ -198,7 +153,7 @@ AreOutcomesAlone (Step host kind) steps outcomes = outcomes ≡ noted_of 0 steps
 AreOutcomesAlone (Deliver host) steps outcomes = outcomes ≡ noted_of 0 steps
 
 -- What a reply says of a tick that is played in no call.
-pub record IsTickReply (reply : Reply) (steps : List AtomicStep) (old new : NetworkState) (tick : Tick) : Type 0 where
+pub record IsTickReply (tick : Tick) (reply : Reply) (steps : List AtomicStep) (old new : NetworkState) : Type 0 where
   -- the step of the tick; none if it is Go
   pub played : without_go is_go (map tick_of steps) ≡ without_go is_go (tick ∷ [])
   -- no host makes an access
@@ -216,25 +171,22 @@ pub record IsTickReply (reply : Reply) (steps : List AtomicStep) (old new : Netw
 
 -- The host whose call it is. A tick by itself belongs to no call, and makes no access (`accesses` of `IsTickReply`). So any number would do
 -- for it: `LeadsTo` uses this number only for accesses, and the answer of a tick doesn't depend on it.
-abbrev pub caller_of : Event → ℕ
-caller_of (Send host frame ticks) = host
-caller_of (Recv host socket ticks) = host
-caller_of (Interrupt host ticks) = host
-caller_of (Alone tick) = 0
+abbrev pub caller_in : CallOrTick → ℕ
+caller_in (ByCall call) = call.host
+caller_in (Alone tick) = 0
 
--- what holds of a call with its ticks, or of a tick by itself
-abbrev pub OfEvent : Event → (TickedCall → Type 0) → (Tick → Type 0) → Type 0
-OfEvent (Send host frame ticks) OfCall OfTick = OfCall (ticked host ticks.items)
-OfEvent (Recv host socket ticks) OfCall OfTick = OfCall (ticked host ticks.items)
-OfEvent (Interrupt host ticks) OfCall OfTick = OfCall (ticked host ticks.items)
-OfEvent (Alone tick) OfCall OfTick = OfTick tick
+abbrev pub caller_of : Event → ℕ
+caller_of event = caller_in (in_event event)
+
+-- what a reply says of the steps
+abbrev pub IsReply : CallOrTick → Reply → List AtomicStep → (old new : NetworkState) → Type 0
+IsReply (ByCall call) = IsCallReply call
+IsReply (Alone tick) = IsTickReply tick
 
 -- what a host that is there answers
-abbrev pub IsCallAnswer : Event → FrameAnswer → List AtomicStep → (old new : ConnectedHost) → Type 0
-IsCallAnswer (Send host frame ticks) answer = IsSendAnswer host frame.items answer
-IsCallAnswer (Recv host socket ticks) answer = IsRecvAnswer host socket answer
-IsCallAnswer (Interrupt host ticks) answer = IsInterruptAnswer host answer
-IsCallAnswer (Alone tick) answer = λ steps old new. answer ≡ Ticked
+abbrev pub IsAnswer : CallOrTick → FrameAnswer → List AtomicStep → (old new : ConnectedHost) → Type 0
+IsAnswer (ByCall call) = AnswersCall call
+IsAnswer (Alone tick) = λ answer steps old new. answer ≡ Ticked
 
 -- An event and its reply lead from one state of a network to the next.
 pub record EventRuns (old : NetworkState) (event : Event) (reply : Reply) (new : NetworkState) : Type 0 where
@@ -244,10 +196,10 @@ pub record EventRuns (old : NetworkState) (event : Event) (reply : Reply) (new :
   pub steps : List AtomicStep
   pub go : HostsGo (caller_of event) (said event reply) steps old new
   -- what the reply says of the steps
-  pub replied : OfEvent event (IsCallReply reply steps old new) (IsTickReply reply steps old new)
+  pub replied : IsReply (in_event event) reply steps old new
   -- what is answered, and exactly which accesses the call made (`connected h stations`: the host h with all stations)
   pub answer : (h h' : HostState) → IsHost old (caller_of event) h → IsHost new (caller_of event) h'
-      → IsCallAnswer event reply.answer steps (connected h old.stations) (connected h' new.stations)
+      → IsAnswer (in_event event) reply.answer steps (connected h old.stations) (connected h' new.stations)
 
 -- 6. A run.
 

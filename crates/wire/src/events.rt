@@ -1,11 +1,12 @@
 // One event of a network.
 
-ghost use Rattle.std.specs.Prelude.{◌≡◌, ◌≤◌, ◌++◌, ◌∷◌, [], length};
+ghost use Rattle.std.specs.Prelude.{◌≡◌, ◌≤◌, ℕ, List, length, take};
 ghost use Rattle.bus.specs.TickGroups.{without_go};
-ghost use Rattle.delivery.specs.Happenings.{told};
 ghost use Rattle.wire.specs.Equations.{NetworkStands};
-ghost use Rattle.wire.specs.Runs.{IsInterruptAnswer, IsRecvAnswer, IsSendAnswer, accepted_of, given_of, ticked};
-ghost use Rattle.wire.specs.PlayedCalls.{AbsentTold, CallPlayed, TickPlayed};
+ghost use Rattle.network_plan.specs.Answers.{answer_with, event_answer};
+ghost use Rattle.network_plan.specs.EventCalls.{Alone, ByCall, in_event};
+ghost use Rattle.packet_socket.specs.CallEffects.{IsLegalAnswer, answer_in};
+ghost use Rattle.wire.specs.PlayedCalls.{AbsentTold, CallPlayed, TickPlayed, call_in, part_in};
 ghost use Rattle.wire.specs.RunObservers.{EventTold, played_ticks};
 ghost use Rattle.stations.specs.AtomicRuns.{is_go};
 ghost use Rattle.stations.specs.AtomicSteps.{watched};
@@ -14,116 +15,105 @@ use crate::run_observer::RunObserver;
 use adapter::Outcome;
 use host_calls::Network;
 use network_plan::{Answer, Event};
+use packet_socket::{HostAnswer, HostCall};
 use stations::Tick;
 
-/// The call of an event, with the host and the ticks that the event names. The ticks are played in the call, on all
-/// stations.
+/// A call of a host, with the ticks that are played in it, on all stations.
 #[derive(Clone, Copy, Drop)]
 pub(crate) struct Call<'a> {
-    pub(crate) event: &'a Event,
     pub(crate) host: usize,
+    pub(crate) call: HostCall<'a>,
     pub(crate) ticks: &'a [Tick],
 }
 
+/// What an event is: a call with its ticks, or a tick by itself.
+#[derive(Clone, Copy, Drop)]
+pub(crate) enum Part<'a> {
+    Call(Call<'a>),
+    Tick(Tick),
+}
+
+impl<'a> Part<'a> {
+    /// The call or the tick of an event.
+    pub(crate) fn of(event: &'a Event) -> Part<'a>
+        ensures { part_in result ≡ in_event event.now }
+    {
+        match event {
+            Event::Send { host, frame, ticks } => Part::Call(Call {
+                host: *host,
+                call: HostCall::Send(frame.as_slice()),
+                ticks: ticks.as_slice(),
+            }),
+            Event::Recv {
+                host,
+                socket,
+                ticks,
+            } => Part::Call(Call {
+                host: *host,
+                call: HostCall::Recv(*socket),
+                ticks: ticks.as_slice(),
+            }),
+            Event::Interrupt { host, ticks } => Part::Call(Call {
+                host: *host,
+                call: HostCall::Interrupt,
+                ticks: ticks.as_slice(),
+            }),
+            Event::Tick(tick) => Part::Tick(*tick),
+        }
+    }
+}
+
+/// The answer that ends the event of a call, without its frame, and the size of the frame in bytes; 0 without a frame.
+fn ending_of(answer: HostAnswer<usize>) -> (Answer<()>, usize)
+    requires legal { IsLegalAnswer answer }
+    ensures short { result.1 ≤ 1518 }
+    ensures ends { (bytes : List ℕ) → answer_with (take result.1 bytes) result.0
+        ≡ event_answer (answer_in bytes answer) }
+{
+    match answer {
+        HostAnswer::Sent(sent) => (Answer::Sent(sent), 0),
+        HostAnswer::Received(Ok(size)) => (Answer::Received(Ok(())), size),
+        HostAnswer::Received(Err(error)) => (Answer::Received(Err(error)), 0),
+        HostAnswer::Interrupted(handled) => (Answer::Interrupted(handled), 0),
+    }
+}
+
 /// A call for a host that isn't there: its ticks are played.
-fn no_host<O: RunObserver>(network: &mut Network, call: &Call, observer: &mut O)
-    requires answer { O.ready observer.old call.now.event.now }
-    requires room { length call.now.ticks.now ≤ O.room_left observer.old }
-    requires ticks { without_go is_go call.now.ticks.now ≡ played_ticks call.now.event.now }
-    ensures told { AbsentTold O.Observer O.ran call.now.event.now call.now.ticks.now
+fn no_host<O: RunObserver>(network: &mut Network, event: &Event, ticks: &[Tick], observer: &mut O)
+    requires answer { O.ready observer.old event.now }
+    requires room { length ticks.now ≤ O.room_left observer.old }
+    requires ticks { without_go is_go ticks.now ≡ played_ticks event.now }
+    ensures told { AbsentTold O.Observer O.ran event.now ticks.now
         (watched network.old.stations observer.old) (watched network.new.stations observer.new) }
     ensures hosts { network.new.hosts ≡ network.old.hosts }
 {
-    network.play_rest(call.ticks, 0, observer);
-    observer.answer(call.event, 0, Answer::NoHost, &[]);
+    network.play_rest(ticks, 0, observer);
+    observer.answer(event, 0, Answer::NoHost, &[]);
 }
 
-/// A host sends a frame, while ticks are played.
-#[inline(never)]
-pub(crate) fn send<O: RunObserver>(
+/// Makes the call of an event, while its ticks are played. A frame that a socket returns is copied to the front of
+/// `given`, and is lent to the observer.
+pub(crate) fn make_call<O: RunObserver>(
     network: &mut Network,
+    event: &Event,
     call: &Call,
-    frame: &[u8],
-    observer: &mut O,
-)
-    requires stands { NetworkStands network.old }
-    requires answer { O.ready observer.old call.now.event.now }
-    requires room { length call.now.ticks.now ≤ O.room_left observer.old }
-    requires ticks { without_go is_go call.now.ticks.now ≡ played_ticks call.now.event.now }
-    ensures { EventTold O.ran call.now.event.now observer.old observer.new (λ reply. CallPlayed
-        (ticked call.now.host call.now.ticks.now)
-        (accepted_of call.now.host frame.now reply.answer ++ told call.now.ticks.now reply.outcomes.list) reply
-        (IsSendAnswer call.now.host frame.now) network.old
-        network.new) }
-{
-    if call.host >= network.len() {
-        no_host(network, call, observer);
-        return;
-    }
-    let called = network.send(call.host, frame, call.ticks, observer);
-    observer.answer(
-        call.event,
-        called.accesses,
-        Answer::Sent(called.answer),
-        &[],
-    );
-}
-
-/// A host asks for the oldest frame of a socket, while ticks are played. The frame is copied to the front of `given`.
-#[inline(never)]
-pub(crate) fn recv<O: RunObserver>(
-    network: &mut Network,
-    call: &Call,
-    socket: usize,
     given: &mut [u8; 1518],
     observer: &mut O,
 )
     requires stands { NetworkStands network.old }
-    requires answer { O.ready observer.old call.now.event.now }
+    requires answer { O.ready observer.old event.now }
     requires room { length call.now.ticks.now ≤ O.room_left observer.old }
-    requires ticks { without_go is_go call.now.ticks.now ≡ played_ticks call.now.event.now }
-    ensures { EventTold O.ran call.now.event.now observer.old observer.new (λ reply. CallPlayed
-        (ticked call.now.host call.now.ticks.now)
-        (told call.now.ticks.now reply.outcomes.list ++ given_of call.now.host socket reply.answer) reply
-        (IsRecvAnswer call.now.host socket) network.old
-        network.new) }
+    requires is { in_event event.now ≡ ByCall (call_in call.now) }
+    ensures { EventTold O.ran event.now observer.old observer.new
+        (λ reply. CallPlayed (call_in call.now) reply network.old network.new) }
 {
     if call.host >= network.len() {
-        no_host(network, call, observer);
+        no_host(network, event, call.ticks, observer);
         return;
     }
-    let called = network.recv_into(call.host, socket, call.ticks, observer, given);
-    match called.answer {
-        Ok(size) => {
-            let answer = Answer::Received(Ok(()));
-            observer.answer(call.event, called.accesses, answer, &given[..size]);
-        }
-        Err(error) => {
-            let answer = Answer::Received(Err(error));
-            observer.answer(call.event, called.accesses, answer, &[]);
-        }
-    }
-}
-
-/// A host handles an interrupt, while ticks are played.
-#[inline(never)]
-pub(crate) fn interrupt<O: RunObserver>(network: &mut Network, call: &Call, observer: &mut O)
-    requires stands { NetworkStands network.old }
-    requires answer { O.ready observer.old call.now.event.now }
-    requires room { length call.now.ticks.now ≤ O.room_left observer.old }
-    requires ticks { without_go is_go call.now.ticks.now ≡ played_ticks call.now.event.now }
-    ensures { EventTold O.ran call.now.event.now observer.old observer.new (λ reply. CallPlayed
-        (ticked call.now.host call.now.ticks.now) (told call.now.ticks.now reply.outcomes.list) reply
-        (IsInterruptAnswer call.now.host) network.old
-        network.new) }
-{
-    if call.host >= network.len() {
-        no_host(network, call, observer);
-        return;
-    }
-    let called = network.interrupt(call.host, call.ticks, observer);
-    let answer = Answer::Interrupted(called.answer);
-    observer.answer(call.event, called.accesses, answer, &[]);
+    let called = network.call(call.host, call.call, call.ticks, observer, given);
+    let (answer, size) = ending_of(called.answer);
+    observer.answer(event, called.accesses, answer, &given[..size]);
 }
 
 /// A tick by itself. `Go` changes nothing, and its outcome is `Nothing`.
@@ -138,7 +128,7 @@ pub(crate) fn tick<O: RunObserver>(
 )
     requires answer { O.ready observer.old event.now }
     requires room { 1 ≤ O.room_left observer.old }
-    requires ticks { tick ∷ [] ≡ played_ticks event.now }
+    requires is { in_event event.now ≡ Alone tick }
     ensures told { EventTold O.ran event.now observer.old observer.new
         (λ reply. TickPlayed tick reply network.old.stations network.new.stations) }
     ensures hosts { network.new.hosts ≡ network.old.hosts }

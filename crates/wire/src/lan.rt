@@ -1,7 +1,7 @@
 // Hosts on wires.
 
 use crate::collector::Collector;
-use crate::events::{self, Call};
+use crate::events::{self, Part};
 use crate::run_observer::RunObserver;
 use host_calls::Network;
 use network_plan::{Event, Reply, Stopped};
@@ -41,37 +41,11 @@ impl Lan {
         ensures { EventTold O.ran event.now observer.old observer.new
             (λ reply. EventRuns self.old event.now reply self.new) }
     {
-        let network = &mut self.network;
-        match event {
-            Event::Send { host, frame, ticks } => {
-                let call = Call {
-                    event,
-                    host: *host,
-                    ticks: ticks.as_slice(),
-                };
-                events::send(network, &call, frame.as_slice(), observer);
+        match Part::of(event) {
+            Part::Call(call) => {
+                events::make_call(&mut self.network, event, &call, &mut self.given, observer);
             }
-            Event::Recv {
-                host,
-                socket,
-                ticks,
-            } => {
-                let call = Call {
-                    event,
-                    host: *host,
-                    ticks: ticks.as_slice(),
-                };
-                events::recv(network, &call, *socket, &mut self.given, observer);
-            }
-            Event::Interrupt { host, ticks } => {
-                let call = Call {
-                    event,
-                    host: *host,
-                    ticks: ticks.as_slice(),
-                };
-                events::interrupt(network, &call, observer);
-            }
-            Event::Tick(tick) => events::tick(network, event, *tick, observer),
+            Part::Tick(tick) => events::tick(&mut self.network, event, tick, observer),
         }
     }
 
@@ -102,7 +76,9 @@ impl Lan {
         Ok(())
     }
 
-    /// Runs events in order, and appends a reply for each.
+    /// Runs events in order, and appends a reply for each. Whatever the events are, each socket returns the frames for
+    /// it in order, each at most once, and no buffer has two owners. A frame is lost only if the filter rejects it, the
+    /// receive packet buffer is full, or no socket takes it; the last two are counted.
     ///
     /// # Errors
     ///

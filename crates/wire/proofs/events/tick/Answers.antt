@@ -3,6 +3,7 @@ use Rattle.host_calls.specs.Networks.{NetworkState}
 use Rattle.stations.specs.ToldTicks.{tick_told}
 use Rattle.adapter.specs.declared.outcome.Outcome.TheVariants.{Nothing}
 use Rattle.wire.specs.PlayedCalls.{TickPlayed}
+use Rattle.wire.specs.RunObservers.{ticks_played}
 use Rattle.wire.proofs.Ticking.{go-played, not-go, tick-played}
 use Rattle.wire.proofs.events.tick.Goals.{in-Go, in_default}
 use Rattle.wire.proofs.events.tick.Goals as goal
@@ -16,7 +17,7 @@ returns-clause-told g c =
           let tells = c.answer.ensures c.args.observer.now (tick_told tick 0 Nothing ∷ [])
           (subst (λ now. g.O.Observer.heard c.args.observer.now now (tick_told tick 0 Nothing ∷ [])) (sym w.observer-is)
           w.note.ensures.heard)
-          c.requires.ticks in
+          (sym (ap ticks_played c.requires.is)) in
           record {
             reply = tells.reply;
             told = tells.told;
@@ -28,7 +29,7 @@ returns-clause-told g c =
           let plays = w.play.ensures.plays in
           let tells = c.answer.ensures c.args.observer.now (tick_told tick 0 plays.outcome ∷ [])
           (subst (λ now. g.O.Observer.heard c.args.observer.now now (tick_told tick 0 plays.outcome ∷ [])) (sym w.observer-is) plays.heard)
-          c.requires.ticks in
+          (sym (ap ticks_played c.requires.is)) in
           record {
             reply = tells.reply;
             told = tells.told;

@@ -29,8 +29,8 @@ returns-in_default-clause-exchanges g c = λ taken.
     (exchange_at new.bus new.host text number))
     (accepted-is c.send.result frame sent.too_short sent.too_long
     ∙ ap (λ (done : Bool). if done then accepted_of frame else []) (ap is_done c.in_default.is))
-    (exchange-sends g.B.Bus old new frame c.send.result text number sent.keeps
-    (ap (λ (h : HostState). h.driver.layout) sent.others) sent.transmits)
+    (exchange-sends g.B.Bus g.met.B.Bus.composes old new frame c.send.result text number sent.keeps
+    (ap (λ (h : HostState). h.driver.layout) sent.others) sent.sends)
 
 pub returns-clause-exchanges : goal.returns-clause-exchanges
 returns-clause-exchanges g c = λ taken.
@@ -45,5 +45,5 @@ returns-clause-exchanges g c = λ taken.
     (exchange_at new.bus new.host text number))
     (accepted-is c.send.result frame sent.too_short sent.too_long
     ∙ ap (λ (is : Bool). if is then accepted_of frame else []) done)
-    (exchange-sends g.B.Bus old new frame c.send.result text number sent.keeps
-    (ap (λ (h : HostState). h.driver.layout) sent.others) sent.transmits)
+    (exchange-sends g.B.Bus g.met.B.Bus.composes old new frame c.send.result text number sent.keeps
+    (ap (λ (h : HostState). h.driver.layout) sent.others) sent.sends)

@@ -21,5 +21,5 @@ returns-clause-exchanges g c =
     let text' = append_known (g.S.Sink.taken c.write.new.sink) c.write.new.self in
     let received = c.in-Ok.ensures in
     rw (c.saturating_add-self.ensures)
-    (exchange-receives g.B.Bus old new c.in-Ok.size c.recv.new.into text text' c.args.self.now.received received.keeps
+    (exchange-receives g.B.Bus g.met.B.Bus.composes old new c.in-Ok.size c.recv.new.into text text' c.args.self.now.received received.keeps
     (ap (λ (h : HostState). h.driver.layout) received.ok.others) received.receives c.in_ok-write.ensures.ok)

@@ -1,33 +1,33 @@
-use Rattle.std.proofs.Common.{[], ℕ, List, arith, rules, subst}
-use Rattle.std.specs.Prelude.{Ok, Result}
-use Rattle.packet_socket.specs.declared.receive.RecvError.{RecvError}
+use Rattle.std.proofs.Common.{[], ◌++◌, ◌∷◌, ℕ, List, ap, arith, ◌∙◌, take}
+use Rattle.std.specs.Prelude.{Ok}
+use Rattle.packet_socket.specs.HostCalls.{Given}
+use Rattle.packet_socket.specs.HostEffects.{given_by}
 use Rattle.stations.specs.Stations.{world_at}
-use Rattle.host_calls.specs.CallAnswers.{MakesRecv, given_by}
-use Rattle.host_calls.specs.CallsOfHosts.{CallRuns}
-use Rattle.packet_socket.specs.HostCalls.{did}
-use Rattle.host_calls.specs.ConnectedHosts.{played_call}
 use Rattle.host_calls.specs.Networks.{connected_at, nth_host}
-use Rattle.host_calls.proofs.CallSteps.{given-steps, not-refused}
+use Rattle.host_calls.proofs.CallSteps.{given-steps, no-other, returned-call}
 use Rattle.host_calls.proofs.network.Network.give.Goals as goal
 
 pub returns-in-Ok-clause-steps : goal.returns-in-Ok-clause-steps
 returns-in-Ok-clause-steps g c =
-    let same = c.in-Ok.frame-is in
     let k = c.args.number in
-    let h = nth_host c.args.self.now k in
-    let h' = nth_host c.recv.new.self k in
+    let called = c.call-called in
+    let socket = c.args.socket in
+    let frame = take c.in-Ok.size called.new.into in
+    let before = g.S.Outlet.frames c.args.sink.now in
     record {
-      given = given_by c.args.socket (Ok c.in-Ok.frame);
-      appended = search rules;
-      room = omega arith;
-      on = given-steps k c.args.socket c.in-Ok.frame c.args.self.now.stations c.recv.new.self.stations _ c.recv.result.accesses h h'
-          (MakesRecv (Ok c.in-Ok.frame) c.args.socket h h') c.requires.stands.ready
-          (subst (λ (answer : Result (List ℕ) RecvError). CallRuns (played_call k [] _ c.recv.result.accesses)
-          (did [] (given_by c.args.socket answer) []) (MakesRecv answer c.args.socket h h')
-          (connected_at c.args.self.now k) (connected_at c.recv.new.self k)) c.in-Ok.is c.recv.ensures.gives.runs) c.requires.free;
+      given = given_by socket (Ok frame);
+      appended = c.take.ensures.last ∙ ap (λ (bytes : List ℕ). let one : Given = record { socket = socket; frame = bytes } in
+          before ++ one ∷ []) c.from_slice.ensures;
+      room = let left = c.take.ensures.room in omega (arith, left);
+      on = given-steps k socket frame c.args.self.now.stations called.new.self.stations _ called.result.accesses
+          (nth_host c.args.self.now k) (nth_host called.new.self k) c.requires.stands.ready
+          (returned-call socket c.in-Ok.size called.new.into called.result.answer c.in-Received.received _
+          (connected_at c.args.self.now k) (connected_at called.new.self k) c.in-Received.is c.in-Ok.is called.ensures.does).runs
+          c.requires.free;
     }
 
 pub returns-in_default : goal.returns-in_default
 returns-in_default g c =
-    absurd (not-refused c.recv.result.answer c.in_default.field-0 c.args.socket (nth_host c.args.self.now c.args.number)
-    (world_at c.args.self.now.stations c.args.number) c.recv.ensures.gives.states.answers c.requires.known c.requires.waits c.in_default.is)
+    absurd (no-other c.args.socket c.call-called.new.into c.call-called.result.answer (nth_host c.args.self.now c.args.number)
+    (nth_host c.call-called.new.self c.args.number) _ (world_at c.args.self.now.stations c.args.number) c.in_default.not-Received
+    c.call-called.ensures.does.does)

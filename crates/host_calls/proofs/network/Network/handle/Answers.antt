@@ -1,10 +1,12 @@
-use Rattle.host_calls.specs.Networks.{nth_host}
-use Rattle.host_calls.proofs.CallSteps.{handled-steps}
+use Rattle.packet_socket.specs.CallEffects.{answer_in}
+use Rattle.host_calls.specs.Networks.{connected_at, nth_host}
+use Rattle.host_calls.proofs.CallSteps.{handled-steps, interrupted-call}
 use Rattle.host_calls.proofs.network.Network.handle.Goals as goal
 
 pub returns-clause-steps : goal.returns-clause-steps
 returns-clause-steps c =
-    handled-steps c.interrupt.result.answer c.args.number c.args.self.now.stations c.interrupt.new.self.stations _
-    c.interrupt.result.accesses
-    (nth_host c.args.self.now c.args.number) (nth_host c.interrupt.new.self c.args.number) c.requires.stands.ready
-    c.interrupt.ensures.handles c.requires.free c.requires.asserted
+    let k = c.args.number in
+    let made = interrupted-call (answer_in c.call.new.into c.call.result.answer) _ (connected_at c.args.self.now k)
+    (connected_at c.call.new.self k) c.call.ensures.does in
+    handled-steps made.0 k c.args.self.now.stations c.call.new.self.stations _ c.call.result.accesses
+    (nth_host c.args.self.now k) (nth_host c.call.new.self k) c.requires.stands.ready made.1 c.requires.free c.requires.asserted

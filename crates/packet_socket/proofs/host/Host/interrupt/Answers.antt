@@ -26,5 +26,5 @@ returns-clause-handles g c = rw (← c.self.view_is) (λ up is.
     host-handles g.B.Bus (scene c.args.bus.now c.self.inside.driver c.self.inside.sockets)
     (scene c.interrupt.new.bus c.interrupt.new.self c.interrupt.new.receiver) c.interrupt.result
     c.self.invariant (sound g c) is c.interrupt.ensures.not_mine
-    c.interrupt.ensures.serves
+    c.interrupt.ensures.serves c.interrupt.ensures.only_receives
     (c.interrupt.ensures.handles up held (record { honest = is.honest; ready = is.ready.ready })))

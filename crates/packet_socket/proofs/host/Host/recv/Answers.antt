@@ -1,10 +1,11 @@
-use Rattle.std.proofs.Common.{take, ap, sym, subst}
+use Rattle.std.proofs.Common.{arith, rules, take, ap, refl, sym, subst}
 use Rattle.driver_law.specs.DriverState.{DriverState}
 use Rattle.driver.specs.Parts.{IsFrameSize}
 use Rattle.packet_socket.specs.HostCalls.{driver_of, host_at}
 use Rattle.packet_socket.specs.InsideHost.{host_inside, host_with}
 use Rattle.packet_socket.specs.HostState.{SocketsState}
-use Rattle.packet_socket.proofs.GivenFrames.{gives-others, host-receives}
+use Rattle.packet_socket.proofs.GivenFrames.{front-long, gives-others, host-receives, if-none}
+use Rattle.packet_socket.proofs.SentFrames.{makes-none}
 use Rattle.packet_socket.proofs.ConsistentHosts.{can-come-back, entry-splits, stays-host, stays-owners}
 use Rattle.packet_socket.proofs.host.Host.recv.Goals as goal
 
@@ -88,4 +89,21 @@ returns-clause-receives g c = rw (← c.self.view_is) (λ up is.
     (c.read-size.ensures.ran up held (record { honest = is.honest; ready = is.ready.ready }))
     (λ first pieces later ready. c.read-size.ensures.frame up first pieces later (record { honest = is.honest; ready = ready }))
     (λ first pieces later numbers ready. c.give.ensures.gives up first pieces later numbers
-    (record { honest = c.read-size.ensures.keeps.honest is.honest; ready = ready })))
+    (record { honest = c.read-size.ensures.keeps.honest is.honest; ready = ready }))
+    (front-long c.read-size.result c.read-size.new.into (search rules)
+    (subst IsFrameSize (sym c.read-size.ensures.length)
+    (can-come-back d before c.args.socket c.in-Some.received _ c.self.invariant parts).whole.size))
+    (omega (arith, c.if-socket-len.false, c.len.ensures.count))
+    c.give.ensures.offers.refilled
+    (gives-others d c.give.new.self before after c.give.ensures.offers.others
+    (ap (λ (s : SocketsState). s.kinds) c.in-Some.ensures.others)
+    (ap (λ (s : SocketsState). s.unclaimed) c.in-Some.ensures.others)))
+
+pub returns-in_default-clause-receives : goal.returns-in_default-clause-receives
+returns-in_default-clause-receives g c = rw (← c.self.view_is) (λ up is. (
+  omega (arith, c.if-socket-len.false, c.len.ensures.count),
+  if-none c.next.result c.in_default.is c.next.ensures.none,
+  makes-none g.B.Bus (host_at c.args.bus.now (host_inside c.self.inside)) c.args.bus.now
+      (host_with c.self.inside.driver c.next.new.self) is refl
+      (ap (host_with c.self.inside.driver) (if-none c.next.result c.in_default.is c.next.ensures.stays)),
+))

@@ -1,6 +1,7 @@
 -- The accesses of a driver's calls are those of a driver that is up.
-use Rattle.std.proofs.Common.{◌≡◌, ◌<◌, ◌+◌, ◌-◌, ◌%◌, ◌++◌, ◌∷◌, [], ℕ, List, length, inl, inr, map, refl, sym, subst}
+use Rattle.std.proofs.Common.{◌≡◌, ◌<◌, ◌+◌, ◌%◌, ◌++◌, ◌∷◌, [], ℕ, List, length, inl, inr, map, refl, sym, subst}
 use Rattle.std.specs.List.{All}
+use Rattle.std.proofs.lemmas.List.{append-nil}
 use Rattle.std.proofs.lemmas.List.Elements.{All-append, All-cons}
 use Rattle.std.proofs.lemmas.Nat.{mod_below}
 use Rattle.adapter.specs.declared.offsets.TheConstants.{ICR, MPC, RDT, TDT}
@@ -16,12 +17,11 @@ use Rattle.driver_law.specs.Calls.{takes_from, transmit_loads, whole_descriptor}
 use Rattle.driver_law.specs.DriverState.{DriverState, buffer_at, next_receive, receive_slot, transmit_slot, transmit_tail}
 use Rattle.driver.specs.HandlerSteps.{offering_accesses, taking_accesses}
 use Rattle.driver.specs.Parts.{part_loads}
-use Rattle.driver.specs.SendSteps.{SendAnswer, accesses_by, slots_looked_at}
+use Rattle.driver.specs.SendSteps.{loads_to_free, slots_looked_at}
 use Rattle.driver.specs.declared.parts.Part.{Part}
-use Rattle.driver.specs.declared.transmit.SendError.TheVariants.{TooShort, TooLong, RingFull}
 use Rattle.packet_socket.specs.HostCalls.{receive_accesses}
-use Rattle.std.specs.Prelude.{⊤, Ok, Err}
-use Rattle.host_calls.specs.CallsOfHosts.{IsOfDriver, OnlyLastWrites}
+use Rattle.std.specs.Prelude.{⊤}
+use Rattle.packet_socket.specs.HostActs.{IsOfDriver, OnlyLastWrites}
 
 -- Loads and stores are of a driver that is up, and write no register.
 
@@ -79,27 +79,28 @@ all-sent own d frame same some =
     (All-cons (IsOfDriver own) descriptor tail tt
     (All-cons (IsOfDriver own) (Writes TDT slot) [] (inr (refl, below)) (all-none (IsOfDriver own))))
 
-pub sends-of_driver : (own : Counts) (result : SendAnswer) (d d' : DriverState) (frame : List ℕ) → d.layout ≡ own → 0 < own.tx
-    → All (IsOfDriver own) (accesses_by result d d' frame)
-sends-of_driver own (Ok u) d d' frame same some =
-    let k = slots_looked_at d.sending (d'.sending - 1) in
+pub sends-of_driver : (own : Counts) (d : DriverState) (left : ℕ) (frame : List ℕ) → d.layout ≡ own → 0 < own.tx
+    → All (IsOfDriver own) (loads_to_free d left ++ send_accesses d frame)
+sends-of_driver own d left frame same some =
+    let k = slots_looked_at d.sending left in
     All-append (IsOfDriver own) (transmit_loads d.layout d.oldest_transmit k) (send_accesses d frame)
     (own-memory own (transmit_loads d.layout d.oldest_transmit k) (sent-memory d k)) (all-sent own d frame same some)
-sends-of_driver own (Err TooShort) d d' frame same some = all-none (IsOfDriver own)
-sends-of_driver own (Err TooLong) d d' frame same some = all-none (IsOfDriver own)
-sends-of_driver own (Err RingFull) d d' frame same some =
-    let k = slots_looked_at d.sending d'.sending in
-    own-memory own (transmit_loads d.layout d.oldest_transmit k) (sent-memory d k)
 
-pub sends-last : (result : SendAnswer) (d d' : DriverState) (frame : List ℕ) → OnlyLastWrites (accesses_by result d d' frame)
-sends-last (Ok u) d d' frame =
-    let k = slots_looked_at d.sending (d'.sending - 1) in
+pub sends-last : (d : DriverState) (left : ℕ) (frame : List ℕ) → OnlyLastWrites (loads_to_free d left ++ send_accesses d frame)
+sends-last d left frame =
+    let k = slots_looked_at d.sending left in
     after-memory (transmit_loads d.layout d.oldest_transmit k) (send_accesses d frame) (sent-memory d k) refl
-sends-last (Err TooShort) d d' frame = tt
-sends-last (Err TooLong) d d' frame = tt
-sends-last (Err RingFull) d d' frame =
-    let k = slots_looked_at d.sending d'.sending in
-    memory-last (transmit_loads d.layout d.oldest_transmit k) (sent-memory d k)
+
+pub frees-of_driver : (own : Counts) (d : DriverState) (left : ℕ) → All (IsOfDriver own) (loads_to_free d left ++ [])
+frees-of_driver own d left =
+    let loads = transmit_loads d.layout d.oldest_transmit (slots_looked_at d.sending left) in
+    subst (λ (list : List Access). All (IsOfDriver own) list) (sym (append-nil loads))
+    (own-memory own loads (sent-memory d (slots_looked_at d.sending left)))
+
+pub frees-last : (d : DriverState) (left : ℕ) → OnlyLastWrites (loads_to_free d left ++ [])
+frees-last d left =
+    let k = slots_looked_at d.sending left in
+    after-memory (transmit_loads d.layout d.oldest_transmit k) [] (sent-memory d k) tt
 
 -- Offering slots.
 
@@ -140,15 +141,18 @@ parts-memory counts (part ∷ later) = All-cons IsOfMemory (Loads (buffer_at cou
     (parts-memory counts later)
 
 pub receives-of_driver : (own : Counts) (d d' : DriverState) (parts : List Part) (offered : List ℕ) → next_receive d' < own.rx
-    → All (IsOfDriver own) (receive_accesses d d' parts offered)
+    → All (IsOfDriver own) (receive_accesses d d' parts offered ++ [])
 receives-of_driver own d d' parts offered below =
-    offers-of_driver own d.layout (part_loads d.layout parts) (next_receive d) (next_receive d') offered (d.staged ++ offered)
-    (parts-memory d.layout parts) below
+    subst (λ (list : List Access). All (IsOfDriver own) list) (sym (append-nil (receive_accesses d d' parts offered)))
+    (offers-of_driver own d.layout (part_loads d.layout parts) (next_receive d) (next_receive d') offered (d.staged ++ offered)
+    (parts-memory d.layout parts) below)
 
-pub receives-last : (d d' : DriverState) (parts : List Part) (offered : List ℕ) → OnlyLastWrites (receive_accesses d d' parts offered)
+pub receives-last : (d d' : DriverState) (parts : List Part) (offered : List ℕ)
+    → OnlyLastWrites (receive_accesses d d' parts offered ++ [])
 receives-last d d' parts offered =
-    offers-last d.layout (part_loads d.layout parts) (next_receive d) (next_receive d') offered (d.staged ++ offered)
-    (parts-memory d.layout parts)
+    subst OnlyLastWrites (sym (append-nil (receive_accesses d d' parts offered)))
+    (offers-last d.layout (part_loads d.layout parts) (next_receive d) (next_receive d') offered (d.staged ++ offered)
+    (parts-memory d.layout parts))
 
 -- Handling an interrupt.
 
@@ -177,16 +181,23 @@ handled-memory d taken loads =
     All-append IsOfMemory (takes_from d.layout d.oldest_receive taken) (receive_loads d.layout slot loads)
     (takes-memory d.layout d.oldest_receive taken) (looks-memory d.layout slot loads)
 
-pub handles-of_driver : (own : Counts) (d : DriverState) (misses : ℕ) (taken : List (List ℕ)) (loads : ℕ) (offered : List ℕ) (last : ℕ)
-    → last < own.rx → All (IsOfDriver own) (taking_accesses d misses taken loads ++ offering_accesses d offered last)
-handles-of_driver own d misses taken loads offered last below =
-    All-cons (IsOfDriver own) (Reads MPC misses) _ (inr refl)
-    (offers-of_driver own d.layout _ (next_receive d) last offered (d.staged ++ offered) (handled-memory d taken loads) below)
+-- all accesses of the handler, stage by stage
+pub handles-of_driver : (own : Counts) (d : DriverState) (causes misses : ℕ) (taken : List (List ℕ)) (loads : ℕ) (offered : List ℕ)
+    (last : ℕ) → last < own.rx
+    → All (IsOfDriver own) (Reads ICR causes ∷ taking_accesses d misses taken loads ++ (offering_accesses d offered last ++ []))
+handles-of_driver own d causes misses taken loads offered last below =
+    subst (λ (list : List Access). All (IsOfDriver own) (Reads ICR causes ∷ taking_accesses d misses taken loads ++ list))
+    (sym (append-nil (offering_accesses d offered last)))
+    (All-cons (IsOfDriver own) (Reads ICR causes) (taking_accesses d misses taken loads ++ offering_accesses d offered last) (inl refl)
+    (All-cons (IsOfDriver own) (Reads MPC misses) _ (inr refl)
+    (offers-of_driver own d.layout _ (next_receive d) last offered (d.staged ++ offered) (handled-memory d taken loads) below)))
 
-pub handles-last : (d : DriverState) (misses : ℕ) (taken : List (List ℕ)) (loads : ℕ) (offered : List ℕ) (last : ℕ)
-    → OnlyLastWrites (taking_accesses d misses taken loads ++ offering_accesses d offered last)
-handles-last d misses taken loads offered last =
-    offers-last d.layout _ (next_receive d) last offered (d.staged ++ offered) (handled-memory d taken loads)
+pub handles-last : (d : DriverState) (causes misses : ℕ) (taken : List (List ℕ)) (loads : ℕ) (offered : List ℕ) (last : ℕ)
+    → OnlyLastWrites (Reads ICR causes ∷ taking_accesses d misses taken loads ++ (offering_accesses d offered last ++ []))
+handles-last d causes misses taken loads offered last =
+    subst (λ (list : List Access). OnlyLastWrites (taking_accesses d misses taken loads ++ list))
+    (sym (append-nil (offering_accesses d offered last)))
+    (offers-last d.layout _ (next_receive d) last offered (d.staged ++ offered) (handled-memory d taken loads))
 
 pub causes-of_driver : (own : Counts) (causes : ℕ) → All (IsOfDriver own) (Reads ICR causes ∷ [])
 causes-of_driver own causes = All-cons (IsOfDriver own) (Reads ICR causes) [] (inl refl) (all-none (IsOfDriver own))

@@ -1,0 +1,65 @@
+-- What a call of a host does, in the atomic steps of its network (our choice). The effects of calls are in packet_socket/specs/HostEffects.
+-- Here their parameter `Runs` is `InSteps`. An atomic step is an access of the host's driver, or a tick that isn't Go.
+use Rattle.std.specs.Prelude.{◌≡◌, ◌++◌, ◌∷◌, [], ℕ, List}
+use Rattle.adapter.specs.HostFrames.{frames_held}
+use Rattle.adapter.specs.World.{World}
+use Rattle.adapter.specs.declared.offsets.TheConstants.{ICR}
+use Rattle.bus.specs.PastOfStretch.{Past}
+use Rattle.bus.specs.declared.event.Access.{Access}
+use Rattle.bus.specs.declared.event.Access.TheVariants.{Reads}
+use Rattle.stations.specs.AtomicRuns.{LeadsTo, past_at}
+use Rattle.stations.specs.AtomicSteps.{AtomicStep}
+use Rattle.stations.specs.Stations.{StationState, world_at}
+use Rattle.packet_socket.specs.HostActs.{HostAct, Effect, Ends, CallStages, Then, accesses_in}
+use Rattle.packet_socket.specs.CallEffects.{EffectOf, Request, accepted_in, given_in}
+use Rattle.packet_socket.specs.declared.call.HostAnswer.{HostAnswer}
+use Rattle.packet_socket.specs.HostCalls.{Given, given_for, socket_frames, waiting_frames}
+use Rattle.host_calls.specs.CallsOfHosts.{CallRuns, EndsWithAccess}
+use Rattle.host_calls.specs.ConnectedHosts.{ConnectedHost, PlayedCall}
+use Rattle.host_calls.specs.InterruptCauses.{TellsCauses}
+
+-- A stage of a call of host k. Its accesses, and the ticks before each of them, are the first of these steps; the last of these first steps
+-- is an access, or there are none, if it makes no access. `Later` holds of the rest of the steps.
+pub record MakesStage (k : ℕ) (made : List Access) (Holds : World → Past → World → Type 0) (steps : List AtomicStep)
+    (old : List StationState) (Later : List AtomicStep → List StationState → Type 0) : Type 0 where
+  pub first : List AtomicStep
+  pub rest : List AtomicStep
+  pub split : steps ≡ first ++ rest
+  pub made_are : (past_at k first).accesses ≡ made
+  pub ends : EndsWithAccess first
+  -- the stations right after the last access, before any further step
+  pub middle : List StationState
+  pub leads : LeadsTo k first old middle
+  pub holds : Holds (world_at old k) (past_at k first) (world_at middle k)
+  pub later : Later rest middle
+
+-- The stages of a call, one after the other. After the last of its accesses only ticks are played.
+abbrev pub MakesStages : (k : ℕ) → CallStages → List AtomicStep → (old : List StationState) → Type 0
+MakesStages k Ends steps old = (past_at k steps).accesses ≡ []
+MakesStages k (Then made Holds later) steps old =
+    MakesStage k made Holds steps old (λ rest middle. MakesStages k later rest middle)
+
+-- Host k ran this act in these steps, and its sockets returned the frames `given`.
+pub record InSteps (k : ℕ) (given : List Given) (steps : List AtomicStep) (old new : ConnectedHost) (act : HostAct) : Type 0 where
+  pub stages : MakesStages k act.stages steps old.stations
+  -- The frames that it took off the receive ring are the beginning of this list: the frames that the host held when the call began, then
+  -- those that were stored during the call.
+  pub left : act.taken ++ frames_held new.host.driver.oldest_receive (world_at new.stations k)
+      ≡ frames_held old.host.driver.oldest_receive (world_at old.stations k) ++ (past_at k steps).stored
+  -- Each socket's queue gets the taken frames that go to it, in order, at its end. The frames that it returned were at its front.
+  pub queues : (socket : ℕ) → given_for socket given ++ waiting_frames new.host socket (world_at new.stations k)
+      ≡ waiting_frames old.host socket (world_at old.stations k) ++ socket_frames old.host.kinds socket act.taken
+  -- If the first access reads ICR: what it implies of the adapter when the call began, and of the ticks before this read, that the value
+  -- has a cause which a driver handles, and what, that it has none. (The value itself is that of the register, by `LeadsTo`.)
+  pub icr : (causes : ℕ) (more : List Access) → accesses_in act.stages ≡ Reads ICR causes ∷ more
+      → TellsCauses k steps causes (world_at old.stations k).adapter
+
+-- A call with its ticks (`runs`), and its effect in the steps that they made (`does`).
+pub record Calls (call : PlayedCall) (given : List Given) (accepted : List (List ℕ)) (Does : Effect) (old new : ConnectedHost) : Type 0
+  where
+    pub runs : CallRuns call given accepted old new
+    pub does : Does old.host new.host (InSteps call.caller given runs.steps old new) (world_at old.stations call.caller)
+
+-- A call had the effect of its answer.
+abbrev pub MakesCall : PlayedCall → Request → HostAnswer (List ℕ) → (old new : ConnectedHost) → Type 0
+MakesCall call request answer = Calls call (given_in request answer) (accepted_in request answer) (EffectOf request answer)

@@ -1,0 +1,200 @@
+-- A host makes no access, or sends a frame.
+use Rattle.std.proofs.Common.{Bool, ◌≡◌, ◌<◌, ◌+◌, ◌-◌, ◌%◌, ◌∷◌, [], ℕ, true, false, List, length, refl, sym, ap, subst, ◌∙◌, arith}
+use Rattle.std.specs.List.{All}
+use Rattle.std.specs.Prelude.{Err, Ok, ◌↔◌}
+use Rattle.dma_memory.specs.Layout.{Counts}
+use Rattle.descriptors.specs.Frames.{longest_frame, padded, shortest_sent}
+use Rattle.adapter.specs.Slots.{written_back}
+use Rattle.adapter.specs.World.{World}
+use Rattle.adapter.specs.declared.offsets.TheConstants.{TDT}
+use Rattle.bus.proofs.Composition.{happens_none}
+use Rattle.bus.proofs.Lists.{all-none}
+use Rattle.bus.specs.PastOfStretch.{Past, joined, nothing}
+use Rattle.bus.specs.declared.bus.Bus.{Ghosts}
+use Rattle.bus.specs.declared.event.Access.{Access}
+use Rattle.bus.specs.declared.event.Access.TheVariants.{Stores, Writes}
+use Rattle.driver_law.proofs.FramesCounted.{slots_have_frames}
+use Rattle.driver_law.proofs.Stretches.{goes_join, joined-nothing, work_kept}
+use Rattle.driver_law.specs.Calls.{FollowsWrites, GoesTo, IsRefilled, Moment, driver_did, driver_in, held_at, send_accesses}
+use Rattle.driver_law.specs.Calls.{transmit_buffer, whole_descriptor}
+use Rattle.driver_law.specs.DriverState.{DriverState, holding, transmit_slot, transmit_tail}
+use Rattle.driver_law.specs.ReadyDrivers.{Ready}
+use Rattle.driver.specs.SendSteps.{HasWrongLength, SendAnswer, Sends, accepted_by, loads_to_free, with_transmit_slots}
+use Rattle.driver.specs.declared.transmit.SendError.TheVariants.{RingFull, TooLong, TooShort}
+use Rattle.packet_socket.specs.HostActs.{OverBus, IsOfDriver, OnlyLastWrites, PassesStages, CallStages, accesses_in, no_act}
+use Rattle.packet_socket.specs.HostCalls.{HostMoment, IsReadyHost, driver_at, driver_of, host_at}
+use Rattle.packet_socket.specs.HostEffects.{AreLeft, IsSendable, MakesNoAccess, SendEffect}
+use Rattle.packet_socket.specs.HostState.{HostState}
+use Rattle.packet_socket.proofs.DriversAccesses.{frees-last, frees-of_driver, sends-last, sends-of_driver}
+use Rattle.packet_socket.proofs.Stretches.{accounts-stay, driver-stays, follows-join, host-happens, with_driver}
+
+-- No access.
+
+no-acts : {up : Bool} {B : Type 0} (bus : Ghosts B) (now : HostMoment B) → IsReadyHost bus up now → OverBus bus up [] [] now now no_act
+no-acts {up} bus now is = record {
+  past = nothing;
+  stages = (refl, refl);
+  own = all-none (IsOfDriver now.host.driver.layout);
+  last_writes = tt;
+  changed = host-happens now.host (bus.world now.bus) (bus.world now.bus) nothing is.ready (happens_none (bus.world now.bus));
+  follows = record {
+    set = refl;
+    off = λ off leaves. record { none_stored = refl; none_missed = refl };
+    link = λ leaves link. link;
+  };
+  work = λ work. work;
+  refilled = λ refilled. refilled;
+  offered = λ offered. offered;
+}
+
+pub makes-none : {up : Bool} {B : Type 0} (bus : Ghosts B) (old : HostMoment B) (b : B) (h' : HostState) → IsReadyHost bus up old
+    → b ≡ old.bus → h' ≡ old.host → MakesNoAccess old.host h' (OverBus bus up [] [] old (host_at b h'))
+makes-none {up} {B} bus old b h' is same stays =
+    subst (λ (h : HostState). MakesNoAccess old.host h (OverBus bus up [] [] old (host_at b h))) (sym stays)
+    (subst (λ (x : B). MakesNoAccess old.host old.host (OverBus bus up [] [] old (host_at x old.host))) (sym same)
+    (record { stays = refl; runs = no-acts bus old is }))
+
+-- Sending.
+
+-- Only which transmit slots are outstanding changes.
+abbrev pub OnlySends : HostState → DriverState → Type 0
+OnlySends h d = with_driver d h ≡ record h { driver = with_transmit_slots h.driver d.oldest_transmit d.sending }
+
+send-acts : {B : Type 0} (bus : Ghosts B) (old : HostMoment B) (new : Moment B) (accepted : List (List ℕ)) (stages : CallStages)
+    (past : Past) → IsReadyHost bus true old → OnlySends old.host new.driver → PassesStages bus stages old.bus new.bus past
+    → All (IsOfDriver old.host.driver.layout) (accesses_in stages) → OnlyLastWrites (accesses_in stages)
+    → GoesTo true (driver_in (driver_at bus old).driver (bus.world old.bus))
+    (driver_in (holding (driver_at bus old).driver.handed_out new.driver) (bus.world new.bus)) (driver_did [] accepted) past
+    → FollowsWrites (bus.world old.bus) (bus.world new.bus) past
+    → OverBus bus true [] accepted old (host_at new.bus (with_driver new.driver old.host))
+    (record { stages = stages; reads_icr = false; taken = [] })
+send-acts bus old new accepted stages past is others passes own last goes follows =
+    let h = old.host in
+    let a = bus.world old.bus in
+    let b = bus.world new.bus in
+    let d = driver_of h a in
+    let h' = with_driver new.driver h in
+    let stand = goes.flows.ready.stand in
+    let driver : GoesTo true (driver_in d a) (driver_in (driver_of h' b) b) (driver_did [] accepted) past =
+    subst (λ (end : DriverState). GoesTo true (driver_in d a) (driver_in end b) (driver_did [] accepted) past)
+    (sym (driver-stays h new.driver a b is.ready goes.flows.layout stand)) goes in
+    record {
+      past = past;
+      stages = passes;
+      own = own;
+      last_writes = last;
+      changed = record {
+        sizes = is.ready.sizes;
+        driver = driver;
+        accounts = accounts-stay h new.driver a b past.stored is.ready goes.flows.layout stand goes.flows.holds;
+      };
+      follows = follows;
+      work = λ work. let behind = work_kept d (driver_of h' b) a b [] accepted past driver
+          (record { enabled = work.enabled; asked = work.asked }) in record { enabled = behind.enabled; asked = behind.asked };
+      refilled = λ refilled. subst (λ (host : HostState). IsRefilled host.driver) (sym others) refilled;
+      offered = λ offered. subst (λ (host : HostState). host.driver.staged ≡ []) (sym others) offered;
+    }
+
+-- The slots that are left have frames that are still to be sent.
+left-over : (d : DriverState) (world : World) → Ready d world → written_back d.oldest_transmit world ≡ []
+    → AreLeft d.oldest_transmit d.sending world
+left-over d world ready none =
+    let count = (slots_have_frames d world ready).count in
+    record { none = none; frames = omega (arith, count, ap length none) }
+
+-- The accesses of sending depend on the number at the tail alone.
+sends-same : (d d' : DriverState) (frame : List ℕ) → d'.layout ≡ d.layout → transmit_tail d' ≡ transmit_tail d
+    → send_accesses d' frame ≡ send_accesses d frame
+sends-same d d' frame counts tail =
+    let at : Counts → ℕ → List Access = λ layout slot.
+    Stores (transmit_buffer layout slot) frame ∷ Stores (transmit_slot layout slot)
+    (whole_descriptor (transmit_buffer layout slot) (length frame)) ∷ Writes TDT ((slot + 1) % layout.tx) ∷ [] in
+    ap (λ (layout : Counts). at layout (transmit_tail d')) counts ∙ ap (at d.layout) tail
+
+sendable : (frame : List ℕ) → ¬ (length frame < shortest_sent) → ¬ (longest_frame < length frame) → IsSendable frame
+sendable frame short long = record { least = omega (arith, short); most = omega (arith, long) }
+
+pub host-sends : {B : Type 0} (bus : Ghosts B) (old : HostMoment B) (new : Moment B) (frame : List ℕ) (result : SendAnswer)
+    → IsReadyHost bus true old → ((result ≡ Err TooShort) ↔ (length frame < shortest_sent))
+    → ((result ≡ Err TooLong) ↔ (longest_frame < length frame))
+    → (HasWrongLength result → (new.bus ≡ old.bus) × (new.driver ≡ old.host.driver)) → OnlySends old.host new.driver
+    → Sends bus frame result (driver_at bus old) (held_at (driver_at bus old).driver.handed_out new)
+    → SendEffect frame result old.host (with_driver new.driver old.host)
+    (OverBus bus true [] (accepted_by result frame) old (host_at new.bus (with_driver new.driver old.host))) (bus.world old.bus)
+host-sends bus old new frame (Err TooShort) is short long none others sent =
+    (short.0 refl, makes-none bus old new.bus _ is (none tt).0 (ap (λ (d : DriverState). with_driver d old.host) (none tt).1))
+host-sends bus old new frame (Err TooLong) is short long none others sent =
+    (long.0 refl, makes-none bus old new.bus _ is (none tt).0 (ap (λ (d : DriverState). with_driver d old.host) (none tt).1))
+host-sends bus old new frame (Err RingFull) is short long none others sent =
+    let h = old.host in
+    let d = driver_of h (bus.world old.bus) in
+    let ran = sent.frees_first.ran in
+    let full = sent.answer in
+    let count = (slots_have_frames d (bus.world old.bus) is.ready.ready).count in
+    record {
+      sendable = sendable frame (λ low. let e = short.1 low in absurd (cc)) (λ high. let e = long.1 high in absurd (cc));
+      full = omega (arith, full.at_entry.0, ap length full.at_entry.1, count);
+      still_full = full.at_return.0 ∙ ap (λ (layout : Counts). layout.tx) ran.goes.flows.layout;
+      stays = others ∙ ap (λ (s : DriverState). let host : HostState = record h
+          { driver = with_transmit_slots h.driver s.oldest_transmit s.sending } in host) full.same;
+      runs = send-acts bus old new [] _ ran.past is others
+          (record {
+            middle = new.bus;
+            before = ran.past;
+            reports = ran.reports;
+            made_are = ran.only;
+            holds = left-over (holding d.handed_out new.driver) (bus.world new.bus) ran.goes.flows.ready sent.frees_first.none;
+            behind = nothing;
+            later = (refl, refl);
+            whole = sym (joined-nothing ran.past);
+          })
+          (frees-of_driver h.driver.layout h.driver new.driver.sending) (frees-last h.driver new.driver.sending) ran.goes ran.follows;
+    }
+host-sends bus old new frame (Ok u) is short long none others sent =
+    let h = old.host in
+    let a = bus.world old.bus in
+    let c = bus.world new.bus in
+    let d = driver_of h a in
+    let parts = sent.frees_first in
+    let freed = parts.freed.driver in
+    let between = parts.freed.bus in
+    let frees = parts.reclaims.ran in
+    let sends = parts.sends in
+    let oldest : new.driver.oldest_transmit ≡ freed.oldest_transmit = ap (λ (s : DriverState). s.oldest_transmit) parts.more in
+    let more : new.driver.sending ≡ freed.sending + 1 = ap (λ (s : DriverState). s.sending) parts.more in
+    let left : freed.sending ≡ new.driver.sending - 1 = omega (arith, more) in
+    let layout : freed.layout ≡ h.driver.layout = ap (λ (s : DriverState). s.layout) parts.slots in
+    let some : 0 < h.driver.layout.tx = omega (arith, is.ready.ready.transmit.oldest_slot) in
+    record {
+      sendable = sendable frame (λ low. let e = short.1 low in absurd (cc)) (λ high. let e = long.1 high in absurd (cc));
+      freed = sent.answer.freed;
+      some = sent.answer.some;
+      others = others;
+      runs = send-acts bus old new (padded frame ∷ []) _ (joined frees.past sends.past) is others
+          (record {
+            middle = between;
+            before = frees.past;
+            reports = frees.reports;
+            made_are = frees.only ∙ ap (λ (n : ℕ). loads_to_free h.driver n) left;
+            holds = subst (λ (n : ℕ). AreLeft new.driver.oldest_transmit n (bus.world between)) left
+                (subst (λ (slot : ℕ). AreLeft slot freed.sending (bus.world between)) (sym oldest)
+                (left-over freed (bus.world between) frees.goes.flows.ready parts.reclaims.none));
+            behind = sends.past;
+            later = record {
+              middle = new.bus;
+              before = sends.past;
+              reports = sends.reports;
+              made_are = sends.only ∙ sends-same h.driver freed frame layout parts.tail;
+              holds = tt;
+              behind = nothing;
+              later = (refl, refl);
+              whole = sym (joined-nothing sends.past);
+            };
+            whole = refl;
+          })
+          (sends-of_driver h.driver.layout h.driver (new.driver.sending - 1) frame refl some)
+          (sends-last h.driver (new.driver.sending - 1) frame)
+          (goes_join d freed (holding d.handed_out new.driver) a (bus.world between) c [] [] [] (padded frame ∷ []) frees.past sends.past
+          frees.goes sends.goes)
+          (follows-join a (bus.world between) c frees.past sends.past frees.follows sends.follows);
+    }

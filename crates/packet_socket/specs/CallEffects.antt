@@ -1,0 +1,81 @@
+-- The effect of a call that is a value (our choice).
+use Rattle.std.specs.Prelude.{⊤, ◌≡◌, [], ℕ, List, None, Ok, Option, Result, Some, drop}
+use Rattle.bus.specs.declared.bus.Bus.{Ghosts}
+use Rattle.driver.specs.Parts.{IsFrameSize}
+use Rattle.driver.specs.SendSteps.{SendAnswer, accepted_by}
+use Rattle.driver.specs.declared.interrupt.Handled.{Handled}
+use Rattle.packet_socket.specs.HostActs.{CallsUp, Effect}
+use Rattle.packet_socket.specs.HostCalls.{Given, HostMoment}
+use Rattle.packet_socket.specs.HostEffects.{InterruptEffect, RecvEffect, SendEffect, frame_answer, given_by}
+use Rattle.packet_socket.specs.declared.receive.RecvError.{RecvError}
+use Rattle.packet_socket.specs.declared.call.HostAnswer.{HostAnswer}
+use Rattle.packet_socket.specs.declared.call.HostAnswer.TheVariants.{Interrupted, Received, Sent}
+use Rattle.packet_socket.specs.declared.call.HostCall.{HostCall}
+use Rattle.packet_socket.specs.declared.call.HostCall.TheVariants.{Interrupt, Recv, Send}
+
+-- What is asked of a host by a call.
+pub data Request : Type 0 where
+  Sending : (frame : List ℕ) → Request
+  Receiving : (socket : ℕ) → Request
+  Interrupting : Request
+
+abbrev pub request_of : HostCall → Request
+request_of (Send frame) = Sending frame.now
+request_of (Recv socket) = Receiving socket
+request_of Interrupt = Interrupting
+
+-- the answer with the frame that a socket returned in place of its size: the first bytes of `into`
+abbrev pub answer_in : (into : List ℕ) → HostAnswer ℕ → HostAnswer (List ℕ)
+answer_in into (Sent result) = Sent result
+answer_in into (Received result) = Received (frame_answer into result)
+answer_in into (Interrupted result) = Interrupted result
+
+-- a frame that is returned has 60 to 1,518 bytes
+abbrev pub IsLegalAnswer : HostAnswer ℕ → Type 0
+IsLegalAnswer (Received (Ok size)) = IsFrameSize size
+IsLegalAnswer _ = ⊤
+
+-- The caller's bytes before and after a call. The bytes after a returned frame don't change. If no frame is returned, no byte changes.
+abbrev pub KeepsRest : HostAnswer ℕ → (before after : List ℕ) → Type 0
+KeepsRest (Received (Ok size)) before after = drop size after ≡ drop size before
+KeepsRest _ before after = after ≡ before
+
+-- the frames that sockets returned in a call
+abbrev pub given_in : Request → HostAnswer (List ℕ) → List Given
+given_in (Receiving socket) (Received result) = given_by socket result
+given_in request answer = []
+
+-- the frames that the call accepted for sending
+abbrev pub accepted_in : Request → HostAnswer (List ℕ) → List (List ℕ)
+accepted_in (Sending frame) (Sent result) = accepted_by result frame
+accepted_in request answer = []
+
+-- The result in an answer, if the answer belongs to this kind of call.
+
+abbrev pub sent_in : HostAnswer (List ℕ) → Option SendAnswer
+sent_in (Sent result) = Some result
+sent_in answer = None
+
+abbrev pub received_in : HostAnswer (List ℕ) → Option (Result (List ℕ) RecvError)
+received_in (Received result) = Some result
+received_in answer = None
+
+abbrev pub interrupted_in : HostAnswer (List ℕ) → Option Handled
+interrupted_in (Interrupted result) = Some result
+interrupted_in answer = None
+
+-- the effect of a result; an answer that belongs to another kind of call is impossible
+abbrev pub OfAnswer : {R : Type 0} → Option R → (R → Effect) → Effect
+OfAnswer (Some result) Does = Does result
+OfAnswer None Does = λ h h' Runs world. ⊥
+
+-- The effect of a call, by its answer.
+abbrev pub EffectOf : Request → HostAnswer (List ℕ) → Effect
+EffectOf (Sending frame) answer = OfAnswer (sent_in answer) (SendEffect frame)
+EffectOf (Receiving socket) answer = OfAnswer (received_in answer) (RecvEffect socket)
+EffectOf Interrupting answer = OfAnswer (interrupted_in answer) InterruptEffect
+
+-- A call over a bus had the effect of its answer. The transmit side must be set up.
+abbrev pub CallsBy : {B : Type 0} → Ghosts B → Request → HostAnswer (List ℕ) → (old new : HostMoment B) → Type 0
+CallsBy bus request answer old new =
+    CallsUp bus (given_in request answer) (accepted_in request answer) old new (EffectOf request answer)

@@ -1,0 +1,128 @@
+-- What a call of a host does, stage by stage (our choice). An effect states this once, and takes `Runs`, which states how the stages are
+-- run. Over a bus, `Runs` is `OverBus`. In the steps of a network, it is `InSteps` of the crate `host_calls`.
+use Rattle.std.specs.Prelude.{⊤, ◌≡◌, ◌<◌, ◌⊎◌, ◌++◌, ◌∷◌, [], ℕ, Bool, true, false, All, List}
+use Rattle.dma_memory.specs.Layout.{Counts}
+use Rattle.adapter.specs.World.{World}
+use Rattle.adapter.specs.declared.offsets.TheConstants.{ICR, MPC, RDT, TDT}
+use Rattle.bus.specs.PastOfStretch.{Past, joined, nothing}
+use Rattle.bus.specs.declared.bus.Bus.{Ghosts}
+use Rattle.bus.specs.declared.event.Access.{Access}
+use Rattle.bus.specs.declared.event.Access.TheVariants.{Loads, Reads, Stores, Writes}
+use Rattle.driver_law.specs.Calls.{DriverDid, DriverInWorld, FlowsTo, FollowsWrites, GoesTo, HasNoForgottenWork, IsRefilled, driver_in}
+use Rattle.packet_socket.specs.HostCalls.{Given, HostInterval, HostMoment, IsReadyHost, did, in_world}
+use Rattle.packet_socket.specs.HostState.{HostState}
+
+-- The stages of a call, in order. A stage consists of some accesses (`made`) and a fact (`Holds`). The fact is about three things: the
+-- world when the stage begins, what happens in the stage, and the world when it ends. A stage ends at a moment after its last access,
+-- before the next access. In the steps of a network, this moment is right after its last access.
+pub data CallStages : Type 1 where
+  Ends : CallStages
+  Then : (made : List Access) → (Holds : World → Past → World → Type 0) → (later : CallStages) → CallStages
+
+-- the accesses of all stages, in order
+abbrev pub accesses_in : CallStages → List Access
+accesses_in Ends = []
+accesses_in (Then made Holds later) = made ++ accesses_in later
+
+-- What a call does. An effect passes it to `Runs`.
+pub record HostAct : Type 1 where
+  pub stages : CallStages
+  -- whether the first access reads ICR (used over a bus)
+  pub reads_icr : Bool
+  -- the frames that it takes off the receive ring
+  pub taken : List (List ℕ)
+
+-- a call without accesses
+abbrev pub no_act : HostAct
+no_act = record { stages = Ends; reads_icr = false; taken = [] }
+
+-- a write of RDT or TDT; the value is the index of a slot of its ring
+abbrev pub IsTailWrite : Counts → (offset value : ℕ) → Type 0
+IsTailWrite counts offset value = ((offset ≡ RDT) × (value < counts.rx)) ⊎ ((offset ≡ TDT) × (value < counts.tx))
+
+-- An access of an initialized driver: a load, a store, a read of ICR or MPC, or a write of RDT or TDT.
+abbrev pub IsOfDriver : Counts → Access → Type 0
+IsOfDriver counts (Reads offset value) = (offset ≡ ICR) ⊎ (offset ≡ MPC)
+IsOfDriver counts (Writes offset value) = IsTailWrite counts offset value
+IsOfDriver counts (Loads address size) = ⊤
+IsOfDriver counts (Stores address bytes) = ⊤
+
+-- Only the last access may write a register. So a call puts a frame in the ring, or offers slots, only by its last access.
+abbrev pub OnlyLastWrites : List Access → Type 0
+OnlyLastWrites [] = ⊤
+OnlyLastWrites (Reads offset value ∷ later) = OnlyLastWrites later
+OnlyLastWrites (Writes offset value ∷ later) = later ≡ []
+OnlyLastWrites (Loads address size ∷ later) = OnlyLastWrites later
+OnlyLastWrites (Stores address bytes ∷ later) = OnlyLastWrites later
+
+-- The first access reads ICR. `GoesTo` holds from a moment after this read, before the next access (`asked`), to the end, as in an interval
+-- without a read of ICR. So after the read, causes are only added.
+pub record ReadsThenGoes (up : Bool) (old new : DriverInWorld) (did : DriverDid) (past : Past) : Type 0 where
+  pub flows : FlowsTo up old new did past
+  -- the world at this moment
+  pub asked : World
+  pub causes : ℕ
+  pub first : Past
+  pub reads : first.accesses ≡ Reads ICR causes ∷ []
+  pub later : Past
+  pub whole : past ≡ joined first later
+  pub goes : GoesTo up (driver_in old.driver asked) new did later
+
+-- what an interval changes in the driver
+abbrev pub changed_by : (reads_icr up : Bool) → DriverInWorld → DriverInWorld → DriverDid → Past → Type 0
+changed_by true up = ReadsThenGoes up
+changed_by false up = GoesTo up
+
+-- Over a bus.
+
+-- One stage over a bus. `Later` holds of the interval after it.
+pub record PassesStage {B : Type 0} (bus : Ghosts B) (made : List Access) (Holds : World → Past → World → Type 0) (old : B) (past : Past)
+    (Later : B → Past → Type 0) : Type 0 where
+  -- the bus when the stage ends: after its last access, before the next access
+  pub middle : B
+  pub before : Past
+  pub reports : bus.happened old middle before
+  pub made_are : before.accesses ≡ made
+  pub holds : Holds (bus.world old) before (bus.world middle)
+  pub behind : Past
+  pub later : Later middle behind
+  pub whole : past ≡ joined before behind
+
+abbrev pub PassesStages : {B : Type 0} → Ghosts B → CallStages → (old new : B) → Past → Type 0
+PassesStages bus Ends old new past = (new ≡ old) × (past ≡ nothing)
+PassesStages bus (Then made Holds later) old new past =
+    PassesStage bus made Holds old past (λ middle behind. PassesStages bus later middle new behind)
+
+-- Between two moments, the host ran this act over a bus that obeys the law. Its sockets returned the frames `given`, and it accepted the
+-- frames `accepted` for sending.
+pub record OverBus {B : Type 0} (bus : Ghosts B) (up : Bool) (given : List Given) (accepted : List (List ℕ)) (old new : HostMoment B)
+    (act : HostAct) : Type 0 where
+  pub past : Past
+  pub stages : PassesStages bus act.stages old.bus new.bus past
+  pub own : All (IsOfDriver old.host.driver.layout) (accesses_in act.stages)
+  pub last_writes : OnlyLastWrites (accesses_in act.stages)
+  -- What changed, with the account of frames. In particular, the host is ready at the end.
+  pub changed :
+      HostInterval (changed_by act.reads_icr up) (in_world old.host (bus.world old.bus)) (in_world new.host (bus.world new.bus))
+      (did act.taken given accepted) past
+  pub follows : FollowsWrites (bus.world old.bus) (bus.world new.bus) past
+  pub work : HasNoForgottenWork old.host.driver (bus.world old.bus) → HasNoForgottenWork new.host.driver (bus.world new.bus)
+  pub refilled : IsRefilled old.host.driver → IsRefilled new.host.driver
+  -- If no slot was staged before the call, no slot is staged after it.
+  pub offered : old.host.driver.staged ≡ [] → new.host.driver.staged ≡ []
+
+-- An effect: what a call does. It relates the host before the call (h), the host after it (h'), and the world before it. `Runs act` states
+-- that the act was run.
+abbrev pub Effect : Type 1
+Effect = (h h' : HostState) → (Runs : HostAct → Type 0) → World → Type 0
+
+-- A call over a bus has the effect `Does`, if the bus obeys the law, and the host is ready with its transmit side set up. Its sockets
+-- return the frames `given`, and it accepts the frames `accepted` for sending.
+abbrev pub CallsUp : {B : Type 0} → Ghosts B → List Given → (accepted : List (List ℕ)) → (old new : HostMoment B) → Effect → Type 0
+CallsUp bus given accepted old new Does =
+    IsReadyHost bus true old → Does old.host new.host (OverBus bus true given accepted old new) (bus.world old.bus)
+
+-- The same of a call that doesn't need the transmit side.
+abbrev pub CallsOver : {B : Type 0} → Ghosts B → List Given → (accepted : List (List ℕ)) → (old new : HostMoment B) → Effect → Type 0
+CallsOver bus given accepted old new Does =
+    (up : Bool) → IsReadyHost bus up old → Does old.host new.host (OverBus bus up given accepted old new) (bus.world old.bus)

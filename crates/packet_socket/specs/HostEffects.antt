@@ -1,0 +1,174 @@
+-- The effects of calls of a host, by their results. Each record states one way in which a call ends: when the call has this result, what
+-- the host is afterwards (h'), and the call's stages (`runs`). `Runs` is explained in specs/HostActs. `world` is the adapter and memory
+-- before the call. A read of ICR clears the causes (13.4.17 "Interrupt Cause Read Register"); the rest is our choice.
+use Rattle.std.specs.Prelude.{⊤, ◌≡◌, ◌≤◌, ◌<◌, ◌+◌, ◌-◌, ◌++◌, ◌∷◌, [], ℕ, Err, false, List, Ok, Result, true, length, map, take}
+use Rattle.std.specs.List.{concat}
+use Rattle.registers.specs.Bits.{HasBit, Meet}
+use Rattle.registers.specs.Places.{rxt0}
+use Rattle.descriptors.specs.Frames.{longest_frame, shortest_sent}
+use Rattle.adapter.specs.HostFrames.{frames_to_send}
+use Rattle.adapter.specs.Slots.{written_back}
+use Rattle.adapter.specs.World.{World}
+use Rattle.adapter.specs.declared.offsets.TheConstants.{ICR}
+use Rattle.bring_up.specs.WrittenRegisters.{handled_causes}
+use Rattle.bus.specs.PastOfStretch.{Past}
+use Rattle.bus.specs.declared.event.Access.TheVariants.{Reads}
+use Rattle.driver_law.specs.Calls.{HasNoForgottenWork, driver_in, frames_ended, send_accesses}
+use Rattle.driver_law.specs.DriverState.{HandedOut, next_receive, numbers_of, with_owners}
+use Rattle.driver.specs.HandlerSteps.{GrowsBy, IsLook, OnlyReceives, ReadsMisses, TakesAndOffers, offering_accesses, taking_accesses}
+use Rattle.driver.specs.Parts.{joined_frames}
+use Rattle.driver.specs.SendSteps.{SendAnswer, loads_to_free, with_transmit_slots}
+use Rattle.driver.specs.declared.transmit.SendError.TheVariants.{RingFull, TooLong, TooShort}
+use Rattle.driver.specs.declared.receiver.Received.{Received}
+use Rattle.driver.specs.declared.interrupt.Handled.{Handled}
+use Rattle.driver.specs.declared.interrupt.Handled.TheVariants.{NotMine}
+use Rattle.driver.specs.declared.interrupt.Handled.TheVariants as answers
+use Rattle.packet_socket.specs.HostActs.{HostAct, Effect, Ends, Then, no_act}
+use Rattle.packet_socket.specs.HostCalls.{AreSorted, Given, LeavesQueue, receive_accesses, waiting_frames, without_socket}
+use Rattle.packet_socket.specs.HostState.{HostState, queue_at}
+use Rattle.packet_socket.specs.declared.receive.RecvError.{RecvError}
+use Rattle.packet_socket.specs.declared.receive.RecvError.TheVariants.{Empty, NoSocket}
+
+-- The host doesn't change, and no access is made.
+pub record MakesNoAccess (h h' : HostState) (Runs : HostAct → Type 0) : Type 0 where
+  pub stays : h' ≡ h
+  pub runs : Runs no_act
+
+-- Sending.
+
+-- `left` transmit slots are outstanding, from the index `oldest` on. None of them is written back: each has a frame that is still to be
+-- sent.
+pub record AreLeft (oldest left : ℕ) (world : World) : Type 0 where
+  pub none : written_back oldest world ≡ []
+  pub frames : length (frames_to_send world) ≡ left
+
+-- The frame has 14 to 1,518 bytes.
+pub record IsSendable (frame : List ℕ) : Type 0 where
+  pub least : shortest_sent ≤ length frame
+  pub most : length frame ≤ longest_frame
+
+-- Ok: the frame is accepted. Each transmit slot that was written back when the call began is freed, and the frame's slot is outstanding.
+pub record AcceptsFrame (frame : List ℕ) (h h' : HostState) (Runs : HostAct → Type 0) (world : World) : Type 0 where
+  pub sendable : IsSendable frame
+  pub freed : length (written_back h.driver.oldest_transmit world) + h'.driver.sending ≤ h.driver.sending + 1
+  pub some : 0 < h'.driver.sending
+  -- Nothing else changes than which transmit slots are outstanding.
+  pub others : h' ≡ record h { driver = with_transmit_slots h.driver h'.driver.oldest_transmit h'.driver.sending }
+  -- In the first stage, the call loads the descriptor of each slot that it frees, and of the next outstanding slot, if there is one. It
+  -- frees exactly the slots that are written back when this stage ends. In the second stage, it stores and offers the frame.
+  pub runs : Runs (record {
+    stages = Then (loads_to_free h.driver (h'.driver.sending - 1))
+        (λ old past new. AreLeft h'.driver.oldest_transmit (h'.driver.sending - 1) new)
+        (Then (send_accesses h.driver frame) (λ old past new. ⊤) Ends);
+    reads_icr = false;
+    taken = [];
+  })
+
+-- RingFull: all transmit slots but one have frames that are to be sent, when the call begins and when its stage ends. The host doesn't
+-- change.
+pub record FindsRingFull (frame : List ℕ) (h h' : HostState) (Runs : HostAct → Type 0) (world : World) : Type 0 where
+  pub sendable : IsSendable frame
+  pub full : length (frames_to_send world) + 1 ≡ h.driver.layout.tx
+  pub still_full : h'.driver.sending + 1 ≡ h.driver.layout.tx
+  pub stays : h' ≡ h
+  pub runs : Runs (record {
+    stages = Then (loads_to_free h.driver h'.driver.sending) (λ old past new. AreLeft h'.driver.oldest_transmit h'.driver.sending new) Ends;
+    reads_icr = false;
+    taken = [];
+  })
+
+-- the effect of each result of a send
+abbrev pub SendEffect : List ℕ → SendAnswer → Effect
+SendEffect frame (Ok u) h h' Runs world = AcceptsFrame frame h h' Runs world
+SendEffect frame (Err TooShort) h h' Runs world = (length frame < shortest_sent) × MakesNoAccess h h' Runs
+SendEffect frame (Err TooLong) h h' Runs world = (longest_frame < length frame) × MakesNoAccess h h' Runs
+SendEffect frame (Err RingFull) h h' Runs world = FindsRingFull frame h h' Runs world
+
+-- Receiving.
+
+-- the result with the frame in place of its size: the first `size` of these bytes
+abbrev pub frame_answer : List ℕ → Result ℕ RecvError → Result (List ℕ) RecvError
+frame_answer bytes (Ok size) = Ok (take size bytes)
+frame_answer bytes (Err error) = Err error
+
+-- the frame that the socket returned, if any
+abbrev pub given_by : (socket : ℕ) → Result (List ℕ) RecvError → List Given
+given_by socket (Ok frame) = record { socket = socket; frame = frame } ∷ []
+given_by socket (Err error) = []
+
+-- Ok: the oldest frame of a socket's queue is returned. The call loads it, piece by piece, and then offers slots.
+pub record ReturnsFrame (socket : ℕ) (frame : List ℕ) (h h' : HostState) (Runs : HostAct → Type 0) (world : World) : Type 0 where
+  pub known : socket < length h.kinds
+  pub received : Received
+  pub leaves : LeavesQueue h h' socket (length frame) received
+  -- In the driver, only the owners of buffers change, and no slot is staged. So its transmit slots and its counts don't change.
+  pub others : h' ≡ record h { driver = with_owners h.driver h'.driver.buffers [] h'.driver.pool []; queues = h'.queues }
+  pub offered : List ℕ
+  -- The buffers of the outstanding receive slots after the call: those before it, then those staged before it, then `offered`.
+  pub newest : h'.driver.buffers ≡ h.driver.buffers ++ (h.driver.staged ++ offered)
+  -- The frame was the first in the queue before the call. The frames that stay in the queue don't change.
+  pub runs : Runs (record {
+    stages = Then (receive_accesses h.driver h'.driver received.parts offered)
+        (λ old past new. waiting_frames h socket world ≡ frame ∷ waiting_frames h' socket new) Ends;
+    reads_icr = false;
+    taken = [];
+  })
+
+-- the effect of each result of a recv
+abbrev pub RecvEffect : (socket : ℕ) → Result (List ℕ) RecvError → Effect
+RecvEffect socket (Ok frame) h h' Runs world = ReturnsFrame socket frame h h' Runs world
+RecvEffect socket (Err NoSocket) h h' Runs world = (length h.kinds ≤ socket) × MakesNoAccess h h' Runs
+RecvEffect socket (Err Empty) h h' Runs world =
+    (socket < length h.kinds) × (queue_at h.queues socket ≡ []) × MakesNoAccess h h' Runs
+
+-- Handling an interrupt.
+
+-- After a read of ICR: the value contains each cause that was recorded when the stage began, and no cause is recorded.
+pub record ClearsCauses (causes : ℕ) (old : World) (past : Past) (new : World) : Type 0 where
+  pub seen : (place : ℕ) → HasBit old.adapter.causes.recorded place → HasBit causes place
+  pub cleared : new.adapter.causes.recorded ≡ 0
+
+-- NotMine: the value read from ICR contains no cause that a driver handles. The call makes no other access, and the host doesn't change.
+pub record FindsNoCause (h h' : HostState) (Runs : HostAct → Type 0) : Type 0 where
+  pub causes : ℕ
+  pub none : ¬ Meet causes handled_causes
+  pub stays : h' ≡ h
+  pub runs : Runs (record { stages = Then (Reads ICR causes ∷ []) (ClearsCauses causes) Ends; reads_icr = true; taken = [] })
+
+-- Handled: n frames are taken. `taken` has the pieces of each. They are at least as many as the frames that ended in finished slots when
+-- the call began (`least`), and the first of the frames that the host held, so those are among them. A frame that has a socket goes to the
+-- end of the socket's queue (`frames`). The others are counted, up to the greatest u64 (`unclaimed`).
+pub record HandlesFrames (n : ℕ) (h h' : HostState) (Runs : HostAct → Type 0) (world : World) : Type 0 where
+  -- the value read from ICR
+  pub causes : ℕ
+  pub some : Meet causes handled_causes
+  -- the value read from MPC, which is added to the driver's sum
+  pub missed : ReadsMisses h.driver h'.driver
+  pub taken : List (List HandedOut)
+  pub frames : AreSorted n h h' taken
+  pub unclaimed : GrowsBy h.unclaimed h'.unclaimed (without_socket h.kinds (joined_frames taken))
+  pub least : length (frames_ended (driver_in h.driver world)) ≤ n
+  -- The buffers of the frames leave the ring, those of `rest` stay outstanding, and those of `offered` are offered. The index of the oldest
+  -- slot isn't stated here: it follows from the host being ready after the call.
+  pub served : TakesAndOffers h.driver h'.driver (concat (map numbers_of taken))
+  -- Which transmit slots are outstanding doesn't change.
+  pub only_receives : OnlyReceives h.driver h'.driver
+  -- the number of descriptors that the last look loads
+  pub loads : ℕ
+  -- Three stages. In the first, ICR is read. In the second, MPC is read, frames are taken, and a last look loads descriptors. When this
+  -- stage is over, no frame ends in finished slots. In the third, slots are offered. When it is over, no work is forgotten, if RXT0 was in
+  -- the mask when the call began.
+  pub runs : Runs (record {
+    stages = Then (Reads ICR causes ∷ []) (ClearsCauses causes)
+        (Then (taking_accesses h.driver missed.misses (map numbers_of taken) loads)
+        (λ old past new. IsLook h'.driver.oldest_receive served.rest new loads)
+        (Then (offering_accesses h.driver served.offered (next_receive h'.driver))
+        (λ old past new. HasBit world.adapter.causes.mask rxt0 → HasNoForgottenWork h'.driver new) Ends));
+    reads_icr = true;
+    taken = joined_frames taken;
+  })
+
+-- the effect of each result of an interrupt
+abbrev pub InterruptEffect : Handled → Effect
+InterruptEffect NotMine h h' Runs world = FindsNoCause h h' Runs
+InterruptEffect (answers.Handled n) h h' Runs world = HandlesFrames n h h' Runs world
