@@ -1,0 +1,66 @@
+//! The calls of `Adapter`.
+
+ghost use Rattle.std.specs.Prelude.{◌≡◌, length};
+ghost use Rattle.adapter.specs.Outcomes.{framed};
+ghost use Rattle.adapter.specs.Receiving.{IsFate, after_arrive};
+ghost use Rattle.adapter.specs.Registers.{after_read, after_write, answer_at};
+ghost use Rattle.adapter.specs.State.{IsAdapter};
+ghost use Rattle.adapter.specs.Steps.{Answers, ChangesAtMost, after_step, memory_after_step};
+ghost use Rattle.adapter.specs.declared.outcome.Outcome.TheVariants.{Fault, Nothing};
+
+use adapter::{Adapter, Fate, Outcome, StepKind};
+use dma_memory::HostMemory;
+
+/// A twin of [`Adapter::step`].
+pub fn step(
+    adapter: &mut Adapter,
+    kind: StepKind,
+    memory: &mut HostMemory,
+    wire_free: bool,
+) -> Outcome<()>
+    ensures answer { Answers kind wire_free memory.old adapter.old (framed result adapter.old) }
+    ensures state { adapter.new ≡ after_step kind (framed result adapter.old) memory.old adapter.old }
+    ensures memory { memory.new ≡ memory_after_step kind (framed result adapter.old) memory.old adapter.old }
+    ensures nothing { result ≡ Nothing → (adapter.new ≡ adapter.old) × (memory.new ≡ memory.old) }
+    ensures fault { result ≡ Fault → (memory.new ≡ memory.old)
+        × (adapter.new.receive_ring ≡ adapter.old.receive_ring)
+        × (adapter.new.transmit_ring ≡ adapter.old.transmit_ring) }
+    ensures only { ChangesAtMost kind adapter.old memory.old memory.new }
+    ensures size { length memory.new ≡ length memory.old }
+    ensures adapter { IsAdapter adapter.new }
+{
+    match adapter.step(kind, memory, wire_free) {
+        Outcome::Fault => Outcome::Fault,
+        Outcome::Moved => Outcome::Moved,
+        outcome => outcome,
+    }
+}
+
+/// A twin of [`Adapter::arrive`].
+pub fn arrive(adapter: &mut Adapter, frame: &[u8]) -> Fate
+    ensures fate { IsFate adapter.old frame.now result }
+    ensures state { adapter.new ≡ after_arrive result frame.now adapter.old }
+    ensures adapter { IsAdapter adapter.new }
+{
+    match adapter.arrive(frame) {
+        Fate::Missed => Fate::Missed,
+        fate => fate,
+    }
+}
+
+/// A twin of [`Adapter::read`].
+pub fn read(adapter: &mut Adapter, offset: u32) -> u32
+    ensures answer { result ≡ answer_at offset adapter.old }
+    ensures state { adapter.new ≡ after_read offset adapter.old }
+    ensures adapter { IsAdapter adapter.new }
+{
+    adapter.read(offset)
+}
+
+/// A twin of [`Adapter::write`].
+pub fn write(adapter: &mut Adapter, offset: u32, value: u32)
+    ensures state { adapter.new ≡ after_write offset value adapter.old }
+    ensures adapter { IsAdapter adapter.new }
+{
+    adapter.write(offset, value);
+}

@@ -1,0 +1,10 @@
+//! Twins of the calls of a host and of a network: each hands on what its call gives, and edits make it wrong.
+#![tactic(auto)]
+
+mod of_host;
+mod of_lan;
+mod of_network;
+
+pub use of_host::{call, interrupt, recv, send};
+pub use of_lan::{counts_of, drain, drain_room, log, new, play, run};
+pub use of_network::{call_in_network, drain_in_network};
