@@ -1,4 +1,4 @@
-"""A guest that does its worst to the board of examples/emulators/linux, in the place of QEMU.
+"""A guest that does its worst to the board of machines/, in the place of QEMU.
 
 usage: board .. -- python3 tests/linux_hostile.py SOCKET SEED MESSAGES
 
@@ -54,6 +54,9 @@ class Guest:
 
     def write(self, offset, value):
         return self.ask(BAR_WRITE, struct.pack("<QQIB7x", REGISTERS + offset, value & 0xFFFFFFFF, 4, 1))
+
+    def read(self, offset):
+        return self.ask(BAR_READ, struct.pack("<QQIB7x", REGISTERS + offset, 0, 4, 1))
 
     def number(self):
         """A number that may be at a limit, in memory, or anywhere."""
@@ -153,12 +156,17 @@ def answer_qtest(listener):
         connection.sendall(b"OK\n")
 
 
-def main():
-    path, seed, messages = sys.argv[1], int(sys.argv[2]), int(sys.argv[3])
+def start_qtest(path):
+    """Answers qtest at this path."""
     listener = socket.socket(socket.AF_UNIX)
     listener.bind(path)
     listener.listen()
     threading.Thread(target=answer_qtest, args=(listener,), daemon=True).start()
+
+
+def main():
+    path, seed, messages = sys.argv[1], int(sys.argv[2]), int(sys.argv[3])
+    start_qtest(path)
     guest = Guest(seed)
     guest.start()
     while guest.answered < messages:
@@ -166,4 +174,5 @@ def main():
     print(f"{guest.answered} messages were answered")
 
 
-main()
+if __name__ == "__main__":
+    main()

@@ -1,0 +1,28 @@
+/* The configuration space of the PCI function. */
+#ifndef CONFIGURATION_H
+#define CONFIGURATION_H
+
+#include <stdbool.h>
+#include <stdint.h>
+
+/* `rom` is the size of the option ROM, rounded up to a power of 2; 0 if there is none. */
+void configuration_start(uint64_t rom);
+
+/* Reads and writes up to four bytes. Bytes outside of the space read as 0. */
+uint32_t configuration_read(uint32_t offset, uint32_t size);
+void configuration_write(uint32_t offset, uint32_t value, uint32_t size);
+
+/* The addresses of the registers (BAR 0) and of the I/O window (BAR 1), as the guest has set them. */
+uint32_t configuration_registers(void);
+uint32_t configuration_window(void);
+
+/* Whether the guest has disabled the interrupt line. */
+bool configuration_disables_interrupt(void);
+
+/* The level of the interrupt line before that, which the status shows. */
+void configuration_set_interrupt(bool level);
+
+/* The interrupt that the machine's firmware or the guest has given to the function. */
+uint32_t configuration_interrupt(void);
+
+#endif

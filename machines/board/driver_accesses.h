@@ -1,0 +1,30 @@
+/* The accesses of the driver in a round: of registers, and of rings as the plugin reports them. */
+#ifndef DRIVER_ACCESSES_H
+#define DRIVER_ACCESSES_H
+
+#include <stdbool.h>
+#include <stdint.h>
+
+/* Makes the memory that is shared with the plugin. Returns its file. */
+int accesses_start(void);
+
+/* A round begins, or was judged: accesses are counted from 0 on, or no more. */
+void accesses_begin(void);
+void accesses_end(void);
+
+/* The plugin looks at the rings where they are now, also outside of rounds. */
+void accesses_watch(void);
+
+/* Reads what the plugin has reported since the last call. */
+void accesses_collect(void);
+
+/* The driver has accessed a register. */
+void accesses_register(bool is_write, uint32_t offset, uint32_t value);
+
+/* The number of accesses so far, as far as they are collected. */
+uint32_t accesses_count(void);
+
+/* The plugin asks the board after this number of further accesses of rings; with 0, it doesn't ask. */
+void accesses_ask_after(uint32_t count);
+
+#endif

@@ -1,0 +1,108 @@
+"""Runs a guest on the board, and passes on what the guest and the board print."""
+
+import os
+import re
+import select
+import subprocess
+import tempfile
+
+from needs import NAMESPACE
+
+QUIET = 300  # seconds without a line after which a run is ended
+MARK = "> "
+# The guest of a sweep counts time by instructions, so that its run depends only on the seed.
+REPEATABLE = ["-icount", "shift=2,sleep=off", "-seed", "1"]
+COLOUR = re.compile(rb"\x1b\[[0-9;?]*[A-Za-z]")
+
+
+class Ended(Exception):
+    """The guest or the board has ended too early; the text says what is known."""
+
+
+class Machine:
+    """A guest on the board. `board` are the words of the board, and `words` those of QEMU for this guest.
+
+    Iterate over `lines` to run it. `log` gets the guest's console. `typed` are pairs of what the guest prints and what
+    is then typed at its console.
+    """
+
+    def __init__(self, board, log, words, megabytes=128, cpu="qemu64", chipset="pc", typed=()):
+        self.board, self.log, self.words = board, log, words
+        self.megabytes, self.cpu, self.chipset, self.typed = megabytes, cpu, chipset, list(typed)
+        self.device, self.clock = "x-pci-proxy-dev,id=nic,fd=3", "vm"
+        self.status = None
+
+    def qemu(self, socket, plugin):
+        """The words of QEMU. With a plugin, the run is repeatable."""
+        memory = f"memory-backend-file,id=ram,size={self.megabytes}M,mem-path=/proc/self/fd/4,share=on"
+        clock = ["-rtc", f"base=2026-01-01,clock={self.clock}"]
+        extra = [*REPEATABLE, *clock, "-plugin", f"{plugin},socket=5,log=6,memory=4"] if plugin else []
+        return [
+            "qemu-system-x86_64", "-accel", "tcg", "-cpu", self.cpu, "-machine", f"{self.chipset},memory-backend=ram",
+            "-m", str(self.megabytes), "-object", memory, "-nodefaults", "-display", "none", "-serial", "stdio",
+            "-no-reboot", "-device", self.device, "-qtest", f"unix:{socket},server=on,wait=off", "-qtest-log", "none",
+            *self.words, *extra]
+
+    def command(self, socket, plugin, server):
+        """The words of the board, which starts QEMU."""
+        tap = ["--tap", "nic0"] if server else []
+        board = [*self.board, "--socket", socket, "--memory", str(self.megabytes << 20), *tap]
+        command = [*board, "--", *self.qemu(socket, plugin)]
+        other = f'{server} </dev/null >/dev/null 2>&1 & exec "$@"'
+        return [*NAMESPACE, "sh", "-c", other, "sh", *command] if server else command
+
+    def lines(self, plugin=None, server=None):
+        """Runs the guest. Yields the lines for the user, those with a mark.
+
+        `server` is the command of the wire's other end. It runs in a network namespace of its own with a TAP device.
+        """
+        with tempfile.TemporaryDirectory() as folder, open(self.log, "w") as log:
+            command = self.command(os.path.join(folder, "qtest"), plugin, server)
+            process = subprocess.Popen(command, stdin=subprocess.PIPE, stdout=subprocess.PIPE, bufsize=0)
+            try:
+                yield from self.read(process, log)
+            finally:
+                process.terminate()
+                self.status = process.wait()
+                process.stdin.close()
+                process.stdout.close()
+
+    def read(self, process, log):
+        """The lines for the user, up to the last one; the log gets all lines."""
+        for line in self.console(process):
+            log.write(f"{line}\n")
+            log.flush()
+            if line == f"{MARK}end":
+                self.wait(process)
+                return
+            if line.startswith(MARK):
+                yield line.removeprefix(MARK)
+        raise Ended(f"the guest has ended before its last stage; its console is in {self.log}")
+
+    def wait(self, process):
+        """Waits until the guest has turned itself off, and reads what it still prints."""
+        while select.select([process.stdout], [], [], QUIET)[0] and os.read(process.stdout.fileno(), 1 << 16):
+            pass
+        process.wait(QUIET)
+
+    def type(self, process, text):
+        """Types what belongs to the end of the console's text. Returns whether something was typed."""
+        if not self.typed or not text.endswith(self.typed[0][0].encode()):
+            return False
+        process.stdin.write(self.typed.pop(0)[1].encode())
+        return True
+
+    def console(self, process):
+        """The lines of the guest's console."""
+        left = b""
+        while select.select([process.stdout], [], [], QUIET)[0]:
+            data = os.read(process.stdout.fileno(), 1 << 16)
+            *lines, left = COLOUR.sub(b"", left + data).replace(b"\r", b"\n").split(b"\n")
+            yield from (line.decode(errors="replace").strip() for line in lines if line)
+            if self.type(process, left):
+                yield left.decode(errors="replace")
+                left = b""
+            if not data:
+                yield left.decode(errors="replace").strip()
+                return
+        raise Ended(f"the guest has printed nothing for {QUIET} seconds; its console is in {self.log}")
