@@ -1,4 +1,4 @@
-"""The sources of the program: its crates, their files, a checksum of all files that a build reads, and the program's version."""
+"""The sources of the program and of the C library: crates, files, their checksum, and the version."""
 
 import hashlib
 import os
@@ -8,14 +8,15 @@ TOP = os.path.dirname(os.path.dirname(os.path.realpath(__file__)))
 CRATES = os.path.join(TOP, "crates")
 BUILD = os.path.join(TOP, ".build")
 PROGRAM = "nicbench"
+LIBRARY = "nic82540em"
 # The source that has the version, as a constant.
 VERSIONED = os.path.join(CRATES, "command_line", "src", "help.rt")
-# Folders of a crate that no build of the program reads.
+# Folders of a crate that no build reads.
 UNREAD = ("out", "must-fail")
 
 
-def crates():
-    """The crates that the program depends on, lowest first, itself last, each with its line of crates.txt."""
+def crates(of=PROGRAM):
+    """The crates below the program or another crate, lowest first, itself last, each with its line of crates.txt."""
     with open(os.path.join(TOP, "crates.txt")) as file:
         lines = [line for line in file if ":" in line and not line.startswith("#")]
     known = {line.split(":")[0].split()[0]: line for line in lines}
@@ -28,24 +29,29 @@ def crates():
             visit(other)
         found[name] = known[name]
 
-    visit(PROGRAM)
+    visit(of)
     return found
 
 
+def shared():
+    """The crates that both the program and the library depend on, lowest first."""
+    return [name for name in crates() if name in crates(LIBRARY)]
+
+
 def files_of(crate):
-    """The files of a crate that a build of the program reads, in order."""
+    """The files of a crate that a build reads, in order."""
     for folder, folders, names in os.walk(os.path.join(CRATES, crate)):
         folders[:] = sorted(name for name in folders if name not in UNREAD)
         yield from (os.path.join(folder, name) for name in sorted(names) if name != "README.md")
 
 
 def all_files(names):
-    """All files that a build of the program reads."""
+    """All files that a build of these crates reads."""
     return [os.path.join(TOP, "crates.txt"), *(file for crate in names for file in files_of(crate))]
 
 
 def checksum(names):
-    """The checksum of all files that a build of the program reads."""
+    """The checksum of all files that a build of these crates reads."""
     total = hashlib.sha256()
     for path in all_files(names):
         with open(path, "rb") as file:

@@ -20,8 +20,11 @@ Reports queued = queued.report ≡ true
 
 -- The conditions, for the slots that the driver counts as its oldest.
 pub record Sound (oldest_receive oldest_transmit : ℕ) (world : World) : Type 0 where
+  -- In the receive ring, finished slots come first, then the one in progress, then the offered ones.
   pub receive_slots : IsDealt world.memory (receive_ring world) oldest_receive (in_work world)
+  -- In the transmit ring, finished slots come first, then those of the frames in the packet buffer, then the offered ones.
   pub transmit_slots : IsDealt world.memory (transmit_ring world) oldest_transmit (buffered world)
+  -- Both rings, and the data and buffers of their slots, are inside memory and don't overlap.
   pub separate : AreSeparate world.memory (areas oldest_receive world)
   -- every frame to be sent asks for a report
   pub reports : All Reports (world.adapter.transmitter.buffer ++ map (fetched true world.memory) (offered (transmit_ring world)))
@@ -34,16 +37,20 @@ pub record Sound (oldest_receive oldest_transmit : ℕ) (world : World) : Type 0
 pub record AreCut (size oldest_receive : ℕ) (world : World) : Type 0 where
   -- While RCTL.EN is set, RCTL.BSIZE names this size. Without EN no piece is moved, so another size may stand there.
   pub sized : HasBit world.adapter.filter.rctl rctl_en → buffer_size world ≡ size
+  -- No finished descriptor reports an error.
   pub have_no_errors : All (λ slot. (descriptor_at world.memory slot).errors ≡ 0) (finished oldest_receive world)
   -- Each piece fills its buffer, unless it is the last of its frame.
   pub cut : All (IsCut size) (pieces_in_slots oldest_receive world)
   -- Each frame that ends in them is legal, and the one that doesn't end yet is shorter than the longest frame.
   pub legal : All IsLegal (frames_of (pieces_in_slots oldest_receive world))
+  -- The frame that doesn't end yet is shorter than the longest legal frame so far.
   pub short : length (begun_of (pieces_in_slots oldest_receive world)) < longest_frame
 
 -- Receive buffers of so many bytes have room for each finished piece, and for the one in progress.
 pub record FitBuffers (size oldest_receive : ℕ) (world : World) : Type 0 where
   -- So they have for each piece to come: while RCTL.EN is set, RCTL.BSIZE names no larger size.
   pub large : HasBit world.adapter.filter.rctl rctl_en → buffer_size world ≤ size
+  -- Each finished piece has at most so many bytes.
   pub finished_fit : All (λ slot. (named world.memory slot).size ≤ size) (finished oldest_receive world)
+  -- The piece in progress has at most so many bytes.
   pub work_fits : All (λ area. area.size ≤ size) (work_areas world.memory world.adapter.receiver.work)

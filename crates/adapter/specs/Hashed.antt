@@ -10,6 +10,7 @@ use Rattle.adapter.specs.State.{AdapterState}
 use Rattle.adapter.specs.declared.register_file.RegisterFile.{RegisterFile}
 use Rattle.adapter.specs.declared.ring.RingRegisters.{RingRegisters}
 
+-- What the hasher gets for the registers of a ring.
 abbrev pub ring_writes : RingRegisters → HashWrites
 ring_writes ring = u32 ring.base_low ++ u32 ring.base_high ++ u32 ring.length_bytes ++ u16 ring.head ++ u16 ring.tail
 

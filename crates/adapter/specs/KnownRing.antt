@@ -5,7 +5,11 @@ use Rattle.descriptors.specs.Ring.{count_of}
 
 -- The driver knows where its ring begins, how many slots it has, and which one stands at the tail; and one of them stands at the head.
 pub record KnowsRing (ring : Ring) (base count tail : ℕ) : Type 0 where
+  -- The ring begins at this address.
   pub begins : ring.base ≡ base
+  -- The ring has this number of slots.
   pub slots : count_of ring ≡ count
+  -- The tail register contains this index.
   pub last : ring.tail ≡ tail
+  -- The head register contains the index of a slot.
   pub head_slot : ring.head < count

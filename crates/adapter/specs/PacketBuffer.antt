@@ -3,8 +3,11 @@ use Rattle.std.specs.Prelude.{◌≡◌, ◌≤◌, ◌+◌, ◌-◌, ◌*◌, �
 
 -- RXA is an even number from 2 to 48 (our choice)
 pub record IsAllocation (kilobytes : ℕ) : Type 0 where
+  -- RXA is at least 2.
   pub least : 2 ≤ kilobytes
+  -- RXA is at most 48.
   pub most : kilobytes ≤ 48
+  -- RXA is even.
   pub even : kilobytes % 2 ≡ 0
 
 -- whether a number may be RXA

@@ -149,14 +149,17 @@ write_of register value state =
 
 -- By offsets: where there is no register, a read answers 0, and neither a read nor a write changes anything (our choice).
 
+-- What a read returns: the register's value, or 0 if there is no register.
 abbrev pub answer_of : Option Register → AdapterState → ℕ
 answer_of (Some register) state = answer register state
 answer_of None state = 0
 
+-- The state after a read: that of the register, or the same state if there is no register.
 abbrev pub left_by_read : Option Register → AdapterState → AdapterState
 left_by_read (Some register) state = read_of register state
 left_by_read None state = state
 
+-- The state after a write: that of the register, or the same state if there is no register.
 abbrev pub left_by_write : Option Register → ℕ → AdapterState → AdapterState
 left_by_write (Some register) value state = write_of register value state
 left_by_write None value state = state

@@ -11,12 +11,15 @@ use Rattle.adapter.specs.World.{World, receive_ring, transmit_ring}
 abbrev pub CanTransmit : List ℕ → ℕ → Type 0
 CanTransmit memory descriptor = IsTransmittable memory (descriptor_at memory descriptor)
 
+-- No step of an engine can be a fault.
 pub record CanRun (world : World) : Type 0 where
   -- No fault has stopped an engine.
   pub receiver_runs : world.adapter.receiver.stopped ≡ false
+  -- No fault has stopped the transmit engine.
   pub transmitter_runs : world.adapter.transmitter.stopped ≡ false
   -- Where head isn't tail, both are slots of their ring.
   pub receive_indices : world.adapter.receive_ring.head ≢ world.adapter.receive_ring.tail → HasValidIndices (receive_ring world)
+  -- If TDH isn't TDT, both are indices of descriptors in the transmit ring.
   pub transmit_indices : world.adapter.transmit_ring.head ≢ world.adapter.transmit_ring.tail → HasValidIndices (transmit_ring world)
   -- RCTL.BSEX is 0.
   pub not_extended : ¬ (HasBit world.adapter.filter.rctl rctl_bsex)

@@ -29,8 +29,11 @@ done_slots memory ring oldest = take_while (is_done memory) (outstanding ring ol
 -- From the oldest slot on there are done ones, then those that the engine has taken, then those that it is offered, and no done one among
 -- these two. A ring without slots has none outstanding.
 pub record IsDealt (memory : List ℕ) (ring : Ring) (oldest : ℕ) (taken : List ℕ) : Type 0 where
+  -- The oldest slot is a slot of the ring, or no slot is outstanding.
   pub slot : (oldest < count_of ring) ⊎ (outstanding ring oldest ≡ [])
+  -- The outstanding slots are the finished ones, then those that the engine has taken, then the offered ones.
   pub classes : outstanding ring oldest ≡ done_slots memory ring oldest ++ (taken ++ offered ring)
+  -- No slot that is taken or offered has DD set.
   pub not_done : All (λ descriptor. is_done memory descriptor ≡ false) (taken ++ offered ring)
 
 -- The slots of a world.

@@ -36,24 +36,38 @@ address_low_at_reset entry words = if entry == 0 then slice_index words 1 * 6553
 abbrev pub address_high_at_reset : ℕ → List ℕ → ℕ
 address_high_at_reset entry words = if entry == 0 then alone rah_av + slice_index words 2 else 0
 
+-- The row of each register. The comment above a row states the register's rule, if kept bits aren't the whole rule.
 abbrev pub row_of : Register → Row
+-- a write with RST, bit 26, resets the adapter; RST reads 0
 row_of Ctrl = plain 0x0000 control_mask 0
+-- read only: 0x83 while the PHY's link is up and CTRL.SLU is set, else 0
 row_of Status = ruled 0x0008 0
+-- for reading a word of the EEPROM (crate `eeprom`)
 row_of Eerd = ruled 0x0014 0
+-- for reading and writing registers of the PHY (crate `mdic_phy`)
 row_of Mdic = ruled 0x0020 0
 row_of Vet = plain 0x0038 0x0000FFFF 0x8100
+-- causes 0x2D7; a read clears all causes, and a write clears each cause whose bit is written as 1
 row_of Icr = ruled 0x00C0 0
+-- a write records causes; a read returns 0
 row_of Ics = ruled 0x00C8 0
+-- a write adds causes to the mask; a read returns the mask
 row_of Ims = ruled 0x00D0 0
+-- a write removes causes from the mask; a read returns 0
 row_of Imc = ruled 0x00D8 0
 row_of Rctl = plain 0x0100 receive_control_mask 0
 row_of Tctl = plain 0x0400 transmit_control_mask 0
+-- RXA, bits 15:0, is an even number from 2 to 48, and a write of any other RXA is ignored; the upper half reads 64 - RXA
 row_of Pba = ruled 0x1000 0x00100030
 row_of (Receive part) = plain (0x2800 + ring_distance part) (ring_kept part) 0
 row_of (Transmit part) = plain (0x3800 + ring_distance part) (ring_kept part) 0
+-- a counter: a read clears it, and a write is ignored
 row_of Mpc = ruled 0x4010 0
+-- a counter: a read clears it, and a write is ignored
 row_of Gprc = ruled 0x4074 0
+-- a counter: a read clears it, and a write is ignored
 row_of Gptc = ruled 0x4080 0
+-- a counter: a read clears it, and a write is ignored
 row_of Rnbc = ruled 0x40A0 0
 row_of (Mta word) = plain (0x5200 + 4 * word) 0xFFFFFFFF 0
 row_of (Ral entry) = record { offset = 0x5400 + 8 * entry; kept = Some 0xFFFFFFFF; reset = address_low_at_reset entry }

@@ -77,6 +77,7 @@ without_oldest state =
       transmitted_packets = one_more state.transmitted_packets;
     })
 
+-- The state after TxPut with this result.
 abbrev pub after_put : FrameOutcome → AdapterState → AdapterState
 after_put (Put frame) state = without_oldest state
 after_put _ state = state

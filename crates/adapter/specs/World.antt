@@ -6,14 +6,18 @@ use Rattle.adapter.specs.Registers.{after_read, after_write}
 use Rattle.adapter.specs.Rings.{ring_of}
 use Rattle.adapter.specs.State.{AdapterState}
 
+-- An adapter with its host's memory.
 pub record World : Type 0 where
   -- the host's memory
   pub memory : List ℕ
+  -- The adapter.
   pub adapter : AdapterState
 
+-- The ring that RDBAL to RDT define.
 abbrev pub receive_ring : World → Ring
 receive_ring world = ring_of world.adapter.receive_ring
 
+-- The ring that TDBAL to TDT define.
 abbrev pub transmit_ring : World → Ring
 transmit_ring world = ring_of world.adapter.transmit_ring
 

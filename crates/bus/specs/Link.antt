@@ -13,9 +13,12 @@ use Rattle.bus.specs.declared.event.Access.{Access}
 
 -- The link is up, and no command of MDIC waits for its end, so that ticks alone come to the PHY.
 pub record HasLink (world : World) : Type 0 where
+  -- The PHY's link is up.
   pub up : link_is_up world.adapter.phy ≡ true
+  -- No MDIC command is pending.
   pub no_command : world.adapter.mdic.pending ≡ None
 
+-- The register is neither CTRL nor MDIC.
 abbrev pub IsNotOfPhy : Option Register → Type 0
 IsNotOfPhy (Some Ctrl) = ⊥
 IsNotOfPhy (Some Mdic) = ⊥

@@ -10,7 +10,9 @@ use Rattle.bus.specs.declared.machine.Machine.TheInside.{Inside}
 abbrev pub is_asserted : AdapterState → Bool
 is_asserted adapter = nat_lt 0 (bit_and adapter.causes.recorded adapter.causes.mask)
 
+-- An adapter with its host's memory, and the last report of its interrupt line.
 pub record MachineState : Type 0 where
+  -- The adapter and the memory.
   pub world : World
   -- the level of the interrupt line when it was last reported
   pub reported : Bool

@@ -2,6 +2,7 @@
 use Rattle.std.specs.Prelude.{ℕ, ◌+◌, List, [], ◌++◌}
 use Rattle.bus.specs.declared.event.Access.{Access}
 
+-- What happened in an interval.
 pub record Past : Type 0 where
   -- the frames that the adapter put onto the wire
   pub put : List (List ℕ)
@@ -9,11 +10,14 @@ pub record Past : Type 0 where
   pub stored : List (List ℕ)
   -- how many it missed
   pub missed : ℕ
+  -- The number of ticks of the EEPROM.
   pub eeprom_ticks : ℕ
+  -- The number of ticks of the PHY.
   pub phy_ticks : ℕ
   -- the accesses of the driver
   pub accesses : List Access
 
+-- The interval in which nothing happened.
 abbrev pub nothing : Past
 nothing = record { put = []; stored = []; missed = 0; eeprom_ticks = 0; phy_ticks = 0; accesses = [] }
 

@@ -17,9 +17,11 @@ use Rattle.bus.specs.PastOfStretch.{Past, joined}
 use Rattle.bus.specs.declared.event.Access.{Access}
 use Rattle.bus.specs.declared.event.Access.TheVariants.{Loads, Reads, Stores, Writes}
 
+-- What only writes of registers change, and what never changes.
 pub record Settings : Type 0 where
   -- the words of the EEPROM, and how the PHY's link comes up, which nothing changes
   pub image : List ℕ
+  -- When the PHY's link comes up.
   pub link : Link
   -- PBA
   pub receive_kilobytes : ℕ
@@ -33,8 +35,10 @@ pub record Settings : Type 0 where
   pub transmit_control : ℕ
   -- bases, lengths and tails; the heads, which the adapter moves, count as 0
   pub receive_ring : RingRegisters
+  -- TDBAL to TDT, with 0 in place of TDH.
   pub transmit_ring : RingRegisters
 
+-- The settings of an adapter.
 abbrev pub settings_of : AdapterState → Settings
 settings_of adapter = record {
   image = adapter.image;
@@ -61,7 +65,9 @@ adapter_with settings = record (adapter_at_reset settings.image (new_phy setting
 
 -- a register write: an offset, and the word that is written
 pub record Write : Type 0 where
+  -- The offset of the register.
   pub offset : ℕ
+  -- The word that is written.
   pub value : ℕ
 
 -- the writes among accesses, in order
@@ -105,6 +111,7 @@ WritesSet =
 abbrev pub IsOff : World → Type 0
 IsOff world = ¬ (HasBit world.adapter.filter.rctl rctl_en)
 
+-- The register isn't RCTL.
 abbrev pub IsNotReceiveControl : Option Register → Type 0
 IsNotReceiveControl (Some Rctl) = ⊥
 IsNotReceiveControl _ = ⊤
@@ -115,7 +122,9 @@ LeavesReceiver write = IsNotReceiveControl (register_at write.offset)
 
 -- No frame was stored or missed.
 pub record NoArrival (past : Past) : Type 0 where
+  -- No frame was stored.
   pub none_stored : past.stored ≡ []
+  -- No frame was missed.
   pub none_missed : past.missed ≡ 0
 
 -- Where RCTL.EN is 0, and isn't written, no frame is stored or missed.

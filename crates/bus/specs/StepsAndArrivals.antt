@@ -23,12 +23,14 @@ past_of_step RxDone answer = nothing
 past_of_step EepromTick answer = record nothing { eeprom_ticks = 1 }
 past_of_step PhyTick answer = record nothing { phy_ticks = 1 }
 
+-- The world after a step of this kind with this result.
 abbrev pub world_after_step : StepKind → FrameOutcome → World → World
 world_after_step kind answer world = record {
   memory = memory_after_step kind answer world.memory world.adapter;
   adapter = after_step kind answer world.memory world.adapter;
 }
 
+-- The number of frames that an arrival with this fate misses.
 abbrev pub missed_by : Fate → ℕ
 missed_by Off = 0
 missed_by Illegal = 0
@@ -40,6 +42,7 @@ missed_by Stored = 0
 abbrev pub past_of_arrival : Fate → List ℕ → Past
 past_of_arrival fate frame = record nothing { stored = kept fate frame; missed = missed_by fate }
 
+-- The world after the arrival of a frame with this fate.
 abbrev pub world_after_arrival : Fate → List ℕ → World → World
 world_after_arrival fate frame world = record world { adapter = after_arrive fate frame world.adapter }
 

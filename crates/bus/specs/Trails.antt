@@ -20,6 +20,7 @@ IsAnswered (Writes offset value) world = ⊤
 IsAnswered (Loads address size) world = ⊤
 IsAnswered (Stores address bytes) world = ⊤
 
+-- The world after an access.
 abbrev pub world_after_access : Access → World → World
 world_after_access (Reads offset value) world = world_after_read offset world
 world_after_access (Writes offset value) world = world_after_write offset value world
@@ -32,6 +33,7 @@ Occurs (Steps kind wire_free answer) world = IsAdapter world.adapter × Answers 
 Occurs (Arrives frame fate) world = IsAdapter world.adapter × IsFate world.adapter frame fate
 Occurs (Accesses access) world = IsAnswered access world
 
+-- The world after an event.
 abbrev pub world_after : Event → World → World
 world_after (Steps kind wire_free answer) world = world_after_step kind answer world
 world_after (Arrives frame fate) world = world_after_arrival fate frame world
@@ -42,6 +44,7 @@ abbrev pub Trail : List Event → World → World → Type 0
 Trail [] a b = b ≡ a
 Trail (event ∷ later) a b = Occurs event a × Trail later (world_after event a) b
 
+-- What happens in an event.
 abbrev pub past_of_event : Event → Past
 past_of_event (Steps kind wire_free answer) = past_of_step kind answer
 past_of_event (Arrives frame fate) = past_of_arrival fate frame

@@ -9,9 +9,11 @@ destination frame = take 6 frame
 abbrev pub IsGroup : List ℕ → Type 0
 IsGroup address = slice_index address 0 % 2 ≡ 1
 
+-- The low bit of byte 0 is 0, so the address is that of one host.
 abbrev pub IsIndividual : List ℕ → Type 0
 IsIndividual address = slice_index address 0 % 2 ≡ 0
 
+-- The broadcast address, FF:FF:FF:FF:FF:FF.
 abbrev pub broadcast : List ℕ
 broadcast = 255 ∷ 255 ∷ 255 ∷ 255 ∷ 255 ∷ 255 ∷ []
 

@@ -16,17 +16,28 @@ use Rattle.rx_engine.specs.Writing.{with_number, NoAddressAtFirst, AddressIsAdde
 
 -- The VLAN numbers, if frames are asked for them, and the type of a tagged frame.
 pub record SameVlans (a b : ReceiveFilter) : Type 0 where
+  -- Both filters pass frames of every VLAN, or neither does.
   pub every_vlan : a.every_vlan ↔ b.every_vlan
+  -- Both filters contain the same VLAN numbers.
   pub numbers : (number : ℕ) → number < 4096 → a.vlans number ↔ b.vlans number
+  -- The same type marks a tagged frame.
   pub vlan_type : a.vlan_type ≡ b.vlan_type
 
+-- Two filters contain the same addresses, groups and VLANs, and have the same switches.
 pub record SameSets (a b : ReceiveFilter) : Type 0 where
+  -- Both filters contain the same exact addresses.
   pub addresses : (address : List ℕ) → a.addresses address ↔ b.addresses address
+  -- Both filters contain the same group numbers.
   pub groups : (number : ℕ) → number < 4096 → a.groups number ↔ b.groups number
+  -- Both filters take the same bits of an address as its group number.
   pub shift : a.shift ≡ b.shift
+  -- Both filters treat VLANs in the same way.
   pub vlans : SameVlans a b
+  -- Both filters pass every individual address (UPE), or neither does.
   pub all_individuals : a.all_individuals ↔ b.all_individuals
+  -- Both filters pass every group address (MPE), or neither does.
   pub all_groups : a.all_groups ↔ b.all_groups
+  -- Both filters pass the broadcast address (BAM), or neither does.
   pub broadcasts : a.broadcasts ↔ b.broadcasts
 
 turned : {P Q : Type 0} → P ↔ Q → Q ↔ P

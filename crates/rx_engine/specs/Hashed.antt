@@ -20,5 +20,6 @@ abbrev pub work_writes : Option Work → HashWrites
 work_writes None = bool false
 work_writes (Some work) = bool true ++ u64 work.descriptor ++ u16 work.length ++ bool work.ends
 
+-- What the hasher gets for the state of the receive engine.
 abbrev pub receiver_writes : Receiver → HashWrites
 receiver_writes engine = bool engine.stopped ++ u16 engine.moved ++ work_writes engine.work ++ frames_writes engine.buffer

@@ -27,6 +27,7 @@ abbrev pub piece_of : Bool → List ℕ → Piece
 piece_of true bytes = Last bytes
 piece_of false bytes = Part bytes
 
+-- The piece in progress, if there is one, as a list.
 abbrev pub in_work : List ℕ → Option Work → List Piece
 in_work memory None = []
 in_work memory (Some work) = piece_of work.ends (bytes_of_work memory work) ∷ []

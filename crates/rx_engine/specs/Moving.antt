@@ -17,7 +17,9 @@ use Rattle.rx_engine.specs.declared.data.Data.TheVariants.{Nothing, Part, Moved,
 pub record HasFrameToMove (control : ℕ) (ring : Ring) (engine : Receiver) : Type 0 where
   -- RCTL.EN (13.4.22)
   pub enabled : HasBit control rctl_en
+  -- The engine is running and free, and a frame waits in the packet buffer.
   pub ready : IsReady engine
+  -- At least one descriptor is offered: RDH isn't RDT.
   pub offered : ring.head ≢ ring.tail
 
 -- the size of a receive buffer in bytes, by RCTL.BSIZE
@@ -38,8 +40,11 @@ is_last control engine = nat_le (left_bytes engine) (buffer_bytes control)
 
 -- with RCTL at this word a piece of n bytes can be moved; otherwise the step is a fault (our choice)
 pub record CanMove (control : ℕ) (ring : Ring) (memory : List ℕ) (n : ℕ) : Type 0 where
+  -- RDH and RDT are indices of descriptors in the ring.
   pub indices : HasValidIndices ring
+  -- The descriptor at RDH is inside memory.
   pub descriptor : LiesIn memory (address_of ring ring.head) 16
+  -- The first n bytes of the buffer that the descriptor points to are inside memory.
   pub place : LiesIn memory (named_address memory (address_of ring ring.head)) n
   -- RCTL.BSEX
   pub not_extended : ¬ (HasBit control rctl_bsex)

@@ -2,6 +2,7 @@
 use Rattle.std.specs.Prelude.{◌≡◌, ◌≢◌, ◌⊎◌, ℕ, List}
 use Rattle.rx_engine.specs.Addresses.{destination, IsGroup, IsIndividual, broadcast, group_number, ether_type, vlan_number}
 
+-- The sets and switches of a receive filter.
 pub record ReceiveFilter : Type 1 where
   -- the exact addresses, of 6 bytes
   pub addresses : List ℕ → Type 0
@@ -48,5 +49,7 @@ AcceptsVlan filter frame =
 
 -- a frame passes where its destination and its VLAN are accepted
 pub record Passes (filter : ReceiveFilter) (frame : List ℕ) : Type 0 where
+  -- The filter accepts the frame's destination address.
   pub address : AcceptsAddress filter (destination frame)
+  -- The filter accepts the frame's VLAN, or the frame has none.
   pub vlan : AcceptsVlan filter frame

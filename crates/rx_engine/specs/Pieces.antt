@@ -2,6 +2,7 @@
 -- Status Field"; the words for lists of pieces are our choice).
 use Rattle.std.specs.Prelude.{◌≡◌, ◌≤◌, ⊤, ℕ, List, [], ◌∷◌, ◌++◌, length}
 
+-- A piece of a frame: the bytes that one receive buffer contains.
 pub data Piece : Type 0 where
   -- bytes of a frame that goes on in the next piece
   Part : (bytes : List ℕ) → Piece
@@ -40,7 +41,9 @@ IsLast (Last bytes) = ⊤
 
 -- the size of a frame's last piece
 pub record IsLastSize (size n : ℕ) : Type 0 where
+  -- The piece has at least one byte.
   pub least : 1 ≤ n
+  -- The piece fits into a buffer.
   pub most : n ≤ size
 
 -- A piece of a frame that is cut into buffers of one size: it fills its buffer, unless it is the last.

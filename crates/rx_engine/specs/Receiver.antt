@@ -4,6 +4,7 @@ use Rattle.std.specs.Option.{ForSome}
 use Rattle.descriptors.specs.Frames.{IsLegal, longest_frame}
 use Rattle.rx_engine.specs.declared.engine.Work.{Work}
 
+-- The state of the receive engine.
 pub record Receiver : Type 0 where
   -- the receive packet buffer: the frames in it, oldest first
   pub buffer : List (List ℕ)
@@ -25,15 +26,22 @@ oldest (frame ∷ frames) = frame
 
 -- the engine could begin with its oldest frame
 pub record IsReady (engine : Receiver) : Type 0 where
+  -- No fault has stopped the engine.
   pub running : engine.stopped ≡ false
+  -- No piece is in progress.
   pub free : engine.work ≡ None
+  -- A frame is in the packet buffer.
   pub frames : engine.buffer ≢ []
 
 -- what holds of every engine, whatever its steps: at most 24 frames wait, each has a legal length, and a piece in progress isn't empty
 pub record IsReceiver (engine : Receiver) : Type 0 where
+  -- At most 24 frames are in the packet buffer.
   pub room : length engine.buffer ≤ 24
+  -- Each frame in the packet buffer has a legal length.
   pub frames : All IsLegal engine.buffer
   -- At least one byte of the oldest frame isn't moved yet. If there is no frame, none is moved.
   pub begun : engine.moved ≤ length (oldest engine.buffer) - 1
+  -- A piece in progress has at least one byte.
   pub least : ForSome engine.work (λ work. 1 ≤ work.length)
+  -- A piece in progress is at most as long as the longest legal frame.
   pub most : ForSome engine.work (λ work. work.length ≤ longest_frame)

@@ -5,6 +5,7 @@ use Rattle.registers.specs.Places.{rah_av, rctl_bam, rctl_mo, rctl_mpe, rctl_upe
 use Rattle.registers.specs.ReceiveControl.{group_offset_of, shift_of}
 use Rattle.rx_engine.specs.Passing.{ReceiveFilter}
 
+-- The registers of the receive filter.
 pub record FilterRegisters : Type 0 where
   -- RAL(0) to RAL(15), receive address low (13.5.2)
   pub ral : List ℕ
@@ -33,7 +34,9 @@ entry_address low high = byte 0 low ∷ byte 1 low ∷ byte 2 low ∷ byte 3 low
 
 -- an entry whose AV is set holds this address
 pub record HoldsAddress (low high : ℕ) (address : List ℕ) : Type 0 where
+  -- AV is set in RAH.
   pub valid : HasBit high rah_av
+  -- The address is that of the entry.
   pub equal : address ≡ entry_address low high
 
 -- one of the 16 entries holds this address

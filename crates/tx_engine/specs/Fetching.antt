@@ -47,15 +47,23 @@ IsIdle control engine ring =
 -- A descriptor that this adapter can transmit (our choice; by the manual a packet may span several descriptors): it holds the end
 -- of its packet, it has the legacy format, and it names 1 to 1,518 bytes of memory.
 pub record IsTransmittable (memory : List ℕ) (desc : TxDesc) : Type 0 where
+  -- The frame ends in this descriptor: EOP is set.
   pub ends : HasBit (command_bits desc.command) tx_eop
+  -- The descriptor has the legacy format: DEXT is clear.
   pub legacy : ¬ (HasBit (command_bits desc.command) tx_dext)
+  -- The frame has at least one byte.
   pub least : 0 < desc.length
+  -- The frame is at most as long as the longest legal frame.
   pub most : desc.length ≤ longest_frame
+  -- The frame is inside memory.
   pub lies : LiesIn memory desc.address desc.length
 
 -- The engine can take the descriptor at the head: the ring is sound, its descriptor lies in memory at an address that
 -- doesn't wrap, and it can be transmitted.
 pub record IsFetchable (memory : List ℕ) (ring : Ring) : Type 0 where
+  -- TDH and TDT are indices of descriptors in the ring.
   pub sound : HasValidIndices ring
+  -- The descriptor at TDH is inside memory.
   pub lies : LiesIn memory (address_of ring ring.head) 16
+  -- The descriptor at TDH can be transmitted.
   pub transmittable : IsTransmittable memory (descriptor_at memory (address_of ring ring.head))

@@ -10,6 +10,7 @@ use Rattle.tx_engine.specs.declared.report.Report.{Report}
 abbrev pub report_writes : Report → HashWrites
 report_writes report = u64 report.descriptor ++ bool report.wanted
 
+-- What the hasher gets for a frame in the packet buffer, besides its bytes: its descriptor's address, and RS.
 abbrev pub queued_writes : Queued → HashWrites
 queued_writes queued = u64 queued.descriptor ++ bool queued.report
 

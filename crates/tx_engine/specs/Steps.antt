@@ -47,5 +47,7 @@ written_back memory queued = if queued.report && nat_lt (status_place queued) (l
 
 -- At most the byte at this place differs.
 pub record DiffersAtMostAt (place : ℕ) (memory changed : List ℕ) : Type 0 where
+  -- The number of bytes is the same.
   pub size : length changed ≡ length memory
+  -- Every byte at another place is the same.
   pub others : (i : ℕ) → ¬ (i ≡ place) → slice_index changed i ≡ slice_index memory i

@@ -10,6 +10,7 @@ pub record Queued : Type 0 where
   -- whether the descriptor asks for a report (RS)
   pub report : Bool
 
+-- The state of the transmit engine.
 pub record Transmitter : Type 0 where
   -- the transmit packet buffer, the oldest frame first
   pub buffer : List Queued

@@ -1,0 +1,118 @@
+"""What sources define: modules, and the things in them that have names."""
+
+from dataclasses import dataclass, field
+
+from .texts import braces
+
+# Kinds of definitions, with the words by which pages name them.
+KINDS = {
+    "abbrev": "definition", "word": "law", "record": "record", "data": "data", "fn": "function", "struct": "struct",
+    "enum": "enum", "trait": "trait", "const": "constant", "type": "type", "field": "field", "case": "case",
+    "variant": "variant", "ghost": "ghost member", "primitive": "built in",
+}
+SPEC_KINDS = ("abbrev", "word", "record", "data")
+PARTS_OF_TYPES = ("field", "case", "variant")
+
+
+@dataclass(eq=False)
+class Definition:
+    """A thing that has a name: a word of specs, a field, a Rust item."""
+    kind: str
+    name: str
+    module: object
+    line: int
+    end: int = 0
+    comment: str = ""
+    text: str = ""
+    # The signature of a word of specs, or the head of a record or of data.
+    head: str = ""
+    owner: object = None
+    # Fields, cases, variants, methods and ghosts by name.
+    members: dict = field(default_factory=dict)
+    # The clauses of a word of specs: line, comment, text.
+    parts: list = field(default_factory=list)
+    public: bool = True
+    # The definitions that use it.
+    used: dict = field(default_factory=dict)
+    scope: object = None
+    # The clauses of a contract: keyword, name, text, line.
+    clauses: list = field(default_factory=list)
+    # The bounds of type parameters: name to trait.
+    generics: dict = field(default_factory=dict)
+    # What a type is in contracts: the text of its `ghost Value`, and the scope of this text.
+    value: object = None
+    impl_of: object = None
+    # The place on its page, and its address in the site; None if the site doesn't show it.
+    id: object = None
+    url: object = None
+
+    @property
+    def crate(self) -> str:
+        """The crate that defines it; empty for what the prover has built in."""
+        return self.module.crate if self.module else ""
+
+    @property
+    def kit(self) -> bool:
+        """Whether it isn't of this repository."""
+        return self.module is None or self.module.kit
+
+    def full(self) -> str:
+        """Its name, after that of its type."""
+        if self.owner is not None and self.kind in ("fn", "variant", "const", "ghost"):
+            return f"{self.owner.full()}::{self.name}"
+        return self.name
+
+
+class Scope:
+    """The ghost imports of a file, an impl or a function, inside those of `outer`."""
+
+    def __init__(self, module, outer=None):
+        self.module, self.outer = module, outer
+        self.imports, self.modules, self.ghosts, self.generics = {}, {}, {}, {}
+        self.self_type, self.operators = None, None
+
+    def chain(self):
+        """This scope, and those around it."""
+        at = self
+        while at is not None:
+            yield at
+            at = at.outer
+
+
+class Module:
+    """A file, with the names that it imports and defines."""
+
+    def __init__(self, crate: str, path: str, file: str, kit: bool, rust: bool):
+        self.crate, self.path, self.file, self.kit, self.rust = crate, path, file, kit, rust
+        self.scope = Scope(self)
+        # All definitions in order, and by name; the definitions and the prose between them, in order.
+        self.all, self.defs, self.chunks = [], {}, []
+        self.rust_uses, self.exports, self.head, self.url = {}, [], "", None
+        with open(file, encoding="utf-8") as source:
+            self.text = source.read()
+
+    @property
+    def name(self) -> str:
+        """Its path below specs or src."""
+        return self.path.split(".", 2)[2].replace(".", "/")
+
+    def add(self, definition: Definition, chunk: bool = False):
+        """Adds a definition in order; to the chunks, too, if it is a word of specs."""
+        self.all.append(definition)
+        if chunk:
+            self.defs[definition.name] = definition
+            self.chunks.append(("def", definition))
+
+
+def read_use(scope: Scope, text: str) -> list[str]:
+    """Reads the text of `use ..`, without the word use, into a scope. Returns the names that it adds."""
+    text = " ".join(text.split()).rstrip(";")
+    base, brace, inside = text.partition(".{")
+    if brace and inside.endswith("}"):
+        found = braces(inside[:-1])
+        scope.imports.update({name: (base.strip(), path) for path, name in found})
+        return [name for _, name in found]
+    path, _, alias = text.partition(" as ")
+    alias = alias.strip() or path.strip().rsplit(".", 1)[-1]
+    scope.modules[alias] = path.strip()
+    return [alias]

@@ -1,0 +1,80 @@
+"""Edits that the prover must refuse: crates/CRATE/must-fail/EDIT.edit.
+
+Besides what `rt` reads, an edit has two lines: `rule: TEXT` is the rule that it shows, and `of: CALL, ..` names the
+public calls or types whose contracts state the rule. `CALL/CLAUSE` also names the clause.
+"""
+
+import os
+import re
+from dataclasses import dataclass, field
+
+
+@dataclass
+class Edit:
+    """An edit: its changes are (file, old text, new text)."""
+    crate: str
+    name: str
+    rule: str = ""
+    of: list = field(default_factory=list)
+    changes: list = field(default_factory=list)
+
+    def calls(self) -> list[tuple[str, str]]:
+        """The calls or types that it names, each with its clause or an empty text."""
+        return [call.partition("/")[::2] for call in self.of]
+
+
+def read_edit(crate: str, path: str) -> Edit:
+    """Reads the file of an edit."""
+    edit, file, old = Edit(crate, os.path.basename(path)[:-len(".edit")]), "", ""
+    with open(path, encoding="utf-8") as source:
+        for line in source.read().split("\n"):
+            word, _, value = line.partition(": ")
+            if word == "rule":
+                edit.rule = value.strip()
+            elif word == "of":
+                edit.of += [call.strip() for call in value.split(",")]
+            elif word == "file":
+                file = value.strip()
+            elif word == "old":
+                old = value
+            elif word in ("new", "new:"):
+                edit.changes.append((file, old, value))
+    return edit
+
+
+def read_edits(root: str, crates) -> list[Edit]:
+    """All edits, in the order of crates, then of names."""
+    edits = []
+    for crate in crates:
+        folder = os.path.join(root, "crates", crate, "must-fail")
+        names = sorted(os.listdir(folder)) if os.path.isdir(folder) else []
+        edits += [read_edit(crate, os.path.join(folder, name)) for name in names if name.endswith(".edit")]
+    return edits
+
+
+def target(repository, crate: str, call: str):
+    """The definition that an `of:` line of a crate names: one of this crate, or else the only `TYPE::CALL` of all."""
+    kin, _, name = call.rpartition("::")
+    for at in (crate, None) if kin else (crate,):
+        found = [one for one in repository.by_name.get(kin or name, [])
+                 if one.kind in ("fn", "struct", "enum", "trait") and (at is None or one.crate == at)]
+        if not kin:
+            found = [one for one in found if one.kind != "fn" or one.owner is None]
+        members = [one.members.get(name) for one in found] if kin else found
+        members = [one for one in members if one is not None]
+        if len(members) == 1:
+            return members[0]
+    return None
+
+
+def changed_function(repository, edit: Edit) -> str:
+    """The name of the function that an edit changes; empty if it changes a constant."""
+    names = []
+    for file, old, _ in edit.changes:
+        module = repository.modules.get(f"{edit.crate}.src.{re.sub(r'[.]rt$', '', file)[4:].replace('/', '.')}")
+        if module is None or old not in module.text:
+            continue
+        line = module.text[:module.text.index(old) + len(old) - len(old.lstrip())].count("\n") + 1
+        inside = [one for one in module.all if one.kind == "fn" and one.line <= line <= one.end]
+        names += [one.name for one in inside if one.name not in names]
+    return names[0] if names else ""
