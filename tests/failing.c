@@ -4,7 +4,7 @@
    FAIL_INTERRUPTED is set. If FAIL_ON is set, all later calls on the same file fail, too. If a call failed, the library creates a file
    with the name in FAILED. If SHORT_READ is set, each read transfers at most one byte; if SHORT_WRITE is set, each write. From the read
    on whose number is in END_AT, all reads report the end of the file, as if it had been cut after it was opened. The program calls no
-   other functions for input and output than those below, close, lseek and isatty; failing_devices.py checks that. */
+   other functions for input and output than those below, close, lseek, isatty, unlink and fchmod; failing_devices.py checks that. */
 #define _GNU_SOURCE
 #include <dlfcn.h>
 #include <errno.h>
@@ -89,4 +89,10 @@ int ftruncate(int file, off_t length)
 {
     NEXT(int, int, off_t);
     return fails(__func__, file) ? -1 : next(file, length);
+}
+
+int rename(const char *from, const char *to)
+{
+    NEXT(int, const char *, const char *);
+    return fails(__func__, -1) ? -1 : next(from, to);
 }

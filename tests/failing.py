@@ -12,10 +12,13 @@ FUNCTIONS = {word.encode() for word in """
     writev pwritev pwritev64 pwritev2 recvfrom recvmsg sendto sendmsg sendfile sendfile64 splice tee vmsplice copy_file_range mmap mmap64 fread fgetc fgets
     getc getchar getline getdelim fwrite fputc fputs putc putchar puts printf fprintf dprintf vprintf vfprintf vdprintf perror fread_unlocked
     fwrite_unlocked fputs_unlocked fflush lseek lseek64 fseek fseeko truncate truncate64 ftruncate ftruncate64 fallocate fsync fdatasync stat stat64 lstat
-    lstat64 fstat fstat64 fstatat fstatat64 statx access ioctl isatty poll ppoll select pselect aio_read aio_write io_submit syscall""".split()}
+    lstat64 fstat fstat64 fstatat fstatat64 statx access ioctl isatty poll ppoll select pselect aio_read aio_write io_submit syscall rename renameat
+    renameat2 link linkat unlink unlinkat chmod fchmod fchmodat""".split()}
 # The functions whose calls failing.c can make fail, and other ones that the program calls.
-FAILING = {b"open", b"read", b"write", b"statx", b"ftruncate"}
-OTHERS = {b"close", b"lseek", b"isatty"}
+FAILING = {b"open", b"read", b"write", b"statx", b"ftruncate", b"rename"}
+OTHERS = {b"close", b"lseek", b"isatty", b"unlink", b"fchmod"}
+# Functions that the standard library's part for files names, and that the program never calls.
+UNUSED = {b"fsync", b"fdatasync"}
 # What a run may take, in seconds.
 LIMIT = 60
 
@@ -23,7 +26,7 @@ LIMIT = 60
 def functions_of(program):
     """The functions for input and output that the program names."""
     with open(program, "rb") as file:
-        return set(file.read().split(b"\0")) & FUNCTIONS
+        return set(file.read().split(b"\0")) & FUNCTIONS - UNUSED
 
 
 class Failing:

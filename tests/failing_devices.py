@@ -30,6 +30,8 @@ class Job:
     def __init__(self, name, words, inputs, outputs=(), given=b"", interrupted=FAILS, olds=(None, OLD)):
         self.name, self.words, self.inputs, self.outputs, self.given, self.interrupted = name, words, inputs, list(outputs), given, interrupted
         self.folders, self.olds = 1 if words[0] == "run" else 0, olds
+        # `pass` writes a part beside its output, and gives it the output's name at the end.
+        self.part = f"{self.outputs[0]}.part0" if words[0] == "pass" else None
         # the answer of a run without a failure, and the number of bytes that it reads
         self.whole, self.read_bytes = None, 0
 
@@ -51,9 +53,12 @@ class Job:
         return (*got, [failing.bench.get(file) for file in self.outputs]), is_failed
 
     def cut(self, old, count):
-        """The answer after this number of bytes was written, if then a write failed. The next file has lost its old contents."""
+        """The answer after this number of bytes was written, if then a write failed. The next file has lost its old contents, unless it
+        has a part."""
         texts, files = self.whole[3], []
         for text in texts:
+            if self.part and count < len(text):
+                return 3, b"", self.refusal(WRITE), [old]
             files.append(text[:count] if count >= 0 else old or b"")
             count -= len(text)
         return 3, self.whole[1][:max(count, 0)], self.refusal(WRITE), files
@@ -136,7 +141,7 @@ def reads(failing, job):
 def opens(failing, job):
     """Each call of open, statx and ftruncate fails in turn."""
     count, texts = len(job.outputs), job.whole[3]
-    for old in job.olds:
+    for old in job.olds if not job.part else ():
         untouched = [old or b""] * count
         refused = (job.refusal(OPEN), [old] * count)
         wanted = [refused] * len(job.inputs)
@@ -147,10 +152,31 @@ def opens(failing, job):
             failing.bench.check(f"{job.with_files(old)}: each {function} fails", got, [(3, b"", *answer) for answer in answers])
 
 
+def parts(failing, job):
+    """Calls fail of a command that writes a part. If no part can be made, the output is written in place. After any other failure the output
+    is as it was."""
+    for old in job.olds if job.part else ():
+        kept = [(3, b"", job.refusal(OPEN), [old])]
+        lost = [(3, b"", job.refusal(WRITE), [old])]
+        given, there = kept * len(job.inputs), int(old is not None)
+        for function, answers in [("open", given + kept * there + [job.whole]),
+                                  ("statx", given + [job.whole] * (1 + there) + lost),
+                                  ("ftruncate", lost), ("rename", lost)]:
+            got = [got for _, got in job.in_turn(failing, function, old)]
+            failing.bench.check(f"{job.with_files(old)}: each {function} fails", got, answers)
+        for environment in ({}, {"FAIL_ON": "1"}, {"FAIL_INTERRUPTED": "1"}):
+            got = [got for _, got in job.in_turn(failing, "write", old, **environment)]
+            begun = [answer for answer in got if answer != lost[0]]
+            failing.bench.check(f"{job.with_files(old)}: each write fails, {environment}", got, lost * (len(got) - len(begun)) + begun)
+            failing.bench.check(f"{job.with_files(old)}: each write of the line fails", begun, [(3, b"", job.refusal(WRITE), job.whole[3])])
+            failing.bench.check(f"{job.with_files(old)}: writes failed", len(got) > 1, True)
+        failing.bench.check(f"{job.with_files(old)}: no part is left", failing.bench.get(job.part), None)
+
+
 def writes(failing, job):
     """Each write fails in turn: the bytes before it were written, and no other ones."""
     for environment in ({}, {"FAIL_ON": "1"}, {"FAIL_INTERRUPTED": "1"}):
-        for old in job.olds:
+        for old in job.olds if not job.part else ():
             counts = [-1]
             for number, got in job.in_turn(failing, "write", old, **environment):
                 texts, files = job.whole[3], got[3]
@@ -321,7 +347,7 @@ def all_cases(bench):
     bench.check("devices: the program names the functions that fail, and no others", functions_of(bench.program), FAILING | OTHERS)
     small, long = jobs(bench)
     for job in small + long:
-        for part in [plays, reads, opens, writes, *([bytes_apart] if job in small else [])]:
+        for part in [plays, reads, opens, writes, parts, *([bytes_apart] if job in small else [])]:
             part(failing, job)
     for job in small[:3]:
         cut_inputs(failing, job, bench.get("small.pcap"))

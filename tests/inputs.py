@@ -73,8 +73,8 @@ def ends_of_input(bench):
         ("a folder", "{} show - <.", b"", (3, b"nicbench: E66 Read\n")),
         ("a device as a pipe", "head -c 1000000 /dev/zero | {} show -", b"", (1, b"nicbench: E61 Magic\n")),
         ("1 GiB", "head -c 1073741824 /dev/zero | {} show -", b"", (1, b"nicbench: E61 Magic\n")),
-        ("a byte more", "head -c 1073741825 /dev/zero | {} show -", b"", (4, b"nicbench: E57 Memory\n")),
-        ("a device without end", "{} show - </dev/zero", b"", (4, b"nicbench: E57 Memory\n")),
+        ("a byte more", "head -c 1073741825 /dev/zero | {} show -", b"", (3, b"nicbench: E72 Pipe\n")),
+        ("a device without end", "{} show - </dev/zero", b"", (3, b"nicbench: E72 Pipe\n")),
         ("a little memory", "ulimit -v 400000; {} show - </dev/zero", b"", (4, b"nicbench: E57 Memory\n")),
     ]:
         ran = subprocess.run(line.format(bench.program), shell=True, cwd=bench.folder, capture_output=True, timeout=60)

@@ -1,12 +1,13 @@
 #!/usr/bin/env python3
 """Checks the C library: its header and bindings, the examples, and that it answers as `nicbench serve` does.
 
-usage: tests/library.py PROGRAM [FOLDER]
+usage: tests/library.py PROGRAM [FOLDER | --quick]
 
 PROGRAM is `nicbench`, and FOLDER is what `tools/library FOLDER` wrote. Without FOLDER, the script lets `tools/library`
-write .build/library. Examples in C, C++ and Rust are compiled and run if there is a compiler, also with AddressSanitizer
-and valgrind. For a compiler or tool that isn't there, the script prints a line. The last line is 'N passed, M failed',
-and the exit status is 1 if anything failed.
+write .build/library, or with --quick `tools/library --quick` write .build/quick-library. Examples in C, C++ and Rust
+are compiled and run if there is a compiler, also with AddressSanitizer and valgrind, and through pkg-config, CMake and
+pip. For a compiler or tool that isn't there, the script prints a line. The last line is 'N passed, M failed', and the
+exit status is 1 if anything failed.
 """
 
 import base64
@@ -36,6 +37,9 @@ STEPS = 3
 AREA, REGISTER_BYTES = 0x20000, 4
 WARNINGS = ["-Wall", "-Wextra", "-Werror"]
 SANITIZERS = "-fsanitize=address,undefined"
+# The runs in which libFuzzer must find a race of the driver in fuzz_driver.c, and the races with their faults
+FUZZ_RUNS = 20000
+RACES = (("LATE", "was never received"), ("PREFETCH", "has other bytes"))
 REFUSED_MEMORY = "WARNING: AddressSanitizer failed to allocate"
 SEEDS_OF_SWEEP = 25
 
@@ -50,7 +54,7 @@ class Library(Bench):
 
     def __init__(self, library, program, folder):
         super().__init__(program, folder)
-        self.root = library
+        self.root, self.proved = library, None
         self.shared = os.path.join(library, "lib", "libnic82540em.so")
         self.flags = ["-I", os.path.join(library, "include"), os.path.join(library, "lib", "libnic82540em.a")]
 
@@ -261,18 +265,11 @@ def has_fuzzer(library):
     return ran.returncode == 0
 
 
-def page_in_python(library):
-    """The code of the page, with the library that was built."""
-    code = re.search(r"```python\n(.*?)```", text_of("docs", "LIBRARY.md"), re.S)[1]
-    code = code.replace("nic/lib/libnic82540em.so", library.shared)
-    words = [sys.executable, "-B", "-c", f"import sys; sys.path = {sys.path!r}\n{code}"]
-    library.prints("the page in Python: runs", words, "True 0x80\n")
-
-
 def examples_in_c(library):
     if not library.is_there("cc", "the examples in C"):
         return
-    for name, extra in ("first", []), ("frames", []), ("state", []), ("fuzz", ["-DALONE"]):
+    alone = ["-DALONE"]
+    for name, extra in ("first", []), ("frames", []), ("state", []), ("fuzz", alone), ("fuzz_driver", alone):
         source, wanted = os.path.join(EXAMPLES, f"{name}.c"), text_of("examples", "library", f"{name}.txt")
         for how, words in ("", []), ("_sanitized", [SANITIZERS, "-g"]):
             target = library.path(name + how)
@@ -283,16 +280,120 @@ def examples_in_c(library):
         library.put("page.c", re.search(r"```c\n(.*?)```", text_of(*page), re.S)[1].encode())
         if library.compiles(f"the code of {page[-1]}", "cc", "-std=c99", *WARNINGS, "-o", "page", "page.c", *library.flags):
             library.prints(f"the code of {page[-1]}: runs", [library.path("page")], wanted)
-    fuzzer = library.path("fuzzer")
-    words = ["clang", "-O1", "-g", "-fsanitize=fuzzer,address", "-o", fuzzer]
-    if library.is_there("clang", "the harness by libFuzzer") and has_fuzzer(library):
-        if library.compiles("fuzz by libFuzzer", *words, os.path.join(EXAMPLES, "fuzz.c"), *library.flags):
-            ran = subprocess.run([fuzzer, "-runs=20000", "-seed=1"], cwd=library.folder, capture_output=True, timeout=600)
-            library.check("fuzz by libFuzzer: runs", (ran.returncode, b"Done 20000 runs" in ran.stderr), (0, True))
     if library.is_there("valgrind", "the examples in C by valgrind"):
         for name in "first", "frames", "state":
             library.prints(f"{name}: by valgrind", ["valgrind", "-q", "--leak-check=full", "--error-exitcode=9",
                                                     library.path(name)], text_of("examples", "library", f"{name}.txt"))
+
+
+def fails(library, name, words, fault):
+    """Checks that a fuzzer ends by this fault of the driver."""
+    ran = subprocess.run(words, cwd=library.folder, capture_output=True, text=True, timeout=600)
+    found = re.search(r"^frame \d+ (.*)$", ran.stderr, re.M)
+    library.check(name, (ran.returncode != 0, found and found[1]), (True, fault))
+
+
+def fuzzers(library):
+    """The harnesses find nothing in the adapter and in the right driver, and both races, also by libFuzzer."""
+    source = os.path.join(EXAMPLES, "fuzz_driver.c")
+    for race, fault in RACES if library.is_there("cc", "the harness of a driver") else ():
+        target = library.path(f"alone_{race}")
+        flags = [*WARNINGS, "-DALONE", f"-D{race}=1"]
+        if library.compiles(f"fuzz_driver, {race}", "cc", *flags, "-o", target, source, *library.flags):
+            fails(library, f"fuzz_driver, {race}: runs", [target], fault)
+    if not (library.is_there("clang", "the harnesses by libFuzzer") and has_fuzzer(library)):
+        return
+    words = ["clang", "-O1", "-g", "-fsanitize=fuzzer,address"]
+    for name, race, fault in ("fuzz", "", ""), ("fuzz_driver", "", ""), *(("fuzz_driver", *race) for race in RACES):
+        target, title = library.path(f"fuzzer_{name}{race}"), f"{name} {race} by libFuzzer".replace("  ", " ")
+        source, defined = os.path.join(EXAMPLES, f"{name}.c"), [f"-D{race}=1"] if race else []
+        if not library.compiles(title, *words, *defined, "-o", target, source, *library.flags):
+            continue
+        command = [target, f"-runs={FUZZ_RUNS}", "-seed=1", f"-artifact_prefix={library.folder}/"]
+        if race:
+            fails(library, f"{title}: runs", command, fault)
+        else:
+            ran = subprocess.run(command, cwd=library.folder, capture_output=True, text=True, timeout=600)
+            library.check(f"{title}: runs", (ran.returncode, f"Done {FUZZ_RUNS} runs" in ran.stderr), (0, True))
+
+
+# The library as other build systems find it
+
+def first_output():
+    return text_of("examples", "library", "first.txt")
+
+
+def by_pkg_config(library):
+    """The line of docs/LIBRARY.md makes a program that runs without LD_LIBRARY_PATH."""
+    if not all([library.is_there(tool, "the line for pkg-config") for tool in ("cc", "pkg-config")]):
+        return
+    env = {**os.environ, "PKG_CONFIG_PATH": os.path.join(library.root, "lib", "pkgconfig")}
+    env.pop("LD_LIBRARY_PATH", None)
+    line = re.search(r"^\$ (cc -o first .*)$", text_of("docs", "LIBRARY.md"), re.M)[1]
+    how = {"cwd": TOP, "env": env, "capture_output": True, "text": True}
+    ran = subprocess.run(["sh", "-c", f"{line} && mv first '{library.folder}'"], **how)
+    library.check("the line for pkg-config", (ran.returncode, ran.stderr), (0, ""))
+    library.prints("the program by pkg-config: runs", [library.path("first")], first_output())
+    ran = subprocess.run(["pkg-config", "--variable=proved", "nic82540em"], **how)
+    if library.proved is not None:
+        library.check("whether it was proved", ran.stdout.strip(), library.proved)
+
+
+CMAKE = """cmake_minimum_required(VERSION 3.13)
+project(examples C)
+find_package(nic82540em VERSION REQUIRED)
+foreach(kind nic82540em shared)
+    add_executable(first_${kind} FIRST)
+    target_link_libraries(first_${kind} nic82540em::${kind})
+endforeach()
+"""
+
+
+def by_cmake(library):
+    """CMake's find_package finds the library and its version."""
+    if not (library.is_there("cc", "find_package") and library.is_there("cmake", "find_package")):
+        return
+    pc = text_of(library.root, "lib", "pkgconfig", "nic82540em.pc")
+    version = re.search(r"^Version: (\d+)\.(\d+)", pc, re.M)
+    for wanted, is_found in (f"{version[1]}.{version[2]}", True), (f"{version[1]}.{int(version[2]) + 1}", False):
+        folder = os.path.join(library.folder, f"cmake-{wanted}")
+        os.makedirs(folder)
+        text = CMAKE.replace("VERSION REQ", f"{wanted} REQ").replace("FIRST", os.path.join(EXAMPLES, "first.c"))
+        library.put(os.path.join(f"cmake-{wanted}", "CMakeLists.txt"), text.encode())
+        ran = subprocess.run(["cmake", "-S", folder, "-B", f"{folder}/made", f"-DCMAKE_PREFIX_PATH={library.root}"],
+                             stdout=subprocess.DEVNULL, stderr=subprocess.PIPE, text=True)
+        is_other = "compatible with requested version" in ran.stderr
+        library.check(f"CMake finds version {wanted}", (ran.returncode == 0, is_other), (is_found, not is_found))
+        if not is_found:
+            continue
+        ran = subprocess.run(["cmake", "--build", f"{folder}/made"], capture_output=True, text=True)
+        library.check("CMake builds", (ran.returncode, ran.returncode and ran.stderr[-2000:]), (0, 0))
+        for kind in "nic82540em", "shared":
+            library.prints(f"CMake, {kind}: runs", [f"{folder}/made/first_{kind}"], first_output())
+
+
+def by_pip(library):
+    """pip installs the Python package without the internet, with the library in it. The page's code runs with it."""
+    pip = [sys.executable, "-m", "pip", "--disable-pip-version-check"]
+    if subprocess.run([*pip, "--version"], capture_output=True).returncode != 0:
+        print("not played, because there is no pip: the package for Python")
+        return
+    package, target = os.path.join(TOP, "bindings", "python"), library.path("installed")
+    words = [*pip, "install", "--quiet", "--no-index", "--no-build-isolation", "--no-compile",
+             "--target", target, package]
+
+    def install(folder):
+        env = {**os.environ, "PYTHONDONTWRITEBYTECODE": "1", "NIC82540EM_LIB": folder}
+        return subprocess.run(words, env=env, cwd=library.folder, capture_output=True, text=True)
+
+    ran = install(os.path.join(library.root, "lib"))
+    library.check("pip installs the package", (ran.returncode, ran.returncode and ran.stderr[-2000:]), (0, 0))
+    code = re.search(r"```python\n(.*?)```", text_of("docs", "LIBRARY.md"), re.S)[1]
+    installed = ["env", "-u", "NIC82540EM_LIB", f"PYTHONPATH={target}", sys.executable, "-B", "-c", code]
+    library.prints("the package: runs", installed, "True 0x80\n")
+    ran = install(library.folder)
+    is_told = "libnic82540em.so isn't in" in ran.stderr
+    library.check("pip without the library", (ran.returncode != 0, is_told), (True, True))
 
 
 def refused_memory(library):
@@ -324,27 +425,32 @@ def examples_in_other_languages(library):
                 library.prints("two_steps: runs", [target], text_of("examples", "library", "two_steps.txt"))
 
 
-def is_built(library):
+def is_built(library, words):
     """Builds the library. Returns whether it is there."""
     if not all([library.is_there(tool, "everything that needs the built library") for tool in ("cc", "ar")]):
         return False
-    ran = subprocess.run([os.path.join(TOP, "tools", "library"), library.root], stdout=subprocess.PIPE, stderr=subprocess.STDOUT,
-                         text=True)
+    ran = subprocess.run([os.path.join(TOP, "tools", "library"), *words, library.root], stdout=subprocess.PIPE,
+                         stderr=subprocess.STDOUT, text=True)
     library.check("the library is built", (ran.returncode, ran.stdout[-2000:] if ran.returncode else ""), (0, ""))
     return ran.returncode == 0
+
+
+PARTS = (same_answers, steps_by_schedule, state_without_accesses, drivers, refused_memory, examples_in_c, fuzzers,
+         examples_in_other_languages, by_pkg_config, by_cmake, by_pip)
 
 
 def main():
     if len(sys.argv) not in (2, 3):
         sys.exit(__doc__)
-    program = os.path.abspath(sys.argv[1])
-    root = os.path.abspath(sys.argv[2] if sys.argv[2:] else os.path.join(TOP, ".build", "library"))
+    program, is_quick = os.path.abspath(sys.argv[1]), sys.argv[2:] == ["--quick"]
+    given = None if is_quick else next(iter(sys.argv[2:]), None)
+    root = os.path.abspath(given or os.path.join(TOP, ".build", "quick-library" if is_quick else "library"))
     with tempfile.TemporaryDirectory() as folder:
         library = Library(root, program, folder)
+        library.proved = None if given else "no" if is_quick else "yes"
         names(library)
-        if sys.argv[2:] or is_built(library):
-            for part in (same_answers, steps_by_schedule, state_without_accesses, drivers, page_in_python,
-                         refused_memory, examples_in_c, examples_in_other_languages):
+        if given or is_built(library, ["--quick"] if is_quick else []):
+            for part in PARTS:
                 part(library)
     print(f"{library.passed} passed, {library.failed} failed")
     sys.exit(1 if library.failed else 0)

@@ -245,7 +245,7 @@ def outputs(server):
 def errors(server):
     """The command that builds the server is named, and an error of the finder has exit status 3."""
     status, out, told = script(server, MAIN)
-    hint = "races: ./none: No such file or directory; run ./nicbench --help to build it\n"
+    hint = "races: ./none: No such file or directory; run ./nicbench --build to build it\n"
     is_told = told.startswith(f"{hint}Traceback "), told.endswith("\nZeroDivisionError: integer division or modulo by zero\n")
     server.check("errors: main", (status, out, is_told), (0, f"{NOT_RUN}\n" * 2, (True, True)))
     server.check("errors: Ctrl-C in the help", b"130 after Ctrl-C" in ran(server, ["--help"])[1], True)

@@ -1,25 +1,68 @@
 """Proves and builds the program, by `rt ci` over a copy of the crates that it depends on, without tests and must-fail edits.
 
 What one run proves is kept by `rt` for the next one, also if it is interrupted. The copy is removed at the end: `rt ci`
-refuses a repository that has another one in it.
+refuses a repository that has another one in it. The proved crates that the C library uses are kept for `tools/library`.
 """
 
 import os
 import re
 import shutil
 import subprocess
+import tarfile
 import time
 
 import sources
 
 WORK = os.path.join(sources.BUILD, "proved")
 LOG = os.path.join(sources.BUILD, "proved.log")
+# The libraries of the proved crates that the C library uses. They are packed, since `rt ci` refuses a repository with
+# their files in another folder.
+KEPT = os.path.join(sources.BUILD, "proved-crates.tar")
 # Seconds between two lines of progress.
 QUIET_SECONDS = 30
 
 
 class ProofFailed(Exception):
     """There is no proved program; the text says why."""
+
+
+def text_of(path):
+    """The text of a file without the end of its last line, or nothing if there is no such file."""
+    try:
+        with open(path) as file:
+            return file.read().strip()
+    except OSError:
+        return ""
+
+
+def write(path, text):
+    with open(path, "w") as file:
+        file.write(f"{text}\n")
+
+
+def stamp(rt, crates):
+    """What a proof depends on: the sources of crates, and the toolchain."""
+    version = subprocess.run([rt, "version"], stdout=subprocess.PIPE, text=True, check=True).stdout.strip()
+    return f"{sources.checksum(crates)} {version}"
+
+
+def rlib(crate):
+    """The library of a proved crate, in the copy."""
+    return os.path.join(WORK, "crates", crate, "out", "rlib", f"{crate}.rlib")
+
+
+def keep_crates(rt, crates):
+    """Keeps the libraries of proved crates."""
+    write(f"{KEPT}.sources", "")
+    with tarfile.open(KEPT, "w") as archive:
+        for crate in crates:
+            archive.add(rlib(crate), f"{crate}/{crate}.rlib")
+    write(f"{KEPT}.sources", stamp(rt, crates))
+
+
+def is_kept(rt, crates):
+    """Whether these crates were kept, as proved from the present sources."""
+    return os.path.exists(KEPT) and text_of(f"{KEPT}.sources") == stamp(rt, crates)
 
 
 def copy_sources(crates):
@@ -61,12 +104,12 @@ class Progress:
             self.say("")
 
 
-def follow(process, progress):
+def follow(process, progress, path):
     """Shows the progress of a running proof until it ends."""
     read = 0
     while True:
         ended = process.poll() is not None
-        with open(LOG, errors="replace") as log:
+        with open(path, errors="replace") as log:
             log.seek(read)
             for line in iter(log.readline, ""):
                 if line.endswith("\n"):
@@ -78,17 +121,17 @@ def follow(process, progress):
         time.sleep(0.2)
 
 
-def last_lines():
-    with open(LOG, errors="replace") as log:
+def last_lines(path=LOG):
+    with open(path, errors="replace") as log:
         return "".join(log.readlines()[-20:])
 
 
-def prove(rt, progress):
-    """Runs `rt ci` over the copy, and returns its exit status."""
-    with open(LOG, "wb") as log:
+def prove(rt, progress, path=LOG):
+    """Runs `rt ci` over the copy, and returns its exit status. The file `path` gets what it prints."""
+    with open(path, "wb") as log:
         process = subprocess.Popen([rt, "ci"], cwd=WORK, stdin=subprocess.DEVNULL, stdout=log, stderr=subprocess.STDOUT)
     try:
-        return follow(process, progress)
+        return follow(process, progress, path)
     except BaseException:
         process.terminate()
         process.wait()
@@ -105,6 +148,8 @@ def build(rt, crates, tell, keep):
         if status != 0 or not os.access(program, os.X_OK):
             raise ProofFailed(f"{last_lines()}the program was not proved; all that was printed is in {LOG}")
         keep(program)
+        if all(map(os.path.isdir, map(rlib, sources.shared()))):
+            keep_crates(rt, sources.shared())
     finally:
         shutil.rmtree(WORK, ignore_errors=True)
     tell(f"proved and built in {progress.minutes()}")

@@ -1,20 +1,23 @@
-"""Builds the program without proof and with run-time checks, in about a minute and a half.
+"""Builds the program without proof and with run-time checks, in about two minutes.
 
 This depends on how `rt try` works inside: it compiles a program for a test run and keeps nothing. So it is run from a
 folder of links to the toolchain in which `clang` is a script of ours. That script keeps the bitcode of the program and
 fails; then the toolchain's own clang and linker make the program from it. If any step fails, QuickBuildFailed says why,
-and the caller makes the proved build.
+and the caller makes the proved build. tools/quick_library.py builds the C library in the same way.
 """
 
 import os
 import shutil
 import subprocess
 import tempfile
+import time
 
 import sources
 
 # The bitcode of a crate alone or of the runtime is smaller, that of the program is larger.
 LEAST_PROGRAM_BYTES = 4_000_000
+# Seconds between two lines of progress.
+QUIET_SECONDS = 10
 CLANG = """#!/bin/sh
 for word in "$@"; do
   case $word in *module.bc)
@@ -33,6 +36,32 @@ class QuickBuildFailed(Exception):
     """There is no unproved program; the text says why."""
 
 
+class Steps:
+    """Runs the commands of a build, and prints every ten seconds which one runs, and the time since the start."""
+
+    def __init__(self, tell, crates):
+        self.tell, self.crates, self.begun = tell, crates, time.monotonic()
+
+    def seconds(self):
+        return f"{time.monotonic() - self.begun:.0f} s"
+
+    def run(self, what, words, log, cwd, env=None):
+        """Runs a command, and returns whether it succeeded."""
+        self.tell(f"{what}, {self.seconds()}")
+        with open(log, "ab") as file:
+            process = subprocess.Popen(words, cwd=cwd, env=env, stdin=subprocess.DEVNULL, stdout=file, stderr=file)
+        try:
+            while True:
+                try:
+                    return process.wait(QUIET_SECONDS) == 0
+                except subprocess.TimeoutExpired:
+                    self.tell(f"{what}, {self.seconds()}")
+        except BaseException:
+            process.terminate()
+            process.wait()
+            raise
+
+
 def link_all(source, target, but):
     """Links all entries of a folder, except the named ones, into a new folder."""
     os.makedirs(target)
@@ -41,7 +70,7 @@ def link_all(source, target, but):
             os.symlink(os.path.join(source, name), os.path.join(target, name))
 
 
-def links_to(kit, work):
+def links_to(kit, work, least):
     """A folder of links to the toolchain, with copies of `rt` and its library, which look for the toolchain next to them."""
     top = os.path.join(work, "kit")
     link_all(kit, top, ("bin", "toolchain"))
@@ -53,15 +82,9 @@ def links_to(kit, work):
     link_all(os.path.join(kit, "toolchain", "bin"), tools, ("clang",))
     clang = os.path.join(tools, "clang")
     with open(clang, "w") as file:
-        file.write(CLANG.format(least=LEAST_PROGRAM_BYTES, work=work, kit=kit))
+        file.write(CLANG.format(least=least, work=work, kit=kit))
     os.chmod(clang, 0o755)
     return os.path.join(top, "bin", "rt")
-
-
-def run(words, log, cwd, env=None):
-    """Runs a command, and returns whether it succeeded."""
-    with open(log, "ab") as file:
-        return subprocess.run(words, cwd=cwd, env=env, stdin=subprocess.DEVNULL, stdout=file, stderr=file).returncode == 0
 
 
 def last_line(log):
@@ -77,23 +100,42 @@ def flags_of(work, kit):
     return ["-O1" if flag == "-O0" else flag for flag in changed if not flag.startswith("-fsanitize=")]
 
 
-def build(rt, target):
+def kit_of(rt):
+    """The folder of the toolchain that this `rt` belongs to."""
+    return os.path.dirname(os.path.dirname(os.path.realpath(rt)))
+
+
+def make_bitcode(rt, crate, least, work, steps):
+    """Compiles the program of this crate's folder. Its bitcode is `module.bc` in the folder `work`, next to `flags`."""
+    log = os.path.join(work, "log")
+    try:
+        own = links_to(kit_of(rt), work, least)
+    except OSError as error:
+        raise QuickBuildFailed(f"the toolchain of {rt} isn't laid out as expected: {error}") from error
+    # It fails after the bitcode was kept.
+    env = {**os.environ, "TMPDIR": work}
+    steps.run(f"compiling {steps.crates} crates", [own, "try", "--", "--help"], log, crate, env)
+    if not os.path.exists(os.path.join(work, "module.bc")):
+        raise QuickBuildFailed(f"`rt try` compiled no program: {last_line(log)}")
+
+
+def run_all(work, steps, commands):
+    """Runs commands in the folder `work`, each with what it does."""
+    log = os.path.join(work, "log")
+    for what, command in commands:
+        if not steps.run(what, command, log, work):
+            raise QuickBuildFailed(f"{os.path.basename(command[0])} failed: {last_line(log)}")
+
+
+def build(rt, target, steps):
     """Builds the program without proof as the file `target`."""
-    kit = os.path.dirname(os.path.dirname(os.path.realpath(rt)))
+    kit = kit_of(rt)
     os.makedirs(os.path.dirname(target), exist_ok=True)
     with tempfile.TemporaryDirectory() as work:
-        log = os.path.join(work, "log")
-        try:
-            own = links_to(kit, work)
-        except OSError as error:
-            raise QuickBuildFailed(f"the toolchain of {rt} isn't laid out as expected: {error}") from error
-        run([own, "try", "--", "--help"], log, os.path.join(sources.CRATES, sources.PROGRAM), {**os.environ, "TMPDIR": work})
-        if not os.path.exists(os.path.join(work, "module.bc")):
-            raise QuickBuildFailed(f"`rt try` compiled no program: {last_line(log)}")
+        make_bitcode(rt, os.path.join(sources.CRATES, sources.PROGRAM), LEAST_PROGRAM_BYTES, work, steps)
         libraries = [os.path.join(kit, "c", name) for name in ("libos_c.a", "liblibc_c.a")]
         link = [os.path.join(kit, "bin", "rattle-link"), "--target", "x86_64-unknown-linux-gnu",
                 "--toolchain", os.path.join(kit, "toolchain"), "-o", f"{target}.new", "module.o", *libraries]
-        for command in ([os.path.join(kit, "toolchain", "bin", "clang"), *flags_of(work, kit)], link):
-            if not run(command, log, work):
-                raise QuickBuildFailed(f"{os.path.basename(command[0])} failed: {last_line(log)}")
+        run_all(work, steps, [("optimizing", [os.path.join(kit, "toolchain", "bin", "clang"), *flags_of(work, kit)]),
+                              ("linking", link)])
     os.replace(f"{target}.new", target)

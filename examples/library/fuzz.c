@@ -4,7 +4,7 @@
  * With libFuzzer:  clang -fsanitize=fuzzer,address -o fuzz fuzz.c $(pkg-config --cflags --libs nic82540em)
  * With AFL++ or by itself:  cc -DALONE -o fuzz fuzz.c ..; ./fuzz FILE..; without FILE it makes 2,000 inputs itself.
  *
- * To fuzz a driver, call the driver in place of `play`, and let the input choose its steps and frames.
+ * fuzz_driver.c fuzzes a driver.
  */
 #include <nic82540em.h>
 #include <stdio.h>

@@ -442,7 +442,7 @@ def call(words):
     is_forked = not (given["apart"] or given["replay"])
     server = given["server"]
     if server == TEXTS["server"] and not os.path.exists(server):
-        raise CannotRun(f"{server}: No such file or directory; run ./nicbench --help to build it")
+        raise CannotRun(f"{server}: No such file or directory; run ./nicbench --build to build it")
     target = Target(server, command, options or (), given["seconds"], given["jobs"], is_forked, not given["no-digest"])
     with closing(target), holding():
         try:

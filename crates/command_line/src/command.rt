@@ -142,7 +142,10 @@ const PASS_ARGUMENTS: [Argument<'static>; 5] = [
         "IN",
         "The trace to read, a pcap file, or - for standard input",
     ),
-    Argument::File("OUT", "The trace to write, a pcap file"),
+    Argument::File(
+        "OUT",
+        "The trace to write, a pcap file, or - for standard output",
+    ),
 ];
 
 /// `pass [--address A] [--group G] [--vlan N] IN OUT`.

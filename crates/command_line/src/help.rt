@@ -7,10 +7,17 @@ pub(crate) const PASS_ABOUT: &str =
     "Send the frames of a trace through a receive filter and a ring";
 
 pub(crate) const PASS_NOTE: &str =
-    "Frames for the broadcast address also pass. Without --address and --group, \
-                         frames for every address pass.
-All of IN is read before OUT is written, so both may be the same file: its frames are replaced. IN may be
-standard input: tcpdump -w - | nicbench pass - OUT writes OUT when tcpdump ends.
+    "Frames for the broadcast address also pass. Without --address and --group, frames for every address
+pass. Times are not kept: the timestamp of a frame in OUT, in microseconds, is the number of the
+frame in IN, from 0. All of IN is read before OUT is written, so both may be the same file: its
+frames are replaced. IN may be standard input: tcpdump -w - | nicbench pass - OUT writes OUT when
+tcpdump ends. If OUT is -, the trace goes to standard output, and the line of counts to standard
+error.
+
+A file OUT gets all new frames at once: they are written beside it, into OUT.part0, and then this
+file is renamed. So after an error or a kill OUT is unchanged. This doesn't hold for a link, a file
+with several names, a device or a pipe, or if no such file can be made: then OUT is overwritten.
+
 Run this example from the top of the repository:
 
   $ ./nicbench pass --group 01:00:5e:00:00:01 examples/groups.pcap out.pcap
@@ -27,6 +34,7 @@ If pass fails, it prints 'nicbench: CODE NAME' on standard error:
 
   E60 to E64  IN is invalid, status 1
   E66 to E68  Opening, reading or writing failed, status 3
+  E72         Standard input or a pipe is too long, status 3
   E57, E65    Out of memory, status 4
 
 What each code means, and what to do: nicbench --help";
@@ -63,80 +71,85 @@ bytes to another, and its adapter pads it to 60:
 First come the lines that set up hosts:
 
   # TEXT                  a comment
-  host NAME ADDRESS WIRE  a host with this Ethernet address at this wire. Options may follow; defaults are in
-                          parentheses: rx N and tx N, the number of descriptors in each ring (8);
-                          buffers N, the number of receive buffers (16); rxa N, the KB of its receive
-                          packet buffer, 2 for each frame (48); link N, the ticks of its PHY until its
-                          link is up (1), or link never; promiscuous
+  host NAME ADDRESS WIRE  a host with this Ethernet address at this wire. Options may follow;
+                          defaults are in parentheses: rx N and tx N, the number of descriptors in
+                          each ring (8); buffers N, the number of receive buffers (16); rxa N, the
+                          KB of its receive packet buffer, 2 for each frame (48); link N, the ticks
+                          of its PHY until its link is up (1), or link never; promiscuous
   group HOST ADDRESS      a multicast address whose frames it also receives
-  vlan HOST N             a VLAN. The host receives tagged frames of this VLAN only; without a vlan line,
-                          it receives those of any VLAN
-  socket HOST N           a socket for an EtherType, four hexadecimal digits such as 88b5; or 'all', for
-                          the frames that no other socket takes. A host's sockets are numbered from 0
+  vlan HOST N             a VLAN. The host receives tagged frames of this VLAN only; without a vlan
+                          line, it receives those of any VLAN
+  socket HOST N           a socket for an EtherType, four hexadecimal digits such as 88b5; or 'all',
+                          for the frames that no other socket takes. A host's sockets are numbered
+                          from 0
 
 Then come the events, numbered from 0:
 
   send HOST HEX           a call: it sends a frame of these bytes
   recv HOST S             a call: its socket S returns the oldest frame in its queue
   interrupt HOST          a call: its driver handles an interrupt
-  tick TICK               not a call, but a tick: txtake:HOST, txput:HOST, rxdata:HOST or rxdone:HOST is
-                          a step of its adapter, deliver:HOST delivers the next frame of its wire,
-                          eeprom:HOST and phy:HOST are steps of its EEPROM and PHY, go does nothing
+  tick TICK               not a call, but a tick: txtake:HOST, txput:HOST, rxdata:HOST or
+                          rxdone:HOST is a step of its adapter, deliver:HOST delivers the next frame
+                          of its wire, eeprom:HOST and phy:HOST are steps of its EEPROM and PHY, go
+                          does nothing
   CALL / TICK TICK ..     ticks inside a call: those before the first go are played before its first
                           access to memory or a register, those up to the next go before its second,
                           and so on
-  drain HOST              not a call: all frames that it holds for its sockets are returned, in one event
-  feed HOST FILE          for each frame of a trace, the events that send it and deliver it to the sockets
-                          of the other hosts at its wire; FILE contains no spaces, or is - for standard
-                          input
+  drain HOST              not a call: all frames that it holds for its sockets are returned, in one
+                          event
+  feed HOST FILE          for each frame of a trace, the events that send it and deliver it to the
+                          sockets of the other hosts at its wire; FILE contains no spaces, or is -
+                          for standard input
   auto COUNT START        COUNT random events, up to 1000000; START is the seed
 
-OUTDIR/h.s.pcap is the trace of the frames that socket s of host h returned. The timestamp of each frame, in
-microseconds, is the number of its event. With --wires, OUTDIR/w.pcap is the trace of all frames that adapters
-put on wire w, also those that no host received; the files of wires follow those of sockets, in the order in
-which the host lines first name the wires. Files that don't exist are created, empty, before the first event.
-All files are written after the last event; an existing one loses its bytes when its first new byte is written.
-So on an error existing files are unchanged, unless it is E67: then the files before the one that failed are
-complete, and those after it are unchanged. Standard output has a line for each host:
+OUTDIR/h.s.pcap is the trace of the frames that socket s of host h returned. The timestamp of each
+frame, in microseconds, is the number of its event. With --wires, OUTDIR/w.pcap is the trace of all
+frames that adapters put on wire w, also those that no host received; the files of wires follow
+those of sockets, in the order in which the host lines first name the wires. Files that don't exist
+are created, empty, before the first event. All files are written after the last event; an existing
+one loses its bytes when its first new byte is written. So on an error existing files are unchanged,
+unless it is E67: then the files before the one that failed are complete, and those after it are
+unchanged. Standard output has a line for each host:
 
   b accepted 0 put 0 reached 1 stored 1 missed 0 exact given 1 unclaimed 0
 
-The counts are of frames that its sends accepted, that its adapter put on the wire, that reached it, that
-it stored, and that it missed because its receive packet buffer was full ('atleast' in place of 'exact' if
-there may be more); then frames that its sockets returned, and frames that none of its sockets takes.
+The counts are of frames that its sends accepted, that its adapter put on the wire, that reached it,
+that it stored, and that it missed because its receive packet buffer was full ('atleast' in place of
+'exact' if there may be more); then frames that its sockets returned, and frames that none of its
+sockets takes.
 
-If run fails, it prints 'nicbench: CODE NAME' on standard error, or 'nicbench: line N: CODE NAME' if a line is
-invalid. If existing files in OUTDIR are unchanged, a second line says so:
+If run fails, it prints 'nicbench: CODE NAME' on standard error, or 'nicbench: line N: CODE NAME' if
+a line is invalid. If existing files in OUTDIR are unchanged, a second line says so:
 
   E40 Name      The name of a host or a wire isn't 1 to 16 of a-z 0-9 _ -. Choose another
   E41 Ends      A wire has only 1 host, or more than 8. Check the names of wires, or add a host
   E42 Hosts     There is no host, or there are more than 16. Add hosts, or split the scenario
   E43 Address   An address is multicast (its first byte is odd) or another host's. Choose another
-  E44 Config    An option of a host is invalid. rx and tx are multiples of 8 from 8 to 256, buffers from rx
-                to 4096, rxa even from 2 to 48, link at least 1; the first byte of a group is odd, and a
-                VLAN is at most 4095
+  E44 Config    An option of a host is invalid. rx and tx are multiples of 8 from 8 to 256, buffers
+                from rx to 4096, rxa even from 2 to 48, link at least 1; the first byte of a group
+                is odd, and a VLAN is at most 4095
   E45 Memory    Out of memory for the hosts. Free some, or use fewer buffers
-  E46 Init      An adapter could not be initialized; the reason follows, such as E14 NoLink: its link is
-                never up, or only after more than 2000 ticks. Use a smaller link
+  E46 Init      An adapter could not be initialized; the reason follows, such as E14 NoLink: its
+                link is never up, or only after more than 2000 ticks. Use a smaller link
   E47 Memory    Out of memory during the run. Free some, or split the scenario
-  E50 Word      The line's first word isn't in the lists above. Correct it, or begin a comment with #
+  E50 Word      The line's first word isn't in the lists above. Correct it, or put # before it
   E51 Count     There are too few or too many words, or an option twice. Compare with the list above
-  E52 Value     A word doesn't have its form: a decimal number, an address, an even number of up to 8000
-                hexadecimal digits, a tick, an option. Compare with the list above
-  E53 Name      No host above has this name; or the name of a new host is taken; or a host already has 8
-                sockets, 32 groups or 32 VLANs. Use the name of a host above, or remove lines
+  E52 Value     A word doesn't have its form: a decimal number, an address, an even number of up to
+                8000 hexadecimal digits, a tick, an option. Compare with the list above
+  E53 Name      No host above has this name; or the name of a new host is taken; or a host already
+                has 8 sockets, 32 groups or 32 VLANs. Use the name of a host above, or remove lines
   E54 Order     An event comes before this line. Move the line up
   E55 Long      The line has more than 8192 bytes. Split it
   E56 Text      The line isn't UTF-8. Save the scenario as UTF-8
 
-A run can also end with E57 and E60 to E68. What each code means, and what to do: nicbench --help";
+A run can also end with E57, E60 to E68 and E72. What each code means: nicbench --help";
 
 pub(crate) const SHOW_ABOUT: &str = "List the frames of a trace, one per line";
 
 pub(crate) const SHOW_NOTE: &str =
     "Each line is a frame: its number, from 0, its length in bytes, its destination, its source, and its
-EtherType; or 'short' in place of these three if it has fewer than 14 bytes. The last line counts the
-frames and the packets that were captured in part, and says whether TRACE ends inside a packet:
+EtherType; or 'short' in place of these three if it has fewer than 14 bytes. The last line counts
+the frames and the packets that were captured in part, and says whether TRACE ends inside a packet:
 
   $ ./nicbench show examples/lengths.pcap
   0 14 02:00:00:00:00:02 02:00:00:00:00:01 0800
@@ -148,6 +161,7 @@ If show fails, it prints 'nicbench: CODE NAME' on standard error:
 
   E60 to E64  TRACE is invalid, status 1
   E66 to E68  Opening, reading or writing failed, status 3
+  E72         Standard input or a pipe is too long, status 3
   E57, E65    Out of memory, status 4
 
 What each code means, and what to do: nicbench --help";
@@ -163,7 +177,7 @@ pub(crate) const EEPROM_ADDRESS_HELP: &str =
     "The Ethernet address in the EEPROM [02:00:00:00:00:01]";
 
 pub(crate) const IMAGE_HELP: &str =
-    "The EEPROM's 64 words, a file of 128 bytes, low byte first; not with --address";
+    "The EEPROM, a file of 128 bytes, low bytes first; not with --address";
 
 pub(crate) const LINK_HELP: &str = "Ticks of the PHY until the link is up, 1 to 65535 [1]";
 
@@ -181,9 +195,9 @@ pub(crate) const RECORD_HELP: &str = "Store what was played before accesses as a
 
 pub(crate) const SERVE_NOTE: &str =
     "An Intel 82540EM and the memory of its host: a driver in any language reads and writes registers and
-memory through a pipe. A request is a line on standard input. Its answer is a line on standard output,
-which is written before the next request is read. This example sets the interrupt mask (IMS), sets a
-cause (ICS), and reads the causes (ICR):
+memory through a pipe. A request is a line on standard input. Its answer is a line on standard
+output, which is written before the next request is read. This example sets the interrupt mask
+(IMS), sets a cause (ICS), and reads the causes (ICR):
 
   $ printf 'writel 0xFEB000D0 0x80\\nwritel 0xFEB000C8 0x80\\nreadl 0xFEB000C0\\n' | nicbench serve
   OK
@@ -206,49 +220,56 @@ The requests. QEMU's qtest protocol has the first ten lines of this list, too:
   irq_intercept_in PATH   nothing: IRQ lines always come; also irq_intercept_out PATH
   step KIND               a step of the adapter: txtake, txput, rxdata, rxdone, eeprom or phy
   arrive HEX              a frame arrives from the wire
-  settle                  all offered frames arrive; then steps in rounds, until a round does nothing
+  settle                  all offered frames arrive; then steps in rounds, until a round does
+                          nothing
   line                    1 if the interrupt line is asserted, else 0
-  interleave COUNT        from now on, plays up to COUNT random steps before each access; COUNT is at
-                          most 65535, and 0 turns this off
-  pace COUNT              from now on, plays up to COUNT rounds of steps after each access and arrival
-  wire full, wire free    wire full makes the wire full: the step txput puts no frame, and its outcome is
-                          wirefull; wire free makes room again, as there is at the start
-  log on, log off         log on prints each step, access and arrival from now on; log off stops this
-  events on, events off   events on prints frames on the wire, faults, and arrivals of offered frames, before
-                          the answers; events off, as at the start, stops this
+  interleave COUNT        from now on, plays up to COUNT random steps before each access; COUNT is
+                          at most 65535, and 0 turns this off
+  pace COUNT              from now on, plays up to COUNT rounds of steps after each access and
+                          arrival
+  wire full, wire free    wire full makes the wire full: the step txput puts no frame, and its
+                          outcome is wirefull; wire free makes room again, as there is at the start
+  log on, log off         log on prints each step, access and arrival from now on; log off stops
+                          this
+  events on, events off   events on prints frames on the wire, faults, and arrivals of offered
+                          frames, before the answers; events off, as at the start, stops this
   frames, faults          the frames and the faults that came while events were off
-  offer HEX               a frame waits: it arrives at the next settle, or before that as a random step
-  save, restore           save keeps a copy of the state of the adapter, of memory and of these settings;
-                          restore brings the last copy back
-  digest                  a number that depends on the adapter and on memory, to see that a state comes back
+  offer HEX               a frame waits: it arrives at the next settle, or before that as a random
+                          step
+  save, restore           save keeps a copy of the state of the adapter, of memory and of these
+                          settings; restore brings the last copy back
+  digest                  a number that depends on the adapter and on memory, to see that a state
+                          comes back
 
-Numbers are decimal, or hexadecimal after 0x. A register is read and written as four bytes, by readl,
-writel, read, write or memset. The adapter takes no step by itself: each step is a request, or random,
-and the same seed gives the same steps, or it is of a schedule. Lines between a request and its answer say what happened: 'IRQ
-raise 0' and 'IRQ lower 0'; after events on, 'frame HEX' for a frame put on the wire, 'arrived FATE HEX' for
-an offered frame, and 'fault tx INDEX REASON' or 'fault rx INDEX REASON' for a fault of an engine; and '# ...'
-while the log is on. If the answer isn't OK, the request changed nothing. Such an answer is 'FAIL unknown', or
-'ERR' and one reason: count, value, size, address, register, text, long or saved.
+Numbers are decimal, or hexadecimal after 0x. A register is read and written as four bytes, by
+readl, writel, read, write or memset. The adapter takes no step by itself: each step is a request,
+or random, and the same seed gives the same steps, or it is of a schedule. Lines between a request
+and its answer say what happened: 'IRQ raise 0' and 'IRQ lower 0'; after events on, 'frame HEX' for
+a frame put on the wire, 'arrived FATE HEX' for an offered frame, and 'fault tx INDEX REASON' or
+'fault rx INDEX REASON' for a fault of an engine; and '# ...' while the log is on. If the answer
+isn't OK, the request changed nothing. Such an answer is 'FAIL unknown', or 'ERR' and one reason:
+count, value, size, address, register, text, long or saved.
 
-At the end of its input the server ends with exit status 0. If it fails, it prints 'nicbench: CODE NAME' on
-standard error:
+At the end of its input the server ends with exit status 0. If it fails, it prints 'nicbench: CODE
+NAME' on standard error:
 
   E57 Memory    Out of memory, status 4. Free some, or reduce --memory
   E58 Image     The file of --image hasn't 128 bytes, status 1. Name another file
-  E66 Read      Standard input or the file of --image or --schedule could not be read, status 3. Check where
-                it comes from
-  E67 Write     Standard output or the file of --record could not be written, or nobody reads standard output
-                any more, status 3. Free space there, or read all answers
-  E68 Open      The file of --image or --schedule couldn't be opened or is a device, or that of --record
-                couldn't be created, status 3. Check its path
-  E70 Schedule  The file of --schedule isn't a schedule, or one for other options, status 1. Correct it, or
-                use the options in its first line
-  E71 Unmet     Deviations of the schedule weren't met, status 1: standard error lists them before this";
+  E66 Read      Standard input or the file of --image or --schedule could not be read, status 3.
+                Check where it comes from
+  E67 Write     Standard output or the file of --record could not be written, or nobody reads
+                standard output any more, status 3. Free space there, or read all answers
+  E68 Open      The file of --image or --schedule couldn't be opened or is a device, or that of
+                --record couldn't be created, status 3. Check its path
+  E70 Schedule  The file of --schedule isn't a schedule, or one for other options, status 1. Correct
+                it, or use the options in its first line
+  E71 Unmet     Deviations of the schedule weren't met, status 1: standard error lists them before
+                this";
 
 pub(crate) const DRIVE_ABOUT: &str = "Run the driver on an adapter that another program models";
 
 pub(crate) const DRIVE_MEMORY_HELP: &str =
-    "Bytes of memory that the driver may use, from address 0, such as 0x100000 [1048576]";
+    "Bytes of memory for the driver, from address 0 [1048576]";
 
 pub(crate) const EXPECT_HELP: &str = "Stop after N frames were received; status 1 if fewer were";
 
@@ -256,16 +277,16 @@ pub(crate) const IDLE_HELP: &str =
     "Stop after N calls of the handler in a row that received no frame";
 
 pub(crate) const DRIVE_NOTE: &str =
-    "The driver initializes the adapter, sends the frames of IN, and writes received frames to OUT. Each access is
-a request on standard output, and its answer is read from standard input, in QEMU's qtest protocol: readl,
-writel, read or write. The adapter may be QEMU's e1000, that of nicbench serve, or your own. This script joins
-drive with QEMU:
+    "The driver initializes the adapter, sends the frames of IN, and writes received frames to OUT. Each
+access is a request on standard output, and its answer is read from standard input, in QEMU's qtest
+protocol: readl, writel, read or write. The adapter may be QEMU's e1000, that of nicbench serve, or
+your own. This script joins drive with QEMU:
 
   $ examples/emulators/qemu.py
 
-drive ends after N frames were received (--expect), or after N calls of the handler in a row in which no frame
-was received and none was accepted for sending (--idle, 1000 by default). At the end it prints its counts on
-standard error:
+drive ends after N frames were received (--expect), or after N calls of the handler in a row in
+which no frame was received and none was accepted for sending (--idle, 1000 by default). At the end
+it prints its counts on standard error:
 
   sent 10000 illegal 0 received 10000 missed 0 exact
 
@@ -276,18 +297,20 @@ standard error:
 
 If drive fails, it prints 'nicbench: CODE NAME' on standard error:
 
-  E46           The adapter could not be initialized; the reason follows, such as E14 NoLink. Status 1
+  E46           The adapter could not be initialized; the reason follows, such as E14 NoLink. Status
+                1
   E59, E69      An answer isn't right, or drive ended too early, status 1
   E60 to E64    IN is invalid, status 1
   E66 to E68    Opening, reading or writing failed, status 3
+  E72           IN is a pipe that is too long, status 3
   E57, E65      Out of memory, status 4
 
 What each code means, and what to do: nicbench --help";
 
 /// An example; what each exit status and each code on standard error means, and what a user can do.
 pub(crate) const PROGRAM_NOTE: &str =
-    "In this example one host sends a frame to another, step by step, and the received frame is listed. Run it
-from the top of the repository:
+    "In this example one host sends a frame to another, step by step, and the received frame is listed.
+Run it from the top of the repository:
 
   $ mkdir out
   $ ./nicbench run examples/first-frame.scenario out
@@ -297,20 +320,20 @@ from the top of the repository:
   0 60 02:00:00:00:00:02 02:00:00:00:00:01 0800
   frames 1 skipped 0 cut no
 
-Exit status: 0 success, 1 a trace, a scenario, an image or an answer is invalid, or drive ended too early,
-2 usage error, help or version, 3 a file failed, 4 out of memory. If the status is 1, 3 or 4, nicbench
-prints 'nicbench: CODE NAME' on standard error, or 'nicbench: line N: CODE NAME' if a line of a scenario is
-invalid. IN is any input: also the TRACE of show, and the SCENARIO of run with each FILE that it feeds. If
-IN is -, it is standard input, which can be read only once. Standard input and named pipes are read to their
-end first, up to 1 GiB. OUT is any output: also each file in the OUTDIR of run. Codes E40 to E56 come from
-run only (E46 from drive, too): nicbench run --help. For E57, E66, E67 and E68 of serve: nicbench serve --help
+Exit status: 0 success, 1 a trace, a scenario, an image or an answer is invalid, or drive ended too
+early, 2 usage error, help or version, 3 a file failed, 4 out of memory. If the status is 1, 3 or 4,
+nicbench prints 'nicbench: CODE NAME' on standard error, or 'nicbench: line N: CODE NAME' if a line
+of a scenario is invalid. IN is any input: also the TRACE of show, and the SCENARIO of run with each
+FILE that it feeds. If IN is -, it is standard input, which can be read only once. Standard input
+and named pipes are read to their end first, up to 1 GiB. OUT is any output: also each file in the
+OUTDIR of run. Codes E40 to E56 come from run only (E46 from drive, too): nicbench run --help. For
+E57, E66, E67 and E68 of serve: nicbench serve --help
 
-  E57 Memory    Out of memory before anything was written, or standard input or a pipe has more than
-                1 GiB. Free some, split IN, or copy it to a file first
+  E57 Memory    Out of memory before anything was written. Free some, or split IN
   E58 Image     The file of --image of serve hasn't 128 bytes. Name another file
   E59 Answer    A line isn't the answer to a request of drive. Check the program that answers
-  E60 Header    IN has fewer than 24 bytes, so it isn't a trace. Name another file, or check the program
-                that writes into the pipe
+  E60 Header    IN has fewer than 24 bytes, so it isn't a trace. Name another file, or check the
+                program that writes into the pipe
   E61 Magic     IN isn't a pcap file. Convert a pcapng file: editcap -F pcap IN OUT
   E62 Version   IN isn't a pcap file of version 2.4. Convert it: editcap -F pcap IN OUT
   E63 LinkType  IN isn't a trace of Ethernet frames. Capture it at an Ethernet interface
@@ -319,10 +342,13 @@ run only (E46 from drive, too): nicbench run --help. For E57, E66, E67 and E68 o
                 editcap -F pcap -c 100000 IN OUT
   E66 Read      IN could not be read. Name a file, not a folder, or copy it to another disk
   E67 Write     OUT or standard output could not be written. Free space there
-  E68 Open      IN couldn't be opened or is a device, OUT couldn't be created, or OUTDIR doesn't exist.
-                Check the paths and permissions. Copy a part of a device to a file: head -c SIZE DEVICE
-  E69 Fewer     drive ended before all frames of IN were sent and N were received. Check the adapter, or use a
-                larger --idle
-  E70 Schedule  The file of --schedule of serve isn't a schedule, or one for other options. Correct it, or use
-                the options in its first line
-  E71 Unmet     Deviations of the schedule of serve weren't met. Standard error lists them";
+  E68 Open      IN couldn't be opened or is a device, OUT couldn't be created, or OUTDIR doesn't
+                exist. Check the paths and permissions. Copy a part of a device to a file: head -c
+                SIZE DEVICE
+  E69 Fewer     drive ended before all frames of IN were sent and N were received. Check the
+                adapter, or use a larger --idle
+  E70 Schedule  The file of --schedule of serve isn't a schedule, or one for other options. Correct
+                it, or use the options in its first line
+  E71 Unmet     Deviations of the schedule of serve weren't met. Standard error lists them
+  E72 Pipe      Standard input or a pipe has more than 1 GiB. Copy it to a file first, and name the
+                file";

@@ -24,6 +24,7 @@ status_of faults.Image = 1
 status_of (faults.Schedule error) = 1
 status_of faults.Options = 1
 status_of faults.Unmet = 1
+status_of faults.Pipe = 3
 status_of faults.Memory = 4
 
 -- the fault of a text that isn't read as a schedule
@@ -36,4 +37,5 @@ schedule_fault schedules.Memory = faults.Memory
 abbrev pub file_fault : FileError → Fault
 file_fault files.Open = faults.Program errors.Open
 file_fault (files.Read error) = faults.Program (errors.Read error)
+file_fault files.Pipe = faults.Pipe
 file_fault files.Memory = faults.Memory

@@ -22,6 +22,9 @@ const BAD_SCHEDULE: u8 = 1;
 /// The exit status where fewer frames came than were expected.
 const FEWER_FRAMES: u8 = 1;
 
+/// The exit status if standard input or a pipe has more bytes than are read.
+const LONG_PIPE: u8 = 3;
+
 /// The exit status where memory was refused.
 const NO_MEMORY: u8 = 4;
 
@@ -48,6 +51,8 @@ pub(crate) enum Fault {
     Options,
     /// Deviations of a schedule weren't met.
     Unmet,
+    /// Standard input or a pipe has more bytes than are read.
+    Pipe,
     /// Memory was refused elsewhere.
     Memory,
 }
@@ -66,6 +71,7 @@ impl Display for Fault {
             Fault::Image => f.write_str("E58 Image"),
             Fault::Options => f.write_str("E70 Schedule options"),
             Fault::Unmet => f.write_str("E71 Unmet"),
+            Fault::Pipe => f.write_str("E72 Pipe"),
             Fault::Memory => f.write_str("E57 Memory"),
         }
     }
@@ -85,6 +91,7 @@ impl Fault {
             Fault::Fewer => FEWER_FRAMES,
             Fault::Image => BAD_IMAGE,
             Fault::Schedule(_) | Fault::Options | Fault::Unmet => BAD_SCHEDULE,
+            Fault::Pipe => LONG_PIPE,
             Fault::Memory => NO_MEMORY,
         }
     }
@@ -106,6 +113,7 @@ impl From<FileError> for Fault {
         match error {
             FileError::Open => Fault::Program(ProgramError::Open),
             FileError::Read(error) => Fault::Program(ProgramError::Read(error)),
+            FileError::Pipe => Fault::Pipe,
             FileError::Memory => Fault::Memory,
         }
     }

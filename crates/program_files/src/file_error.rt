@@ -12,6 +12,8 @@ pub enum FileError {
     Open,
     /// A trace is refused, or an input can't be read.
     Read(ReadError),
+    /// E72: standard input or a pipe has more bytes than are read.
+    Pipe,
     /// E57: memory was refused.
     Memory,
 }

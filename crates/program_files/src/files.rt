@@ -43,7 +43,7 @@ fn read_up_to<S: Read + Drop>(alloc: Global, reader: S, limit: u64) -> Result<Ve
 fn read_pipe<S: Read + Drop>(alloc: Global, reader: S) -> Result<Vec<u8>, FileError> {
     let bytes = read_up_to(alloc, reader, MOST_PIPED + 1)?;
     if bytes.len() as u64 > MOST_PIPED {
-        return Err(FileError::Memory);
+        return Err(FileError::Pipe);
     }
     Ok(bytes)
 }

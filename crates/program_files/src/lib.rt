@@ -5,6 +5,8 @@ mod file_error;
 mod files;
 mod late_file;
 mod progress;
+mod standard_error;
+mod whole_file;
 
 pub use file_error::FileError;
 pub use files::{
@@ -12,3 +14,5 @@ pub use files::{
 };
 pub use late_file::LateFile;
 pub use progress::{Watched, report_play};
+pub use standard_error::StandardError;
+pub use whole_file::{WholeFile, create_whole};

@@ -1,10 +1,12 @@
 """An 82540EM and its host's memory in the process of a driver, by the library libnic82540em.so.
 
 `Adapter` has the calls of the class in examples/drivers/adapter.py, which runs `nicbench serve`. So a driver in Python
-runs in process if it imports this class instead. `Nic` has the calls of the library.
+runs in process if it imports this class instead. `Nic` has the calls of the library. Both take the path of the library,
+or None for `default_library()`.
 """
 
 import ctypes
+import os
 from contextlib import contextmanager
 
 KINDS = "txtake", "txput", "rxdata", "rxdone", "eeprom", "phy"
@@ -14,6 +16,7 @@ FATES = "off", "illegal", "filtered", "missed", "stored"
 REFUSED = 0xFFFFFFFF
 # The most bytes of a frame
 MOST_FRAME_BYTES = 1518
+FILE = "libnic82540em.so"
 # The bytes of a register
 REGISTER_BYTES = 4
 
@@ -56,6 +59,12 @@ CALLS = {
 }
 
 
+def default_library():
+    """The library that `pip` has installed with this package, that in $NIC82540EM_LIB, or else the system's."""
+    own = os.path.join(os.path.dirname(os.path.abspath(__file__)), FILE)
+    return own if os.path.exists(own) else os.path.join(os.environ.get("NIC82540EM_LIB", ""), FILE)
+
+
 def load_library(path):
     """Loads libnic82540em.so, and gives its calls their types."""
     library = ctypes.CDLL(path)
@@ -71,8 +80,9 @@ class Nic:
     Raises Refused if an option is out of range, or memory is refused.
     """
 
-    def __init__(self, library, memory=1 << 20, link=1, rxa=48, address=b"\x02\0\0\0\0\x01"):
+    def __init__(self, library=None, memory=1 << 20, link=1, rxa=48, address=b"\x02\0\0\0\0\x01"):
         self.handle = Handle()
+        library = default_library() if library is None else library
         self.library = load_library(library) if isinstance(library, str) else library
         for name, value, most in ("memory", memory, 1 << 64), ("link", link, 1 << 32), ("rxa", rxa, 1 << 32):
             if not 0 <= value < most:
@@ -194,7 +204,7 @@ def options_of(words):
 class Adapter:
     """Registers and memory, an interrupt line, and a wire, as in examples/drivers/adapter.py."""
 
-    def __init__(self, library, *options):
+    def __init__(self, library=None, *options):
         """Makes an adapter by the library with this path, with options of `serve`."""
         self.seed, settings = options_of(options)
         self.nic = Nic(library, **settings)

@@ -1,0 +1,91 @@
+"""Builds a wheel of the package `nic82540em` with the library libnic82540em.so, for pip (PEP 517).
+
+The setting `library` (pip install --config-settings library=FOLDER) or the environment variable NIC82540EM_LIB names the
+folder of the library. Otherwise it is in the folder lib of the release, or in .build/library/lib of the repository, or
+where `pkg-config` finds it.
+The wheel has the version of nic82540em.pc there. With the same files, the wheel has the same bytes.
+"""
+
+import base64
+import hashlib
+import os
+import re
+import subprocess
+import zipfile
+
+NAME, FILE = "nic82540em", "libnic82540em.so"
+HERE = os.path.dirname(os.path.abspath(__file__))
+TOP = os.path.dirname(os.path.dirname(HERE))
+SUMMARY = "An Intel 82540EM and its host's memory in the process of a driver"
+# The library is built for x86-64 alone.
+TAG = "py3-none-linux_x86_64"
+# The first moment that a ZIP archive can hold
+MOMENT = (1980, 1, 1, 0, 0, 0)
+
+
+def of_pkg_config():
+    """The folder of the library that `pkg-config` knows, or nothing."""
+    try:
+        ran = subprocess.run(["pkg-config", "--variable=libdir", NAME], capture_output=True)
+    except OSError:
+        return ""
+    return ran.stdout.decode().strip()
+
+
+def folder_of_library(settings):
+    """The folder with the library. A folder that was named must have it."""
+    named = (settings or {}).get("library") or os.environ.get("NIC82540EM_LIB")
+    own = [os.path.join(TOP, "lib"), os.path.join(TOP, ".build", "library", "lib")]
+    places = [place for place in ([named] if named else [*own, of_pkg_config()]) if place]
+    for place in places:
+        if os.path.exists(os.path.join(place, FILE)):
+            return place
+    raise SystemExit(f"{FILE} isn't in {' or '.join(places)}: build it by `tools/library FOLDER`, and set "
+                     "NIC82540EM_LIB=FOLDER/lib")
+
+
+def bytes_of(path):
+    with open(path, "rb") as file:
+        return file.read()
+
+
+def version_of(folder):
+    """The version of the library, as its file for pkg-config states it."""
+    return re.search(rb"^Version: (\S+)$", bytes_of(os.path.join(folder, "pkgconfig", f"{NAME}.pc")), re.M)[1].decode()
+
+
+def record_of(files, name):
+    """The list of all files with their checksums, which a wheel has as its last file."""
+    def line(path, data):
+        checksum = base64.urlsafe_b64encode(hashlib.sha256(data).digest()).decode().rstrip("=")
+        return f"{path},sha256={checksum},{len(data)}\n"
+
+    return "".join([*(line(path, data) for path, data in files.items()), f"{name},,\n"]).encode()
+
+
+def build_wheel(wheel_directory, config_settings=None, metadata_directory=None):
+    """Writes the wheel, and returns its name."""
+    folder = folder_of_library(config_settings)
+    version = version_of(folder)
+    info = f"{NAME}-{version}.dist-info"
+    files = {
+        f"{NAME}/__init__.py": bytes_of(os.path.join(HERE, NAME, "__init__.py")),
+        f"{NAME}/{FILE}": bytes_of(os.path.join(folder, FILE)),
+        f"{info}/METADATA": f"Metadata-Version: 2.1\nName: {NAME}\nVersion: {version}\nSummary: {SUMMARY}\n"
+                            "Requires-Python: >=3.8\n".encode(),
+        f"{info}/WHEEL": f"Wheel-Version: 1.0\nGenerator: {NAME}\nRoot-Is-Purelib: false\nTag: {TAG}\n".encode(),
+    }
+    files[f"{info}/RECORD"] = record_of(files, f"{info}/RECORD")
+    wheel = f"{NAME}-{version}-{TAG}.whl"
+    with zipfile.ZipFile(os.path.join(wheel_directory, wheel), "w", zipfile.ZIP_DEFLATED) as archive:
+        for path, data in files.items():
+            member = zipfile.ZipInfo(path, MOMENT)
+            member.external_attr = 0o644 << 16
+            member.compress_type = zipfile.ZIP_DEFLATED
+            archive.writestr(member, data)
+    return wheel
+
+
+def build_sdist(sdist_directory, config_settings=None):
+    """A source archive would lack the library."""
+    raise SystemExit("build a wheel: pip wheel bindings/python")

@@ -1,0 +1,159 @@
+//! An output file that is never there in part.
+ghost use Rattle.std.specs.Prelude.{◌≡◌, IfOk};
+
+use crate::file_error::FileError;
+use crate::files::{FileSink, create};
+use crate::late_file::LateFile;
+use pcap_trace::{Sink, WriteError, WriterSink};
+use std::fs::{self, Metadata, OpenFile, OpenOptions};
+use std::io::ErrorKind;
+use std::os::unix::fs::MetadataExt;
+use std::rt::Files;
+
+/// The most names that are tried for a part.
+const MOST_PARTS: u32 = 100;
+
+/// An output that was opened.
+///
+/// If it can be replaced, its new bytes are written beside it, into a part, and [`finish`](WholeFile::finish) gives the
+/// part the name of the output. So the output has its old bytes or all new bytes, also if the program is killed.
+#[derive(Drop)]
+pub struct WholeFile<F> {
+    /// Takes the new bytes.
+    pub sink: FileSink<F>,
+    /// The path of the part; `None` if the output is written in place.
+    part: Option<String>,
+}
+
+/// Makes a part, which is a new file, and returns it with its path. Returns `None` if it can't be made.
+fn new_part<R: Files + AllocGlobal>(
+    rt: &R,
+    path: &str,
+) -> Result<Option<(R::File, String)>, FileError> {
+    if path.is_empty() || path.ends_with('/') {
+        return Ok(None);
+    }
+    for number in 0..MOST_PARTS {
+        let name = format!(in rt.alloc(); "{path}.part{number}")?;
+        match OpenOptions::new()
+            .write(true)
+            .create_new(true)
+            .open(rt, name.as_str())
+        {
+            Ok(file) => return Ok(Some((file, name))),
+            Err(error) if error.kind() == ErrorKind::AlreadyExists => {}
+            Err(_) => return Ok(None),
+        }
+    }
+    Ok(None)
+}
+
+/// Gives a part the permissions of the file that it replaces. Returns whether it has them, and the same owner.
+fn take_after<F: OpenFile>(part: &F, old: &Metadata) -> bool {
+    let Ok(new) = part.metadata() else {
+        return false;
+    };
+    let is_same = new.uid() == old.uid() && new.gid() == old.gid();
+    is_same && part.set_permissions(old.permissions()).is_ok()
+}
+
+/// Makes a part that can replace this file.
+fn part_like<R: Files + AllocGlobal>(
+    rt: &R,
+    path: &str,
+    old: &Metadata,
+) -> Result<Option<(R::File, String)>, FileError> {
+    let Some((file, name)) = new_part(rt, path)? else {
+        return Ok(None);
+    };
+    if take_after(&file, old) {
+        return Ok(Some((file, name)));
+    }
+    let _ = fs::remove_file(rt, name.as_str());
+    Ok(None)
+}
+
+impl<F: OpenFile + std::io::Write + Drop> WholeFile<F> {
+    /// An output that is written into a part.
+    fn beside(file: F, name: String) -> WholeFile<F>
+        ensures { ⟦<FileSink<F> as Sink>⟧.failures result.sink ≡ 0 }
+    {
+        WholeFile {
+            sink: WriterSink::new(LateFile::new(file)),
+            part: Some(name),
+        }
+    }
+
+    /// An output that is written in place.
+    fn in_place(sink: FileSink<F>) -> WholeFile<F>
+        requires { ⟦<FileSink<F> as Sink>⟧.failures sink ≡ 0 }
+        ensures { ⟦<FileSink<F> as Sink>⟧.failures result.sink ≡ 0 }
+    {
+        WholeFile { sink, part: None }
+    }
+
+    /// All is written: the output gets the new bytes.
+    ///
+    /// # Errors
+    ///
+    /// E67 [`Write`](WriteError::Write) if the part can't get the output's name. Then the output is as it was.
+    pub fn finish<R: Files>(self, rt: &R, path: &str) -> Result<(), WriteError> {
+        let WholeFile { sink: _, part } = self;
+        let Some(part) = part else {
+            return Ok(());
+        };
+        if fs::rename(rt, part.as_str(), path).is_ok() {
+            return Ok(());
+        }
+        let _ = fs::remove_file(rt, part.as_str());
+        Err(WriteError::Write)
+    }
+
+    /// Not all is written: removes the part. An output that is written in place keeps the bytes that it has.
+    pub fn abandon<R: Files>(self, rt: &R) {
+        let WholeFile { sink: _, part } = self;
+        if let Some(part) = part {
+            let _ = fs::remove_file(rt, part.as_str());
+        }
+    }
+}
+
+/// A plain file with one name, which can be replaced by a part.
+fn open_replaceable<R: Files + AllocGlobal>(
+    rt: &R,
+    path: &str,
+    old: &Metadata,
+) -> Result<WholeFile<R::File>, FileError>
+    ensures { IfOk result (λ file. ⟦<FileSink<R::File> as Sink>⟧.failures file.sink ≡ 0) }
+{
+    let Ok(file) = OpenOptions::new().write(true).open(rt, path) else {
+        return Err(FileError::Open);
+    };
+    match part_like(rt, path, old)? {
+        Some((part, name)) => Ok(WholeFile::beside(part, name)),
+        None => Ok(WholeFile::in_place(WriterSink::new(LateFile::new(file)))),
+    }
+}
+
+/// Opens an output. A plain file with one name keeps its bytes until [`finish`](WholeFile::finish), and a new file gets
+/// its name then. Any other output is written in place, as by [`create`]: a link, a file with several names, a device
+/// or a pipe. So is a file that can't get a part with its owner and permissions beside it.
+pub fn create_whole<R: Files + AllocGlobal>(
+    rt: &R,
+    path: &str,
+) -> Result<WholeFile<R::File>, FileError>
+    ensures { IfOk result (λ file. ⟦<FileSink<R::File> as Sink>⟧.failures file.sink ≡ 0) }
+{
+    match fs::symlink_metadata(rt, path) {
+        Ok(old) if old.is_file() && old.nlink() == 1 => {
+            return open_replaceable(rt, path, &old);
+        }
+        Err(error) if error.kind() == ErrorKind::NotFound => {
+            if let Some((part, name)) = new_part(rt, path)? {
+                return Ok(WholeFile::beside(part, name));
+            }
+        }
+        _ => {}
+    }
+    Ok(WholeFile::in_place(create(rt, path)?))
+}

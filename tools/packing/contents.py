@@ -1,0 +1,92 @@
+"""What a release contains: the tree of the archive, and the same files where a Debian package has them."""
+
+import gzip
+import os
+
+import sources
+from packing import help_texts
+from packing.archive import Tree
+
+NAME = sources.LIBRARY
+FOLDERS = ("docs", "examples", "machines", "bench", "bindings", "crates", os.path.join("tools", "race_finder"))
+FILES = ("README.md", "CHANGELOG.md", "LICENSE", os.path.join("tools", "races"))
+# `./nicbench --build` is a line of the pages: here the program is built.
+SCRIPT = """#!/bin/sh
+# Runs the program of this release with the given words. `--build` has nothing to do.
+if [ "${1-}" = --build ]; then
+    shift
+    [ $# -gt 0 ] || exit 0
+fi
+self=$(readlink -f "$0")
+exec "${self%/*}/bin/nicbench" "$@"
+"""
+FINDER = """#!/bin/sh
+# Finds races: see nicbench-races(1).
+exec /usr/bin/python3 /usr/share/nicbench/tools/races "$@"
+"""
+
+
+def release_tree(program, library, version, notes, moment):
+    """The tree of the archive. `notes` is the text of its file VERSION."""
+    tree = Tree()
+    tree.add_file(program, "bin/nicbench")
+    tree.add("nicbench", SCRIPT, True)
+    # where the finder and other scripts look for the program and the library
+    tree.links.update({".build/nicbench": "../bin/nicbench", ".build/library": ".."})
+    for name in FILES:
+        tree.add_file(os.path.join(sources.TOP, name), name)
+    for name in FOLDERS:
+        tree.add_folder(os.path.join(sources.TOP, name), name)
+    for name in ("lib", "include"):
+        tree.add_folder(os.path.join(library, name), name)
+    tree.add("VERSION", notes)
+    found = help_texts.texts(program, [os.path.join(sources.TOP, "tools", "races")])
+    for name, page in help_texts.man_pages(found, version, moment).items():
+        tree.add(f"share/man/man1/{name}", page)
+    tree.add("share/bash-completion/completions/nicbench", help_texts.bash(found))
+    tree.add("share/zsh/site-functions/_nicbench", help_texts.zsh(found))
+    return tree
+
+
+def place(path):
+    """Where a Debian package has a file of the archive."""
+    places = {"bin/nicbench": "usr/bin/nicbench", "LICENSE": "usr/share/doc/nicbench/copyright",
+              "share/zsh/site-functions/_nicbench": "usr/share/zsh/vendor-completions/_nicbench"}
+    is_system = path.split("/")[0] in ("lib", "include", "share")
+    return places.get(path) or f"usr/{path}" if is_system or path in places else f"usr/share/nicbench/{path}"
+
+
+def debian_tree(tree):
+    """The tree of a Debian package with the same files."""
+    made = Tree()
+    for path, data in tree.files.items():
+        target = place(path)
+        if path.endswith(f"{NAME}.pc"):
+            data = data.replace(b"prefix=${pcfiledir}/../..\n", b"prefix=/usr\n", 1)
+        elif path.startswith("share/man/"):
+            target, data = f"{target}.gz", gzip.compress(data, 9, mtime=0)
+        made.add(target, data, path in tree.programs)
+    made.add("usr/bin/nicbench-races", FINDER, True)
+    made.add("usr/share/doc/nicbench/changelog.gz", gzip.compress(tree.files["CHANGELOG.md"], 9, mtime=0))
+    made.add(f"usr/lib/python3/dist-packages/{NAME}/__init__.py", tree.files[f"bindings/python/{NAME}/__init__.py"])
+    made.links.update({
+        "usr/share/nicbench/bin/nicbench": "../../../bin/nicbench",
+        "usr/share/nicbench/.build/nicbench": "/usr/bin/nicbench",
+        "usr/share/nicbench/.build/library": "/usr",
+        "usr/share/nicbench/LICENSE": "../doc/nicbench/copyright",
+        "usr/share/bash-completion/completions/nicbench-races": "nicbench",
+    })
+    return made
+
+
+def control(version, maintainer):
+    """The fields of the Debian package."""
+    return {
+        "Package": "nicbench", "Version": version, "Architecture": "amd64", "Maintainer": maintainer,
+        "Section": "devel", "Priority": "optional", "Depends": "libc6 (>= 2.34), python3 (>= 3.8)",
+        "Suggests": "gcc, pkg-config, qemu-system-x86",
+        "Description": "test bench for drivers of the Intel 82540EM\n"
+                       " A model of the adapter, a finder of races between a driver and the adapter, a\n"
+                       " library of the model for C, and a proved driver. The pages are in\n"
+                       " /usr/share/nicbench; README.md is the first.",
+    }

@@ -1,0 +1,91 @@
+"""Plays a release in an empty root: the sessions of its README, its library, its man pages, and its Debian package."""
+
+import os
+import re
+import subprocess
+import tarfile
+import tempfile
+
+from packing.root import Root
+
+# Programs that a session needs and a release doesn't have
+NEEDS = {"python3": "python3", "tools/races": "python3", "examples/emulators/qemu.py": "qemu-system-x86_64",
+         "cc ": "cc", "pkg-config": "pkg-config"}
+FLAGS = "$(pkg-config --cflags --libs nic82540em)"
+FIRST = "line 1\n00000080\nline 0\n"
+# records RXT0 by ICS, and reads ICR
+PYTHON = "python3 -B -c 'from nic82540em import Nic; n = Nic(); n.write(0xC8, 0x80); print(hex(n.read(0xC0)))'"
+CAUSES = "0x80\n"
+LIBRARY = [
+    (f"export PKG_CONFIG_PATH=$PWD/lib/pkgconfig; cc -o first examples/library/first.c {FLAGS}", ""),
+    ("./first", FIRST),
+    (f"NIC82540EM_LIB=lib PYTHONPATH=bindings/python {PYTHON}", CAUSES),
+]
+PACKAGE = [
+    ("nicbench show /usr/share/nicbench/examples/empty.pcap", "frames 0 skipped 0 cut no\n"),
+    ("nicbench-races --runs 3 -- python3 -S /usr/share/nicbench/examples/drivers/receive_test.py right", None),
+    (f"cc -o first /usr/share/nicbench/examples/library/first.c {FLAGS} && ./first", FIRST),
+    (PYTHON, CAUSES),
+]
+
+
+class NotPlayed(Exception):
+    """A session of the release doesn't do what its page shows."""
+
+
+def sessions(page):
+    """The commands of a page, after `$ `, each with the output that the page shows."""
+    for block in re.findall(r"^```\n(\$ .*?)^```$", page, re.M | re.S):
+        for session in re.split(r"^\$ ", block, flags=re.M)[1:]:
+            command, _, output = session.partition("\n")
+            yield command, output
+
+
+def fits(output, shown):
+    """Whether this is the output that a page shows. There, a line `...` is in place of any lines."""
+    lines = ["(?:.*\n)*?" if line == "...\n" else re.escape(line) for line in shown.splitlines(keepends=True)]
+    return re.fullmatch("".join(lines), output) is not None
+
+
+def lacks(root, command):
+    """A program that a session needs, if it isn't there."""
+    needed = [program for word, program in NEEDS.items() if word in command]
+    return next((program for program in needed if root.run(f"command -v {program}")[0] != 0), None)
+
+
+def play(root, played, tell):
+    """Plays commands, each with its output, or with None for any output. Returns how many were played."""
+    count = 0
+    for command, shown in played:
+        missing = lacks(root, command)
+        if missing:
+            tell(f"not played, because there is no {missing}: {command}")
+            continue
+        status, output = root.run(command)
+        if status != 0 and shown is None or shown is not None and not fits(output, shown):
+            raise NotPlayed(f"`{command}` ended with status {status}, and printed:\n{output}\nand not:\n{shown}")
+        count += 1
+    return count
+
+
+def play_archive(path, tell):
+    """Unpacks an archive, and plays its README and its library: how many commands were played, and whether in a root."""
+    with tempfile.TemporaryDirectory() as folder:
+        with tarfile.open(path) as archive:
+            archive.extractall(folder)
+        top = os.path.join(folder, os.listdir(folder)[0])
+        with open(os.path.join(top, "README.md")) as file:
+            page = file.read()
+        root = Root(top)
+        return play(root, [("./nicbench --build", ""), *sessions(page), *LIBRARY], tell), root.is_root
+
+
+def play_package(path, tell):
+    """Plays a Debian package whose files are added to /usr. Returns how many commands were played."""
+    with tempfile.TemporaryDirectory() as folder:
+        subprocess.run(["dpkg-deb", "-x", path, folder], check=True)
+        root = Root(folder, os.path.join(folder, "usr"))
+        if not root.is_root:
+            tell("the Debian package isn't played, because the system refuses an empty root")
+            return 0
+        return play(root, PACKAGE, tell)

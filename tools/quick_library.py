@@ -1,0 +1,113 @@
+"""Builds the object of the C library without proof and with run-time checks, in about a minute.
+
+`rt try` compiles programs only. So this copies the crates of the library, and makes a program of the one that has the
+exports: its `main` calls each export. In the program's code, in LLVM's text form, each export then gets its name for C,
+and `main` is hidden. If any step fails, QuickBuildFailed says why.
+"""
+
+import os
+import re
+import shutil
+import tempfile
+
+import sources
+from quick import QuickBuildFailed, flags_of, kit_of, make_bitcode, run_all
+
+NAME = sources.LIBRARY
+# The bitcode of a crate alone or of the runtime is smaller, that of the library is larger.
+LEAST_LIBRARY_BYTES = 300_000
+EXPORT = re.compile(r'^pub extern "C" fn (\w+)\(\s*(.*?),?\s*\)', re.M | re.S)
+# A value for each type that a parameter has
+VALUES = {"Global": "rt.alloc()", "&mut Nic": "&mut nic", "&AdapterOptions": "&options", "u32": "0", "u64": "0",
+          "bool": "false", "&[u8]": "&bytes", "&mut [u8]": "&mut bytes", "&mut u32": "&mut word",
+          "&mut *const u8": "&mut place"}
+MAIN = """
+fn main(rt: HostRuntime) {
+    let mut nic = Nic { held: false, owner: owner::probed(rt.alloc()) };
+    let options = AdapterOptions { memory: 0, link: 0, receive_kilobytes: 0, address: [0; 6] };
+    let mut bytes = [0_u8; 1];
+    let mut word = 0_u32;
+    let mut place: *const u8 = std::ptr::null();
+    CALLS
+    let Nic { held: _, owner } = nic;
+    owner::end(owner);
+}
+"""
+OWNER = """
+pub(crate) fn probed(alloc: Global) -> Owner {
+    Owner::empty(alloc)
+}
+
+pub(crate) fn end(owner: Owner) {
+    let _alloc = owner.into_alloc();
+}
+"""
+
+
+def read(path):
+    with open(path) as file:
+        return file.read()
+
+
+def write(path, text):
+    with open(path, "w") as file:
+        file.write(text)
+
+
+def exports(text):
+    """The names of the exports, each with the types of its parameters."""
+    found = {name: [part.split(": ")[1] for part in re.split(r",\s+", parameters)]
+             for name, parameters in EXPORT.findall(text)}
+    for name, types in found.items():
+        for unknown in (kind for kind in types if kind not in VALUES):
+            raise QuickBuildFailed(f"{name} has a parameter of type {unknown}: add a value to tools/quick_library.py")
+    return found
+
+
+def copy(crates, top):
+    """Copies the crates, that of the exports as a program. Returns its folder, and the names of the exports."""
+    for crate in crates:
+        shutil.copytree(os.path.join(sources.CRATES, crate), os.path.join(top, "crates", crate),
+                        ignore=shutil.ignore_patterns(*sources.UNREAD))
+    os.makedirs(os.path.join(top, ".git"))
+    shutil.copy(os.path.join(sources.TOP, "HANDLES"), top)
+    lines = [line.replace(f"{NAME} staticlib:", f"{NAME}:") for line in crates.values()]
+    write(os.path.join(top, "crates.txt"), "".join(lines))
+    folder = os.path.join(top, "crates", NAME)
+    library, owner = (os.path.join(folder, "src", name) for name in ("lib.rt", "owner.rt"))
+    text = read(library)
+    found = exports(text)
+    calls = [f"{name}({', '.join(VALUES[kind] for kind in types)});" for name, types in found.items()]
+    write(os.path.join(folder, "src", "main.rt"), text + MAIN.replace("CALLS", "\n    ".join(calls)))
+    os.remove(library)
+    write(owner, read(owner) + OWNER)
+    return folder, list(found)
+
+
+def exported(text, names):
+    """The code with the names of the exports for C, and without a `main` for others."""
+    for name in names:
+        inner = f'@"{NAME}::{name}"('
+        text, count = re.subn(rf'^define internal (.*){re.escape(inner)}', rf"define \1@{name}(", text, flags=re.M)
+        if count != 1:
+            raise QuickBuildFailed(f"the code has {count} functions {name}")
+        text = text.replace(inner, f"@{name}(")
+    return re.sub(r"^define (.*@main\()", r"define internal \1", text, flags=re.M)
+
+
+def build(rt, crates, target, steps):
+    """Builds the object of the library without proof as the file `target`."""
+    kit = kit_of(rt)
+    clang = os.path.join(kit, "toolchain", "bin", "clang")
+    with tempfile.TemporaryDirectory() as work, tempfile.TemporaryDirectory() as top:
+        folder, names = copy(crates, top)
+        make_bitcode(rt, folder, LEAST_LIBRARY_BYTES, work, steps)
+        flags = ["-fPIC" if flag == "-fPIE" else flag for flag in flags_of(work, kit)]
+        plain = [clang, "--target=x86_64-unknown-linux-gnu", "-x", "ir", "module.bc", "-S", "-emit-llvm", "-O0",
+                 "-Xclang", "-disable-llvm-passes", "-o", "module.ll"]
+        run_all(work, steps, [("reading the code", plain)])
+        code = os.path.join(work, "module.ll")
+        write(code, exported(read(code), names))
+        flags = ["module.ll" if flag == "module.bc" else flag for flag in flags]
+        run_all(work, steps, [("optimizing", [clang, *flags])])
+        shutil.copyfile(os.path.join(work, "module.o"), target)
