@@ -5,12 +5,8 @@
 
 mod memory;
 mod printing;
-#[cfg(test)]
-mod readme;
 mod register_names;
 mod target;
-#[cfg(test)]
-mod tests;
 
 pub use engine_faults::Engine;
 pub use memory::memory_target;

@@ -7,8 +7,6 @@
 mod engine_fault;
 mod faults;
 mod laws;
-#[cfg(test)]
-mod readme;
 mod ring_words;
 
 pub use engine_fault::{Engine, EngineFault, Reason};

@@ -9,8 +9,6 @@ mod config_address;
 mod offsets;
 mod pci_function;
 mod port_width;
-#[cfg(test)]
-mod readme;
 
 pub use pci_function::PciFunction;
 pub use port_width::PortWidth;

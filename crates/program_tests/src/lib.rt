@@ -1,18 +1,26 @@
-//! Tests of the parts of the program: its command line, scenarios, traces, and the server of an adapter.
+//! Tests of the parts of the program: its command line, scenarios, traces, and the server of an adapter with its parts.
 #![tactic(auto)]
 
+#[cfg(test)]
+mod access_names_readme;
 #[cfg(test)]
 mod command_line_readme;
 #[cfg(test)]
 mod devices;
 #[cfg(test)]
+mod engine_faults_readme;
+#[cfg(test)]
 mod failing_sinks;
+#[cfg(test)]
+mod names_of_targets;
 #[cfg(test)]
 mod no_memory;
 #[cfg(test)]
 mod pcap_bench_readme;
 #[cfg(test)]
 mod pcap_trace_readme;
+#[cfg(test)]
+mod pci_function_readme;
 #[cfg(test)]
 mod printed_counts;
 #[cfg(test)]
@@ -22,6 +30,10 @@ mod scenario_calls;
 #[cfg(test)]
 mod scenario_readme;
 #[cfg(test)]
+mod schedule_player_readme;
+#[cfg(test)]
 mod server_calls;
 #[cfg(test)]
 mod slow_devices;
+#[cfg(test)]
+mod step_schedules_readme;

@@ -3,8 +3,6 @@
 
 mod event;
 mod player;
-#[cfg(test)]
-mod readme;
 mod waiting;
 
 pub use player::Player;

@@ -7,8 +7,6 @@ mod deviation;
 mod deviation_words;
 mod printing;
 mod reader;
-#[cfg(test)]
-mod readme;
 mod schedule;
 mod schedule_error;
 mod spelling;

@@ -1,6 +1,6 @@
 //! Names of each kind.
 
-use crate::{Engine, Target};
+use access_names::{Engine, Target};
 use adapter::offsets::{MTA_LAST, RAH_LAST, TDT, VFTA};
 use std::alloc::{AllocError, Global};
 use std::test::Fail;

@@ -1,6 +1,6 @@
-//! The code of README.md, word for word.
+//! The code of the README of `engine_faults`, word for word.
 
-use crate::{Engine, EngineFault, Reason, fault_of};
+use engine_faults::{Engine, EngineFault, Reason, fault_of};
 use adapter::offsets::{TCTL, TDLEN, TDT};
 use adapter::{Adapter, Outcome, StepKind};
 use bitflags::Flags;
@@ -12,7 +12,7 @@ use registers::Tctl;
 use std::test::Fail;
 
 #[test]
-fn the_code_of_the_readme(rt: HostRuntime) -> Result<(), Fail> {
+fn the_code_of_the_readme_of_engine_faults(rt: HostRuntime) -> Result<(), Fail> {
     let image = Image::with_address([0x02, 0, 0, 0, 0, 0x01]);
     let adapter = Adapter::new(rt.alloc(), &image, Link::Never)?;
     let mut machine = Machine::new(adapter, HostMemory::new(rt.alloc(), 4_096)?);

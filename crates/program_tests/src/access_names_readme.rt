@@ -1,6 +1,6 @@
-//! The code of README.md, word for word.
+//! The code of the README of `access_names`, word for word.
 
-use crate::{Engine, Target, memory_target};
+use access_names::{Engine, Target, memory_target};
 use adapter::Adapter;
 use adapter::offsets::{ICR, RDBAL, RDLEN};
 use bus::Machine;
@@ -10,7 +10,7 @@ use mdic_phy::Link;
 use std::test::Fail;
 
 #[test]
-fn the_code_of_the_readme(rt: HostRuntime) -> Result<(), Fail> {
+fn the_code_of_the_readme_of_access_names(rt: HostRuntime) -> Result<(), Fail> {
     let image = Image::with_address([0x02, 0, 0, 0, 0, 0x01]);
     let adapter = Adapter::new(rt.alloc(), &image, Link::Never)?;
     let mut machine = Machine::new(adapter, HostMemory::new(rt.alloc(), 4_096)?);

@@ -1,10 +1,10 @@
-//! The code of README.md, word for word.
+//! The code of the README of `step_schedules`, word for word.
 
-use crate::{Fault, Schedule, ScheduleError};
+use step_schedules::{Fault, Schedule, ScheduleError};
 use std::test::Fail;
 
 #[test]
-fn the_code_of_the_readme(rt: HostRuntime) -> Result<(), Fail> {
+fn the_code_of_the_readme_of_step_schedules(rt: HostRuntime) -> Result<(), Fail> {
     let text =
         b"options --rxa 2\n7.26 rx before read ICR # late\n9.0 tx before settle\neeprom before read EERD#3\n";
     let schedule = Schedule::parse(rt.alloc(), text)?;

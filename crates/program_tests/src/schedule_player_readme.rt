@@ -1,11 +1,11 @@
-//! The code of README.md, word for word.
+//! The code of the README of `schedule_player`, word for word.
 
-use crate::Player;
+use schedule_player::Player;
 use std::test::Fail;
 use step_schedules::{Action, Before, Schedule};
 
 #[test]
-fn the_code_of_the_readme(rt: HostRuntime) -> Result<(), Fail> {
+fn the_code_of_the_readme_of_schedule_player(rt: HostRuntime) -> Result<(), Fail> {
     let alloc = rt.alloc();
     let text = b"1.0 arrive before settle\n2.1 tx before write TDT\nrx before read ICR#1\n";
     let mut player = Player::playing(alloc, Schedule::parse(alloc, text)?)?;

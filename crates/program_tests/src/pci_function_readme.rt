@@ -1,9 +1,9 @@
-//! The code of README.md, word for word.
+//! The code of the README of `pci_function`, word for word.
 
-use crate::{PciFunction, PortWidth};
+use pci_function::{PciFunction, PortWidth};
 
 #[test]
-fn the_code_of_the_readme(rt: HostRuntime) {
+fn the_code_of_the_readme_of_pci_function(rt: HostRuntime) {
     let mut function = PciFunction::new(0xFEB0_0000);
     function.write_port(0xCF8, PortWidth::Long, 0x8000_2000); // bus 0, device 4, function 0, dword 0
     let identity = function.read_port(0xCFC, PortWidth::Long, false);
