@@ -1,6 +1,6 @@
 -- The ways of a frame from the wire into memory ("3.2 Packet Reception"): it arrives, data steps move it to memory piece by piece, and a
 -- done step after each writes the descriptor back.
-use Rattle.std.specs.Prelude.{◌≡◌, ◌≤◌, ◌<◌, ◌+◌, ◌/◌, ◌==◌}
+use Rattle.std.specs.Prelude.{◌≡◌, ◌+◌, ◌*◌, ◌==◌}
 use Rattle.std.specs.Prelude.{ℕ, Bool, true, false, List, Option, None, Some, length, if◌then◌else◌}
 use Rattle.dma_memory.specs.Areas.{ChangesOnly, area_at}
 use Rattle.registers.specs.Bits.{HasBit}
@@ -18,6 +18,7 @@ use Rattle.rx_engine.specs.declared.data.Data.TheVariants as answers
 use Rattle.rx_engine.specs.declared.engine.Work.{Work}
 use Rattle.rx_engine.specs.Passing.{Passes}
 use Rattle.rx_engine.specs.Registers.{filter_of}
+use Rattle.rx_engine.specs.Room.{HasRoomFor, LacksRoomFor}
 use Rattle.adapter.specs.declared.ring.RingRegisters.{RingRegisters}
 use Rattle.adapter.specs.Outcomes.{FrameOutcome}
 use Rattle.adapter.specs.declared.outcome.Outcome.TheVariants.{Part, Moved, Done, Nothing, Fault}
@@ -28,9 +29,9 @@ use Rattle.adapter.specs.Transmitting.{moved_on}
 
 -- Arrivals.
 
--- how many frames the receive packet buffer has room for: each takes 2,048 bytes of its kilobytes (our choice)
+-- the size of the receive packet buffer in bytes: the kilobytes of PBA.RXA (13.4.18)
 abbrev pub room : AdapterState → ℕ
-room state = state.receive_kilobytes / 2
+room state = state.receive_kilobytes * 1024
 
 -- a frame gets as far as the packet buffer
 abbrev pub GetsIn : AdapterState → List ℕ → Type 0
@@ -41,8 +42,8 @@ abbrev pub IsFate : AdapterState → List ℕ → Fate → Type 0
 IsFate state frame Off = ¬ (HasBit state.filter.rctl rctl_en)
 IsFate state frame Illegal = HasBit state.filter.rctl rctl_en × (¬ (IsLegal frame))
 IsFate state frame Filtered = HasBit state.filter.rctl rctl_en × IsLegal frame × (¬ (Passes (filter_of state.filter) frame))
-IsFate state frame Missed = GetsIn state frame × (room state ≤ length state.receiver.buffer)
-IsFate state frame Stored = GetsIn state frame × (length state.receiver.buffer < room state)
+IsFate state frame Missed = GetsIn state frame × LacksRoomFor (room state) state.receiver.buffer frame
+IsFate state frame Stored = GetsIn state frame × HasRoomFor (room state) state.receiver.buffer frame
 
 -- a frame that gets as far as the packet buffer while RDH equals RDT is counted by RNBC (our choice)
 abbrev pub no_buffers_counted : AdapterState → ℕ

@@ -15,7 +15,7 @@ use dma_memory::HostMemory;
 use eeprom::Image;
 use mdic_phy::{Link, Phy, Ticked};
 use registers::{Cause, Ctrl, Status, Tctl};
-use rx_engine::{MOST_FRAMES, RxEngine};
+use rx_engine::RxEngine;
 use std::alloc::{AllocError, Global};
 use std::hash::Hasher;
 use std::marker::Model;
@@ -57,6 +57,7 @@ impl Adapter {
     ghost use Rattle.adapter.specs.Hashed.{adapter_writes};
     ghost use Rattle.adapter.specs.Outcomes.{framed};
     ghost use Rattle.adapter.specs.Receiving.{room};
+    ghost use Rattle.rx_engine.specs.Room.{most_room};
     ghost use Rattle.adapter.specs.Registers.{after_read, after_write, answer_at, new_adapter};
     ghost use Rattle.adapter.specs.State.{IsAdapter};
     ghost use Rattle.adapter.specs.Steps.{Answers, ChangesAtMost, after_step, memory_after_step};
@@ -137,12 +138,12 @@ impl Adapter {
         self.transmitter.feed(hasher);
     }
 
-    /// How many frames the receive packet buffer has room for, by PBA: 24 at most.
-    pub(crate) fn room(&self) -> u8
+    /// The size of the receive packet buffer in bytes, by PBA: at most 49,152.
+    pub(crate) fn room(&self) -> u32
         ensures room { result ≡ room self.now }
-        ensures fits { result ≤ MOST_FRAMES }
+        ensures fits { result ≤ most_room }
     {
-        self.packet_buffer.frames()
+        self.packet_buffer.bytes()
     }
 
     /// A step that the adapter takes by itself, on its host's memory; `wire_free` says whether the wire

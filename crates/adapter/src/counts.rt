@@ -20,7 +20,7 @@ pub struct FrameCounts {
 #[derive(Clone, Copy, Debug, PartialEq, Eq)]
 pub struct WaitingFrames {
     /// Frames that arrived. A frame of which pieces are moved counts until its last piece is.
-    pub received: u8,
+    pub received: u16,
     /// Frames that were fetched and aren't on the wire yet.
     pub transmit: u8,
 }

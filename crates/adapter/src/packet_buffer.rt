@@ -1,9 +1,9 @@
 // PBA: how the packet buffer is divided.
 
-ghost use Rattle.std.specs.Prelude.{◌≡◌, ◌≤◌, ◌/◌};
+ghost use Rattle.std.specs.Prelude.{◌≡◌, ◌≤◌, ◌*◌};
+ghost use Rattle.rx_engine.specs.Room.{most_room};
 ghost use Rattle.adapter.specs.PacketBuffer.{allocation_shown, allocation_written};
 
-use rx_engine::MOST_FRAMES;
 use std::marker::Model;
 
 /// The kilobytes of the packet buffer, of which the receive part takes RXA and the transmit part
@@ -21,8 +21,8 @@ const MOST_KILOBYTES: u32 = 48;
 /// RXA, bits 15:0 of PBA.
 const RXA_BITS: u32 = 0xFFFF;
 
-/// The kilobytes that a frame takes.
-const KILOBYTES_PER_FRAME: u32 = 2;
+/// The bytes of a kilobyte.
+const KILOBYTE_BYTES: u32 = 1_024;
 
 /// The lowest bit of the transmit part's kilobytes, the upper half of PBA.
 const TXA_SHIFT: u32 = 16;
@@ -79,11 +79,11 @@ impl PacketBufferAllocation {
         transmit_kilobytes << TXA_SHIFT | self.receive_kilobytes
     }
 
-    /// How many frames the receive part has room for: each takes 2,048 bytes (our choice).
-    pub(crate) fn frames(&self) -> u8
-        ensures room { result ≡ self.now / 2 }
-        ensures fits { result ≤ MOST_FRAMES }
+    /// The size of the receive part in bytes.
+    pub(crate) fn bytes(&self) -> u32
+        ensures room { result ≡ self.now * 1024 }
+        ensures fits { result ≤ most_room }
     {
-        (self.receive_kilobytes / KILOBYTES_PER_FRAME) as u8
+        self.receive_kilobytes * KILOBYTE_BYTES
     }
 }

@@ -24,9 +24,9 @@ fn the_code_of_the_readme_of_rx_engine(rt: HostRuntime) -> Result<(), Fail> {
         tail: 1,
     };
     let mut engine = RxEngine::new(rt.alloc())?;
-    // A broadcast frame comes, with room for 24, moves into the buffer, and is told in its descriptor.
+    // A broadcast frame arrives at a packet buffer of 48 kilobytes, and moves to memory. Its descriptor is written back.
     let frame = [0xFF; 60];
-    assert_eq!(rt; arrive(&mut engine, &filter, 24, &frame), Fate::Stored);
+    assert_eq!(rt; arrive(&mut engine, &filter, 49_152, &frame), Fate::Stored);
     let moved = rx_data(&mut engine, &mut ring, control, &mut memory);
     assert_eq!(rt; moved, Data::Moved { low: false });
     assert_eq!(rt; rx_done(&mut engine, &mut memory), Done::Done);

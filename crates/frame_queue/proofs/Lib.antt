@@ -1,2 +1,3 @@
 pub mod InPlaces
 mod Written
+mod Cut

@@ -1,7 +1,7 @@
 -- What is in a list of bytes after n of them, from `start` on, are overwritten.
 use Rattle.std.proofs.Common.{◌≡◌, ◌≤◌, ◌+◌, ◌-◌, ◌++◌, ℕ, List, length, take, drop, sym, ap, ◌∙◌, arith}
 use Rattle.std.proofs.lemmas.List.{length-append, length-take-le, length-drop, take-take, take_at, drop_at, take-append-le}
-use Rattle.std.proofs.lemmas.List.{drop-drop, drop-take}
+use Rattle.std.proofs.lemmas.List.{drop-append-le, drop-drop, drop-take}
 use Rattle.std.proofs.Math.Seq.{drop-append-add}
 
 length-front : (bytes written : List ℕ) (start n : ℕ) → length written ≡ n → start + n ≤ length bytes
@@ -52,3 +52,19 @@ bytes-after bytes written start n i m count fits after =
     let there : start + n + k ≡ i = omega (arith, after) in
     ap (take m) (ap (λ (j : ℕ). drop j (front ++ drop (start + n) bytes)) (sym here)
     ∙ drop-append-add front (drop (start + n) bytes) k ∙ drop-drop k (start + n) bytes ∙ ap (λ (j : ℕ). drop j bytes) there)
+
+-- Bytes that begin somewhere before the place, and the bytes that were written there.
+pub bytes-appended : (bytes written : List ℕ) (first count n : ℕ) → length written ≡ n → first + count + n ≤ length bytes
+    → take (count + n) (drop first (take (first + count) bytes ++ written ++ drop (first + count + n) bytes))
+    ≡ take count (drop first bytes) ++ written
+bytes-appended bytes written first count n long fits =
+    let start = first + count in
+    let front = take start bytes ++ written in
+    let all = front ++ drop (start + n) bytes in
+    let whole : first + (count + n) ≡ start + n = omega arith in
+    let kept : length (take start bytes) ≡ start = length-take-le start bytes (omega (arith, fits)) in
+    sym (drop-take first (count + n) all)
+    ∙ ap (λ (k : ℕ). drop first (take k all)) whole
+    ∙ ap (drop first) (take_at front (drop (start + n) bytes) (start + n) (length-front bytes written start n long fits))
+    ∙ drop-append-le first (take start bytes) written (omega (arith, kept))
+    ∙ ap (λ (list : List ℕ). list ++ written) (drop-take first count bytes)

@@ -1,5 +1,6 @@
 pub mod Frames
 pub mod Hashed
 pub mod Laws
+pub mod Packed
 pub mod Places
 pub mod Wrapping

@@ -4,7 +4,9 @@
 #![tactic(auto)]
 
 mod buffers;
+mod packed;
 mod queue;
 
 pub use buffers::copy_of;
+pub use packed::PackedQueue;
 pub use queue::{FrameQueue, PLACE_BYTES};

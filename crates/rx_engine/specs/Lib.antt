@@ -13,4 +13,6 @@ pub mod PieceLaws
 pub mod Pieces
 pub mod Receiver
 pub mod Registers
+pub mod Room
+pub mod RoomLaws
 pub mod Writing

@@ -2,6 +2,7 @@
 use Rattle.std.specs.Prelude.{◌≡◌, ◌≢◌, ◌≤◌, ◌-◌, ℕ, List, [], ◌∷◌, All, length, Bool, false, Option, None}
 use Rattle.std.specs.Option.{ForSome}
 use Rattle.descriptors.specs.Frames.{IsLegal, longest_frame}
+use Rattle.rx_engine.specs.Room.{most_room, occupied_by}
 use Rattle.rx_engine.specs.declared.engine.Work.{Work}
 
 -- The state of the receive engine.
@@ -33,10 +34,11 @@ pub record IsReady (engine : Receiver) : Type 0 where
   -- A frame is in the packet buffer.
   pub frames : engine.buffer ≢ []
 
--- what holds of every engine, whatever its steps: at most 24 frames wait, each has a legal length, and a piece in progress isn't empty
+-- what holds of every engine, whatever its steps: its frames occupy at most 48 kilobytes, each has a legal length, and a piece in progress
+-- isn't empty
 pub record IsReceiver (engine : Receiver) : Type 0 where
-  -- At most 24 frames are in the packet buffer.
-  pub room : length engine.buffer ≤ 24
+  -- The frames in the packet buffer occupy at most 48 kilobytes of it.
+  pub room : occupied_by engine.buffer ≤ most_room
   -- Each frame in the packet buffer has a legal length.
   pub frames : All IsLegal engine.buffer
   -- At least one byte of the oldest frame isn't moved yet. If there is no frame, none is moved.

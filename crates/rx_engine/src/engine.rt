@@ -1,18 +1,25 @@
 // What the receive engine holds.
 
-ghost use Rattle.std.specs.Prelude.{◌≡◌, ◌<◌, ◌≤◌, ◌↔◌, [], ◌∷◌, ◌++◌, true, false, drop, fold, length, option_copied};
-ghost use Rattle.std.specs.Prelude.{IsSome};
+ghost use Rattle.std.specs.Prelude.{◌≡◌, ◌+◌, ◌<◌, ◌≤◌, ◌↔◌, [], ◌∷◌, ◌++◌, true, false, drop, fold, length, option_copied};
+ghost use Rattle.std.specs.Prelude.{All, IsSome};
 ghost use Rattle.std.specs.Prelude.{IfSome, IfOk};
 ghost use Rattle.rx_engine.specs.Hashed.{work_writes};
+ghost use Rattle.descriptors.specs.Frames.{IsLegal};
+ghost use Rattle.rx_engine.specs.Room.{cost, cost_of_length, most_room, occupied_by};
 
-use frame_queue::FrameQueue;
+use frame_queue::PackedQueue;
 use std::alloc::{AllocError, Global};
 use std::hash::{Hash, Hasher};
 use std::marker::Model;
 
-/// The most frames that the receive packet buffer holds, as its 48 kilobytes at most hold them: a frame takes 2,048
-/// bytes (our choice).
-pub const MOST_FRAMES: u8 = 24;
+/// The maximum number of frames in the receive packet buffer: 48 kilobytes have room for 614 frames of 60 bytes.
+pub const MOST_FRAMES: u16 = 614;
+
+/// The memory for the bytes of the frames. It is larger than 48 kilobytes, so that a push seldom has to move frames.
+const QUEUE_BYTES: usize = 65_536;
+
+/// A frame occupies a multiple of so many bytes.
+const UNIT_BYTES: u32 = 16;
 
 /// The piece of a frame in progress: it is in memory, and its descriptor isn't written back yet.
 #[derive(Clone, Copy, Debug, PartialEq, Eq)]
@@ -29,7 +36,9 @@ pub struct Work {
 /// fault has stopped it.
 #[derive(Clone, Debug, Drop)]
 pub struct RxEngine {
-    buffer: FrameQueue,
+    buffer: PackedQueue,
+    /// The number of bytes that the frames in it occupy.
+    occupied: u32,
     /// How many bytes of the oldest frame are moved to memory.
     moved: u16,
     work: Option<Work>,
@@ -52,7 +61,6 @@ impl RxEngine {
     ghost use Rattle.rx_engine.specs.Hashed.{receiver_writes};
     ghost use Rattle.rx_engine.specs.Receiver.{new_receiver, IsReceiver, IsReady, oldest};
     ghost use Rattle.rx_engine.specs.Moving.{begun_with, left_bytes};
-    ghost use Rattle.descriptors.specs.Frames.{IsLegal};
 
     /// An engine that holds no frame.
     ///
@@ -63,7 +71,8 @@ impl RxEngine {
         ensures { IfOk result (λ engine. engine ≡ new_receiver) }
     {
         Ok(RxEngine {
-            buffer: FrameQueue::new(alloc, MOST_FRAMES)?,
+            buffer: PackedQueue::new(alloc, MOST_FRAMES, QUEUE_BYTES)?,
+            occupied: 0,
             moved: 0,
             work: None,
             stopped: false,
@@ -76,18 +85,29 @@ impl RxEngine {
         ensures { self.new ≡ new_receiver }
     {
         self.buffer.clear();
+        self.occupied = 0;
         self.moved = 0;
         self.work = None;
         self.stopped = false;
     }
 
     /// How many frames wait in the packet buffer. A frame of which pieces are moved counts until its last piece is.
-    pub fn buffered(&self) -> u8
+    pub fn buffered(&self) -> u16
         ensures count { result ≡ length self.now.buffer }
         ensures fits { result ≤ MOST_FRAMES }
         ensures sound { IsReceiver self.now }
     {
         self.buffer.len()
+    }
+
+    /// The number of bytes of the packet buffer that its frames occupy. A frame of which pieces are moved occupies its
+    /// room until its last piece is.
+    pub fn occupied(&self) -> u32
+        ensures occupied { result ≡ occupied_by self.now.buffer }
+        ensures fits { result ≤ most_room }
+        ensures sound { IsReceiver self.now }
+    {
+        self.occupied
     }
 
     /// The piece in progress, if there is one.
@@ -110,11 +130,12 @@ impl RxEngine {
 
     /// Puts a frame of a legal length after the others in the packet buffer, which has room for it.
     pub(crate) fn store(&mut self, frame: &[u8])
-        requires room { length self.old.buffer < MOST_FRAMES }
+        requires room { occupied_by self.old.buffer + cost frame.now ≤ most_room }
         requires legal { IsLegal frame.now }
         ensures stored { self.new ≡ record self.old { buffer = self.old.buffer ++ frame.now ∷ [] } }
         ensures sound { IsReceiver self.new }
     {
+        self.occupied += cost(frame.len());
         self.buffer.push(frame);
     }
 
@@ -144,12 +165,20 @@ impl RxEngine {
         ensures sound { IsReceiver self.new }
     {
         if work.ends {
-            self.buffer.pop();
-            self.moved = 0;
+            self.drop_oldest();
         } else {
             self.moved += work.length;
         }
         self.work = Some(work);
+    }
+
+    /// The oldest frame, if there is one, leaves the packet buffer. No byte of the next one is moved yet.
+    fn drop_oldest(&mut self)
+        ensures dropped { self.new ≡ record self.old { buffer = drop 1 self.old.buffer; moved = 0 } }
+    {
+        self.occupied -= cost_of_oldest(&self.buffer);
+        self.buffer.pop();
+        self.moved = 0;
     }
 
     /// No piece is in progress any more.
@@ -179,4 +208,24 @@ fn feed_work<H: Hasher>(work: Option<Work>, hasher: &mut H)
         hasher.write_u16(work.length);
         work.ends.hash(hasher);
     }
+}
+
+/// The number of bytes that the oldest frame occupies, 0 if there is none.
+fn cost_of_oldest(buffer: &PackedQueue) -> u32
+    requires { All IsLegal buffer.now.frames }
+    ensures { result + occupied_by (drop 1 buffer.now.frames) ≡ occupied_by buffer.now.frames }
+{
+    match buffer.front() {
+        Some(frame) => cost(frame.len()),
+        None => 0,
+    }
+}
+
+/// The number of bytes of the packet buffer that a frame of this length occupies: its length, rounded up to a multiple
+/// of 16, and 16 more (our choice).
+pub(crate) fn cost(length: usize) -> u32
+    requires { length ≤ 65535 }
+    ensures { result ≡ cost_of_length length }
+{
+    (length as u32).div_ceil(UNIT_BYTES) * UNIT_BYTES + UNIT_BYTES
 }

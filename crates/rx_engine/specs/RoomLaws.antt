@@ -1,0 +1,51 @@
+-- Lemmas on the room in the receive packet buffer, for proofs of this crate and of those above it: how many frames fit, and how many bytes
+-- they have.
+use Rattle.std.proofs.Common.{◌≡◌, ◌≤◌, ◌<◌, ◌+◌, ◌*◌, ◌/◌, ◌++◌, ◌∷◌, [], ℕ, List, All, length, drop, refl, sym, ap, ◌∙◌, arith, suc}
+use Rattle.std.specs.Prelude.{sum_by, slice_get, Some, None}
+use Rattle.std.proofs.lemmas.List.Sums.{sum_by-append, sum_by-cons}
+use Rattle.descriptors.specs.Frames.{IsLegal}
+use Rattle.rx_engine.specs.Room.{cost, most_room, occupied_by}
+
+-- A frame occupies at least as many bytes as it has, and a legal frame at least 80.
+pub bytes-cost : (frame : List ℕ) → length frame ≤ cost frame
+bytes-cost frame = omega arith
+
+pub legal-cost : (frame : List ℕ) → IsLegal frame → 80 ≤ cost frame
+legal-cost frame legal = omega (arith, legal.least)
+
+all-first : {T : Type 0} (P : T → Type 0) (x : T) (xs : List T) → All P (x ∷ xs) → P x
+all-first P x xs all = all 0 x (omega arith)
+
+all-later : {T : Type 0} (P : T → Type 0) (x : T) (xs : List T) → All P (x ∷ xs) → All P xs
+all-later P x xs all = λ k d below. all (suc k) d (omega arith)
+
+-- Frames occupy at least as many bytes as they have,
+pub bytes-occupied : (frames : List (List ℕ)) → sum_by (λ (frame : List ℕ). length frame) frames ≤ occupied_by frames
+bytes-occupied [] = omega arith
+bytes-occupied (frame ∷ later) =
+    omega (arith, bytes-cost frame, bytes-occupied later, sum_by-cons (λ (f : List ℕ). length f) frame later, sum_by-cons cost frame later)
+
+-- and legal frames at least 80 bytes each.
+pub count-occupied : (frames : List (List ℕ)) → All IsLegal frames → 80 * length frames ≤ occupied_by frames
+count-occupied [] legal = omega arith
+count-occupied (frame ∷ later) legal =
+    omega (arith, legal-cost frame (all-first IsLegal frame later legal), count-occupied later (all-later IsLegal frame later legal),
+    sum_by-cons cost frame later)
+
+-- So the packet buffer contains at most 614 frames.
+pub count-fits : (frames : List (List ℕ)) → All IsLegal frames → occupied_by frames ≤ most_room → length frames ≤ 614
+count-fits frames legal room = omega (arith, count-occupied frames legal)
+
+-- One more frame occupies its own bytes more,
+pub occupied-append : (frames : List (List ℕ)) (frame : List ℕ) → occupied_by (frames ++ frame ∷ []) ≡ occupied_by frames + cost frame
+occupied-append frames frame =
+    sum_by-append cost frames (frame ∷ []) ∙ ap (λ (n : ℕ). occupied_by frames + n)
+    (sum_by-cons cost frame [] ∙ (let e : cost frame + 0 ≡ cost frame = omega arith in e))
+
+-- and without the oldest frame its bytes are free.
+pub occupied-first : (frames : List (List ℕ)) (frame : List ℕ) → slice_get frames 0 ≡ Some frame
+    → cost frame + occupied_by (drop 1 frames) ≡ occupied_by frames
+occupied-first [] frame is = absurd (cc)
+occupied-first (first ∷ later) frame is =
+    let same : first ≡ frame = cc in
+    ap (λ (f : List ℕ). cost f + occupied_by later) (sym same) ∙ sym (sum_by-cons cost first later)
