@@ -1,5 +1,5 @@
 -- Along atomic steps the fates of frames are right.
-use Rattle.std.proofs.Common.{◌≡◌, ◌⊎◌, ◌/◌, ◌++◌, ◌∷◌, [], ℕ, Bool, true, false, Option, Some, None, List, All}
+use Rattle.std.proofs.Common.{◌≡◌, ◌⊎◌, ◌*◌, ◌++◌, ◌∷◌, [], ℕ, Bool, true, false, Option, Some, None, List, All}
 use Rattle.std.proofs.Common.{inl, inr, refl, subst, sym, ◌∙◌}
 use Rattle.std.proofs.lemmas.List.{append-nil}
 use Rattle.std.specs.List.{flat_map}
@@ -57,7 +57,7 @@ receives-append a b c first later one two = record {
   fates =
       fates-append a.filter (room a) a.receiver.buffer b.receiver.buffer c.receiver.buffer first later one.fates
       (subst (λ (f : FilterRegisters). AreRightFates f (room a) b.receiver.buffer later c.receiver.buffer) one.filter
-      (subst (λ (n : ℕ). AreRightFates b.filter (n / 2) b.receiver.buffer later c.receiver.buffer) one.kilobytes
+      (subst (λ (n : ℕ). AreRightFates b.filter (n * 1024) b.receiver.buffer later c.receiver.buffer) one.kilobytes
       two.fates));
 }
 

@@ -1,5 +1,5 @@
 -- Which fate a frame meets, by the frames in the receive packet buffer (our choice; the filter: "3.2.1 Packet Address Filtering").
-use Rattle.std.specs.Prelude.{◌≡◌, ◌≢◌, ◌≤◌, ◌<◌, ◌+◌, ◌++◌, ℕ, List, [], ◌∷◌, drop, length}
+use Rattle.std.specs.Prelude.{◌≡◌, ◌≢◌, ◌+◌, ◌++◌, ℕ, List, [], ◌∷◌, drop}
 use Rattle.std.specs.List.{flat_map}
 use Rattle.descriptors.specs.Frames.{IsLegal}
 use Rattle.rx_engine.specs.Arriving.{kept}
@@ -7,6 +7,7 @@ use Rattle.rx_engine.specs.declared.arrival.Fate.{Fate}
 use Rattle.rx_engine.specs.declared.arrival.Fate.TheVariants.{Off, Illegal, Filtered, Missed, Stored}
 use Rattle.rx_engine.specs.Passing.{Passes}
 use Rattle.rx_engine.specs.Registers.{FilterRegisters, filter_of}
+use Rattle.rx_engine.specs.Room.{HasRoomFor, LacksRoomFor}
 use Rattle.delivery.specs.Happenings.{Accepted, Given, Happening, Moved, Put, Reached, of_host}
 
 -- What arrives at a receive packet buffer and leaves it.
@@ -28,15 +29,7 @@ mark_by k (Given host socket frame) = []
 abbrev pub marks : ℕ → List Happening → List Mark
 marks k happened = flat_map (mark_by k) happened
 
--- The buffer contains these frames, and has room for one more. Its room is a number of frames.
-abbrev pub HasRoomFor : (room : ℕ) → (buffered : List (List ℕ)) → (frame : List ℕ) → Type 0
-HasRoomFor room buffered frame = length buffered < room
-
--- It has no room for one more.
-abbrev pub LacksRoomFor : (room : ℕ) → (buffered : List (List ℕ)) → (frame : List ℕ) → Type 0
-LacksRoomFor room buffered frame = room ≤ length buffered
-
--- The first fate that applies, if the buffer contains these frames. Off is never right.
+-- The first fate that applies, if the buffer of `room` bytes contains these frames. Off is never right.
 abbrev pub IsRightFate : FilterRegisters → (room : ℕ) → (buffered : List (List ℕ)) → List ℕ → Fate → Type 0
 IsRightFate filter room buffered frame Off = ⊥
 IsRightFate filter room buffered frame Illegal = ¬ (IsLegal frame)
