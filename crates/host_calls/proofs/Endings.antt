@@ -13,6 +13,7 @@ use Rattle.descriptors.specs.RingLaws.{places-none}
 use Rattle.dma_memory.specs.OwnersLaws.{length-one_owner}
 use Rattle.rx_engine.specs.Descriptors.{named_address}
 use Rattle.rx_engine.specs.Pieces.{frames_of}
+use Rattle.rx_engine.specs.RoomLaws.{count-fits}
 use Rattle.rx_engine.specs.declared.engine.TheConstants.{MOST_FRAMES}
 use Rattle.rx_engine.specs.declared.engine.Work.{Work}
 use Rattle.adapter.specs.HostFrames.{finished_pieces, frames_held, frames_to_send, piece_in, pieces_in_slots}
@@ -105,7 +106,7 @@ held-at_most h world stands adapter =
       length-map (finished h.driver.oldest_receive world) (piece_in world.memory),
       held-counted h.driver.oldest_receive world,
       ending-most world.adapter.receiver.work,
-      adapter.receiver.room,
+      count-fits world.adapter.receiver.buffer adapter.receiver.frames adapter.receiver.room,
     )
 
 -- The end.

@@ -1,5 +1,5 @@
 //! The frames of a drained host.
-ghost use Rattle.std.specs.Prelude.{◌≡◌, ◌≤◌, ◌-◌, [], IfOk, length, map, vec_capacity};
+ghost use Rattle.std.specs.Prelude.{◌≡◌, ◌≤◌, ◌-◌, [], OnOk, length, map, vec_capacity};
 ghost use Rattle.scenario_bench.specs.DrainedView.{drained_frame};
 
 use descriptors::Frame;
@@ -13,21 +13,31 @@ pub(crate) struct DrainedFrame {
     pub(crate) frame: Frame,
 }
 
-/// The frames that a drain delivered, in order. Their room is allocated before the drain.
+/// The frames that a drain delivered, in order. Their room is allocated before the first drain of a run, and again only
+/// if a later one needs more.
 #[derive(Drop)]
 pub(crate) struct DrainedFrames {
     pub(crate) list: Vec<DrainedFrame>,
 }
 
 impl DrainedFrames {
-    /// No frames, with room for this many.
-    pub(crate) fn with_room(alloc: Global, room: usize) -> Result<DrainedFrames, AllocError>
-        ensures none { IfOk result (λ drained. drained.list.items ≡ []) }
-        ensures room { IfOk result (λ drained. room ≤ vec_capacity drained.list - length drained.list.items) }
+    /// No frames, without room.
+    pub(crate) fn new(alloc: Global) -> DrainedFrames
+        ensures { result.list.items ≡ [] }
     {
-        Ok(DrainedFrames {
-            list: Vec::with_capacity(alloc, room)?,
-        })
+        DrainedFrames {
+            list: Vec::new(alloc),
+        }
+    }
+
+    /// Removes all frames, and makes room for this many. It uses the room that it has, and allocates only if that is
+    /// less.
+    pub(crate) fn make_room(&mut self, room: usize) -> Result<(), AllocError>
+        ensures none { self.new.list.items ≡ [] }
+        ensures room { OnOk result (room ≤ vec_capacity self.new.list - length self.new.list.items) }
+    {
+        self.list.clear();
+        self.list.reserve_exact(room)
     }
 }
 

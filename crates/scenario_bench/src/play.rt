@@ -32,11 +32,12 @@ use scenario::{Command, Scenario};
 use std::alloc::{AllocError, Global};
 use wire::Lan;
 
-/// Hosts on wires, and the record of their run.
+/// Hosts on wires, the record of their run, and the room for the frames of a drain.
 #[derive(Drop)]
 struct Play {
     lan: Lan,
     record: Record,
+    drained: DrainedFrames,
 }
 
 impl Play {
@@ -48,7 +49,12 @@ impl Play {
     {
         let lan = Lan::new(alloc, plan)?;
         let record = Record::new(alloc, plan.hosts.as_slice(), puts)?;
-        Ok(Play { lan, record })
+        let drained = DrainedFrames::new(alloc);
+        Ok(Play {
+            lan,
+            record,
+            drained,
+        })
     }
 
     /// Runs these events, and records what comes of them. If memory is refused before an event, the error has the
@@ -71,15 +77,15 @@ impl Play {
         }
     }
 
-    /// Drains a host, and records the frames that it delivered. Allocates the room for them first.
+    /// Drains a host, and records the frames that it delivered. Makes room for them first.
     #[tactic(auto, using(crate::proofs::PlayedEvents::drained))]
-    fn drain(&mut self, alloc: Global, host: usize) -> Result<(), BenchError>
+    fn drain(&mut self, host: usize) -> Result<(), BenchError>
         ensures ok { OnOk result (HasPlayed (Drains host ∷ []) self.old self.new) }
         ensures err { IfErr result (StopsWithin (Drains host ∷ []) self.old self.new) }
     {
-        let mut drained = DrainedFrames::with_room(alloc, self.lan.drain_room(host))?;
-        self.lan.drain(host, &mut drained);
-        self.record.note_drain(host, drained.list.as_slice())?;
+        self.drained.make_room(self.lan.drain_room(host))?;
+        self.lan.drain(host, &mut self.drained);
+        self.record.note_drain(host, self.drained.list.as_slice())?;
         Ok(())
     }
 
@@ -161,7 +167,7 @@ impl Play {
                 None => Ok(()),
             },
             Command::Auto { count, start } => self.draw(alloc, plans, *count, *start),
-            Command::Drain { host } => self.drain(alloc, *host),
+            Command::Drain { host } => self.drain(*host),
         }
     }
 

@@ -8,6 +8,7 @@ use Rattle.std.specs.Prelude.{bit_and}
 use Rattle.std.proofs.lemmas.Bool.{leb-false}
 use Rattle.std.proofs.lemmas.Nat.{mod_below}
 use Rattle.std.proofs.lemmas.List.Elements.{All-append, All-cons, All-drop}
+use Rattle.std.proofs.lemmas.List.Sums.{sum_by-take-drop}
 use Rattle.bus.proofs.Lists.{all-head, all-none}
 use Rattle.mdic_phy.specs.declared.mdic.Ticked.{Ticked}
 use Rattle.mdic_phy.specs.Mdic.{told}
@@ -16,6 +17,8 @@ use Rattle.registers.specs.ReceiveControl.{buffer_size_of}
 use Rattle.descriptors.specs.Frames.{IsLegal, longest_frame}
 use Rattle.rx_engine.specs.Moving.{buffer_bytes, left_bytes, next_piece}
 use Rattle.rx_engine.specs.Receiver.{IsReceiver, Receiver, new_receiver, oldest}
+use Rattle.rx_engine.specs.Room.{cost}
+use Rattle.rx_engine.specs.RoomLaws.{occupied-append}
 use Rattle.rx_engine.specs.declared.arrival.Fate.{Fate}
 use Rattle.rx_engine.specs.declared.arrival.Fate.TheVariants.{Missed, Stored}
 use Rattle.rx_engine.specs.declared.engine.Work.{Work}
@@ -144,7 +147,7 @@ after-moving Part memory state is answers =
     }
 after-moving Moved memory state is answers =
     let piece = sized-piece state.filter.rctl state.receiver is answers.0.ready.frames in
-    let fewer = length-drop 1 state.receiver.buffer in
+    let fewer = sum_by-take-drop cost state.receiver.buffer 1 in
     record {
       room = omega (arith, fewer, is.room);
       frames = All-drop IsLegal 1 state.receiver.buffer is.frames;
@@ -194,7 +197,7 @@ after-arriving Stored frame state is fated =
     let most = is.registers.allocation.most in
     let before = is.receiver in
     let below = fated.1 in
-    let more = length-append state.receiver.buffer (frame ∷ []) in
+    let more = occupied-append state.receiver.buffer frame in
     record {
       room = omega (arith, most, below, more);
       frames =

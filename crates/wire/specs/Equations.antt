@@ -108,10 +108,10 @@ pub record Delivers (k : ℕ) (happened : List Happening) (old new : List Statio
   pub given_is_kept : (socket : ℕ) → given k socket happened ++ held_for_socket h' socket (world_at new k)
       ≡ held_for_socket h socket (world_at old k) ++ kept h.kinds k socket happened
   -- Each frame that reached it met the first fate that applies: illegal (it has less than 60 or more than 1,518 bytes), filtered, missed as
-  -- the receive packet buffer was full, stored. None has the fate Off, as the receive side is enabled. The buffer is full if it has half as
-  -- many frames as its size in kilobytes. It has the frames of the beginning, then those stored, without those that left
-  -- (`ReceivesRightly`). `marks`: each frame that reached it, with its fate, and each time that the oldest frame left this buffer, in
-  -- order.
+  -- the receive packet buffer had no room for it, stored. None has the fate Off, as the receive side is enabled. There is room for a frame
+  -- if the frames in the buffer and this one occupy at most the buffer's size (`HasRoomFor`). The buffer has the frames of the beginning,
+  -- then those stored, without those that left (`ReceivesRightly`). `marks`: each frame that reached it, with its fate, and each time that
+  -- the oldest frame left this buffer, in order.
   pub fates_are_right : ReceivesRightly (world_at old k).adapter (marks k happened) (world_at new k).adapter
   -- missed frames are counted until a counter saturates
   pub misses_are_counted : CountsMisses h (world_at old k) (missed k happened) h' (world_at new k)

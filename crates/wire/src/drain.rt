@@ -13,8 +13,8 @@ use rx_engine::MOST_FRAMES;
 
 impl Lan {
     /// The number of frames for which a [`drain`](Lan::drain) of a host needs room: its receive buffers, and the
-    /// [`MOST_FRAMES`] frames (24) that its packet buffer may hold. A host never holds more for its sockets. It is 0 if the host isn't
-    /// there.
+    /// [`MOST_FRAMES`] frames (614) that its packet buffer may hold. A host never holds more for its sockets. It is 0 if
+    /// the host isn't there.
     pub fn drain_room(&self, host: usize) -> usize
         ensures there { (state : HostState) → IsHost self.now host state
             → result ≡ state.driver.layout.buffers + MOST_FRAMES }
