@@ -1,6 +1,6 @@
 //! The code of README.md, word for word.
 
-use frame_queue::FrameQueue;
+use frame_queue::{FrameQueue, PackedQueue};
 use std::test::Fail;
 
 #[test]
@@ -17,5 +17,20 @@ fn the_code_of_the_readme_of_frame_queue(rt: HostRuntime) -> Result<(), Fail> {
     assert!(rt; second.starts_with(&[0xFF; 14]) && second.ends_with(&[0; 46]));
     queue.clear();
     assert!(rt; queue.is_empty());
+    Ok(())
+}
+
+#[test]
+fn the_code_of_the_readme_of_frame_queue_for_packed_frames(rt: HostRuntime) -> Result<(), Fail> {
+    let mut queue = PackedQueue::new(rt.alloc(), 2, 100)?;
+    queue.push(&[0xFF; 60]);
+    queue.push(&[0; 40]);
+    assert_eq!(rt; queue.front(), Some([0xFF; 60].as_slice()));
+    queue.pop();
+    queue.push(&[1; 50]); // where the first frame was
+    assert_eq!(rt; queue.len(), 2);
+    assert_eq!(rt; queue.front(), Some([0; 40].as_slice()));
+    queue.clear();
+    assert_eq!(rt; queue.len(), 0);
     Ok(())
 }

@@ -206,7 +206,6 @@ steps-fit h world stands adapter =
       arith,
       asked-most _ world (count_line world.adapter.causes) stands.ready.ready (line-few world.adapter.causes),
       pieces-most engine.buffer adapter.receiver.frames,
-      adapter.receiver.room,
       held-counted h.driver.oldest_receive world,
       held-at_most h world stands adapter,
       stands.ready.ready.driver_is.addresses,

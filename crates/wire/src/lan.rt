@@ -78,7 +78,7 @@ impl Lan {
 
     /// Runs events in order, and appends a reply for each. Whatever the events are, each socket returns the frames for
     /// it in order, each at most once, and no buffer has two owners. A frame is lost only if the filter rejects it, the
-    /// receive packet buffer is full, or no socket takes it; the last two are counted.
+    /// receive packet buffer has no room for it, or no socket takes it; the last two are counted.
     ///
     /// # Errors
     ///
