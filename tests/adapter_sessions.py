@@ -172,8 +172,8 @@ RECEIVED = [arrives("stored"), *steps(("rxdata", "moved"), ("rxdone", "done"))]
 def arrivals(server):
     """The fate of an arriving frame, and the counters."""
     server.talks("adapter: misses are counted", [
-        writes(PBA, 2), writes(RCTL, RECEIVE), arrives("stored"), arrives("missed"), arrives("missed"), reads(MPC, 2), reads(MPC, 0), reads(RNBC, 3),
-        reads(RNBC, 0), reads(ICR, 0x40)])
+        writes(PBA, 2), writes(RCTL, RECEIVE), *(arrives(fate, LONG) for fate in ("stored", "missed", "missed")), reads(MPC, 2), reads(MPC, 0),
+        reads(RNBC, 3), reads(RNBC, 0), reads(ICR, 0x40)])
     server.talks("adapter: the first fate that applies", [
         arrives("off"), arrives("off", "ff" * 59), writes(RCTL, RECEIVE), arrives("illegal", "ff" * 59), arrives("illegal", "ff" * 1519),
         arrives("filtered", "04" * 60), reads(RNBC, 0), reads(MPC, 0), reads(ICR, 0), arrives("stored"), arrives("stored", "ff" * 1518), reads(RNBC, 2)])
@@ -315,9 +315,9 @@ def pieces_later(server):
                 *steps(("rxdata", "moved" if number == 5 else "part")), reads(ICR, causes_told), *steps(("rxdone", "done")),
                 reads(ICR, 0x80 if number == 5 else 0)])])
     server.talks("adapter: a frame has its room until its last piece is moved", [
-        writes(PBA, 2), *awaited(256), *steps(("rxdata", "part")), arrives("missed"), *steps(("rxdone", "done")), arrives("missed"), reads(MPC, 2),
-        reads(ICR, 0x40), *comes(256, 256, 256, 256, slot=1, first=256, left=True), arrives("missed"), reads(MPC, 1), *steps(("rxdata", "moved")),
-        arrives("stored"), reads(GPRC, 0), *steps(("rxdone", "done")), written_back(5, 238, 0x03),
+        writes(PBA, 2), *awaited(256), *steps(("rxdata", "part")), arrives("missed", LONG), *steps(("rxdone", "done")), arrives("missed", LONG),
+        reads(MPC, 2), reads(ICR, 0x40), *comes(256, 256, 256, 256, slot=1, first=256, left=True), arrives("missed", "ff" * 497), reads(MPC, 1),
+        *steps(("rxdata", "moved")), arrives("stored"), reads(GPRC, 0), *steps(("rxdone", "done")), written_back(5, 238, 0x03),
         *comes(60, slot=6, frame=BROADCAST), *NOTHING_LEFT, reads(GPRC, 2), reads(RNBC, 0)])
     again = [writes(CTRL, RESET), *OFFERED, writes(RCTL, SIZES[256])]
     server.talks("adapter: a fault in mid-frame", [
@@ -332,6 +332,33 @@ def pieces_later(server):
             *awaited(256), *steps(("rxdata", "part")), *begun, *again, *NOTHING_LEFT, descriptor, reads(RDH, 0), reads(GPRC, 0), reads(ICR, 0),
             arrives("stored"), *steps(("rxdata", "moved"), ("rxdone", "done")), written_back(0, 60, 0x03),
             loads(0x4800, BROADCAST + LONG[120:128]), reads(GPRC, 1)])
+
+
+def came(fate, *lengths):
+    """Frames of these lengths arrive, and each has this fate."""
+    return [arrives(fate, "ff" * length) for length in lengths]
+
+
+def packet_buffer(server):
+    """A frame takes up its length in the receive packet buffer, rounded up to a multiple of 16 bytes, and 16 bytes more."""
+    for kilobytes, stored, missed in [
+        (2, [60] * 25, 60), (2, [1518, *[60] * 6], 60), (2, [1518], 497), (2, [1518, 496], 60), (2, [1008, 1008], 60), (2, [1009], 993), (2, [1009, 992], 60),
+        (48, [1518] * 32, 60), (48, [60] * 614, 60), (48, [60] * 614, 1518), (4, [64] * 51, 60), (4, [65] * 42, 65),
+    ]:
+        server.talks(f"adapter: {kilobytes} KB have room for {len(stored)} frames, the last of {stored[-1]} bytes, and not for one of {missed} more", [
+            writes(PBA, kilobytes), writes(RCTL, RECEIVE), *came("stored", *stored), reads(MPC, 0), *came("missed", missed), reads(MPC, 1),
+            reads(RNBC, len(stored) + 1)])
+    server.talks("adapter: a short frame is stored after a long one is missed", [
+        writes(PBA, 2), writes(RCTL, RECEIVE), *came("stored", 1518), *came("missed", 1518, 497), *came("stored", 60), reads(MPC, 2)])
+    server.talks("adapter: RXA is lowered, and raised, while frames wait", [
+        *awaited(2048), *came("stored", 1518), writes(PBA, 2), *came("missed", 60), *steps(("rxdata", "moved"), ("rxdone", "done")), *came("missed", 497),
+        *came("stored", 60), writes(PBA, 4), *came("stored", 1518), *came("missed", 1518), reads(MPC, 3)])
+    server.talks("adapter: a reset empties the packet buffer, and keeps its room", [
+        writes(PBA, 2), writes(RCTL, RECEIVE), *came("stored", 1518), *came("missed", 1518), writes(CTRL, RESET), writes(RCTL, RECEIVE),
+        *came("stored", 1518), *came("missed", 1518)])
+    server.talks("adapter: a restore brings back what the frames take up", [
+        *awaited(2048, writes(PBA, 2)), ("save", "OK"), *steps(("rxdata", "moved"), ("rxdone", "done")), *came("stored", 1518), ("restore", "OK"),
+        *came("missed", 1518), *came("stored", 496), *came("missed", 60)])
 
 
 def slot(length, told, number=0):
@@ -386,5 +413,5 @@ def sending(server):
 
 
 def all_cases(server):
-    for part in [registers, causes, eeprom, phy, filters, arrivals, receiving, pieces, pieces_later, sending]:
+    for part in [registers, causes, eeprom, phy, filters, arrivals, receiving, pieces, pieces_later, packet_buffer, sending]:
         part(server)

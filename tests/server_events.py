@@ -5,7 +5,7 @@ import os
 import sys
 
 from adapter_sessions import (
-    BASE, BROADCAST, CTRL, EERD, ICR, ICS, IMS, MDIC, OFFERED, PBA, RCTL, RDBAH, RDBAL, RDH, RDLEN, RDT, RECEIVE, RESET,
+    BASE, BROADCAST, CTRL, EERD, ICR, ICS, IMS, LONG, MDIC, OFFERED, PBA, RCTL, RDBAH, RDBAL, RDH, RDLEN, RDT, RECEIVE, RESET,
     RING, SLOTS, STATUS,
     TDBAH, TDBAL, TDH, TDLEN, TDT, arrives, loads, reads, slot, steps, stores, writes)
 from request_forms import KINDS
@@ -148,7 +148,7 @@ def paced(server):
     server.talks("pace: a fault of an engine", [
         *RING, EVENTS, ("pace 1", "OK"), writes(TDT, 8, "fault tx 0 ring\n"), ("readb 0", ZERO)])
     server.talks("pace: a frame that is missed", [
-        writes(PBA, 2), writes(RCTL, RECEIVE), ("pace 7", "OK"), arrives("stored"), arrives("missed"), ("settle", ZERO),
+        writes(PBA, 2), writes(RCTL, RECEIVE), ("pace 7", "OK"), arrives("stored", LONG), arrives("missed", LONG), ("settle", ZERO),
         ("pace 65535", "OK"),
         ("pace 65536", "ERR value"), ("pace", "ERR count"), ("pace x", "ERR value")])
 

@@ -5,7 +5,8 @@ import re
 from server import ZERO, lines, number
 from server_pages import read_page
 
-FRAME = "ffffffffffff02000000000908000000".ljust(120, "0")
+# A frame of 1,518 bytes. A receive packet buffer of 2 KB has room for one.
+FRAME = "ffffffffffff02000000000908000000".ljust(3036, "0")
 FOR_MORE = b"\nFor more information, try '--help'.\n"
 USAGE = b"\nUsage: nicbench serve [OPTIONS]\n" + FOR_MORE
 DEFAULTS = ["--memory", "1048576", "--registers", "0xFEB00000", "--address", "02:00:00:00:00:01", "--link", "1", "--rxa", "48", "--seed", "0", "--missed", "0"]

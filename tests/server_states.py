@@ -4,6 +4,7 @@ from adapter_sessions import BASE, ICR, IMS, MPC, RCTL, RDLEN, RDT
 from server import ONE, ZERO, lines, number
 
 FRAME = "ffffffffffff02000000000908000000".ljust(120, "0")
+LONG = FRAME.ljust(3036, "0")
 KINDS = ["txtake", "txput", "rxdata", "rxdone", "eeprom", "phy"]
 # A receive ring of eight descriptors at 0, one of which has a buffer, at 0x800.
 RECEIVES = [(f"writel {BASE + RDLEN} 128", "OK"), ("writeq 0 0x800", "OK"), (f"writel {BASE + RDT} 1", "OK"), (f"writel {BASE + RCTL} 0x8002", "OK"),
@@ -61,8 +62,8 @@ def offered(server):
         ("settle", ZERO), ("log on", "OK"), ("offer", "ERR count"), ("offer 0102", "OK"), ("offer ", "ERR count"),
         ("settle", f"# arrive 0102\narrived illegal 0102\n{NOTHING}\n{ZERO}")])
     server.talks("offers: a miss raises the line", [
-        ("events on", "OK"), *RECEIVES, (f"offer {FRAME}", "OK"), (f"offer {FRAME}", "OK"),
-        ("settle", f"arrived stored {FRAME}\narrived missed {FRAME}\nIRQ raise 0\n{number(2)}"), (f"readl {BASE + MPC}", ONE)], "--rxa", "2")
+        ("events on", "OK"), *RECEIVES, (f"offer {LONG}", "OK"), (f"offer {LONG}", "OK"),
+        ("settle", f"arrived stored {LONG}\narrived missed {LONG}\nIRQ raise 0\n{number(2)}"), (f"readl {BASE + MPC}", ONE)], "--rxa", "2")
     server.talks("offers: saved and restored", [
         ("events on", "OK"), (f"offer {FRAME}", "OK"), ("save", "OK"), ("offer 01", "OK"), ("restore", "OK"), ("settle", f"arrived off {FRAME}\n{ZERO}"), ("settle", ZERO),
         ("restore", "OK"), ("settle", f"arrived off {FRAME}\n{ZERO}")])
@@ -88,10 +89,10 @@ def missed_between(server):
     """A seed alone finds a miss between the reads of ICR and MPC."""
     found = []
     for seed in range(60):
-        ran = server.serve(lines(["events on", *(request for request, _ in RECEIVES), f"arrive {FRAME}", "interleave 2", f"offer {FRAME}", f"readl {BASE + ICR}",
+        ran = server.serve(lines(["events on", *(request for request, _ in RECEIVES), f"arrive {LONG}", "interleave 2", f"offer {LONG}", f"readl {BASE + ICR}",
                                   f"readl {BASE + MPC}", f"readl {BASE + ICR}"]), "--rxa", "2", "--seed", str(seed))
         answers = [text for text in ran[1].decode().split("\n") if text.startswith("OK 0x")]
-        if f"arrived missed {FRAME}" in ran[1].decode() and answers[1:] == [ONE, number(0x40)]:
+        if f"arrived missed {LONG}" in ran[1].decode() and answers[1:] == [ONE, number(0x40)]:
             found.append(seed)
     server.check("offers: a seed finds a miss between the reads of ICR and MPC", found != [], True)
 

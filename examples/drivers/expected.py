@@ -31,6 +31,11 @@ DESCRIPTOR_BYTES, STATUS_PLACE, LENGTH_PLACE = 16, 12, 8
 SHORTEST, LONGEST, TRANSMIT_ROOM = 60, 1518, 4
 
 
+def cost(length):
+    """What a frame of this length in bytes takes of the receive packet buffer."""
+    return -(-length // 16) * 16 + 16
+
+
 class Found(Exception):
     """The adapter did something that it must not do."""
 
@@ -136,7 +141,8 @@ class Expected:
         elif not SHORTEST <= len(frame) <= LONGEST:
             allowed = ["illegal"]
         else:
-            allowed = ["filtered", "stored" if len(self.waiting) < (self.registers[PBA] & RXA) // 2 else "missed"]
+            occupied, room = sum(cost(len(waiting)) for waiting in self.waiting), (self.registers[PBA] & RXA) * 1024
+            allowed = ["filtered", "stored" if occupied + cost(len(frame)) <= room else "missed"]
         if fate not in allowed:
             raise Found(f"arrive: the fate is {fate} instead of {' or '.join(allowed)}")
         if fate == "stored":
