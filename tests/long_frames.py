@@ -57,8 +57,13 @@ def around_the_ring(bench, one, two):
 
 
 def packet_buffer(bench, one, two):
-    """A frame occupies its room in the packet buffer until its last piece is moved."""
+    """A frame occupies its room in the packet buffer until its last piece is moved. What is left has room for short frames."""
     a = {"accepted": 2, "put": 2}
+    short = [frame(mark) for mark in range(3, 10)]
+    for done in (0, 5):
+        row(bench, f"six of seven short frames fit behind a frame of which {done} pieces are finished",
+            Schedule().does(bring(one), FINISH * done, bring(*short)).drains((0, one), *((0, data) for data in short[:6])), {"accepted": 8, "put": 8},
+            {"reached": 8, "stored": 7, "missed": 1, "given": 7}, "rxa 2")
     row(bench, "a frame in part fills the packet buffer",
         Schedule().does(bring(one), FINISH * 5, bring(two), FINISH, INTERRUPT).gives(one).does(RECV), a, {"reached": 2, "stored": 1, "missed": 1, "given": 1},
         "rxa 2")

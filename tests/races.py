@@ -13,6 +13,8 @@ BRING = ["tick txtake:a", "tick txput:a", "tick deliver:b"]
 FINISH = ["tick rxdata:b", "tick rxdone:b"]
 INTERRUPT, RECV = ["interrupt b"], ["recv b 0"]
 SOCKET = "socket b all"
+# The most frames in a packet buffer of 48 KB: of 60 bytes, each of which takes up 80
+MOST_BUFFERED = 614
 
 
 def frame(mark, to=B_ADDRESS, kind="88b5", length=60):
@@ -102,20 +104,19 @@ def receiving(bench):
         .gives(two).does(INTERRUPT, RECV), *counts(2))
     row(bench, "the frame is finished in the call that receives it", Schedule().does(bring(one), ["recv b 0 / rxdata:b rxdone:b"], RECV, INTERRUPT)
         .gives(one), *counts(1))
-    misses(bench, one, two)
+    misses(bench, *(frame(mark, length=1518) for mark in (1, 2, 3)))
     refills(bench)
 
 
-def misses(bench, one, two):
-    """Frames that a full packet buffer misses, also while the handler counts them."""
-    three = frame(3)
+def misses(bench, one, two, three):
+    """Frames for which a packet buffer of 2 KB has no room, also while the handler counts them."""
     a = {"accepted": 3, "put": 3}
-    row(bench, "two of three frames are missed", Schedule().does(bring(one, two, three), INTERRUPT, RECV, FINISH, INTERRUPT).gives(one), a,
+    row(bench, "two of three frames are missed", Schedule().does(bring(one, two, three), INTERRUPT, RECV, finish(one), INTERRUPT).gives(one), a,
         {"reached": 3, "stored": 1, "missed": 2, "given": 1}, "rxa 2")
     waits = bring(one, two) + send(three) + BRING[:2]
     for accesses in range(3):
         late = ["interrupt b / " + "go " * accesses + "deliver:b"]
-        row(bench, f"one more is missed after {accesses} accesses by the handler", Schedule().does(waits, late, INTERRUPT, INTERRUPT, FINISH, INTERRUPT)
+        row(bench, f"one more is missed after {accesses} accesses by the handler", Schedule().does(waits, late, INTERRUPT, INTERRUPT, finish(one), INTERRUPT)
             .gives(one), a, {"reached": 3, "stored": 1, "missed": 2, "given": 1}, "rxa 2")
 
 
@@ -272,7 +273,7 @@ def wires(bench):
     last = [line for host in "abc" for line in [*send(one, host=host), f"tick txtake:{host}"]]
     ends = Schedule().does(waiting, last, ["tick deliver:b"] * 64, ["tick txput:a", "tick txput:b", "tick txput:c"])
     plays(bench, "races: a frame is put if every other end has room", TWO_HOSTS + third + "".join(f"{line}\n" for line in ends.lines).encode(),
-          told("a", accepted=65, put=64) + told("b", accepted=1, reached=64, stored=24, missed=40) + told("c", accepted=1, put=1), {})
+          told("a", accepted=65, put=64) + told("b", accepted=1, reached=64, stored=64) + told("c", accepted=1, put=1), {})
 
 
 def inside(bench):
@@ -294,6 +295,10 @@ def drains(bench):
         Schedule().does(bring(*frames[:3])).drains(*((0, data) for data in frames[:3])).drains().drains(host="a"), *counts(3))
     row(bench, "a drain of more frames than slots",
         Schedule().does(receive(*frames[:7]), bring(*frames[7:])).drains(*((0, data) for data in frames)).drains(), *counts(9))
+    most = [frame(mark % 251) for mark in range(MOST_BUFFERED)]
+    row(bench, "a drain of as many frames as the packet buffer holds",
+        Schedule().does(bring(*most, frame(252))).drains(*((0, data) for data in most)).drains(), {"accepted": MOST_BUFFERED + 1, "put": MOST_BUFFERED + 1},
+        {"reached": MOST_BUFFERED + 1, "stored": MOST_BUFFERED, "missed": 1, "given": MOST_BUFFERED})
     row(bench, "a drain with one more cause", Schedule().does(bring(*frames[:3]), send(frame(60, EVERYONE), host="b"), ["tick txtake:b", "tick txput:b"])
         .drains(*((0, data) for data in frames[:3])), {"accepted": 3, "put": 3}, {"accepted": 1, "put": 1, "reached": 3, "stored": 3, "given": 3})
     row(bench, "a drain of a host without sockets", Schedule().does(bring(frames[0])).drains().drains(host="a"), *counts(1, 0, unclaimed=1), "", ())

@@ -19,6 +19,8 @@ interrupt b
 recv b 0
 """
 EXAMPLE_FRAME = bytes.fromhex("0200000000020200000000010800")
+# A frame of 1,518 bytes. A receive packet buffer of 2 KB has room for one.
+LONG_FRAME = EXAMPLE_FRAME.ljust(1518, b"\1")
 EXAMPLE_LINES = (b"a accepted 1 put 1 reached 0 stored 0 missed 0 exact given 0 unclaimed 0\n"
                  b"b accepted 0 put 0 reached 1 stored 1 missed 0 exact given 1 unclaimed 0\n")
 TWO_HOSTS = b"host a 02:00:00:00:00:01 w\nhost b 02:00:00:00:00:02 w\n"
@@ -104,10 +106,11 @@ def played(bench):
     plays(bench, "run: a full ring has room behind a put", TO_SOCKET + full * 8 + b"tick txtake:a\ntick txput:a\n" + full,
           told("a", accepted=8, put=1) + told("b"), {"b.0.pcap": FILE_HEADER})
     plays(bench, "run: the highest link", TWO_HOSTS.replace(b"02 w\n", b"02 w link 2000\n"), told("a") + told("b"), {})
-    late = b"interrupt b / go rxdata:b rxdone:b\n"
-    missed = TO_SOCKET.replace(b"02 w\n", b"02 w rxa 2\n") + full * 3 + b"tick txtake:a\ntick txput:a\n" * 3 + b"tick deliver:b\n" * 3
+    late = b"interrupt b / go" + b" rxdata:b rxdone:b" * 6 + b"\n"
+    missed = (TO_SOCKET.replace(b"02 w\n", b"02 w rxa 2\n") + b"send a %s\n" % LONG_FRAME.hex().encode() * 3 + b"tick txtake:a\ntick txput:a\n" * 3
+              + b"tick deliver:b\n" * 3)
     plays(bench, "run: misses", missed + late + b"interrupt b\nrecv b 0\n",
-          told("a", accepted=3, put=3) + told("b", reached=3, stored=1, missed=2, given=1), {"b.0.pcap": written([(14, EXAMPLE_FRAME)])})
+          told("a", accepted=3, put=3) + told("b", reached=3, stored=1, missed=2, given=1), {"b.0.pcap": written([(14, LONG_FRAME)])})
     plays(bench, "run: a frame without a socket", EXAMPLE.replace(b"socket b all", b"socket b 0806"),
           told("a", accepted=1, put=1) + told("b", reached=1, stored=1, unclaimed=1), {"b.0.pcap": FILE_HEADER})
 
@@ -131,10 +134,10 @@ def feeds(bench):
           {"b.0.pcap": written([(8 * n + 7, frame) for n, frame in enumerate(frames * 2)])})
     bench.put("none.pcap", FILE_HEADER)
     plays(bench, "feed: no frame", TO_SOCKET + b"feed a none.pcap\n", told("a") + told("b"), {"b.0.pcap": FILE_HEADER})
-    bench.put("lengths.pcap", trace(packet(EXAMPLE_FRAME[:13]), packet(EXAMPLE_FRAME), packet(bytes(1519)), packet(EXAMPLE_FRAME.ljust(1518, b"\1"))))
+    bench.put("lengths.pcap", trace(packet(EXAMPLE_FRAME[:13]), packet(EXAMPLE_FRAME), packet(bytes(1519)), packet(LONG_FRAME)))
     plays(bench, "feed: frames that send refuses", TO_SOCKET + b"feed a lengths.pcap\n",
           told("a", accepted=2, put=2) + told("b", reached=2, stored=2, given=2),
-          {"b.0.pcap": written([(15, EXAMPLE_FRAME), (41, EXAMPLE_FRAME.ljust(1518, b"\1"))])})
+          {"b.0.pcap": written([(15, EXAMPLE_FRAME), (41, LONG_FRAME)])})
     three = (b"host a 02:00:00:00:00:01 w\nhost c 02:00:00:00:00:03 other\nhost b 02:00:00:00:00:02 w\nhost d 02:00:00:00:00:04 other\n"
              b"host e 02:00:00:00:00:05 w promiscuous\nsocket b 0806\nsocket b all\nsocket e 0800\nfeed a twenty.pcap\n")
     # Each frame is 14 events: three of the sender, six for b's two sockets and five for e's one.
@@ -369,7 +372,7 @@ def drawn(bench):
     """Random events: the same in two runs, and the same as their lines."""
     bench.check("auto: the first words from 0", words_from(0, 4), [298703107, 4236525527, 336081875, 1056616254])
     hosts = [(b"a", b"02:00:00:00:00:01"), (b"b", b"02:00:00:00:00:02"), (b"c", b"02:00:00:00:00:03")]
-    setup = b"".join(b"host %s %s w rxa 4\n" % host for host in hosts) + b"socket a all\nsocket b 88b5\nsocket c 0800\n"
+    setup = b"".join(b"host %s %s w rxa 2\n" % host for host in hosts) + b"socket a all\nsocket b 88b5\nsocket c 0800\n"
     lines_drawn = b"".join(event_of(word, hosts) for word in words_from(1, 10000))
     runs = []
     for name, text in [("auto 10000 1", setup + b"auto 10000 1\n"), ("auto 10000 1 once more", setup + b"auto 10000 1\n"),
@@ -387,16 +390,17 @@ def drawn(bench):
           {"b.0.pcap": written([(7, EXAMPLE_FRAME)])})
 
 
-# Two wires, w and v. b's receive packet buffer has room for one frame.
+# Two wires, w and v. b's receive packet buffer has room for one long frame.
 TWO_WIRES = (b"host a 02:00:00:00:00:01 w\nhost c 02:00:00:00:00:03 v\nhost b 02:00:00:00:00:02 w rxa 2\nhost d 02:00:00:00:00:04 v\n"
              b"socket b all\nsocket d all\n")
 # Frames of a, of which b misses the second, and a frame of d, which c never gets.
-OF_A = [EXAMPLE_FRAME, EXAMPLE_FRAME[:12] + b"\x86\xdd"]
+OF_A = [LONG_FRAME, LONG_FRAME[:12] + b"\x86\xdd" + LONG_FRAME[14:]]
 OF_D = bytes.fromhex("02000000000302000000000488b5")
 TRAFFIC = (b"".join(b"send %s %s\n" % (host, frame.hex().encode()) for host, frame in [(b"a", OF_A[0]), (b"a", OF_A[1]), (b"d", OF_D)])
-           + b"".join(b"tick txtake:%s\ntick txput:%s\n" % (host, host) for host in [b"a", b"d", b"a"]) + b"tick deliver:b\n" + ARRIVAL)
+           + b"".join(b"tick txtake:%s\ntick txput:%s\n" % (host, host) for host in [b"a", b"d", b"a"]) + b"tick deliver:b\n"
+           + ARRIVAL.replace(b"tick rxdata:b\ntick rxdone:b\n", b"tick rxdata:b\ntick rxdone:b\n" * 6))
 TRAFFIC_LINES = (told("a", accepted=2, put=2) + told("c") + told("b", reached=2, stored=1, missed=1, given=1) + told("d", accepted=1, put=1))
-TRAFFIC_FILES = {"b.0.pcap": written([(14, OF_A[0])]), "d.0.pcap": FILE_HEADER}
+TRAFFIC_FILES = {"b.0.pcap": written([(24, OF_A[0])]), "d.0.pcap": FILE_HEADER}
 WIRE_FILES = {"w.pcap": written([(4, OF_A[0]), (8, OF_A[1])]), "v.pcap": written([(6, OF_D)])}
 
 
@@ -415,7 +419,7 @@ def wires(bench):
           {"b.0.pcap": FILE_HEADER, "w.pcap": FILE_HEADER}, ["--wires"])
     plays(bench, "wires: a drain has a number, and puts no frame", EXAMPLE.replace(TO_SOCKET, TO_SOCKET + b"drain b\n") + b"drain a\n", EXAMPLE_LINES,
           {"b.0.pcap": written([(8, EXAMPLE_FRAME)]), "w.pcap": written([(3, EXAMPLE_FRAME)])}, ["--wires"])
-    frames = [EXAMPLE_FRAME + bytes([n]) * n for n in range(20)] + [EXAMPLE_FRAME.ljust(1518, b"\1")]
+    frames = [EXAMPLE_FRAME + bytes([n]) * n for n in range(20)] + [LONG_FRAME]
     bench.put("fed.pcap", trace(*map(packet, frames)))
     numbers = [8 * n for n in range(21)]
     plays(bench, "wires: a feed", TO_SOCKET + b"feed a fed.pcap\n", told("a", accepted=21, put=21) + told("b", reached=21, stored=21, given=21),
