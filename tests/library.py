@@ -27,7 +27,9 @@ import adapter  # noqa: E402
 import nic82540em  # noqa: E402
 import sweep  # noqa: E402
 from bench import Bench  # noqa: E402
-from random_requests import RandomRequests, Words  # noqa: E402
+from driver import CTRL, RCTL  # noqa: E402
+from expected import EN, RST  # noqa: E402
+from random_requests import BAM, RandomRequests, Words  # noqa: E402
 
 MEMORY = 8192
 SEEDS, REQUESTS = 10, 1000
@@ -240,6 +242,16 @@ def state_without_accesses(library):
     library.check("a store by the pointer", inside.nic.load(7, 1), b"\x5a")
 
 
+def frames_that_wait(library):
+    """The packet buffer's number of frames, up to the most: 614 of 60 bytes in 48 KB."""
+    with nic82540em.Nic(library.shared) as nic:
+        nic.write(RCTL, EN | BAM)
+        fates = [nic.arrive(b"\xff" * 60) for _ in range(616)]
+        library.check("frames that wait", (fates, nic.waiting()), (["stored"] * 614 + ["missed"] * 2, (614, 0)))
+        nic.write(CTRL, RST)
+        library.check("no frame waits after a reset", nic.waiting(), (0, 0))
+
+
 # A driver in Python, over the pipe and in process.
 
 def drivers(library):
@@ -435,7 +447,7 @@ def is_built(library, words):
     return ran.returncode == 0
 
 
-PARTS = (same_answers, steps_by_schedule, state_without_accesses, drivers, refused_memory, examples_in_c, fuzzers,
+PARTS = (same_answers, steps_by_schedule, state_without_accesses, frames_that_wait, drivers, refused_memory, examples_in_c, fuzzers,
          examples_in_other_languages, by_pkg_config, by_cmake, by_pip)
 
 

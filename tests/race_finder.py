@@ -11,6 +11,8 @@ from server_pages import TOP, follow, read_page
 FINDER = [sys.executable, "-S", "-E", os.path.join(TOP, "tools", "races")]
 EXCHANGE = [sys.executable, "-S", "-E", os.path.join(TOP, "examples", "drivers", "exchange_test.py")]
 FRAME = "ffffffffffff02000000000908000000".ljust(120, "0")
+# 2 KB have room for one of these.
+LONG_FRAME = FRAME.ljust(3036, "0")
 PASSES, FOUND, USAGE, NOT_RUN = range(4)
 # A driver's test in shell: `ask` sends a request, and stores its answer.
 ASK = """ask() {
@@ -350,9 +352,9 @@ def ends(server):
 
 def talks(server):
     """Without deviations, a test gets the same answers as from the server; the log, and no random steps, if it asks for them."""
-    # The packet buffer has room for one frame, so the last offered one is missed, and raises the interrupt line.
+    # The packet buffer has room for one long frame, so the last offered one is missed, and raises the interrupt line.
     offers = [f"offer {FRAME.upper()}", "offer", "offer 0", "offer 00 00", "readb 5", "offer 00", "settle", "writel 0xFEB01000 2", "writel 0xFEB00100 0x8002",
-              "writel 0xFEB000D0 64", f"arrive {FRAME}", f"offer {FRAME}", "settle", "readl 0xFEB000C0", f"offer {FRAME}"]
+              "writel 0xFEB000D0 64", f"arrive {LONG_FRAME}", f"offer {LONG_FRAME}", "settle", "readl 0xFEB000C0", f"offer {FRAME}"]
     requests = ["log on", "readl 0xFEB00008", "step phy", "arrive 00", "settle", "line", *offers, "wire full", "wire free", "wire", "log off", "interleave 3", "interleave 65536", "log maybe",
                 "writel 0xFEB000C8 128", "writel 0xFEB000D0 128", "readl\t0xFEB000C0 ", "", "fly", "read 0 65537", "write 0 2 0x00", "readb 0x100000",
                 "memset 0 4 1", "read 0 4", "read 0xFEB00000 4", "write 0xFEB000D0 4 0x01000000", "writel 0 0x1ffffffff", "readl 0\r", "read 0 65536",

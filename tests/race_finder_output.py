@@ -7,7 +7,7 @@ import shutil
 import subprocess
 import sys
 
-from race_finder import EXCHANGE, FINDER, FOUND, FRAME, NOT_RUN, PASSES, SMALL, SMALLEST, USAGE, find, replay, without_rate, without_reached
+from race_finder import EXCHANGE, FINDER, FOUND, FRAME, LONG_FRAME, NOT_RUN, PASSES, SMALL, SMALLEST, USAGE, find, replay, without_rate, without_reached
 from server import LIMIT, lines
 from server_pages import TOP, follow, read_page
 
@@ -107,8 +107,8 @@ def whole():
     # An EEPROM read; the PHY resets its link, with an interrupt; causes of both rings; a piece and a whole frame, and then a full packet buffer.
     yield from [write("CTRL", 0x40), write("EERD", 1), read("EERD"), write("MDIC", 0x24201200), read("MDIC"), read("MDIC")]
     yield from [write("RDLEN", 128), write("RDT", 7), "writeq 0 0x800", "writeq 16 0x800", "writeq 32 0x800", "writeq 48 0x800", write("RCTL", 0x38002)]
-    yield from ["arrive 00", f"arrive {other}", f"arrive {FRAME.ljust(1200, '0')}", "settle", write("PBA", 2), *[f"arrive {FRAME}"] * 2]
-    yield from [write("RDT", 3), "settle"]
+    yield from ["arrive 00", f"arrive {other}", f"arrive {FRAME.ljust(1200, '0')}", "settle", write("PBA", 2), *[f"arrive {LONG_FRAME}"] * 2]
+    yield from [write("RCTL", 0x8002), write("RDT", 3), "settle"]
     yield from [write("TDBAL", 0x400), write("TDLEN", 128), "write 0x400 16 0x00100000000000004000000900000000", write("TDT", 1), write("TCTL", 0xA)]
     yield from ["wire full", "settle", "wire free", "settle"]
     yield from [write("RDH", 0), write("RDT", 1), f"arrive {FRAME}", "settle", write("TDT", 0), write("TDH", 8), "step txtake", "readb 0x400", write("RDH", 8), f"arrive {FRAME}", "step rxdata"]

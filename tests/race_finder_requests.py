@@ -3,13 +3,13 @@
 import json
 import re
 
-from race_finder import ASK, FOUND, FRAME, HASTY, PASSES, USAGE, find, replay
+from race_finder import ASK, FOUND, FRAME, HASTY, LONG_FRAME, PASSES, USAGE, find, replay
 from race_finder_charts import check_dump, check_picture
 from race_finder_output import script
 from race_finder_runs import BEGIN, STAGED
 from server import lines
 
-# The packet buffer has room for one frame, and two arrive without an access between them. The second one has room if the first one leaves before.
+# The packet buffer has room for one long frame, and two arrive without an access between them. The second has room if the first leaves before.
 ROOM = ASK + f"""
 ask "writel 0xFEB01000 2"
 ask "writel 0xFEB02808 128"
@@ -17,8 +17,8 @@ ask "writeq 0 0x800"
 ask "writeq 16 0x800"
 ask "writel 0xFEB02818 2"
 ask "writel 0xFEB00100 0x8002"
-ask "arrive {FRAME}"
-ask "arrive {FRAME}"; fate=$answer
+ask "arrive {LONG_FRAME}"
+ask "arrive {LONG_FRAME}"; fate=$answer
 ask "readb 12"
 ask "settle"
 case $1-$fate in fails-*stored) echo "there was room" >&2; exit 1 ;; esac
@@ -26,13 +26,13 @@ case $1-$fate in fails-*stored) echo "there was room" >&2; exit 1 ;; esac
 FAILS = ["sh", "room", "fails"]
 SMALLEST = "2.0 rxdata before arrive"
 CHART = """\
-   place  driver     registers              memory                         adapter          wire              line
+   place  driver     registers              memory                         adapter          wire                line
    0.4    write --------------------------> rx[1] buffer 0x800
    0.5    write ---> RDT 0x2
    0.6    write ---> RCTL 0x8002 EN BAM
-                                                                           stored <-------- 60 bytes, ..0000
+                                                                           stored <-------- 1518 bytes, ..0000
 *                    RDH 0x1                buffer of rx[0] is written <-- rxdata moved
-   2.0    arrive                                                           stored <-------- 60 bytes, ..0000
+   2.0    arrive                                                           stored <-------- 1518 bytes, ..0000
    2.1    read <--------------------------- rx[0]+12 status 0x0
                                             rx[0] is written back <------- rxdone done
                      RDH 0x2                buffer of rx[1] is written <-- rxdata moved
@@ -40,7 +40,7 @@ CHART = """\
    exit status 1: there was room
 """
 # A frame arrives, another one is offered, and then come a step and a settling.
-EACH = ROOM.partition(f'ask "arrive {FRAME}"\n')[0] + f"""
+EACH = ROOM.partition('ask "arrive ')[0] + f"""
 ask "arrive {FRAME}"
 ask "offer {FRAME}"
 ask "step rxdata"

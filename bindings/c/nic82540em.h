@@ -79,7 +79,7 @@ enum {
     NIC_OFF,      /* the receiver is off */
     NIC_ILLEGAL,  /* the frame's length isn't legal */
     NIC_FILTERED, /* the receive filter rejects the frame */
-    NIC_MISSED,   /* the receive packet buffer is full */
+    NIC_MISSED,   /* the receive packet buffer has no room for it */
     NIC_STORED    /* the frame is in the receive packet buffer */
 };
 

@@ -10,6 +10,8 @@ from traffic import OTHER, SELF, fault_of, frame_of
 # Two groups whose bit of MTA is the same, and another one
 GROUPS = bytes.fromhex("01005e001001"), bytes.fromhex("01005e011001"), bytes.fromhex("01005e001002")
 ROUNDS_OF_MISSES = 3
+# The receive buffers of a frame, and of another for which 2 KB have no room while the first is in the packet buffer
+LONG, NEXT = 6, 3
 # MPC at the start of the test `misses`, by the option --missed of the server
 MISSED = 4_294_967_295
 
@@ -42,8 +44,8 @@ class Arrivals(Traffic):
 def offers(adapter, driver, is_offered=True):
     """When the handler is called, frames are on their way. Returns the first fault, or None.
 
-    In the first rounds, the packet buffer has room for them; in the last rounds, it is full. Without `is_offered`, the
-    frames arrive before the call.
+    In the first rounds, the packet buffer has room for them; in the last rounds, a long frame leaves too little. Without
+    `is_offered`, the frames arrive before the call.
     """
     run = Arrivals(adapter, driver, is_offered)
     try:
@@ -53,11 +55,11 @@ def offers(adapter, driver, is_offered=True):
             run.offer(count)
             run.offer(1)
             run.finish()
-        adapter.write((PBA, 2))  # a packet buffer with room for one frame
+        adapter.write((PBA, 2))  # room for one long frame, and only short ones after it
         for _ in range(ROUNDS_OF_MISSES):
-            run.arrive(1)
-            run.arrive(1)
-            run.offer(1)
+            run.arrive(LONG)
+            run.arrive(NEXT)
+            run.offer(NEXT)
             run.finish()
     except Fault as fault:
         return str(fault)
@@ -100,8 +102,8 @@ def misses(adapter, driver):
     run = Arrivals(adapter, driver)
     adapter.write((PBA, 2))
     try:
-        run.arrive(1)
-        run.arrive(1)
+        run.arrive(LONG)
+        run.arrive(NEXT)
         run.finish()
     except Fault as fault:
         return str(fault)

@@ -8,7 +8,7 @@
 
 enum {
     TAKEN_ROOM = 4,      /* frames in the transmit packet buffer */
-    STORED_ROOM = 32,    /* frames in the receive packet buffer: at most 24 */
+    STORED_ROOM = 614,   /* frames in the receive packet buffer, at most */
     COMMAND_EOP = 1 << 0, /* of a transmit descriptor */
     COMMAND_TSE = 1 << 2,
     COMMAND_RS = 1 << 3,

@@ -120,7 +120,7 @@ pub enum Fate {
     Illegal,
     /// The receive filter rejects the frame.
     Filtered,
-    /// The receive packet buffer is full.
+    /// The receive packet buffer has no room for it.
     Missed,
     /// The frame is in the receive packet buffer.
     Stored,
