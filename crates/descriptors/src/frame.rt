@@ -56,9 +56,11 @@ impl Frame {
         requires { length bytes.now ≤ 1518 }
         ensures { result ≡ bytes.now }
     {
-        let mut held = ArrayVec::new();
-        let _ = held.try_extend_from_slice(bytes);
-        Frame { bytes: held }
+        let mut frame = Frame {
+            bytes: ArrayVec::new(),
+        };
+        let _ = frame.bytes.try_extend_from_slice(bytes);
+        frame
     }
 
     /// The frame of these bytes, or `None` exactly where there are more than 1,518.
