@@ -96,6 +96,7 @@ impl Adapter {
 
     /// A driver's write of the register at an offset in bytes. Where there is none it is ignored
     /// (our choice).
+    #[inline(always)]
     pub fn write(&mut self, offset: u32, value: u32)
         ensures state { self.new ≡ after_write offset value self.old }
         ensures adapter { IsAdapter self.new }
@@ -158,6 +159,7 @@ impl Adapter {
     /// Memory must have the same size in each step. So a descriptor that the adapter writes back is within memory, as
     /// it was when the adapter read it. In a smaller memory, `RxDone` writes nothing if the descriptor isn't within
     /// memory, and `TxPut` writes nothing if byte 12 of the descriptor isn't.
+    #[inline(always)]
     pub fn step(&mut self, kind: StepKind, memory: &mut HostMemory, wire_free: bool) -> Outcome<()>
         ensures answer { Answers kind wire_free memory.old self.old (framed result self.old) }
         ensures state { self.new ≡ after_step kind (framed result self.old) memory.old self.old }
@@ -229,6 +231,7 @@ impl Adapter {
     }
 
     /// Writes a register, if there is one.
+    #[inline(always)]
     fn write_register(&mut self, register: Option<Register>, value: u32)
         requires { IfSome register IsInTable }
         ensures state { self.new ≡ left_by_write register value self.old }

@@ -73,6 +73,7 @@ impl Register {
 
     /// The register at an offset in bytes, or `None` where there is none.
     #[tactic(auto, unfolding(crate::specs::Table::register_at, crate::specs::Table::array_register_at))]
+    #[inline(always)]
     pub fn at(offset: u32) -> Option<Register>
         ensures register { result ≡ register_at offset }
         ensures in_table { IfSome result IsInTable }

@@ -26,6 +26,7 @@ impl Network {
     /// to the front of `into`. The bytes of `into` after the frame don't change; if no frame is returned, no byte
     /// changes. The call has the effect of its answer, as over a bus (`does`). No other host changes; ticks may change
     /// all stations.
+    #[inline(always)]
     pub fn call<O: Observer>(
         &mut self,
         number: usize,

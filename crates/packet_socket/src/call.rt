@@ -38,6 +38,7 @@ impl Host {
     /// frame don't change; if no frame is returned, no byte changes. `does` holds if the bus obeys the law, and the
     /// host is ready with its transmit side set up. What holds over any bus is in the contract of the named call.
     /// `bus` must have at least `layout().size()` bytes.
+    #[inline(always)]
     pub fn call<B: Bus>(
         &mut self,
         bus: &mut B,

@@ -78,6 +78,7 @@ impl PutFrames {
     /// # Errors
     ///
     /// If memory is refused.
+    #[inline(never)]
     pub(crate) fn push(&mut self, host: usize, number: u64, frame: &[u8]) -> Result<(), AllocError>
         requires { length frame.now ≤ 1518 }
         ensures { OnOk result (self.new ≡ self.old ++ put_frame host number frame.now ∷ []) }
