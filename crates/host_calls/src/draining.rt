@@ -49,16 +49,18 @@ impl Network {
             ≤ length (S.frames sink.new) + S.room_left sink.new }
         ensures others { OnlyHostChanges number self.old self.new }
     {
+        let mut bytes = [0; 1518];
         let mut steps = 0;
-        while self.step(number, sink) {
+        while self.step(number, &mut bytes, sink) {
             steps += 1;
         }
         steps
     }
 
-    /// The next step of a drain, if one applies: else nothing is held. The room may rest on what holds of every
-    /// adapter. Of hosts and stations only this one changes, and no end of a wire.
-    fn step<S: Outlet>(&mut self, number: usize, sink: &mut S) -> bool
+    /// The next step of a drain, if one applies: else nothing is held. A frame that a socket returns is first copied to
+    /// `bytes`. The room may rest on what holds of every adapter. Of hosts and stations only this one changes, and no
+    /// end of a wire.
+    fn step<S: Outlet>(&mut self, number: usize, bytes: &mut [u8; 1518], sink: &mut S) -> bool
         requires there { number < length self.old.hosts }
         requires stands { CanBeDrained (nth_host self.old number) (world_at self.old.stations number) }
         requires room { IsAdapter (world_at self.old.stations number).adapter
@@ -74,11 +76,11 @@ impl Network {
             return true;
         }
         if self.stations.line(number) {
-            self.handle(number);
+            self.handle(number, bytes);
             return true;
         }
         if let Some(socket) = first_waiting(&self.hosts[number]) {
-            self.give(number, socket, sink);
+            self.give(number, socket, bytes, sink);
             return true;
         }
         self.move_piece(number)
@@ -99,7 +101,7 @@ impl Network {
 
     /// The second kind of step: the host handles an interrupt, without ticks. Of hosts and stations only this one
     /// changes, and no end of a wire.
-    fn handle(&mut self, number: usize)
+    fn handle(&mut self, number: usize, bytes: &mut [u8; 1518])
         requires there { number < length self.old.hosts }
         requires stands { CanBeDrained (nth_host self.old number) (world_at self.old.stations number) }
         requires free { (world_at self.old.stations number).adapter.receiver.work ≡ None }
@@ -108,12 +110,18 @@ impl Network {
         ensures steps { StepsOn 1 number [] (connected_at self.old number) (connected_at self.new number) }
         ensures others { OnlyHostChanges number self.old self.new }
     {
-        let mut bytes = [0; 1518];
-        self.call(number, HostCall::Interrupt, &[], &mut Nobody, &mut bytes);
+        self.call(number, HostCall::Interrupt, &[], &mut Nobody, bytes);
     }
 
-    /// The third kind of step: the host gives the oldest frame that waits for a socket, to the sink, without ticks.
-    fn give<S: Outlet>(&mut self, number: usize, socket: usize, sink: &mut S)
+    /// The third kind of step: the host gives the oldest frame that waits for a socket, to the sink, without ticks. It
+    /// is first copied to `bytes`.
+    fn give<S: Outlet>(
+        &mut self,
+        number: usize,
+        socket: usize,
+        bytes: &mut [u8; 1518],
+        sink: &mut S,
+    )
         requires there { number < length self.old.hosts }
         requires stands { CanBeDrained (nth_host self.old number) (world_at self.old.stations number) }
         requires free { (world_at self.old.stations number).adapter.receiver.work ≡ None }
@@ -125,8 +133,7 @@ impl Network {
             (connected_at self.old number) (connected_at self.new number) }
         ensures others { OnlyHostChanges number self.old self.new }
     {
-        let mut bytes = [0; 1518];
-        let called = self.call(number, HostCall::Recv(socket), &[], &mut Nobody, &mut bytes);
+        let called = self.call(number, HostCall::Recv(socket), &[], &mut Nobody, bytes);
         if let HostAnswer::Received(received) = called.answer {
             if let Ok(size) = received {
                 sink.take(socket, &Frame::from_slice(&bytes[..size]));

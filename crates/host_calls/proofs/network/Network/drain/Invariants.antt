@@ -7,8 +7,8 @@ use Rattle.host_calls.proofs.network.Network.drain.Given as goal
 
 -- So many steps were made, of which only this host has changed, and it can still be drained. What holds of every adapter held at the
 -- beginning, too.
-abbrev pub invariant-loop-steps : goal.invariant-loop-steps
-invariant-loop-steps g l = record {
+abbrev pub invariant-loop-bytes : goal.invariant-loop-bytes
+invariant-loop-bytes g l = record {
   into : StepsInto l.steps l.number (outlet (g.S.Outlet.frames l.fn.sink) (g.S.Outlet.room_left l.fn.sink))
       (outlet (g.S.Outlet.frames l.sink) (g.S.Outlet.room_left l.sink)) (connected_at l.fn.self l.number) (connected_at l.self l.number);
   stands : CanBeDrained (nth_host l.self l.number) (world_at l.self.stations l.number);
@@ -16,5 +16,5 @@ invariant-loop-steps g l = record {
   others : OnlyHostChanges l.number l.fn.self l.self;
 }
 
-abbrev pub decreases-loop-steps : goal.decreases-loop-steps
-decreases-loop-steps g l = count_steps (nth_host l.self l.number) (world_at l.self.stations l.number)
+abbrev pub decreases-loop-bytes : goal.decreases-loop-bytes
+decreases-loop-bytes g l = count_steps (nth_host l.self l.number) (world_at l.self.stations l.number)
