@@ -60,6 +60,7 @@ impl Play {
     /// Runs these events, and records what comes of them. If memory is refused before an event, the error has the
     /// number of events and drains that are recorded.
     #[tactic(auto, using(crate::proofs::PlayedEvents::played))]
+    #[inline(always)]
     fn run(&mut self, events: &[Event]) -> Result<(), BenchError>
         ensures ok { OnOk result (HasPlayed (map event_of events.now) self.old self.new) }
         ensures err { IfErr result (StopsWithin (map event_of events.now) self.old self.new) }
