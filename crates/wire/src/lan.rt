@@ -1,10 +1,11 @@
 // Hosts on wires.
 
 use crate::collector::Collector;
-use crate::events::{self, Part};
+use crate::events::{self, Call};
 use crate::run_observer::RunObserver;
 use host_calls::Network;
 use network_plan::{Event, Reply, Stopped};
+use packet_socket::HostCall;
 use std::alloc::Global;
 use std::marker::Model;
 
@@ -36,16 +37,42 @@ impl Lan {
     ghost use Rattle.wire.specs.Runs.{EventRuns, RunTold, RunsTo, StopsAt};
 
     /// Runs one event. The observer has room for all that comes of it.
+    #[inline(always)]
     fn event<O: RunObserver>(&mut self, event: &Event, observer: &mut O)
         requires room { HasRoomForEvent O.ready O.room_left event.now observer.old }
         ensures { EventTold O.ran event.now observer.old observer.new
             (λ reply. EventRuns self.old event.now reply self.new) }
     {
-        match Part::of(event) {
-            Part::Call(call) => {
+        match event {
+            Event::Send { host, frame, ticks } => {
+                let call = Call {
+                    host: *host,
+                    call: HostCall::Send(frame.as_slice()),
+                    ticks: ticks.as_slice(),
+                };
                 events::make_call(&mut self.network, event, &call, &mut self.given, observer);
             }
-            Part::Tick(tick) => events::tick(&mut self.network, event, tick, observer),
+            Event::Recv {
+                host,
+                socket,
+                ticks,
+            } => {
+                let call = Call {
+                    host: *host,
+                    call: HostCall::Recv(*socket),
+                    ticks: ticks.as_slice(),
+                };
+                events::make_call(&mut self.network, event, &call, &mut self.given, observer);
+            }
+            Event::Interrupt { host, ticks } => {
+                let call = Call {
+                    host: *host,
+                    call: HostCall::Interrupt,
+                    ticks: ticks.as_slice(),
+                };
+                events::make_call(&mut self.network, event, &call, &mut self.given, observer);
+            }
+            Event::Tick(tick) => events::tick(&mut self.network, event, *tick, observer),
         }
     }
 
@@ -56,6 +83,7 @@ impl Lan {
     ///
     /// Only if the observer refuses to make room for an event. The events before that one were run and told, and it
     /// changed nothing in the network.
+    #[inline(always)]
     pub fn play<O: RunObserver>(
         &mut self,
         events: &[Event],
