@@ -1,12 +1,10 @@
 -- Bytes cut into frames of given lengths.
-use Rattle.std.proofs.Common.{◌≡◌, ◌≤◌, ◌<◌, ◌+◌, ◌-◌, ◌++◌, ◌∷◌, [], ℕ, zero, suc, List, length, take, drop, refl, sym, ap, ◌∙◌, arith}
-use Rattle.std.proofs.lemmas.List.{length-append, length-take-le, length-drop, take-take, take_at, drop_at, take-append-le}
-use Rattle.std.proofs.lemmas.List.{drop-drop, drop-take}
+use Rattle.std.proofs.Common.{◌≡◌, ◌≤◌, ◌+◌, ◌-◌, ◌++◌, ◌∷◌, [], ℕ, zero, suc, List, length, take, drop, refl, sym, ap, ◌∙◌, arith}
+use Rattle.std.proofs.lemmas.List.{drop-drop, drop-take, drop_at, length-drop, length-take-le, take-take, take_at, take_more}
 use Rattle.std.specs.Prelude.{slice_get, sum_by, None, Some, IsTrue, true, ◌==◌}
 use Rattle.std.proofs.lemmas.Bool.Decides.{nat_tests}
 use Rattle.frame_queue.specs.Packed.{cut, total}
 use Rattle.std.proofs.lemmas.List.Sums.{sum_by-append, sum_by-cons, sum_by-take-le}
-use Rattle.std.proofs.lemmas.List.{take_more}
 use Rattle.std.proofs.lemmas.Option.{get_or_from_slice_get, slice_get_within}
 
 pub length-cut : (ns bytes : List ℕ) → length (cut ns bytes) ≡ length ns
@@ -106,14 +104,15 @@ cut-pushed ns before after frame n count fits appended =
     let front = take (total ns) before in
     let long : length front ≡ total ns = length-take-le (total ns) before fits in
     let first : take (total ns) after ≡ front =
-        sym (take-take (total ns) (total ns + n) after (omega arith)) ∙ ap (take (total ns)) appended
-        ∙ take_at front frame (total ns) long in
+    sym (take-take (total ns) (total ns + n) after (omega arith)) ∙ ap (take (total ns)) appended
+    ∙ take_at front frame (total ns) long in
     let last : take n (drop (total ns) after) ≡ frame =
-        sym (drop-take (total ns) n after) ∙ ap (drop (total ns)) appended ∙ drop_at front frame (total ns) long in
+    sym (drop-take (total ns) n after) ∙ ap (drop (total ns)) appended ∙ drop_at front frame (total ns) long in
     cut-append ns after n ∙ rw (cut-agree ns after before first, last) refl
 
 pub total-append : (ns : List ℕ) (n : ℕ) → total (ns ++ n ∷ []) ≡ total ns + n
-total-append ns n = sum_by-append (λ (m : ℕ). m) ns (n ∷ []) ∙ ap (λ (k : ℕ). total ns + k) (sum_by-cons (λ (m : ℕ). m) n [] ∙ (let e : n + 0 ≡ n = omega arith in e))
+total-append ns n =
+    omega (arith, sum_by-append (λ (m : ℕ). m) ns (n ∷ []), sum_by-cons (λ (m : ℕ). m) n [])
 
 pub none-first : (ns : List ℕ) → slice_get ns 0 ≡ None → length ns ≡ 0
 none-first [] none = refl

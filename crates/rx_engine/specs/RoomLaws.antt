@@ -1,7 +1,7 @@
 -- Lemmas on the room in the receive packet buffer, for proofs of this crate and of those above it: how many frames fit, and how many bytes
 -- they have.
-use Rattle.std.proofs.Common.{◌≡◌, ◌≤◌, ◌<◌, ◌+◌, ◌*◌, ◌/◌, ◌++◌, ◌∷◌, [], ℕ, List, All, length, drop, refl, sym, ap, ◌∙◌, arith, suc}
-use Rattle.std.specs.Prelude.{sum_by, slice_get, Some, None}
+use Rattle.std.proofs.Common.{◌≡◌, ◌≤◌, ◌+◌, ◌*◌, ◌++◌, ◌∷◌, [], ℕ, List, All, length, drop, sym, ap, ◌∙◌, arith, suc}
+use Rattle.std.specs.Prelude.{sum_by, slice_get, Some}
 use Rattle.std.proofs.lemmas.List.Sums.{sum_by-append, sum_by-cons}
 use Rattle.descriptors.specs.Frames.{IsLegal}
 use Rattle.rx_engine.specs.Room.{cost, most_room, occupied_by}
@@ -29,8 +29,12 @@ bytes-occupied (frame ∷ later) =
 pub count-occupied : (frames : List (List ℕ)) → All IsLegal frames → 80 * length frames ≤ occupied_by frames
 count-occupied [] legal = omega arith
 count-occupied (frame ∷ later) legal =
-    omega (arith, legal-cost frame (all-first IsLegal frame later legal), count-occupied later (all-later IsLegal frame later legal),
-    sum_by-cons cost frame later)
+    omega (
+      arith,
+      legal-cost frame (all-first IsLegal frame later legal),
+      count-occupied later (all-later IsLegal frame later legal),
+      sum_by-cons cost frame later,
+    )
 
 -- So the packet buffer contains at most 614 frames.
 pub count-fits : (frames : List (List ℕ)) → All IsLegal frames → occupied_by frames ≤ most_room → length frames ≤ 614

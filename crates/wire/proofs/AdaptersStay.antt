@@ -2,7 +2,7 @@
 use Rattle.std.proofs.Common.{◌≡◌, ◌≢◌, ◌≤◌, ◌<◌, ◌-◌, ◌/◌, ◌^◌, ◌∷◌, ◌++◌, []}
 use Rattle.std.proofs.Common.{Bool, true, false, ℕ, zero, suc, List, Option}
 use Rattle.std.proofs.Common.{Some, None, All}
-use Rattle.std.proofs.Common.{if◌then◌else◌, ap, arith, drop, length, length-append, length-drop, length-take, refl, subst, sym, ◌∙◌}
+use Rattle.std.proofs.Common.{if◌then◌else◌, ap, arith, drop, length, length-drop, length-take, refl, subst, sym, ◌∙◌}
 use Rattle.std.specs.Option.{ForSome}
 use Rattle.std.specs.Prelude.{bit_and}
 use Rattle.std.proofs.lemmas.Bool.{leb-false}

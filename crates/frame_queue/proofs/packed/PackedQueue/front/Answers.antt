@@ -1,4 +1,4 @@
-use Rattle.std.proofs.Common.{refl, ◌<◌, ◌≤◌, ◌≡◌, ◌+◌, ◌-◌, sym, ap, arith, ℕ, List}
+use Rattle.std.proofs.Common.{refl, ◌≡◌, ◌+◌, ◌-◌, sym, ap, arith}
 use Rattle.std.specs.Prelude.{slice_get, Some, None, drop, length}
 use Rattle.frame_queue.proofs.Cut.{first-in-sum, front-cut, none-cut, none-first, some-cut}
 use Rattle.frame_queue.proofs.packed.PackedQueue.front.Goals as goal

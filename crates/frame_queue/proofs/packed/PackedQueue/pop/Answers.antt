@@ -1,11 +1,15 @@
-use Rattle.std.proofs.Common.{ℕ, List, ◌≡◌, ◌≤◌, ◌+◌, [], refl, sym, ap, ◌∙◌, arith, rules}
-use Rattle.std.specs.Prelude.{slice_get, drop, length, None, Some, ◌==◌, true, IsTrue}
-use Rattle.std.proofs.lemmas.Bool.Decides.{nat_tests}
+use Rattle.std.proofs.Common.{ℕ, List, ◌≡◌, ◌+◌, sym, ap, ◌∙◌, arith}
+use Rattle.std.specs.Prelude.{slice_get, drop, length, None, Some, ◌==◌, true}
 use Rattle.std.proofs.lemmas.List.{length-drop, drop-drop}
-use Rattle.circular_buffer.specs.Buffer.{Buffer, buffer}
-use Rattle.frame_queue.specs.Packed.{PackedFrames, cut, total}
+use Rattle.circular_buffer.specs.Buffer.{Buffer}
+use Rattle.frame_queue.specs.Packed.{PackedFrames, cut}
+use Rattle.frame_queue.specs.declared.packed.PackedQueue.TheInside.{Inside}
 use Rattle.frame_queue.proofs.Cut.{cut-drop, first-in-sum, is_none, none-cut, none-dropped}
 use Rattle.frame_queue.proofs.packed.PackedQueue.pop.Goals as goal
+
+-- the queue with these frames
+abbrev with_frames : Inside → List (List ℕ) → PackedFrames
+with_frames queue frames = record { capacity = queue.lengths.capacity; room = length queue.bytes.items; frames = frames }
 
 pub returns-in_default : goal.returns-in_default
 returns-in_default c =
@@ -13,9 +17,7 @@ returns-in_default c =
     let bytes = drop queue.first queue.bytes.items in
     let none : slice_get queue.lengths.items 0 ≡ None = sym c.in_default.ensures.value in
     let same = none-dropped queue.lengths.items bytes none in
-    rw (c.in_default.ensures.items, ← c.self.view_is) (ap
-    (λ (frames : List (List ℕ)). let q : PackedFrames = record { capacity = queue.lengths.capacity; room = length queue.bytes.items; frames = frames } in q)
-    same)
+    rw (c.in_default.ensures.items, ← c.self.view_is) (ap (with_frames queue) same)
 
 pub invariant_of-self-else-is_empty : goal.invariant_of-self-else-is_empty
 invariant_of-self-else-is_empty c =
@@ -35,15 +37,13 @@ returns-then-is_empty c =
     let bytes = drop queue.first queue.bytes.items in
     let some : slice_get queue.lengths.items 0 ≡ Some c.in-Some.length = sym c.in-Some.ensures.value in
     let empty : length (drop 1 queue.lengths.items) ≡ 0 =
-        is_none (drop 1 queue.lengths.items) (sym c.if-is_empty.true ∙ c.is_empty.ensures
-        ∙ ap (λ (b : Buffer ℕ). length b.items == 0) c.in-Some.ensures.items) in
+    is_none (drop 1 queue.lengths.items) (sym c.if-is_empty.true ∙ c.is_empty.ensures
+    ∙ ap (λ (b : Buffer ℕ). length b.items == 0) c.in-Some.ensures.items) in
     let gone = cut-drop queue.lengths.items bytes c.in-Some.length some in
     let none : cut (drop 1 queue.lengths.items) (drop 0 queue.bytes.items) ≡ drop 1 (cut queue.lengths.items bytes) =
-        none-cut (drop 1 queue.lengths.items) (drop 0 queue.bytes.items) empty
-        ∙ sym (none-cut (drop 1 queue.lengths.items) (drop c.in-Some.length bytes) empty) ∙ gone in
-    rw (c.in-Some.ensures.items, ← c.self.view_is) (ap
-    (λ (frames : List (List ℕ)). let q : PackedFrames = record { capacity = queue.lengths.capacity; room = length queue.bytes.items; frames = frames } in q)
-    none)
+    none-cut (drop 1 queue.lengths.items) (drop 0 queue.bytes.items) empty
+    ∙ sym (none-cut (drop 1 queue.lengths.items) (drop c.in-Some.length bytes) empty) ∙ gone in
+    rw (c.in-Some.ensures.items, ← c.self.view_is) (ap (with_frames queue) none)
 
 pub returns-else-is_empty : goal.returns-else-is_empty
 returns-else-is_empty c =
@@ -52,8 +52,6 @@ returns-else-is_empty c =
     let some : slice_get queue.lengths.items 0 ≡ Some c.in-Some.length = sym c.in-Some.ensures.value in
     let first : queue.first + c.from.result ≡ queue.first + c.in-Some.length = omega (arith, c.from.ensures) in
     let moved : drop (queue.first + c.from.result) queue.bytes.items ≡ drop c.in-Some.length bytes =
-        ap (λ (k : ℕ). drop k queue.bytes.items) first ∙ sym (drop-drop c.in-Some.length queue.first queue.bytes.items) in
+    ap (λ (k : ℕ). drop k queue.bytes.items) first ∙ sym (drop-drop c.in-Some.length queue.first queue.bytes.items) in
     let gone = ap (cut (drop 1 queue.lengths.items)) moved ∙ cut-drop queue.lengths.items bytes c.in-Some.length some in
-    rw (c.in-Some.ensures.items, ← c.self.view_is) (ap
-    (λ (frames : List (List ℕ)). let q : PackedFrames = record { capacity = queue.lengths.capacity; room = length queue.bytes.items; frames = frames } in q)
-    gone)
+    rw (c.in-Some.ensures.items, ← c.self.view_is) (ap (with_frames queue) gone)

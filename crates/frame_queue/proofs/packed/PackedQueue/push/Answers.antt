@@ -1,15 +1,15 @@
-use Rattle.std.proofs.Common.{ℕ, List, ◌≡◌, ◌<◌, ◌≤◌, ◌+◌, ◌-◌, ◌++◌, ◌∷◌, [], length, take, drop, refl, sym, ap, ◌∙◌, arith}
+use Rattle.std.proofs.Common.{ℕ, List, ◌≡◌, ◌<◌, ◌+◌, ◌-◌, ◌++◌, ◌∷◌, [], length, take, drop, refl, sym, ap, ◌∙◌, arith}
 use Rattle.std.specs.Prelude.{sum_by}
 use Rattle.std.proofs.lemmas.List.{length-append, length-drop, with_items_is}
-use Rattle.circular_buffer.specs.Buffer.{Buffer, buffer}
+use Rattle.circular_buffer.specs.Buffer.{buffer}
 use Rattle.frame_queue.specs.Laws.{keep_last-room}
-use Rattle.frame_queue.specs.Packed.{IsPacked, PackedFrames, cut, total}
+use Rattle.frame_queue.specs.Packed.{IsPacked, PackedFrames, packed_of, total}
 use Rattle.frame_queue.specs.declared.packed.PackedQueue.TheInside.{Inside}
 use Rattle.frame_queue.proofs.Cut.{cut-pushed, length-cut, sum-cut, total-append}
 use Rattle.frame_queue.proofs.packed.PackedQueue.push.Goals as goal
 
--- the frames have as many bytes as there are from the first one's beginning up to the end
-stand : (queue : Inside) (seen : PackedFrames) → IsPacked queue → record { capacity = queue.lengths.capacity; room = length queue.bytes.items; frames = cut queue.lengths.items (drop queue.first queue.bytes.items) } ≡ seen
+-- the number of bytes of the frames is the sum of their lengths
+stand : (queue : Inside) (seen : PackedFrames) → IsPacked queue → packed_of queue ≡ seen
     → sum_by (λ (frame : List ℕ). length frame) seen.frames ≡ total queue.lengths.items
 stand queue seen whole view =
     let long = length-drop queue.first queue.bytes.items in
@@ -29,7 +29,7 @@ invariant_of-self c =
     let n = length c.args.frame.now in
     let asked = rw (← c.self.view_is) at c.requires.place in
     let room : length queue.lengths.items < queue.lengths.capacity =
-        omega (arith, asked, length-cut queue.lengths.items (drop queue.first queue.bytes.items)) in
+    omega (arith, asked, length-cut queue.lengths.items (drop queue.first queue.bytes.items)) in
     let more : c.push_back.new.self ≡ buffer (queue.lengths.items ++ n ∷ []) queue.lengths.capacity = c.push_back.ensures.items
     ∙ ap (λ (ns : List ℕ). buffer ns queue.lengths.capacity) (keep_last-room queue.lengths.items queue.lengths.capacity n room) in
     let size : length c.append-first.new.bytes ≡ queue.bytes.len = c.append-first.ensures.size ∙ c.as_mut_slice.ensures.len in
@@ -51,15 +51,16 @@ returns c =
     let after = drop c.append-first.result c.append-first.new.bytes in
     let asked = rw (← c.self.view_is) at c.requires.place in
     let room : length queue.lengths.items < queue.lengths.capacity =
-        omega (arith, asked, length-cut queue.lengths.items before) in
+    omega (arith, asked, length-cut queue.lengths.items before) in
     let more : c.push_back.new.self ≡ buffer (queue.lengths.items ++ n ∷ []) queue.lengths.capacity = c.push_back.ensures.items
     ∙ ap (λ (ns : List ℕ). buffer ns queue.lengths.capacity) (keep_last-room queue.lengths.items queue.lengths.capacity n room) in
     let size : length c.append-first.new.bytes ≡ queue.bytes.len = c.append-first.ensures.size ∙ c.as_mut_slice.ensures.len in
     let items = with_items_is queue.bytes c.append-first.new.bytes size in
     let count : queue.end - queue.first ≡ total queue.lengths.items = omega (arith, c.self.invariant.end_is) in
     let appended : take (total queue.lengths.items + n) after ≡ take (total queue.lengths.items) before ++ frame =
-        rw (count, c.as_mut_slice.ensures.value) at c.append-first.ensures.appended in
+    rw (count, c.as_mut_slice.ensures.value) at c.append-first.ensures.appended in
     let pushed = cut-pushed queue.lengths.items before after frame n refl
-        (omega (arith, length-drop queue.first queue.bytes.items, c.self.invariant.end_is, c.self.invariant.fits)) appended in
-    let long : length c.append-first.new.bytes ≡ length queue.bytes.items = c.append-first.ensures.size ∙ ap length c.as_mut_slice.ensures.value in
+    (omega (arith, length-drop queue.first queue.bytes.items, c.self.invariant.end_is, c.self.invariant.fits)) appended in
+    let long : length c.append-first.new.bytes ≡ length queue.bytes.items =
+    c.append-first.ensures.size ∙ ap length c.as_mut_slice.ensures.value in
     rw (← c.self.view_is, items, more, pushed, long) refl

@@ -1,4 +1,4 @@
-use Rattle.std.proofs.Common.{◌≡◌, ◌≤◌, ◌<◌, ◌+◌, ℕ, ap, arith}
+use Rattle.std.proofs.Common.{ap, arith}
 use Rattle.rx_engine.specs.Receiver.{Receiver}
 use Rattle.rx_engine.specs.Room.{occupied_by}
 use Rattle.rx_engine.specs.RoomLaws.{bytes-cost, bytes-occupied, count-occupied, legal-cost}
