@@ -6,4 +6,6 @@
 #![tactic(auto)]
 
 pub mod player_calls;
+pub mod qtest_calls;
 pub mod schedule_calls;
+pub mod text_calls;
