@@ -1,4 +1,4 @@
-//! Twins of the calls of an adapter and of a solo bus.
+//! Twins of the calls of an adapter, of a solo bus and of stations.
 //!
 //! A twin has the clauses of the call whose name it bears. It makes this call and hands on what came of it, and the
 //! prover knows nothing of the call but its clauses. So if one wrong thing is handed on, a clause refuses it. The edits
@@ -7,3 +7,4 @@
 
 pub mod adapter_calls;
 pub mod solo_bus_calls;
+pub mod stations_calls;

@@ -1,6 +1,7 @@
 //! The calls of `SoloBus`, and its accesses as a `Bus`.
 
-ghost use Rattle.std.specs.Prelude.{◌≡◌, ◌+◌, ◌++◌, ◌≤◌, ◌↔◌, [], Some, IfSome, IsNone, IsTrue, drop, length, slice_get};
+ghost use Rattle.std.specs.Prelude.{◌≡◌, ◌+◌, ◌++◌, ◌≤◌, ◌↔◌, [], Some, IfOk, IfSome, IsNone, IsTrue, drop, length};
+ghost use Rattle.std.specs.Prelude.{slice_get};
 ghost use Rattle.registers.specs.Bits.{Meet};
 ghost use Rattle.dma_memory.specs.HostMemory.{bytes_at};
 ghost use Rattle.adapter.specs.Receiving.{IsFate};
@@ -15,10 +16,30 @@ ghost use Rattle.bus.specs.declared.event.Access.TheVariants.{Loads, Reads, Stor
 ghost use Rattle.solo_bus.specs.SoloBuses.{PlaysSoloTicks, has_room, is_go};
 ghost use Rattle.solo_bus.specs.SoloBuses.{solo_after_arrival, solo_after_step, solo_framed};
 
-use adapter::{Fate, Outcome, StepKind};
+use adapter::{Adapter, Fate, Outcome, StepKind};
 use bus::Bus;
 use descriptors::Frame;
+use dma_memory::HostMemory;
 use solo_bus::{MOST_TICKS, SoloBus, SoloTick};
+use std::alloc::{AllocError, Global};
+
+/// A twin of [`SoloBus::new`].
+pub fn new(
+    alloc: Global,
+    adapter: Adapter,
+    memory: HostMemory,
+    lively: bool,
+) -> Result<SoloBus, AllocError>
+    ensures { IfOk result (λ bus. bus ≡ record {
+      world = record { memory = memory; adapter = adapter };
+      lively = lively;
+      waiting = [];
+      wire = [];
+      accesses = 0;
+    }) }
+{
+    SoloBus::new(alloc, adapter, memory, lively)
+}
 
 /// A twin of [`SoloBus::step`].
 pub fn step(bus: &mut SoloBus, kind: StepKind) -> Outcome<()>
