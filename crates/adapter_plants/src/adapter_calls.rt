@@ -1,6 +1,7 @@
 //! The calls of `Adapter`.
 
-ghost use Rattle.std.specs.Prelude.{◌≡◌, length};
+ghost use Rattle.std.specs.Prelude.{◌≡◌, fold, length};
+ghost use Rattle.adapter.specs.Hashed.{adapter_writes};
 ghost use Rattle.adapter.specs.Outcomes.{framed};
 ghost use Rattle.adapter.specs.Receiving.{IsFate, after_arrive};
 ghost use Rattle.adapter.specs.Registers.{after_read, after_write, answer_at};
@@ -10,6 +11,7 @@ ghost use Rattle.adapter.specs.declared.outcome.Outcome.TheVariants.{Fault, Noth
 
 use adapter::{Adapter, Fate, Outcome, StepKind};
 use dma_memory::HostMemory;
+use std::hash::Hasher;
 
 /// A twin of [`Adapter::step`].
 pub fn step(
@@ -63,4 +65,11 @@ pub fn write(adapter: &mut Adapter, offset: u32, value: u32)
     ensures adapter { IsAdapter adapter.new }
 {
     adapter.write(offset, value);
+}
+
+/// A twin of [`Adapter::feed`].
+pub fn feed<H: Hasher>(adapter: &Adapter, hasher: &mut H)
+    ensures { hasher.new ≡ fold H.write hasher.old (adapter_writes adapter.now) }
+{
+    adapter.feed(hasher);
 }
