@@ -8,7 +8,9 @@ use Rattle.bus.specs.Settings.{Settings, Write, settings_after_all, settings_of}
 use Rattle.bus.proofs.Settings.{image-stays, link-stays, settings-append}
 use Rattle.bring_up.proofs.Steps.{StretchesJoin}
 use Rattle.bring_up.proofs.WritesAtRest.{allocation-aside, link-aside}
-use Rattle.bring_up.specs.SettingSteps.{Asks, Sets}
+use Rattle.bring_up.proofs.CausesLeft.{allocation-causes, asks-causes, eerd-causes, joined-causes, link-causes, mdic-causes, reset-causes}
+use Rattle.bring_up.proofs.CausesLeft.{sets-causes}
+use Rattle.bring_up.specs.SettingSteps.{Asks, RecordsNoCause, Sets}
 use Rattle.bring_up.specs.WrittenRegisters.{allocation_writes, link_writes, reset_writes}
 
 -- The image was read: the device is at rest, as it is behind a reset.
@@ -17,6 +19,7 @@ pub record IsRead {B : Type 0} (bus : Ghosts B) (old new : B) : Type 0 where
   pub reports : bus.happened old new past
   pub rests : IsAtRest (bus.world new)
   pub settings : settings_of (bus.world new).adapter ≡ settings_after_all reset_writes (settings_of (bus.world old).adapter)
+  pub no_cause : RecordsNoCause past
 
 pub is-read : {B : Type 0} (bus : Ghosts B) → StretchesJoin bus
     → (old middle new : B) → Sets bus reset_writes old middle → IsAtRest (bus.world middle) → Asks bus 0x0014 middle new
@@ -26,6 +29,8 @@ is-read bus joins old middle new resets rest asks = record {
   reports = joins old middle new resets.past asks.past resets.reports asks.reports;
   rests = (asks.rests rest).0;
   settings = asks.settings ∙ resets.settings;
+  no_cause = joined-causes resets.past asks.past (sets-causes bus old middle reset_writes resets reset-causes)
+      (asks-causes bus middle new 0x0014 eerd-causes asks);
 }
 
 -- And the packet buffer is shared out, and the link let come up.
@@ -35,6 +40,7 @@ pub record IsPrepared {B : Type 0} (bus : Ghosts B) (old new : B) (kilobytes : �
   pub rests : IsAtRest (bus.world new)
   pub settings : settings_of (bus.world new).adapter
       ≡ settings_after_all (reset_writes ++ (allocation_writes kilobytes ++ link_writes)) (settings_of (bus.world old).adapter)
+  pub no_cause : RecordsNoCause past
 
 -- The EEPROM, and how the link comes up, are those of before.
 pub device-image : (a b : World) (writes : List Write) → settings_of b.adapter ≡ settings_after_all writes (settings_of a.adapter)
@@ -61,6 +67,10 @@ is-set bus joins old read shared new kilobytes is shares links = record {
       ∙ sym (settings-append (allocation_writes kilobytes) link_writes
       (settings_after_all reset_writes (settings_of (bus.world old).adapter)))
       ∙ sym (settings-append reset_writes (allocation_writes kilobytes ++ link_writes) (settings_of (bus.world old).adapter));
+  no_cause = joined-causes is.past (joined shares.past links.past) is.no_cause
+      (joined-causes shares.past links.past
+      (sets-causes bus read shared (allocation_writes kilobytes) shares (allocation-causes kilobytes))
+      (sets-causes bus shared new link_writes links link-causes));
 }
 
 -- A register of the PHY was asked behind that.
@@ -72,4 +82,5 @@ still-ready bus joins old middle new kilobytes is asks = record {
   reports = joins old middle new is.past asks.past is.reports asks.reports;
   rests = (asks.rests is.rests).0;
   settings = asks.settings ∙ is.settings;
+  no_cause = joined-causes is.past asks.past is.no_cause (asks-causes bus middle new 0x0020 mdic-causes asks);
 }

@@ -20,14 +20,14 @@ use Rattle.bring_up.specs.WrittenRegisters.{allocation_writes, link_writes, mask
 use Rattle.bring_up.proofs.WritesAtRest.{allocation-aside, link-aside}
 
 -- Each of the writes is of a register of which this holds.
-abbrev AreOf : (Option Register → Type 0) → List Write → Type 0
+abbrev pub AreOf : (Option Register → Type 0) → List Write → Type 0
 AreOf P writes = All (λ (write : Write). P (register_at write.offset)) writes
 
-of-one : (P : Option Register → Type 0) (offset value : ℕ) → P (register_at offset) → AreOf P (write_at offset value ∷ [])
+pub of-one : (P : Option Register → Type 0) (offset value : ℕ) → P (register_at offset) → AreOf P (write_at offset value ∷ [])
 of-one P offset value here = All-cons (λ (write : Write). P (register_at write.offset)) (write_at offset value) [] here
     (all-none (λ (write : Write). P (register_at write.offset)))
 
-of-both : (P : Option Register → Type 0) (first later : List Write) → AreOf P first → AreOf P later → AreOf P (first ++ later)
+pub of-both : (P : Option Register → Type 0) (first later : List Write) → AreOf P first → AreOf P later → AreOf P (first ++ later)
 of-both P first later one two = All-append (λ (write : Write). P (register_at write.offset)) first later one two
 
 -- The tables.
@@ -63,7 +63,7 @@ entries-of P ral rah entry (suc count) fits =
     (entry-of P ral rah entry 0 0 within) (entries-of P ral rah (entry + 1) count room)
 
 -- all of them
-filter-of : (P : Option Register → Type 0) → ((n : ℕ) → P (Some (Mta n))) → ((n : ℕ) → P (Some (Vfta n)))
+pub filter-of : (P : Option Register → Type 0) → ((n : ℕ) → P (Some (Mta n))) → ((n : ℕ) → P (Some (Vfta n)))
     → ((n : ℕ) → P (Some (Ral n))) → ((n : ℕ) → P (Some (Rah n)))
     → (groups vlans address : List ℕ) → length groups ≡ 128 → length vlans ≡ 128
     → AreOf P (table_writes 0x5200 groups ++ (table_writes 0x5600 vlans ++ address_writes address))
@@ -92,7 +92,7 @@ rings-last config address groups vlans groups_whole vlans_whole =
 
 -- Registers beside CTRL and MDIC.
 
-ring-of : (P : Option Register → Type 0) (offset base bytes : ℕ) → P (register_at offset) → P (register_at (offset + 0x04))
+pub ring-of : (P : Option Register → Type 0) (offset base bytes : ℕ) → P (register_at offset) → P (register_at (offset + 0x04))
     → P (register_at (offset + 0x08))
     → P (register_at (offset + 0x10)) → P (register_at (offset + 0x18)) → AreOf P (ring_writes offset base bytes)
 ring-of P offset base bytes low high size head tail =

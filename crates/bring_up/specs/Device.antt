@@ -9,6 +9,7 @@ use Rattle.bus.specs.Settings.{settings_after_all, settings_of}
 use Rattle.bus.specs.declared.bus.Bus.{Ghosts}
 use Rattle.bring_up.specs.EepromReading.{most_reads}
 use Rattle.bring_up.specs.Link.{NeedsMoreThan}
+use Rattle.bring_up.specs.SettingSteps.{RecordsNoCause}
 use Rattle.bring_up.specs.WrittenRegisters.{allocation_writes, link_writes, reset_writes}
 use Rattle.bring_up.specs.declared.init_error.InitError.{InitError}
 use Rattle.bring_up.specs.declared.init_error.InitError.TheVariants.{Checksum, EepromTimeout, Memory, NoLink, PhyTimeout}
@@ -54,5 +55,6 @@ pub record FindsDevice {B : Type 0} (bus : Ghosts B) (kilobytes : ℕ) (result :
   pub past : Past
   pub reports : bus.happened old new past
   pub found : IfOk result (IsFound bus kilobytes old new)
+  pub no_cause : IfOk result (λ image. RecordsNoCause past)
   pub why : IfErr result (λ error. IsErrorOf error (bus.world old).adapter.image (length past.accesses))
   pub why_lively : bus.lively old → IfErr result (λ error. IsErrorOfLively error (bus.world old))

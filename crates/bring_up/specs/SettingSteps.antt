@@ -1,6 +1,8 @@
 -- What a step of initialization does over a bus: it writes registers (our choice).
-use Rattle.std.specs.Prelude.{◌≡◌, ℕ, List, All}
+use Rattle.std.specs.Prelude.{⊤, ◌≡◌, ℕ, List, All, Option, Some}
 use Rattle.adapter.specs.Table.{register_at}
+use Rattle.adapter.specs.declared.register.Register.{Register}
+use Rattle.adapter.specs.declared.register.Register.TheVariants.{Icr, Ics}
 use Rattle.bus.specs.AdaptersAtRest.{IsAtRest, IsElsewhere, NoFrame}
 use Rattle.bus.specs.Link.{HasLink, LeavesPhy}
 use Rattle.bus.specs.PastOfStretch.{Past}
@@ -10,6 +12,20 @@ use Rattle.bus.specs.declared.bus.Bus.{Ghosts}
 -- the write is of a register other than RCTL and those of the rings
 abbrev pub IsAside : Write → Type 0
 IsAside write = IsElsewhere (register_at write.offset)
+
+-- The register is neither ICR nor ICS.
+abbrev pub IsNotOfCauses : Option Register → Type 0
+IsNotOfCauses (Some Icr) = ⊥
+IsNotOfCauses (Some Ics) = ⊥
+IsNotOfCauses _ = ⊤
+
+-- the write is of neither, so it records no interrupt cause
+abbrev pub RecordsNone : Write → Type 0
+RecordsNone write = IsNotOfCauses (register_at write.offset)
+
+-- No access writes ICR or ICS.
+abbrev pub RecordsNoCause : Past → Type 0
+RecordsNoCause past = All RecordsNone (writes_in past.accesses)
 
 -- The step makes these writes in this order, and may also read registers, load and store. The settings are then what the writes make of
 -- them, whatever else happened. If RCTL and the rings' registers aren't written, an adapter at rest stays so, and no frame arrives or

@@ -25,6 +25,7 @@ returns-in_err-image-clause-finds g c honest =
       past = joined resets.past reads.asks.past;
       reports = g.met.B.Bus.composes.joins start c.reset_device.new.bus end resets.past reads.asks.past resets.reports reads.asks.reports;
       found = tt;
+      no_cause = tt;
       why = omega (arith, reads.in_vain, length-append resets.past.accesses reads.asks.past.accesses);
       why_lively = λ lively. absurd (false≢true (c.in_err-image.ensures.in_time (c.reset_device.ensures.keeps.lively lively) still));
     })
@@ -43,6 +44,7 @@ returns-then-not-checksum_ok-clause-finds g c honest =
       past = joined resets.past reads.asks.past;
       reports = joins start c.reset_device.new.bus c.read_image.new.bus resets.past reads.asks.past resets.reports reads.asks.reports;
       found = tt;
+      no_cause = tt;
       why = λ right. absurd (false≢true (sym c.if-not-checksum_ok.true ∙ c.checksum_ok.ensures.1 (subst HasRightSum (sym image_is) right)));
       why_lively = λ lively. tt;
     }
@@ -75,6 +77,7 @@ returns-in_err-negotiate-clause-finds g c honest =
       past = joined ready.past asked.asks.past;
       reports = joins start c.set_link_up.new.bus c.negotiate.new.bus ready.past asked.asks.past ready.reports asked.asks.reports;
       found = tt;
+      no_cause = tt;
       why = omega (arith, asked.late, length-append ready.past.accesses asked.asks.past.accesses);
       why_lively = λ lively. absurd (false≢true (asked.in_time (Lives lively)));
     })
@@ -117,6 +120,7 @@ returns-in_err-await_link-clause-finds g c honest =
       past = past;
       reports = happened_so;
       found = tt;
+      no_cause = tt;
       why = omega (arith, waits.late, count);
       why_lively = λ lively. absurd (waits.in_time (LivesOn lively) (ap Err late));
     }))
@@ -124,6 +128,7 @@ returns-in_err-await_link-clause-finds g c honest =
       past = past;
       reports = happened_so;
       found = tt;
+      no_cause = tt;
       why = omega (arith, waits.no_link (ap Err none), count);
       why_lively = λ lively. (
         right,
@@ -166,6 +171,7 @@ returns-clause-finds g c honest =
         settings = last.settings;
         up = waits.up;
       };
+      no_cause = last.no_cause;
       why = tt;
       why_lively = λ lively. tt;
     }
