@@ -44,7 +44,8 @@ use Rattle.bring_up.specs.Device.{IsFound}
 use Rattle.bring_up.specs.FilterSetting.{SetsFilter}
 use Rattle.bring_up.specs.FilterTables.{address_writes, table_writes}
 use Rattle.bring_up.specs.RestingRings.{HasNewRings, HasReceiveRing, SetsAtRest}
-use Rattle.bring_up.specs.SettingSteps.{IsAside}
+use Rattle.bring_up.specs.SettingSteps.{IsAside, RecordsNone, RecordsNoCause}
+use Rattle.bring_up.proofs.CausesLeft.{joined-causes, mask-causes, receive-causes, tail-causes, transmit-causes}
 use Rattle.bring_up.proofs.WritesOf.{link-first, rings-last}
 use Rattle.bring_up.proofs.ConfiguredSettings.{before-rings, writes-configure}
 use Rattle.bring_up.specs.RingRegisters.{receive_control, receive_writes, ring_writes, transmit_writes}
@@ -316,7 +317,7 @@ link-up config address groups vlans groups_whole vlans_whole w1 w2 w3 w4 w5 p2 p
 
 pub initialises : {B : Type 0} (bus : Ghosts B) → StretchesJoin bus
     → (b0 b1 b2 b3 b4 b5 : B) (config : Config) (size : ℕ) (pool numbers : List ℕ) (d : DriverState) (past : Past) → CanBeHad config size
-    → bus.happened b0 b1 past → HasFoundRing bus config b0 b1 → length numbers + 1 ≡ config.rx
+    → bus.happened b0 b1 past → HasFoundRing bus config b0 b1 → RecordsNoCause past → length numbers + 1 ≡ config.rx
     → d ≡ offering (configured_counts config) pool numbers d.pool
     → (first : Ran bus false (only (first_accesses (configured_counts config) numbers)) (at b1 (new_driver
     (configured_counts config) pool)) (at b2 d))
@@ -324,7 +325,7 @@ pub initialises : {B : Type 0} (bus : Ghosts B) → StretchesJoin bus
     → LetsFramesIn bus (receive_writes config.promiscuous (names_vlans config.vlans)) d b2 b3
     → Ran bus true (only (transmit_accesses (configured_counts config))) (at b3 d) (at b4 d) → EnablesCauses bus 0xD1 d b4 b5
     → Initialises bus config b0 b5 d
-initialises bus joins b0 b1 b2 b3 b4 b5 config size pool numbers d past had told found count is first quiet no_frame lets sends
+initialises bus joins b0 b1 b2 b3 b4 b5 config size pool numbers d past had told found no_cause count is first quiet no_frame lets sends
     masks =
     let counts = configured_counts config in
     let device = bus.world b0 in
@@ -384,6 +385,16 @@ initialises bus joins b0 b1 b2 b3 b4 b5 config size pool numbers d past had told
         };
         rest = rw (sends.only, masks.accessed.only, is) refl;
       };
+      no_cause = joined-causes start later
+          (joined-causes past (joined first.past lets.ran.past) no_cause
+          (joined-causes first.past lets.ran.past
+          (subst (All RecordsNone) (sym (ap writes_in first.only ∙ first-writes counts numbers)) (tail-causes (config.rx - 1)))
+          (subst (All RecordsNone) (sym (ap writes_in lets.ran.only))
+          (receive-causes config.promiscuous (names_vlans config.vlans)))))
+          (joined-causes sends.past masks.accessed.past
+          (subst (All RecordsNone) (sym (ap writes_in sends.only ∙ transmit-writes counts))
+          (transmit-causes (16 * config.rx) (16 * config.tx)))
+          (subst (All RecordsNone) (sym (ap writes_in masks.accessed.only)) mask-causes));
       started = record {
         ready = masks.ready;
         work = masks.work (asked-still d (bus.world b3) (bus.world b4) sends.past sends.goes

@@ -11,7 +11,7 @@ use Rattle.adapter.specs.HostFrames.{frames_held, frames_to_send}
 use Rattle.adapter.specs.Slots.{finished}
 use Rattle.adapter.specs.World.{World}
 use Rattle.bus.specs.Link.{HasLink}
-use Rattle.bus.specs.PastOfStretch.{Past}
+use Rattle.bus.specs.PastOfStretch.{Past, joined}
 use Rattle.bus.specs.Settings.{settings_after_all, settings_of}
 use Rattle.bus.specs.declared.bus.Bus.{Ghosts}
 use Rattle.bus.specs.declared.event.Access.{Access}
@@ -24,6 +24,7 @@ use Rattle.bring_up.specs.DriverSteps.{accesses_of}
 use Rattle.bring_up.specs.FilterTables.{HasNumbers, numbers_of_groups}
 use Rattle.bring_up.specs.RestingRings.{HasReceiveRing}
 use Rattle.bring_up.specs.RingRegisters.{receive_writes, ring_writes, transmit_writes}
+use Rattle.bring_up.specs.SettingSteps.{RecordsNoCause}
 use Rattle.bring_up.specs.WrittenRegisters.{mask_writes}
 use Rattle.bring_up.specs.declared.config.Config.{Config}
 use Rattle.bring_up.specs.declared.init_error.InitError.{InitError}
@@ -76,6 +77,7 @@ pub record FindsRing {B : Type 0} (bus : Ghosts B) (config : Config) (result : R
   pub past : Past
   pub reports : bus.happened old new past
   pub found : IfOk result (λ done. HasFoundRing bus config old new)
+  pub no_cause : IfOk result (λ done. RecordsNoCause past)
   pub why : IfErr result (λ error. IsErrorOf error (bus.world old).adapter.image (length past.accesses))
   pub why_lively : bus.lively old → IfErr result (λ error. IsErrorOfLively error (bus.world old))
 
@@ -148,6 +150,8 @@ pub record Initialises {B : Type 0} (bus : Ghosts B) (config : Config) (old new 
   pub reports_first : bus.happened old middle first
   pub reports_later : bus.happened middle new later
   pub accesses : InitAccesses config d first.accesses later.accesses
+  -- Neither ICR nor ICS was written.
+  pub no_cause : RecordsNoCause (joined first later)
   pub started : IsStarted d (bus.world new) later
   pub adapter : IsSetUp config (bus.world old) (bus.world new)
 

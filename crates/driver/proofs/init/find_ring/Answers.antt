@@ -7,6 +7,7 @@ use Rattle.bring_up.specs.RestingRings.{HasNewRings, HasReceiveRing, SetsAtRest}
 use Rattle.bring_up.specs.RingRegisters.{ring_writes}
 use Rattle.bring_up.specs.declared.ring_registers.RingPlace.{RingPlace}
 use Rattle.bring_up.specs.FilterSetting.{SetsFilter}
+use Rattle.bring_up.proofs.CausesLeft.{filter-causes, joined-causes, receive_ring-causes, sets-causes}
 use Rattle.driver.proofs.Initialisation.{finds-ring}
 use Rattle.driver.proofs.init.find_ring.Goals as goal
 
@@ -49,6 +50,9 @@ returns-clause-finds g c honest =
       found =
           finds-ring g.B.Bus b0 b1 b2 b3 config (g.B.Bus.extent b0) c.in_ok-image.image c.requires.had room finds.found
           (subst (λ (address : List ℕ). SetsFilter g.B.Bus config address b1 b2) c.address.ensures filter) ring;
+      no_cause = joined-causes one (joined two three) finds.no_cause
+          (joined-causes two three (filter-causes g.B.Bus config _ b1 b2 filter)
+          (sets-causes g.B.Bus b2 b3 (ring_writes 0x2800 0 (16 * config.rx)) ring.sets (receive_ring-causes 0 (16 * config.rx))));
       why = tt;
       why_lively = λ lively. tt;
     }

@@ -104,5 +104,5 @@ returns-clause-initialises g c honest =
     (same ∙ sym c.in_ok-layout.ensures.counts)
     (ap (λ (s : DriverState). s.oldest_transmit) o.others) (ap (λ (s : DriverState). s.sending) o.others) new) in
     initialises g.B.Bus g.met.B.Bus.composes.joins b0 b1 b2 b3 b4 c.enable_interrupts.new.bus config (g.B.Bus.extent b0) pool o.numbers d
-    finds.past had finds.reports finds.found o.count o.others
+    finds.past had finds.reports finds.found finds.no_cause o.count o.others
     first still.0 still.1.1 lets sends (c.enable_interrupts.ensures.enables d (record { honest = h4; ready = sends.goes.flows.ready }))
