@@ -3,6 +3,7 @@ use Rattle.std.proofs.Common.{◌≡◌, ◌≢◌, ◌<◌, ◌+◌, ◌-◌, [
 use Rattle.std.proofs.Common.{true, false, ℕ, List, length, replicate, refl, sym, ap, subst, arith}
 use Rattle.std.proofs.Common.{length-append}
 use Rattle.std.specs.Bool.{⊤}
+use Rattle.std.specs.List.{All}
 use Rattle.dma_memory.specs.Layout.{Counts, size_of}
 use Rattle.descriptors.specs.Ring.{HasValidIndices, count_of}
 use Rattle.descriptors.specs.declared.ring.Ring.{Ring}
@@ -17,12 +18,15 @@ use Rattle.adapter.specs.Registers.{new_adapter}
 use Rattle.adapter.specs.State.{AdapterState, IsAdapter}
 use Rattle.adapter.specs.World.{World, receive_ring, transmit_ring}
 use Rattle.bus.specs.PastOfStretch.{Past}
-use Rattle.bus.specs.Settings.{settings_of}
+use Rattle.bus.specs.Settings.{settings_of, writes_in}
+use Rattle.bus.proofs.Lists.{all-left, all-right}
+use Rattle.bus.proofs.Settings.{writes-append}
 use Rattle.bus.specs.declared.event.Access.{Access}
 use Rattle.bus.specs.declared.bus.Bus.{Ghosts}
 use Rattle.bring_up.specs.Configuration.{CanBeHad, configured_counts}
 use Rattle.bring_up.specs.ConfiguredAdapters.{IsConfigured, names_vlans}
 use Rattle.bring_up.specs.DriverSteps.{accesses_of}
+use Rattle.bring_up.specs.SettingSteps.{RecordsNone}
 use Rattle.bring_up.specs.WrittenRegisters.{mask_writes}
 use Rattle.driver_law.specs.Beginnings.{new_driver}
 use Rattle.driver_law.specs.DriverState.{DriverState, with_owners}
@@ -37,9 +41,10 @@ use Rattle.bus.specs.declared.lively_bus.LivelyBus.{LivelyBus}
 use Rattle.stations.specs.Stations.{StationState}
 use Rattle.delivery.specs.CountedHosts.{CanAnswer}
 use Rattle.network_plan.specs.declared.plan.HostPlan.{HostPlan}
-use Rattle.wire.specs.HostsUp.{ComesUp, HostHasNoFrames}
+use Rattle.wire.specs.HostsUp.{AreOfPhy, ComesUp, HostHasNoFrames}
 use Rattle.wire.proofs.AdaptersStay.{adapter-ticked}
 use Rattle.wire.proofs.ArrivalsAlone.{alone-stays}
+use Rattle.wire.proofs.CausesOfPhy.{lives-of_phy, no-interrupt, none-told}
 use Rattle.wire.proofs.OwnTicks.{IsAdapterOf, IsPhyOf}
 use Rattle.wire.proofs.PlansFilters.{Controls, controls, plans-filter}
 
@@ -116,6 +121,19 @@ left-alone plan old new host is =
       record { no_descriptor = refl; none_received = refl; none_transmitted = refl },
     )))
 
+-- Neither a tick of the PHY nor an access records a cause that a driver handles.
+causes-left : (plan : HostPlan) (old new : LivelyBus) (host : HostState) → IsBroughtUp plan old new host
+    → AreOfPhy (machine_world new).adapter.causes.recorded
+causes-left plan old new host is =
+    let init = is.initialises in
+    let writes = subst (All RecordsNone) (writes-append init.first.accesses init.later.accesses) init.no_cause in
+    let start : AreOfPhy (machine_world old).adapter.causes.recorded =
+    subst (λ (adapter : AdapterState). AreOfPhy adapter.causes.recorded) (sym is.adapter) none-told in
+    let middle = lives-of_phy old init.middle init.first init.reports_first
+    (all-left RecordsNone (writes_in init.first.accesses) (writes_in init.later.accesses) writes) start in
+    lives-of_phy init.middle new init.later init.reports_later
+    (all-right RecordsNone (writes_in init.first.accesses) (writes_in init.later.accesses) writes) middle
+
 no-frames : (plan : HostPlan) (old new : LivelyBus) (host : HostState) (wire : ℕ) → IsBroughtUp plan old new host
     → HostHasNoFrames host (station_on wire (machine_world new))
 no-frames plan old new host wire is =
@@ -188,5 +206,6 @@ comes-up plan old new host wire is =
         link = init.adapter.up;
       };
       no_frames = no-frames plan old new host wire is;
+      no_interrupt = no-interrupt (machine_world new) (causes-left plan old new host is) configured.mask;
       adapter = still-adapter plan old new host is;
     }

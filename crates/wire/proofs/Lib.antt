@@ -11,6 +11,7 @@ pub mod Bringing
 pub mod Draining
 pub mod OwnTicks
 pub mod ArrivalsAlone
+pub mod CausesOfPhy
 pub mod PlansFilters
 pub mod HostsUp
 pub mod AllHosts

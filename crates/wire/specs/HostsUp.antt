@@ -1,14 +1,17 @@
 -- A host that its network has initialized (our choice).
-use Rattle.std.specs.Prelude.{⊤, ◌≡◌, ◌≢◌, ◌<◌, ◌*◌, ◌↔◌, ℕ, true, IsTrue, List, [], Some, String, length, replicate, slice_get, string_eq}
+use Rattle.std.specs.Prelude.{⊤, ◌≡◌, ◌≢◌, ◌<◌, ◌*◌, ◌↔◌, ℕ, false, true, IsTrue, List, [], Some, String, length, replicate, slice_get, string_eq}
 use Rattle.std.specs.List.{position_or_len}
 use Rattle.std.specs.declared.alloc.Global.{Global}
 use Rattle.eeprom.specs.Image.{HasRightSum}
+use Rattle.mdic_phy.specs.declared.mdic.Ticked.{Ticked}
 use Rattle.mdic_phy.specs.declared.phy.Link.TheVariants.{Never}
 use Rattle.dma_memory.specs.Layout.{size_of}
 use Rattle.adapter.specs.HostFrames.{frames_held, frames_to_send}
 use Rattle.adapter.specs.State.{IsAdapter}
+use Rattle.adapter.specs.Steps.{causes_told}
 use Rattle.adapter.specs.World.{World}
 use Rattle.bus.specs.Link.{HasLink}
+use Rattle.bus.specs.Machines.{is_asserted}
 use Rattle.bring_up.specs.Configuration.{configured_counts}
 use Rattle.bring_up.specs.EepromReading.{most_reads}
 use Rattle.bring_up.specs.Link.{NeedsMoreThan}
@@ -67,12 +70,22 @@ pub record HasPlansDevices (plan : HostPlan) (world : World) : Type 0 where
   pub comes : plan.link ≢ Never
   pub link : HasLink world
 
+-- the causes that ticks of the PHY record: LSC, MDAC, both or neither
+abbrev pub AreOfPhy : ℕ → Type 0
+AreOfPhy causes = (ticked : Ticked) × (causes ≡ causes_told ticked)
+
+-- Of the causes in ICR, only LSC and MDAC can be set. IMS enables neither, so the interrupt line isn't asserted.
+pub record HasNoInterrupt (world : World) : Type 0 where
+  pub recorded : AreOfPhy world.adapter.causes.recorded
+  pub line : is_asserted world.adapter ≡ false
+
 -- A host and its station are as its plan says. What holds of every adapter holds of its adapter.
 pub record ComesUp (plan : HostPlan) (host : HostState) (station : StationState) : Type 0 where
   pub ready : IsReadyToRun host station.world
   pub sizes : HasPlansSizes plan host station.world
   pub devices : HasPlansDevices plan station.world
   pub no_frames : HostHasNoFrames host station
+  pub no_interrupt : HasNoInterrupt station.world
   pub adapter : IsAdapter station.world.adapter
 
 -- A link that comes up within this number of ticks is found: its state is read up to `most_reads` (1,000) times, each time by two accesses,
