@@ -29,7 +29,9 @@ fn the_code_of_the_readme_of_frame_queue_for_packed_frames(rt: HostRuntime) -> R
     queue.pop();
     queue.push(&[1; 50]); // where the first frame was
     assert_eq!(rt; queue.len(), 2);
-    assert_eq!(rt; queue.front(), Some([0; 40].as_slice()));
+    let second = queue.front().unwrap_or_default();
+    assert_eq!(rt; second.len(), 40);
+    assert!(rt; second.starts_with(&[0; 40]));
     queue.clear();
     assert_eq!(rt; queue.len(), 0);
     Ok(())
