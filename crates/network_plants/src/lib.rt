@@ -4,7 +4,9 @@
 mod of_host;
 mod of_lan;
 mod of_network;
+mod of_plan;
 
 pub use of_host::{call, interrupt, recv, send};
-pub use of_lan::{counts_of, drain, drain_room, log, new, play, run};
+pub use of_lan::{counts_of, drain, drain_room, log, play, run};
 pub use of_network::{call_in_network, drain_in_network};
+pub use of_plan::{bring_up_host, new};

@@ -9,25 +9,14 @@ ghost use Rattle.stations.specs.WireLogs.{last_of_others};
 ghost use Rattle.wire.specs.Counting.{AreCounts};
 ghost use Rattle.wire.specs.DrainedNetworks.{NetworkDrains};
 ghost use Rattle.wire.specs.Equations.{NetworkStands};
-ghost use Rattle.wire.specs.NewNetworks.{IsLanAnswer};
 ghost use Rattle.wire.specs.Runs.{RunTold, RunsTo, StopsAt};
 
 use descriptors::Frame;
-use network_plan::{Event, Plan, PlanError, Reply, Stopped};
+use network_plan::{Event, Reply, Stopped};
 use rx_engine::MOST_FRAMES;
 use stations::LOG_ENTRIES;
 use std::alloc::Global;
 use wire::{Counts, Lan, Outlet, RunObserver};
-
-/// A twin of [`Lan::new`].
-pub fn new(alloc: Global, plan: &Plan) -> Result<Lan, PlanError>
-    ensures { IsLanAnswer plan.now.hosts.items result }
-{
-    match Lan::new(alloc, plan) {
-        Ok(lan) => Ok(lan),
-        Err(unmade) => Err(unmade),
-    }
-}
 
 /// A twin of [`Lan::play`].
 pub fn play<O: RunObserver>(
