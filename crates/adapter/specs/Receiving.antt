@@ -29,7 +29,7 @@ use Rattle.adapter.specs.Transmitting.{moved_on}
 
 -- Arrivals.
 
--- the size of the receive packet buffer in bytes: the kilobytes of PBA.RXA (13.4.18)
+-- the size of the receive packet buffer in bytes: the kilobytes of PBA.RXA (13.4.16)
 abbrev pub room : AdapterState → ℕ
 room state = state.receive_kilobytes * 1024
 

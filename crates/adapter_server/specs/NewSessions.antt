@@ -11,7 +11,7 @@ use Rattle.adapter.specs.State.{AdapterState}
 use Rattle.adapter_server.specs.declared.options.ServeOptions.{ServeOptions}
 use Rattle.served_session.specs.declared.session.Session.{Session}
 
--- PBA's offset (13.4.18 "Packet Buffer Allocation")
+-- PBA's offset (13.4.16 "Packet Buffer Allocation")
 abbrev pub pba : ℕ
 pba = 0x1000
 

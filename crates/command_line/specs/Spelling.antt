@@ -61,7 +61,7 @@ SpellsWord text n = SpellsDecimal text n ⊎ ((digits : List ℕ) × (text ≡ c
 abbrev pub SpellsCount : List ℕ → ℕ → Type 0
 SpellsCount text n = SpellsNumber text n × (n < 2 ^ 32)
 
--- the kilobytes that the receive part of a packet buffer can have (manual 13.4.18 "Packet Buffer Allocation", RXA)
+-- the kilobytes that the receive part of a packet buffer can have (manual 13.4.16 "Packet Buffer Allocation", RXA)
 abbrev pub IsKilobytes : ℕ → Type 0
 IsKilobytes n = (2 ≤ n) × (n ≤ 48) × (n % 2 ≡ 0)
 

@@ -22,7 +22,7 @@ const HIGHEST_VLAN: u16 = 4095;
 
 const HEXADECIMAL: u32 = 16;
 
-/// The fewest and the most kilobytes of a receive packet buffer (manual 13.4.18, RXA).
+/// The fewest and the most kilobytes of a receive packet buffer (manual 13.4.16, RXA).
 const LEAST_KILOBYTES: u64 = 2;
 
 const MOST_KILOBYTES: u64 = 48;

@@ -34,7 +34,7 @@ use Rattle.linked_adapter.specs.declared.scheduling.ScheduledStep.{ScheduledStep
 
 -- A new adapter.
 
--- PBA's offset (13.4.18 "Packet Buffer Allocation")
+-- PBA's offset (13.4.16 "Packet Buffer Allocation")
 abbrev pub pba : ℕ
 pba = 0x1000
 

@@ -16,7 +16,7 @@ use Rattle.rx_engine.specs.declared.arrival.Fate.TheVariants.{Off, Illegal, Filt
 abbrev pub link_with : ℕ → Option Link
 link_with number = if number == 0 then Some Never else if nat_lt 65535 number then None else Some (After number)
 
--- PBA.RXA: an even number of kilobytes from 2 to 48 (13.4.18 "Packet Buffer Allocation"; the bounds are our choice)
+-- PBA.RXA: an even number of kilobytes from 2 to 48 (13.4.16 "Packet Buffer Allocation"; the bounds are our choice)
 abbrev pub is_receive_share : ℕ → Bool
 is_receive_share kilobytes = (kilobytes % 2 == 0) && nat_le 2 kilobytes && nat_le kilobytes 48
 

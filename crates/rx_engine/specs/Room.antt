@@ -1,4 +1,4 @@
--- How many bytes of the receive packet buffer a frame occupies (our choice; Intel's manual gives the size of the packet buffer, "13.4.18
+-- How many bytes of the receive packet buffer a frame occupies (our choice; Intel's manual gives the size of the packet buffer, "13.4.16
 -- Packet Buffer Allocation", and not what a frame occupies).
 use Rattle.std.specs.Prelude.{◌≤◌, ◌<◌, ◌+◌, ◌*◌, ◌/◌, ℕ, List, length, sum_by}
 
