@@ -1,0 +1,66 @@
+//! The calls of `scenario_bench` that play a scenario.
+
+ghost use Rattle.std.specs.Prelude.{◌≡◌, ◌<◌, All, IfErr, IfOk, length, map};
+ghost use Rattle.scenario.specs.SoFar.{hosts_of};
+ghost use Rattle.scenario_bench.specs.Benches.{Benches, Stops};
+ghost use Rattle.scenario_bench.specs.Given.{sockets_from};
+ghost use Rattle.scenario_bench.specs.PlayedEvents.{frames_of};
+ghost use Rattle.scenario_bench.specs.Puts.{wire_names};
+ghost use Rattle.scenario_bench.specs.WireBenches.{BenchesWires, StopsWires};
+
+use pcap_trace::{Sink, Trace};
+use scenario::Scenario;
+use scenario_bench::{BenchError, Summary};
+use std::alloc::Global;
+
+/// A twin of [`scenario_bench::bench`].
+pub fn bench<W: Sink>(
+    alloc: Global,
+    scenario: &Scenario,
+    traces: &[Trace],
+    sinks: &mut [W],
+) -> Result<Summary, BenchError>
+    requires traces { length traces.now ≡ length scenario.now.traces.items }
+    requires sinks { length sinks.old ≡ length (sockets_from 0 (hosts_of scenario.now.plan.hosts.items)) }
+    requires countable { All (λ (sink : W). W.failures sink < u64.MAX) sinks.old }
+    ensures ok { IfOk result (λ summary. Benches scenario.now (map frames_of traces.now) summary
+        (map (λ (s : W). record { taken = W.taken s; failures = W.failures s }) sinks.old)
+        (map (λ (s : W). record { taken = W.taken s; failures = W.failures s }) sinks.new)) }
+    ensures err { IfErr result (λ error. Stops scenario.now (map frames_of traces.now) error
+        (map (λ (s : W). record { taken = W.taken s; failures = W.failures s }) sinks.old)
+        (map (λ (s : W). record { taken = W.taken s; failures = W.failures s }) sinks.new)) }
+{
+    match scenario_bench::bench(alloc, scenario, traces, sinks) {
+        Ok(summary) => Ok(summary),
+        Err(error) => Err(error),
+    }
+}
+
+/// A twin of [`scenario_bench::bench_wires`].
+pub fn bench_wires<W: Sink>(
+    alloc: Global,
+    scenario: &Scenario,
+    traces: &[Trace],
+    sinks: &mut [W],
+    wire_sinks: &mut [W],
+) -> Result<Summary, BenchError>
+    requires traces { length traces.now ≡ length scenario.now.traces.items }
+    requires sinks { length sinks.old ≡ length (sockets_from 0 (hosts_of scenario.now.plan.hosts.items)) }
+    requires wires { length wire_sinks.old ≡ length (wire_names (hosts_of scenario.now.plan.hosts.items)) }
+    requires countable { All (λ (sink : W). W.failures sink < u64.MAX) sinks.old }
+    requires wires_countable { All (λ (sink : W). W.failures sink < u64.MAX) wire_sinks.old }
+    ensures ok { IfOk result (λ summary. BenchesWires scenario.now (map frames_of traces.now) summary (record {
+      old = map (λ (s : W). record { taken = W.taken s; failures = W.failures s }) sinks.old;
+      new = map (λ (s : W). record { taken = W.taken s; failures = W.failures s }) sinks.new;
+      wires_old = map (λ (s : W). record { taken = W.taken s; failures = W.failures s }) wire_sinks.old;
+      wires_new = map (λ (s : W). record { taken = W.taken s; failures = W.failures s }) wire_sinks.new;
+    })) }
+    ensures err { IfErr result (λ error. StopsWires scenario.now (map frames_of traces.now) error (record {
+      old = map (λ (s : W). record { taken = W.taken s; failures = W.failures s }) sinks.old;
+      new = map (λ (s : W). record { taken = W.taken s; failures = W.failures s }) sinks.new;
+      wires_old = map (λ (s : W). record { taken = W.taken s; failures = W.failures s }) wire_sinks.old;
+      wires_new = map (λ (s : W). record { taken = W.taken s; failures = W.failures s }) wire_sinks.new;
+    })) }
+{
+    scenario_bench::bench_wires(alloc, scenario, traces, sinks, wire_sinks)
+}
