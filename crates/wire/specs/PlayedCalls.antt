@@ -11,7 +11,7 @@ use Rattle.stations.specs.Stations.{StationState}
 use Rattle.stations.specs.declared.observer.Observer.{Ghosts as OfObserver}
 use Rattle.stations.specs.declared.tick.Tick.{Tick}
 use Rattle.delivery.specs.Happenings.{happened_in, told_alone}
-use Rattle.network_plan.specs.EventCalls.{EventCall}
+use Rattle.network_plan.specs.EventCalls.{Alone, ByCall, CallOrTick, EventCall}
 use Rattle.network_plan.specs.declared.event.Event.{Event}
 use Rattle.network_plan.specs.declared.reply.Answer.TheVariants.{NoHost}
 use Rattle.network_plan.specs.declared.reply.Reply.{Reply}
@@ -20,10 +20,16 @@ use Rattle.host_calls.specs.Networks.{IsHost, NetworkState}
 use Rattle.wire.specs.RunObservers.{TellsReply, ending}
 use Rattle.wire.specs.Runs.{AnswersCall, HostsGo, IsCallReply, IsTickReply, said_by}
 use Rattle.wire.specs.declared.events.Call.{Call}
+use Rattle.wire.specs.declared.events.Part.{Part}
+use Rattle.wire.specs.declared.events.Part.TheVariants as parts
 
--- the value that a `Call` of the code stands for
+-- the values that a `Call` and a `Part` of the code stand for
 abbrev pub call_in : Call → EventCall
 call_in call = record { host = call.host; request = request_of call.call; ticks = call.ticks.now }
+
+abbrev pub part_in : Part → CallOrTick
+part_in (parts.Call call) = ByCall (call_in call)
+part_in (parts.Tick tick) = Alone tick
 
 -- A call was made, and this replies to it.
 pub record CallPlayed (call : EventCall) (reply : Reply) (old new : NetworkState) : Type 0 where

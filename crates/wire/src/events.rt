@@ -6,7 +6,7 @@ ghost use Rattle.wire.specs.Equations.{NetworkStands};
 ghost use Rattle.network_plan.specs.Answers.{answer_with, event_answer};
 ghost use Rattle.network_plan.specs.EventCalls.{Alone, ByCall, in_event};
 ghost use Rattle.packet_socket.specs.CallEffects.{IsLegalAnswer, answer_in};
-ghost use Rattle.wire.specs.PlayedCalls.{AbsentTold, CallPlayed, TickPlayed, call_in};
+ghost use Rattle.wire.specs.PlayedCalls.{AbsentTold, CallPlayed, TickPlayed, call_in, part_in};
 ghost use Rattle.wire.specs.RunObservers.{EventTold, played_ticks};
 ghost use Rattle.stations.specs.AtomicRuns.{is_go};
 ghost use Rattle.stations.specs.AtomicSteps.{watched};
@@ -24,6 +24,44 @@ pub(crate) struct Call<'a> {
     pub(crate) host: usize,
     pub(crate) call: HostCall<'a>,
     pub(crate) ticks: &'a [Tick],
+}
+
+/// What an event is: a call with its ticks, or a tick by itself.
+#[derive(Clone, Copy, Drop)]
+pub(crate) enum Part<'a> {
+    Call(Call<'a>),
+    Tick(Tick),
+}
+
+impl<'a> Part<'a> {
+    /// The call or the tick of an event.
+    #[inline(always)]
+    pub(crate) fn of(event: &'a Event) -> Part<'a>
+        ensures { part_in result ≡ in_event event.now }
+    {
+        match event {
+            Event::Send { host, frame, ticks } => Part::Call(Call {
+                host: *host,
+                call: HostCall::Send(frame.as_slice()),
+                ticks: ticks.as_slice(),
+            }),
+            Event::Recv {
+                host,
+                socket,
+                ticks,
+            } => Part::Call(Call {
+                host: *host,
+                call: HostCall::Recv(*socket),
+                ticks: ticks.as_slice(),
+            }),
+            Event::Interrupt { host, ticks } => Part::Call(Call {
+                host: *host,
+                call: HostCall::Interrupt,
+                ticks: ticks.as_slice(),
+            }),
+            Event::Tick(tick) => Part::Tick(*tick),
+        }
+    }
 }
 
 /// The answer that ends the event of a call, without its frame, and the size of the frame in bytes; 0 without a frame.

@@ -1,11 +1,10 @@
 // Hosts on wires.
 
 use crate::collector::Collector;
-use crate::events::{self, Call};
+use crate::events::{self, Part};
 use crate::run_observer::RunObserver;
 use host_calls::Network;
 use network_plan::{Event, Reply, Stopped};
-use packet_socket::HostCall;
 use std::alloc::Global;
 use std::marker::Model;
 
@@ -43,36 +42,11 @@ impl Lan {
         ensures { EventTold O.ran event.now observer.old observer.new
             (λ reply. EventRuns self.old event.now reply self.new) }
     {
-        match event {
-            Event::Send { host, frame, ticks } => {
-                let call = Call {
-                    host: *host,
-                    call: HostCall::Send(frame.as_slice()),
-                    ticks: ticks.as_slice(),
-                };
+        match Part::of(event) {
+            Part::Call(call) => {
                 events::make_call(&mut self.network, event, &call, &mut self.given, observer);
             }
-            Event::Recv {
-                host,
-                socket,
-                ticks,
-            } => {
-                let call = Call {
-                    host: *host,
-                    call: HostCall::Recv(*socket),
-                    ticks: ticks.as_slice(),
-                };
-                events::make_call(&mut self.network, event, &call, &mut self.given, observer);
-            }
-            Event::Interrupt { host, ticks } => {
-                let call = Call {
-                    host: *host,
-                    call: HostCall::Interrupt,
-                    ticks: ticks.as_slice(),
-                };
-                events::make_call(&mut self.network, event, &call, &mut self.given, observer);
-            }
-            Event::Tick(tick) => events::tick(&mut self.network, event, *tick, observer),
+            Part::Tick(tick) => events::tick(&mut self.network, event, tick, observer),
         }
     }
 
