@@ -21,7 +21,7 @@ fn the_code_of_the_readme_of_frame_queue(rt: HostRuntime) -> Result<(), Fail> {
 }
 
 #[test]
-fn the_code_of_the_readme_of_frame_queue_where_frames_are_packed(rt: HostRuntime) -> Result<(), Fail> {
+fn the_code_of_the_readme_of_frame_queue_where_packed(rt: HostRuntime) -> Result<(), Fail> {
     let mut queue = PackedQueue::new(rt.alloc(), 2, 100)?;
     queue.push(&[0xFF; 60]);
     queue.push(&[0; 40]);

@@ -1,12 +1,12 @@
 //! The code of the README of `engine_faults`, word for word.
 
-use engine_faults::{Engine, EngineFault, Reason, fault_of};
 use adapter::offsets::{TCTL, TDLEN, TDT};
 use adapter::{Adapter, Outcome, StepKind};
 use bitflags::Flags;
 use bus::Machine;
 use dma_memory::HostMemory;
 use eeprom::Image;
+use engine_faults::{Engine, EngineFault, Reason, fault_of};
 use mdic_phy::Link;
 use registers::Tctl;
 use std::test::Fail;

@@ -1,7 +1,7 @@
 //! The code of the README of `step_schedules`, word for word.
 
-use step_schedules::{Fault, Schedule, ScheduleError};
 use std::test::Fail;
+use step_schedules::{Fault, Schedule, ScheduleError};
 
 #[test]
 fn the_code_of_the_readme_of_step_schedules(rt: HostRuntime) -> Result<(), Fail> {
