@@ -12,11 +12,9 @@ use engine_faults::{Engine, RingWords};
 const DESCRIPTOR_BYTES: u64 = RX_DESC_BYTES as u64;
 
 /// What an access at this address in memory reads or writes: a descriptor of the receive ring if the address is in
-/// this ring, else one of the transmit ring if it is in that one, else memory. It reads the registers of the rings,
-/// which changes nothing.
-pub fn memory_target(machine: &mut Machine, address: u64) -> Target
-    ensures unchanged { machine.new ≡ machine.old }
-    ensures target { result ≡ memory_target_in machine.old.world.adapter address }
+/// this ring, else one of the transmit ring if it is in that one, else memory.
+pub fn memory_target(machine: &Machine, address: u64) -> Target
+    ensures target { result ≡ memory_target_in machine.now.world.adapter address }
 {
     if let Some(descriptor) = target_in_ring(machine, Engine::Receive, address) {
         return descriptor;
@@ -28,11 +26,10 @@ pub fn memory_target(machine: &mut Machine, address: u64) -> Target
 }
 
 /// The descriptor of an engine's ring that has this address, if one has.
-fn target_in_ring(machine: &mut Machine, engine: Engine, address: u64) -> Option<Target>
-    ensures unchanged { machine.new ≡ machine.old }
-    ensures target { result ≡ target_in_ring engine (ring_of_engine engine machine.old.world) address }
+fn target_in_ring(machine: &Machine, engine: Engine, address: u64) -> Option<Target>
+    ensures target { result ≡ target_in_ring engine (ring_of_engine engine machine.now.world) address }
 {
-    let ring = RingWords::read(machine, engine);
+    let ring = RingWords::of(machine, engine);
     let distance = address.checked_sub(ring.base)?;
     if distance >= u64::from(ring.bytes) {
         return None;

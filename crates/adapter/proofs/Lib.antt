@@ -1,1 +1,7 @@
 mod Words
+mod SlotsBelow
+mod PiecesInTurn
+mod FinishedWalk
+mod QueuedWalk
+mod TakenFrames
+mod SlotsRead

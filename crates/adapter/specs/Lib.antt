@@ -27,3 +27,7 @@ pub mod HostFrames
 pub mod HostAreas
 pub mod Conditions
 pub mod Running
+pub mod JoinedPieces
+pub mod FinishedSlots
+pub mod QueuedFrames
+pub mod Pending

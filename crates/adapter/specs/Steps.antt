@@ -1,5 +1,5 @@
 -- The steps that an adapter takes by itself.
-use Rattle.std.specs.Prelude.{◌≡◌, ℕ, List, Bool, Option, Some, None, if◌then◌else◌}
+use Rattle.std.specs.Prelude.{◌≡◌, ◌≢◌, ◌↔◌, ℕ, List, Bool, IsTrue, Option, Some, None, if◌then◌else◌}
 use Rattle.eeprom.specs.Eerd as eeprom
 use Rattle.mdic_phy.specs.declared.mdic.Ticked.{Ticked}
 use Rattle.mdic_phy.specs.Mdic as mdi
@@ -51,6 +51,11 @@ Answers RxData wire_free memory state answer = DataAnswers memory state answer
 Answers RxDone wire_free memory state answer = DoneAnswers state answer
 Answers EepromTick wire_free memory state answer = answer ≡ ticked (eeprom.is_pending state.eerd)
 Answers PhyTick wire_free memory state answer = answer ≡ ticked (mdi.has_work state.mdic state.phy)
+
+-- Whether a step of this kind has something to do: if and only if not, it answers `Nothing`, whatever is in memory and on the wire.
+abbrev pub TellsWork : StepKind → Bool → AdapterState → Type 0
+TellsWork kind works state =
+    (wire_free : Bool) (memory : List ℕ) (answer : FrameOutcome) → Answers kind wire_free memory state answer → IsTrue works ↔ (answer ≢ Nothing)
 
 -- the adapter after a step with this answer on this memory
 abbrev pub after_step : StepKind → FrameOutcome → List ℕ → AdapterState → AdapterState

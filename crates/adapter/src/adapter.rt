@@ -94,6 +94,15 @@ impl Adapter {
         self.read_register(Register::at(offset))
     }
 
+    /// The value that a read of the register at an offset in bytes would answer now. Nothing changes: no cause and no
+    /// counter is cleared.
+    pub fn value(&self, offset: u32) -> u32
+        ensures answer { result ≡ answer_at offset self.now }
+        ensures adapter { IsAdapter self.now }
+    {
+        self.value_of(Register::at(offset))
+    }
+
     /// A driver's write of the register at an offset in bytes. Where there is none it is ignored
     /// (our choice).
     #[inline(always)]
@@ -194,7 +203,7 @@ impl Adapter {
     ghost use Rattle.adapter.specs.Steps.{after_eeprom_tick, after_phy_tick, ticked};
     ghost use Rattle.adapter.specs.Table.{IsInTable};
 
-    /// Reads a register, if there is one.
+    /// Reads a register, if there is one: ICR and the counters are cleared by it.
     fn read_register(&mut self, register: Option<Register>) -> u32
         requires { IfSome register IsInTable }
         ensures answer { result ≡ answer_of register self.old }
@@ -202,6 +211,23 @@ impl Adapter {
         ensures adapter { IsAdapter self.new }
     {
         let file = &mut self.file;
+        match register {
+            Some(Register::Icr) => file.causes.read(),
+            Some(Register::Mpc) => file.mpc.read(),
+            Some(Register::Gprc) => file.gprc.read(),
+            Some(Register::Gptc) => file.gptc.read(),
+            Some(Register::Rnbc) => file.rnbc.read(),
+            register => self.value_of(register),
+        }
+    }
+
+    /// The value of a register, if there is one.
+    fn value_of(&self, register: Option<Register>) -> u32
+        requires { IfSome register IsInTable }
+        ensures answer { result ≡ answer_of register self.now }
+        ensures adapter { IsAdapter self.now }
+    {
+        let file = &self.file;
         let Some(register) = register else {
             return 0;
         };
@@ -211,7 +237,7 @@ impl Adapter {
             Register::Eerd => file.eerd.read(),
             Register::Mdic => file.mdic.read(),
             Register::Vet => u32::from(file.filter.vet()),
-            Register::Icr => file.causes.read(),
+            Register::Icr => file.causes.recorded(),
             Register::Ims => file.causes.masked(),
             Register::Ics | Register::Imc => 0,
             Register::Rctl => file.filter.rctl().bits(),
@@ -219,10 +245,10 @@ impl Adapter {
             Register::Pba => self.packet_buffer.read(),
             Register::Receive(part) => file.receive_ring.read(part),
             Register::Transmit(part) => file.transmit_ring.read(part),
-            Register::Mpc => file.mpc.read(),
-            Register::Gprc => file.gprc.read(),
-            Register::Gptc => file.gptc.read(),
-            Register::Rnbc => file.rnbc.read(),
+            Register::Mpc => file.mpc.value(),
+            Register::Gprc => file.gprc.value(),
+            Register::Gptc => file.gptc.value(),
+            Register::Rnbc => file.rnbc.value(),
             Register::Mta(word) => file.filter.mta(usize::from(word)),
             Register::Ral(entry) => file.filter.ral(usize::from(entry)),
             Register::Rah(entry) => file.filter.rah(usize::from(entry)),

@@ -7,16 +7,20 @@
 
 mod adapter;
 mod counts;
+mod finished;
 mod laws;
 pub mod offsets;
 mod outcome;
 mod packet_buffer;
+mod pending;
+mod queued;
 mod receive;
 mod register;
 mod register_file;
 mod ring;
 mod step;
 mod transmit;
+mod work;
 
 pub use adapter::Adapter;
 pub use counts::{FrameCounts, WaitingFrames};

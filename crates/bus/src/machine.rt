@@ -2,7 +2,9 @@
 
 ghost use Rattle.std.specs.Prelude.{◌≡◌, ◌≤◌, ◌↔◌, [], length, not, IfNone, IfSome, IsNone};
 ghost use Rattle.adapter.specs.Outcomes.{framed, oldest};
+ghost use Rattle.adapter.specs.Registers.{answer_at};
 ghost use Rattle.adapter.specs.State.{IsAdapter};
+ghost use Rattle.adapter.specs.Steps.{TellsWork};
 ghost use Rattle.bus.specs.Digests.{digest_of};
 ghost use Rattle.bus.specs.Trails.{Occurs};
 ghost use Rattle.bus.specs.Machines.{after_event, is_asserted};
@@ -92,6 +94,15 @@ impl Machine {
         self.adapter.read(offset)
     }
 
+    /// The value that a read of the register at an offset in bytes would answer now. No event happens, and nothing
+    /// changes.
+    pub fn value(&self, offset: u32) -> u32
+        ensures answer { result ≡ answer_at offset self.now.world.adapter }
+        ensures adapter { IsAdapter self.now.world.adapter }
+    {
+        self.adapter.value(offset)
+    }
+
     /// Writes the register at an offset in bytes.
     pub fn write(&mut self, offset: u32, value: u32)
         ensures state { self.new ≡ after_event (Accesses (Writes offset value)) self.old }
@@ -131,6 +142,13 @@ impl Machine {
         ensures adapter { IsAdapter self.now.world.adapter }
     {
         self.adapter.line()
+    }
+
+    /// Whether a step of this kind has something to do. See [`Adapter::has_work`].
+    pub fn has_work(&self, kind: StepKind) -> bool
+        ensures work { TellsWork kind result self.now.world.adapter }
+    {
+        self.adapter.has_work(kind)
     }
 
     /// Whether a step of the EEPROM would end a read.

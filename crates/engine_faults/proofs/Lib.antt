@@ -1,1 +1,1 @@
-pub mod RingReads
+pub mod RingValues

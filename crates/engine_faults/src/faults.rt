@@ -22,9 +22,8 @@ use registers::Rctl;
 /// Why a step of this kind is a fault: for a step whose outcome is a fault, before the step or right after it. If the
 /// step isn't a fault, its result doesn't apply. Steps of the kinds other than [`TxTake`](StepKind::TxTake) and
 /// [`RxData`](StepKind::RxData) are never faults.
-pub fn fault_of(machine: &mut Machine, kind: StepKind) -> Option<EngineFault>
-    ensures unchanged { machine.new ≡ machine.old }
-    ensures fault { result ≡ fault_if_any kind machine.old.world }
+pub fn fault_of(machine: &Machine, kind: StepKind) -> Option<EngineFault>
+    ensures fault { result ≡ fault_if_any kind machine.now.world }
 {
     match kind {
         StepKind::TxTake => Some(fault_of_take(machine)),
@@ -34,11 +33,10 @@ pub fn fault_of(machine: &mut Machine, kind: StepKind) -> Option<EngineFault>
 }
 
 /// Why a step that takes a frame from the transmit ring is a fault, if it is.
-fn fault_of_take(machine: &mut Machine) -> EngineFault
-    ensures unchanged { machine.new ≡ machine.old }
-    ensures fault { result ≡ fault_of_take machine.old.world }
+fn fault_of_take(machine: &Machine) -> EngineFault
+    ensures fault { result ≡ fault_of_take machine.now.world }
 {
-    let words = RingWords::read(machine, Engine::Transmit);
+    let words = RingWords::of(machine, Engine::Transmit);
     EngineFault {
         engine: Engine::Transmit,
         index: words.head,
@@ -47,12 +45,11 @@ fn fault_of_take(machine: &mut Machine) -> EngineFault
 }
 
 /// Why a step that moves a piece of a received frame to memory is a fault, if it is.
-fn fault_of_data(machine: &mut Machine) -> EngineFault
-    ensures unchanged { machine.new ≡ machine.old }
-    ensures fault { result ≡ fault_of_data machine.old.world }
+fn fault_of_data(machine: &Machine) -> EngineFault
+    ensures fault { result ≡ fault_of_data machine.now.world }
 {
-    let words = RingWords::read(machine, Engine::Receive);
-    let control = read_receive_control(machine);
+    let words = RingWords::of(machine, Engine::Receive);
+    let control = receive_control(machine);
     EngineFault {
         engine: Engine::Receive,
         index: words.head,
@@ -60,12 +57,11 @@ fn fault_of_data(machine: &mut Machine) -> EngineFault
     }
 }
 
-/// Reads RCTL, which changes nothing.
-fn read_receive_control(machine: &mut Machine) -> Rctl
-    ensures unchanged { machine.new ≡ machine.old }
-    ensures value { result.0 ≡ machine.old.world.adapter.filter.rctl }
+/// The value of RCTL.
+fn receive_control(machine: &Machine) -> Rctl
+    ensures { result.0 ≡ machine.now.world.adapter.filter.rctl }
 {
-    Rctl(machine.read(RCTL))
+    Rctl(machine.value(RCTL))
 }
 
 /// The first reason why the descriptor at the head of the transmit ring can't be taken.

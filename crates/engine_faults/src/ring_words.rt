@@ -1,4 +1,4 @@
-// The registers of a ring, as a driver reads them.
+// The registers of a ring.
 
 ghost use Rattle.std.specs.Prelude.{◌≡◌, Some, None, if◌then◌else◌};
 ghost use Rattle.adapter.specs.Rings.{ring_answer};
@@ -25,16 +25,15 @@ pub struct RingWords {
 }
 
 impl RingWords {
-    /// The registers of an engine's ring. Reading them changes nothing.
-    pub fn read(machine: &mut Machine, engine: Engine) -> RingWords
-        ensures unchanged { machine.new ≡ machine.old }
-        ensures ring { ring_from result ≡ ring_of_engine engine machine.old.world }
+    /// The values of the registers of an engine's ring.
+    pub fn of(machine: &Machine, engine: Engine) -> RingWords
+        ensures ring { ring_from result ≡ ring_of_engine engine machine.now.world }
     {
-        let base_low = read_register(machine, engine, RingRegister::BaseLow);
-        let base_high = read_register(machine, engine, RingRegister::BaseHigh);
-        let bytes = read_register(machine, engine, RingRegister::Length);
-        let head = read_register(machine, engine, RingRegister::Head);
-        let tail = read_register(machine, engine, RingRegister::Tail);
+        let base_low = value_of(machine, engine, RingRegister::BaseLow);
+        let base_high = value_of(machine, engine, RingRegister::BaseHigh);
+        let bytes = value_of(machine, engine, RingRegister::Length);
+        let head = value_of(machine, engine, RingRegister::Head);
+        let tail = value_of(machine, engine, RingRegister::Tail);
         RingWords {
             base: (u64::from(base_high) << 32) + u64::from(base_low),
             bytes,
@@ -67,12 +66,11 @@ impl RingWords {
     }
 }
 
-/// Reads a register of an engine's ring, which changes nothing.
-fn read_register(machine: &mut Machine, engine: Engine, register: RingRegister) -> u32
-    ensures unchanged { machine.new ≡ machine.old }
-    ensures value { result ≡ ring_answer register (registers_of engine machine.old.world) }
+/// The value of a register of an engine's ring.
+fn value_of(machine: &Machine, engine: Engine, register: RingRegister) -> u32
+    ensures { result ≡ ring_answer register (registers_of engine machine.now.world) }
 {
-    machine.read(offset_of(engine, register))
+    machine.value(offset_of(engine, register))
 }
 
 /// The offset of a register of an engine's ring.

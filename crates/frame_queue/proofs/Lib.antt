@@ -1,3 +1,4 @@
 pub mod InPlaces
 mod Written
 mod Cut
+pub mod PackedLengths

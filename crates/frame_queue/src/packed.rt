@@ -90,6 +90,20 @@ impl PackedQueue {
         Some(&self.bytes.as_slice()[self.first..self.first + length])
     }
 
+    /// The frame with this index, without a copy. The oldest frame has index 0. The call takes time in proportion to
+    /// the index.
+    pub fn frame_at(&self, index: usize) -> &[u8]
+        requires { index < length self.now.frames }
+        ensures { slice_get self.now.frames index ≡ Some result.now }
+    {
+        let mut start = self.first;
+        for before in 0..index {
+            start += usize::from(*self.lengths.get(before).unwrap());
+        }
+        let length = usize::from(*self.lengths.get(index).unwrap());
+        &self.bytes.as_slice()[start..start + length]
+    }
+
     /// Appends a frame of at most 65,535 bytes. The queue must have room for one more frame, and for its bytes.
     pub fn push(&mut self, frame: &[u8])
         requires place { length self.old.frames < self.old.capacity }

@@ -156,9 +156,10 @@ impl FrameQueue {
     }
 
     /// The frame with this index, without a copy. The oldest frame has index 0.
-    fn frame_at(&self, index: usize) -> &[u8]
+    pub fn frame_at(&self, index: usize) -> &[u8]
         requires { index < length self.now.frames }
-        ensures { slice_get self.now.frames index ≡ Some result.now }
+        ensures frame { slice_get self.now.frames index ≡ Some result.now }
+        ensures fits { length result.now ≤ PLACE_BYTES }
     {
         let length = usize::from(*self.lengths.get(index).unwrap());
         let place = wrap(usize::from(self.first) + index, self.lengths.capacity());

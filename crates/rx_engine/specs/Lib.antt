@@ -3,11 +3,13 @@ pub mod Arriving
 pub mod Descriptors
 pub mod FilterLaws
 pub mod Finishing
+pub mod GroupLists
 pub mod Hashed
 pub mod Held
 pub mod Inside
 pub mod Laws
 pub mod Moving
+pub mod NumberTables
 pub mod Passing
 pub mod PieceLaws
 pub mod Pieces

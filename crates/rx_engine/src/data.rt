@@ -111,6 +111,13 @@ pub fn rx_data(
     }
 }
 
+/// Whether [`rx_data`] has something to do: it would not be `Nothing`.
+pub fn has_frame_to_move(engine: &RxEngine, ring: &Ring, control: Rctl) -> bool
+    ensures { IsTrue result ↔ HasFrameToMove control.0 ring.now engine.now }
+{
+    engine.left().is_some() && control.is_enabled() && ring.head != ring.tail
+}
+
 /// Whether the next piece is a frame's last: so many bytes of the frame are left, and a buffer has this size.
 fn is_last_piece(left: usize, size: usize) -> bool
     ensures { result ≡ nat_le left size }

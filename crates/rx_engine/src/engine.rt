@@ -1,7 +1,7 @@
 // What the receive engine holds.
 
 ghost use Rattle.std.specs.Prelude.{◌≡◌, ◌+◌, ◌<◌, ◌≤◌, ◌↔◌, [], ◌∷◌, ◌++◌, true, false, drop, fold, length, option_copied};
-ghost use Rattle.std.specs.Prelude.{All, IsSome};
+ghost use Rattle.std.specs.Prelude.{All, IsSome, Some, slice_get};
 ghost use Rattle.std.specs.Prelude.{IfSome, IfOk};
 ghost use Rattle.rx_engine.specs.Hashed.{work_writes};
 ghost use Rattle.descriptors.specs.Frames.{IsLegal};
@@ -98,6 +98,15 @@ impl RxEngine {
         ensures sound { IsReceiver self.now }
     {
         self.buffer.len()
+    }
+
+    /// The frame of the packet buffer with this index, without a copy. The oldest frame has index 0.
+    pub fn frame_at(&self, index: usize) -> &[u8]
+        requires { index < length self.now.buffer }
+        ensures frame { slice_get self.now.buffer index ≡ Some result.now }
+        ensures legal { IsLegal result.now }
+    {
+        self.buffer.frame_at(index)
     }
 
     /// The number of bytes of the packet buffer that its frames occupy. A frame of which pieces are moved occupies its

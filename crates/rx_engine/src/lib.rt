@@ -20,7 +20,7 @@ mod table;
 
 pub use address::{AddressWords, hash_of};
 pub use arrival::{Fate, arrive};
-pub use data::{Data, rx_data};
+pub use data::{Data, has_frame_to_move, rx_data};
 pub use done::{Done, rx_done};
 pub use engine::{MOST_FRAMES, RxEngine, Work};
 pub use filter::{EXACT_ADDRESSES, Filter, TABLE_WORDS, VLAN_TYPE};

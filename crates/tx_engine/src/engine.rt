@@ -122,6 +122,15 @@ impl TxEngine {
         self.frames.front()
     }
 
+    /// The frame of the buffer with this index, where it stands. The oldest frame has index 0.
+    pub fn frame_at(&self, index: usize) -> &[u8]
+        requires { index < length self.now.buffer }
+        ensures frame { slice_get (map (λ queued. queued.frame) self.now.buffer) index ≡ Some result.now }
+        ensures fits { length result.now ≤ 1518 }
+    {
+        self.frames.frame_at(index)
+    }
+
     /// Feeds the whole state of the engine to a hasher. Equal engines feed the same bytes.
     pub fn feed<H: Hasher>(&self, hasher: &mut H)
         ensures { hasher.new ≡ fold H.write hasher.old (transmitter_writes self.now) }

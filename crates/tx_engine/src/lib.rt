@@ -16,4 +16,4 @@ pub use answers::{Put, Take};
 pub use engine::{PACKET_BUFFER_FRAMES, TxEngine};
 pub use laws::frames_to_be_sent;
 pub use putting::put;
-pub use taking::take;
+pub use taking::{is_idle, take};

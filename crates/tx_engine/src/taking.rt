@@ -11,8 +11,8 @@ use descriptors::{Ring, SHORTEST_LEGAL};
 use dma_memory::HostMemory;
 use registers::Tctl;
 
-/// Whether there is nothing to take.
-fn is_idle(engine: &TxEngine, ring: &Ring, control: Tctl) -> bool
+/// Whether [`take`] has nothing to do: it would be `Nothing`.
+pub fn is_idle(engine: &TxEngine, ring: &Ring, control: Tctl) -> bool
     ensures idle { IsTrue result ↔ IsIdle control.0 engine.now ring.now }
     ensures room { (result ≡ false) → length engine.now.buffer < 4 }
 {

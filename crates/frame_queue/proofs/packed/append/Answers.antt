@@ -1,4 +1,4 @@
-use Rattle.std.proofs.Common.{◌+◌, ◌-◌, ◌++◌, ℕ, List, length, refl, ap, ◌∙◌}
+use Rattle.std.proofs.Common.{◌-◌, ◌++◌, ℕ, List, length, refl, ap, ◌∙◌}
 use Rattle.frame_queue.proofs.Written.{bytes-appended}
 use Rattle.frame_queue.proofs.packed.append.Goals as goal
 

@@ -1,24 +1,13 @@
-use Rattle.std.proofs.Common.{◌≡◌, ◌<◌, ◌+◌, ◌-◌, ◌∙◌, ℕ, List, Bor, Option, length, take, drop, fold, sym, ap, refl, arith}
-use Rattle.std.specs.Prelude.{IsSome, option_copied, slice_get, Some, None}
+use Rattle.std.proofs.Common.{◌≡◌, ◌+◌, ◌-◌, ◌∙◌, ℕ, List, length, take, drop, fold, sym, ap, refl, arith}
+use Rattle.std.specs.Prelude.{option_copied, slice_get, Some}
 use Rattle.std.specs.Hash.{usize}
 use Rattle.std.proofs.lemmas.Option.{get_or_from_slice_get, slice_get-get_or, slice_get_within}
 use Rattle.frame_queue.specs.Hashed.{frame_writes}
 use Rattle.frame_queue.specs.Laws.{fed-more}
-use Rattle.frame_queue.specs.Packed.{PackedFrames, packed_of}
-use Rattle.frame_queue.specs.declared.packed.PackedQueue.TheInside.{Inside}
-use Rattle.frame_queue.proofs.Cut.{frame-at, length-cut, total-more, total-part}
+use Rattle.frame_queue.specs.Packed.{PackedFrames}
+use Rattle.frame_queue.proofs.Cut.{frame-at, total-more, total-part}
+use Rattle.frame_queue.proofs.PackedLengths.{below, copied_some}
 use Rattle.frame_queue.proofs.packed.PackedQueue.feed.Goals as goal
-
--- There is a length at the index of a frame.
-below : (queue : Inside) (seen : PackedFrames) (i : ℕ) → packed_of queue ≡ seen → i < length seen.frames → i < length queue.lengths.items
-below queue seen i view within =
-    let count = length-cut queue.lengths.items (drop queue.first queue.bytes.items) in
-    let asked = rw (← view) at within in
-    omega (arith, asked, count)
-
-copied_some : {T : Type 0} (r : Option (Bor T)) (x : T) → option_copied r ≡ Some x → IsSome r
-copied_some None x is = absurd (cc)
-copied_some (Some b) x is = refl
 
 pub unwrap-requires : goal.unwrap-requires
 unwrap-requires g c =

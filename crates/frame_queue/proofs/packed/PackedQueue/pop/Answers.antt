@@ -1,5 +1,5 @@
 use Rattle.std.proofs.Common.{ℕ, List, ◌≡◌, ◌+◌, sym, ap, ◌∙◌, arith}
-use Rattle.std.specs.Prelude.{slice_get, drop, length, None, Some, ◌==◌, true}
+use Rattle.std.specs.Prelude.{slice_get, drop, length, None, Some, ◌==◌}
 use Rattle.std.proofs.lemmas.List.{length-drop, drop-drop}
 use Rattle.circular_buffer.specs.Buffer.{Buffer}
 use Rattle.frame_queue.specs.Packed.{PackedFrames, cut}

@@ -12,6 +12,7 @@ loop-index-preserved g c =
     let i = c.loop-index.index in
     let frame = c.frame_at-frame.result.now in
     let one_more = fed-more write frame_writes c.write_usize.new.self frames i frame
-    (slice_get_within frames i frame c.frame_at-frame.ensures) (get_or_from_slice_get frames i frame frame c.frame_at-frame.ensures) in
+    (slice_get_within frames i frame c.frame_at-frame.ensures.frame)
+    (get_or_from_slice_get frames i frame frame c.frame_at-frame.ensures.frame) in
     let long = c.write_usize-in-loop-index.ensures ∙ ap (λ s. fold write s (usize (length frame))) c.loop-index.invariant in
     c.write.ensures ∙ ap (λ s. write s frame) long ∙ sym one_more

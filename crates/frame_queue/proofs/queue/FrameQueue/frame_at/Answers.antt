@@ -1,12 +1,13 @@
-use Rattle.std.proofs.Common.{◌≡◌, ◌<◌, ◌≤◌, ◌+◌, ◌-◌, ◌*◌, ◌∙◌, ℕ, List, All, length, slice_get, Some, Option, None, Bor}
-use Rattle.std.proofs.Common.{refl, sym, ap, arith}
-use Rattle.std.specs.Prelude.{IsSome, option_copied}
+use Rattle.std.proofs.Common.{◌≡◌, ◌<◌, ◌≤◌, ◌+◌, ◌-◌, ◌*◌, ◌∙◌, ℕ, List, All, length, slice_get, Some}
+use Rattle.std.proofs.Common.{sym, ap, arith}
+use Rattle.std.specs.Prelude.{option_copied}
 use Rattle.std.proofs.lemmas.Option.{get_or_from_slice_get, slice_get-get_or}
 use Rattle.frame_queue.specs.Frames.{Frames}
 use Rattle.frame_queue.specs.Places.{IsConsistent, frames_of}
 use Rattle.frame_queue.specs.Wrapping.{wrapped}
 use Rattle.frame_queue.specs.declared.queue.FrameQueue.TheInside.{Inside}
 use Rattle.frame_queue.proofs.InPlaces.{length-frames_from, slice_get-frames_from-at, wrapped-within}
+use Rattle.frame_queue.proofs.PackedLengths.{copied_some}
 use Rattle.frame_queue.proofs.queue.FrameQueue.frame_at.Goals as goal
 
 -- There is a length at the index of a frame.
@@ -20,10 +21,6 @@ below queue seen i view within =
 place : (queue : Inside) (i : ℕ) → IsConsistent queue → i < length queue.lengths.items
     → wrapped queue.lengths.capacity (queue.first + i) < queue.lengths.capacity
 place queue i whole within = wrapped-within queue.lengths.capacity (queue.first + i) (omega (arith, whole.first, whole.count, within))
-
-copied_some : {T : Type 0} (r : Option (Bor T)) (x : T) → option_copied r ≡ Some x → IsSome r
-copied_some None x is = absurd (cc)
-copied_some (Some b) x is = refl
 
 -- A length is at most that of a place.
 short : (ns : List ℕ) (i n : ℕ) → All (λ (m : ℕ). m ≤ 1518) ns → i < length ns → slice_get ns i ≡ Some n → n ≤ 1518
@@ -64,8 +61,8 @@ slice_bounds-result-end c =
     let fits = short _ _ _ c.self.invariant.fits within some in
     omega (arith, one, here, fits, c.from-length.ensures, ap length c.as_slice.ensures.value, c.self.invariant.size)
 
-pub returns : goal.returns
-returns c =
+pub returns-clause-frame : goal.returns-clause-frame
+returns-clause-frame c =
     let queue = c.self.inside in
     let here = rw (c.capacity.ensures.capacity, c.from.ensures) at c.wrap-place.ensures in
     let lengths = queue.lengths.items in

@@ -1,0 +1,125 @@
+-- Reading the frames that end in slots, and those to be sent.
+use Rattle.std.proofs.Common.{◌≡◌, ◌≤◌, ◌<◌, ◌+◌, ◌++◌, [], ℕ, true, List, Some, length, map, refl, sym, ap, subst, ◌∙◌, arith}
+use Rattle.std.proofs.lemmas.List.{append_assoc, length-append, length-map}
+use Rattle.descriptors.specs.declared.ring.Ring.{Ring}
+use Rattle.descriptors.specs.Ring.{address_of, offered_places}
+use Rattle.rx_engine.specs.Held.{bytes_of_work, in_work}
+use Rattle.rx_engine.specs.Pieces.{Piece, begun_from, frames_from, frames_of}
+use Rattle.rx_engine.specs.declared.engine.Work.{Work}
+use Rattle.tx_engine.specs.Transmitter.{Queued}
+use Rattle.tx_engine.specs.Fetching.{frame_at}
+use Rattle.tx_engine.specs.ToSend.{to_send}
+use Rattle.adapter.specs.FinishedSlots.{finished_in}
+use Rattle.adapter.specs.HostFrames.{finished_pieces, frames_to_send, pieces_in_slots}
+use Rattle.adapter.specs.JoinedPieces.{AreShort, alone}
+use Rattle.adapter.specs.QueuedFrames.{queued_in}
+use Rattle.adapter.specs.World.{World, receive_ring, transmit_ring}
+use Rattle.adapter.proofs.FinishedWalk.{alone-one}
+use Rattle.adapter.proofs.PiecesInTurn.{back-short, frames-append, front-short}
+
+-- What was read of the finished slots: the ring is the receive ring, and nothing was begun before.
+pub record ReadsSlots (world : World) (read : Ring) (begun : List ℕ) : Type 0 where
+  pub ring : read ≡ receive_ring world
+  pub empty : begun ≡ []
+
+same-pieces : (oldest : ℕ) (world : World) (ring : Ring) (begun : List ℕ) → ReadsSlots world ring begun
+    → frames_from begun (finished_in world.memory ring oldest) ≡ frames_from [] (finished_pieces oldest world)
+same-pieces oldest world ring begun reads =
+    ap (λ (b : List ℕ). frames_from b (finished_in world.memory ring oldest)) reads.empty
+    ∙ ap (λ (r : Ring). frames_from [] (finished_in world.memory r oldest)) reads.ring
+
+same-begun : (oldest : ℕ) (world : World) (ring : Ring) (begun : List ℕ) → ReadsSlots world ring begun
+    → begun_from begun (finished_in world.memory ring oldest) ≡ begun_from [] (finished_pieces oldest world)
+same-begun oldest world ring begun reads =
+    ap (λ (b : List ℕ). begun_from b (finished_in world.memory ring oldest)) reads.empty
+    ∙ ap (λ (r : Ring). begun_from [] (finished_in world.memory r oldest)) reads.ring
+
+pub finished-short : (oldest : ℕ) (world : World) (ring : Ring) (begun : List ℕ) → ReadsSlots world ring begun
+    → AreShort [] (pieces_in_slots oldest world) → AreShort begun (finished_in world.memory ring oldest)
+finished-short oldest world ring begun reads short =
+    subst (λ (r : Ring). AreShort begun (finished_in world.memory r oldest)) (sym reads.ring)
+    (subst (λ (b : List ℕ). AreShort b (finished_pieces oldest world)) (sym reads.empty)
+    (front-short [] (finished_pieces oldest world) (in_work world.memory world.adapter.receiver.work) short))
+
+-- All frames that end in slots: those that end in finished ones, and then one if the piece in progress is the last of its frame.
+all-in-slots : (oldest : ℕ) (world : World) → frames_of (pieces_in_slots oldest world)
+    ≡ frames_from [] (finished_pieces oldest world)
+    ++ frames_from (begun_from [] (finished_pieces oldest world)) (in_work world.memory world.adapter.receiver.work)
+all-in-slots oldest world = frames-append [] (finished_pieces oldest world) (in_work world.memory world.adapter.receiver.work)
+
+pub finished-few : (oldest : ℕ) (world : World) (ring : Ring) (begun : List ℕ) → ReadsSlots world ring begun
+    → length (frames_from begun (finished_in world.memory ring oldest)) ≤ length (frames_of (pieces_in_slots oldest world))
+finished-few oldest world ring begun reads =
+    let finished = frames_from [] (finished_pieces oldest world) in
+    let last = frames_from (begun_from [] (finished_pieces oldest world)) (in_work world.memory world.adapter.receiver.work) in
+    omega (arith, ap length (same-pieces oldest world ring begun reads), ap length (all-in-slots oldest world), length-append finished last)
+
+-- The piece in progress, as it was read.
+work-is : (world : World) (work : Work) (bytes : List ℕ) → world.adapter.receiver.work ≡ Some work → bytes ≡ bytes_of_work world.memory work
+    → alone work.ends bytes ≡ in_work world.memory world.adapter.receiver.work
+work-is world work bytes has read =
+    ap (alone work.ends) read ∙ sym (ap (in_work world.memory) has)
+
+pub work-short : (oldest : ℕ) (world : World) (ring : Ring) (begun later bytes : List ℕ) (work : Work) → ReadsSlots world ring begun
+    → AreShort [] (pieces_in_slots oldest world) → later ≡ begun_from begun (finished_in world.memory ring oldest)
+    → world.adapter.receiver.work ≡ Some work → bytes ≡ bytes_of_work world.memory work → AreShort later (alone work.ends bytes)
+work-short oldest world ring begun later bytes work reads short is has read =
+    subst (λ (pieces : List Piece). AreShort later pieces) (sym (work-is world work bytes has read))
+    (subst (λ (b : List ℕ). AreShort b (in_work world.memory world.adapter.receiver.work))
+    (sym (is ∙ same-begun oldest world ring begun reads))
+    (back-short [] (finished_pieces oldest world) (in_work world.memory world.adapter.receiver.work) short))
+
+pub with-work : (oldest : ℕ) (world : World) (ring : Ring) (begun later bytes : List ℕ) (work : Work) (old before after : List (List ℕ))
+    → ReadsSlots world ring begun → later ≡ begun_from begun (finished_in world.memory ring oldest)
+    → world.adapter.receiver.work ≡ Some work → bytes ≡ bytes_of_work world.memory work
+    → before ≡ old ++ frames_from begun (finished_in world.memory ring oldest)
+    → after ≡ before ++ frames_from later (alone work.ends bytes)
+    → after ≡ old ++ frames_of (pieces_in_slots oldest world)
+with-work oldest world ring begun later bytes work old before after reads is has read first last =
+    let finished = frames_from [] (finished_pieces oldest world) in
+    let pieces = in_work world.memory world.adapter.receiver.work in
+    let rest = frames_from (begun_from [] (finished_pieces oldest world)) pieces in
+    last
+    ∙ ap (λ (frames : List (List ℕ)). frames ++ frames_from later (alone work.ends bytes))
+    (first ∙ ap (λ (frames : List (List ℕ)). old ++ frames) (same-pieces oldest world ring begun reads))
+    ∙ ap (λ (list : List Piece). (old ++ finished) ++ frames_from later list) (work-is world work bytes has read)
+    ∙ ap (λ (b : List ℕ). (old ++ finished) ++ frames_from b pieces) (is ∙ same-begun oldest world ring begun reads)
+    ∙ append_assoc old finished rest
+    ∙ ap (λ (frames : List (List ℕ)). old ++ frames) (sym (all-in-slots oldest world))
+
+pub work-room : (oldest : ℕ) (world : World) (ring : Ring) (begun later bytes : List ℕ) (work : Work) (old before : List (List ℕ)) (most : ℕ)
+    → ReadsSlots world ring begun → later ≡ begun_from begun (finished_in world.memory ring oldest)
+    → world.adapter.receiver.work ≡ Some work → bytes ≡ bytes_of_work world.memory work
+    → before ≡ old ++ frames_from begun (finished_in world.memory ring oldest) → work.ends ≡ true
+    → length old + length (frames_of (pieces_in_slots oldest world)) ≤ most → length before < most
+work-room oldest world ring begun later bytes work old before most reads is has read first ends room =
+    let last = frames_from later (alone work.ends bytes) in
+    let all = with-work oldest world ring begun later bytes work old before (before ++ last) reads is has read first refl in
+    omega (
+      arith,
+      ap length all,
+      length-append before last,
+      alone-one later bytes work.ends ends,
+      length-append old (frames_of (pieces_in_slots oldest world)),
+      room,
+    )
+
+-- The frames to be sent: those of the packet buffer, then those of the ring.
+pub sending-is : (world : World) → frames_to_send world
+    ≡ map (λ (q : Queued). q.frame) world.adapter.transmitter.buffer ++ queued_in true world.memory (transmit_ring world)
+unfolding to_send
+sending-is world = refl
+
+pub sending-count : (world : World) → length (frames_to_send world)
+    ≡ length world.adapter.transmitter.buffer + length (offered_places (transmit_ring world))
+sending-count world =
+    let buffer = world.adapter.transmitter.buffer in
+    let frames = map (λ (q : Queued). q.frame) buffer in
+    let queued = queued_in true world.memory (transmit_ring world) in
+    omega (
+      arith,
+      ap length (sending-is world),
+      length-append frames queued,
+      length-map buffer (λ (q : Queued). q.frame),
+      length-map (offered_places (transmit_ring world)) (λ (slot : ℕ). frame_at true world.memory (address_of (transmit_ring world) slot)),
+    )

@@ -1,0 +1,29 @@
+-- What the frames that a host and its adapter hold can be read from (our choice).
+use Rattle.std.specs.Prelude.{◌≡◌, ◌<◌, ◌⊎◌, ℕ, [], All}
+use Rattle.std.specs.Option.{ForSome}
+use Rattle.dma_memory.specs.HostMemory.{LiesIn}
+use Rattle.descriptors.specs.Ring.{address_of, count_of, offered_places}
+use Rattle.rx_engine.specs.Descriptors.{named_address}
+use Rattle.adapter.specs.FinishedSlots.{LiesWhole, NamesMemory}
+use Rattle.adapter.specs.HostFrames.{pieces_in_slots}
+use Rattle.adapter.specs.JoinedPieces.{AreShort}
+use Rattle.adapter.specs.QueuedFrames.{CanBeCopied}
+use Rattle.adapter.specs.Slots.{finished, outstanding}
+use Rattle.adapter.specs.World.{World, receive_ring, transmit_ring}
+
+-- The frames to be sent can be read: the ring is inside memory, and so is the data of the descriptors from TDH to TDT, at most 1,518
+-- bytes each.
+pub record CanReadSending (world : World) : Type 0 where
+  pub ring : LiesWhole world.memory (transmit_ring world)
+  pub slot : ((transmit_ring world).head < count_of (transmit_ring world)) ⊎ (offered_places (transmit_ring world) ≡ [])
+  pub queued : All (λ slot. CanBeCopied world.memory (address_of (transmit_ring world) slot)) (offered_places (transmit_ring world))
+
+-- The frames that are held can be read: the ring is inside memory, and so are the pieces in the finished slots and the one in progress.
+-- No frame has more than 1,518 bytes.
+pub record CanReadHeld (oldest : ℕ) (world : World) : Type 0 where
+  pub ring : LiesWhole world.memory (receive_ring world)
+  pub slot : (oldest < count_of (receive_ring world)) ⊎ (outstanding (receive_ring world) oldest ≡ [])
+  pub finished : All (NamesMemory world.memory) (finished oldest world)
+  pub work : ForSome world.adapter.receiver.work (λ work. LiesIn world.memory work.descriptor 16)
+  pub piece : ForSome world.adapter.receiver.work (λ work. LiesIn world.memory (named_address world.memory work.descriptor) work.length)
+  pub short : AreShort [] (pieces_in_slots oldest world)

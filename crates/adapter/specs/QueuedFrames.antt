@@ -1,0 +1,14 @@
+-- The frames of a transmit ring from head to tail.
+use Rattle.std.specs.Prelude.{◌≤◌, ℕ, Bool, List, map}
+use Rattle.dma_memory.specs.HostMemory.{LiesIn}
+use Rattle.descriptors.specs.declared.ring.Ring.{Ring}
+use Rattle.descriptors.specs.Ring.{address_of, offered_places}
+use Rattle.tx_engine.specs.Fetching.{descriptor_at, frame_at}
+
+-- The bytes that a descriptor names lie in memory, and are at most 1,518.
+pub record CanBeCopied (memory : List ℕ) (descriptor : ℕ) : Type 0 where
+  pub lies : LiesIn memory (descriptor_at memory descriptor).address (descriptor_at memory descriptor).length
+  pub short : (descriptor_at memory descriptor).length ≤ 1518
+
+abbrev pub queued_in : Bool → List ℕ → Ring → List (List ℕ)
+queued_in pad memory ring = map (λ (slot : ℕ). frame_at pad memory (address_of ring slot)) (offered_places ring)

@@ -1,0 +1,130 @@
+// The frames of a receive ring.
+
+ghost use Rattle.std.specs.Prelude.{◌≡◌, ◌≤◌, ◌<◌, ◌+◌, ◌++◌, ◌∷◌, ◌⊎◌, [], All, IfSome, IfNone, IsSome};
+ghost use Rattle.std.specs.Prelude.{length, vec_capacity, true, false};
+ghost use Rattle.dma_memory.specs.HostMemory.{bytes_at};
+ghost use Rattle.descriptors.specs.Ring.{address_of, count_of};
+ghost use Rattle.rx_engine.specs.Descriptors.{descriptor_at};
+ghost use Rattle.registers.specs.Bits.{is_set};
+ghost use Rattle.descriptors.specs.RxStatus.{dd, eop, status_bits};
+ghost use Rattle.rx_engine.specs.Pieces.{begun_from, frames_from};
+ghost use Rattle.adapter.specs.Slots.{is_done, outstanding, done_slots};
+ghost use Rattle.adapter.specs.HostFrames.{named};
+ghost use Rattle.adapter.specs.JoinedPieces.{AreShort, alone};
+ghost use Rattle.adapter.specs.FinishedSlots.{LiesWhole, NamesMemory, finished_in};
+
+use arrayvec::ArrayVec;
+use bitflags::Flags;
+use descriptors::{Frame, RX_DESC_BYTES, Ring, RxDesc, RxStatus};
+use dma_memory::HostMemory;
+
+/// The next piece joins the frame that is begun. If it's the last one, the frame is behind the others.
+pub(crate) fn append_piece(
+    bytes: &[u8],
+    ends: bool,
+    begun: &mut ArrayVec<u8, 1518>,
+    frames: &mut Vec<Frame>,
+)
+    requires short { AreShort begun.old.items (alone ends bytes.now) }
+    requires room { ends ≡ true → length frames.old.items < vec_capacity frames.old }
+    ensures begun { begun.new.items ≡ begun_from begun.old.items (alone ends bytes.now) }
+    ensures frames { frames.new.items ≡ frames.old.items ++ frames_from begun.old.items (alone ends bytes.now) }
+    ensures room { vec_capacity frames.old ≤ vec_capacity frames.new }
+{
+    let _ = begun.try_extend_from_slice(bytes);
+    if ends {
+        let _ = frames.push(Frame::from_slice(begun.as_slice()));
+        begun.clear();
+    }
+}
+
+/// Whether a descriptor is done.
+fn shows_done(desc: &RxDesc) -> bool
+    ensures { result ≡ is_set (status_bits desc.now.status) dd }
+{
+    desc.status.contains(RxStatus::DD)
+}
+
+/// Whether a frame ends in a descriptor's piece.
+fn shows_end(desc: &RxDesc) -> bool
+    ensures { result ≡ is_set (status_bits desc.now.status) eop }
+{
+    desc.status.contains(RxStatus::EOP)
+}
+
+/// The descriptor in a slot of a ring.
+fn descriptor_in(memory: &HostMemory, ring: &Ring, place: u16) -> Option<RxDesc>
+    requires ring { LiesWhole memory.now ring.now }
+    requires place { place < count_of ring.now }
+    ensures there { IsSome result }
+    ensures value { IfSome result (λ desc. desc ≡ descriptor_at memory.now (address_of ring.now place)) }
+{
+    let size = memory.size();
+    let address = ring.descriptor(place)?;
+    if address >= size {
+        return None;
+    }
+    let mut bytes = [0; RX_DESC_BYTES];
+    memory.load(address, &mut bytes).ok()?;
+    Some(RxDesc::from_bytes(&bytes))
+}
+
+/// The piece in a slot of a ring, if the slot is done.
+fn finished_piece<'a>(memory: &'a HostMemory, ring: &Ring, place: u16) -> Option<(&'a [u8], bool)>
+    requires ring { LiesWhole memory.now ring.now }
+    requires place { place < count_of ring.now }
+    requires lies { is_set (status_bits (descriptor_at memory.now (address_of ring.now place)).status) dd ≡ true
+        → NamesMemory memory.now (address_of ring.now place) }
+    ensures none { IfNone result
+        (is_set (status_bits (descriptor_at memory.now (address_of ring.now place)).status) dd ≡ false) }
+    ensures done { IfSome result (λ piece.
+        is_set (status_bits (descriptor_at memory.now (address_of ring.now place)).status) dd ≡ true) }
+    ensures bytes { IfSome result (λ piece. piece.0.now
+        ≡ bytes_at memory.now (named memory.now (address_of ring.now place)).address
+        (named memory.now (address_of ring.now place)).size) }
+    ensures ends { IfSome result (λ piece. piece.1
+        ≡ is_set (status_bits (descriptor_at memory.now (address_of ring.now place)).status) eop) }
+{
+    let desc = descriptor_in(memory, ring, place)?;
+    if !shows_done(&desc) {
+        return None;
+    }
+    let piece = memory.view(desc.address, usize::from(desc.length)).ok()?;
+    Some((piece, shows_end(&desc)))
+}
+
+/// Appends the frames that end in the finished slots of a ring, from the oldest one on, and leaves what is begun after
+/// the last end.
+pub(crate) fn append_finished(
+    memory: &HostMemory,
+    ring: &Ring,
+    oldest: u16,
+    begun: &mut ArrayVec<u8, 1518>,
+    frames: &mut Vec<Frame>,
+)
+    requires ring { LiesWhole memory.now ring.now }
+    requires slot { (oldest < count_of ring.now) ⊎ (outstanding ring.now oldest ≡ []) }
+    requires lie { All (NamesMemory memory.now) (done_slots memory.now ring.now oldest) }
+    requires short { AreShort begun.old.items (finished_in memory.now ring.now oldest) }
+    requires room { length frames.old.items
+        + length (frames_from begun.old.items (finished_in memory.now ring.now oldest)) ≤ vec_capacity frames.old }
+    ensures begun { begun.new.items ≡ begun_from begun.old.items (finished_in memory.now ring.now oldest) }
+    ensures frames { frames.new.items
+        ≡ frames.old.items ++ frames_from begun.old.items (finished_in memory.now ring.now oldest) }
+    ensures room { vec_capacity frames.old ≤ vec_capacity frames.new }
+{
+    let count = ring.count();
+    if u32::from(oldest) >= count {
+        return;
+    }
+    let mut place = oldest;
+    let mut left = (u32::from(ring.tail) + count - u32::from(oldest)) % count;
+    while left > 0 {
+        let Some((bytes, ends)) = finished_piece(memory, ring, place) else {
+            return;
+        };
+        append_piece(bytes, ends, begun, frames);
+        place = ring.next(place);
+        left -= 1;
+    }
+}

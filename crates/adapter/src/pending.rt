@@ -1,0 +1,118 @@
+// The frames that a host and its adapter hold.
+
+ghost use Rattle.std.specs.Prelude.{◌≡◌, ◌≤◌, ◌<◌, ◌+◌, ◌++◌, ◌∷◌, [], IfSome, IsSome, length, map, true, vec_capacity};
+ghost use Rattle.std.specs.Option.{ForSome};
+ghost use Rattle.dma_memory.specs.HostMemory.{LiesIn, bytes_at};
+ghost use Rattle.descriptors.specs.Frames.{IsLegal};
+ghost use Rattle.rx_engine.specs.Descriptors.{named_address};
+ghost use Rattle.rx_engine.specs.Held.{bytes_of_work};
+ghost use Rattle.adapter.specs.HostFrames.{finished_pieces, frames_held, frames_to_send, pieces_in_slots};
+ghost use Rattle.adapter.specs.JoinedPieces.{AreShort};
+ghost use Rattle.adapter.specs.Pending.{CanReadHeld, CanReadSending};
+ghost use Rattle.adapter.specs.World.{World};
+ghost use Rattle.rx_engine.specs.Pieces.{frames_of};
+
+use crate::Adapter;
+use crate::finished::{append_finished, append_piece};
+use crate::queued::append_queued;
+use arrayvec::ArrayVec;
+use descriptors::{Frame, RX_DESC_BYTES, RxDesc};
+use dma_memory::HostMemory;
+use rx_engine::{RxEngine, Work};
+use tx_engine::TxEngine;
+
+impl Adapter {
+    /// Appends the frames that the host has still to send to `sending`: those of the transmit packet buffer, then those
+    /// of the descriptors from TDH to TDT, padded. Appends the frames that it holds to `holding`: those that end in
+    /// finished slots, from slot `oldest` of the receive ring on, and in the piece in progress, then those of the
+    /// receive packet buffer. Both lists must have room for them. No memory is taken, and nothing else changes.
+    pub fn pending(
+        &self,
+        memory: &HostMemory,
+        oldest: u16,
+        sending: &mut Vec<Frame>,
+        holding: &mut Vec<Frame>,
+    )
+        requires sending { CanReadSending (record { memory = memory.now; adapter = self.now }) }
+        requires holding { CanReadHeld oldest (record { memory = memory.now; adapter = self.now }) }
+        requires sending_room { length sending.old.items
+            + length (frames_to_send (record { memory = memory.now; adapter = self.now })) ≤ vec_capacity sending.old }
+        requires holding_room { length holding.old.items
+            + length (frames_held oldest (record { memory = memory.now; adapter = self.now }))
+            ≤ vec_capacity holding.old }
+        ensures sending { sending.new.items ≡ sending.old.items
+            ++ frames_to_send (record { memory = memory.now; adapter = self.now }) }
+        ensures holding { holding.new.items ≡ holding.old.items
+            ++ frames_held oldest (record { memory = memory.now; adapter = self.now }) }
+    {
+        append_to_put(&self.transmitter, sending);
+        append_queued(memory, &self.file.transmit_ring.ring(), true, sending);
+        self.append_in_slots(memory, oldest, holding);
+        append_buffered(&self.receiver, holding);
+    }
+
+    /// Appends the frames that end in finished slots and in the piece in progress.
+    fn append_in_slots(&self, memory: &HostMemory, oldest: u16, holding: &mut Vec<Frame>)
+        requires can { CanReadHeld oldest (record { memory = memory.now; adapter = self.now }) }
+        requires room { length holding.old.items
+            + length (frames_of (pieces_in_slots oldest (record { memory = memory.now; adapter = self.now })))
+            ≤ vec_capacity holding.old }
+        ensures frames { holding.new.items ≡ holding.old.items
+            ++ frames_of (pieces_in_slots oldest (record { memory = memory.now; adapter = self.now })) }
+        ensures room { vec_capacity holding.old ≤ vec_capacity holding.new }
+    {
+        let ring = self.file.receive_ring.ring();
+        let mut begun: ArrayVec<u8, 1518> = ArrayVec::new();
+        append_finished(memory, &ring, oldest, &mut begun, holding);
+        if let Some(work) = self.receiver.work()
+            && let Some(bytes) = bytes_in_progress(memory, work)
+        {
+            append_piece(bytes, work.ends, &mut begun, holding);
+        }
+    }
+}
+
+/// The bytes of the piece in progress.
+fn bytes_in_progress<'a>(memory: &'a HostMemory, work: &Work) -> Option<&'a [u8]>
+    requires descriptor { LiesIn memory.now work.now.descriptor 16 }
+    requires piece { LiesIn memory.now (named_address memory.now work.now.descriptor) work.now.length }
+    ensures there { IsSome result }
+    ensures bytes { IfSome result (λ bytes. bytes.now ≡ bytes_of_work memory.now work.now) }
+{
+    let mut bytes = [0; RX_DESC_BYTES];
+    memory.load(work.descriptor, &mut bytes).ok()?;
+    let address = RxDesc::from_bytes(&bytes).address;
+    memory.view(address, usize::from(work.length)).ok()
+}
+
+/// Appends the frames of the transmit packet buffer.
+fn append_to_put(engine: &TxEngine, frames: &mut Vec<Frame>)
+    requires room { length frames.old.items + length engine.now.buffer ≤ vec_capacity frames.old }
+    ensures frames { frames.new.items ≡ frames.old.items ++ map (λ queued. queued.frame) engine.now.buffer }
+    ensures room { vec_capacity frames.old ≤ vec_capacity frames.new }
+{
+    for index in 0..usize::from(engine.len()) {
+        append_frame(engine.frame_at(index), frames);
+    }
+}
+
+/// Appends the frames of the receive packet buffer.
+fn append_buffered(engine: &RxEngine, frames: &mut Vec<Frame>)
+    requires room { length frames.old.items + length engine.now.buffer ≤ vec_capacity frames.old }
+    ensures frames { frames.new.items ≡ frames.old.items ++ engine.now.buffer }
+    ensures room { vec_capacity frames.old ≤ vec_capacity frames.new }
+{
+    for index in 0..usize::from(engine.buffered()) {
+        append_frame(engine.frame_at(index), frames);
+    }
+}
+
+/// Appends a frame of these bytes.
+fn append_frame(bytes: &[u8], frames: &mut Vec<Frame>)
+    requires short { length bytes.now ≤ 1518 }
+    requires room { length frames.old.items < vec_capacity frames.old }
+    ensures frames { frames.new.items ≡ frames.old.items ++ bytes.now ∷ [] }
+    ensures room { vec_capacity frames.old ≤ vec_capacity frames.new }
+{
+    let _ = frames.push(Frame::from_slice(bytes));
+}

@@ -1,0 +1,111 @@
+// The frames of a transmit ring.
+
+ghost use Rattle.std.specs.Prelude.{◌≡◌, ◌≤◌, ◌<◌, ◌+◌, ◌-◌, ◌⊎◌, ◌++◌, ◌∷◌, [], All, IfSome, IsSome, length, map};
+ghost use Rattle.std.specs.Prelude.{vec_capacity, if◌then◌else◌};
+ghost use Rattle.descriptors.specs.Ring.{address_of, count_of, offered_places};
+ghost use Rattle.tx_engine.specs.Fetching.{as_sent, descriptor_at, frame_at, named_by};
+ghost use Rattle.adapter.specs.FinishedSlots.{LiesWhole};
+ghost use Rattle.adapter.specs.QueuedFrames.{CanBeCopied, queued_in};
+
+use arrayvec::ArrayVec;
+use descriptors::{Frame, Ring, SHORTEST_LEGAL, TX_DESC_BYTES, TxDesc};
+use dma_memory::HostMemory;
+
+/// How many zeros are behind a frame as it goes onto the wire.
+fn zeros_behind(length: usize, pad: bool) -> usize
+    ensures zeros { result ≡ (if pad then 60 - length else 0) }
+    ensures most { result ≤ 60 }
+{
+    if pad {
+        SHORTEST_LEGAL.saturating_sub(length)
+    } else {
+        0
+    }
+}
+
+/// Appends bytes for which there is room.
+fn extend(whole: &mut ArrayVec<u8, 1518>, bytes: &[u8])
+    requires { length whole.old.items + length bytes.now ≤ 1518 }
+    ensures { whole.new.items ≡ whole.old.items ++ bytes.now }
+{
+    let _ = whole.try_extend_from_slice(bytes);
+}
+
+/// A frame as it goes onto the wire.
+fn frame_as_sent(bytes: &[u8], pad: bool) -> Frame
+    requires short { length bytes.now ≤ 1518 }
+    ensures { result ≡ as_sent pad bytes.now }
+{
+    let mut whole: ArrayVec<u8, 1518> = ArrayVec::new();
+    extend(&mut whole, bytes);
+    let zeros = [0; SHORTEST_LEGAL];
+    let count = zeros_behind(bytes.len(), pad);
+    extend(&mut whole, &zeros[..count]);
+    Frame::from_slice(whole.as_slice())
+}
+
+/// Appends a frame as it goes onto the wire.
+fn append_padded(bytes: &[u8], pad: bool, frames: &mut Vec<Frame>)
+    requires short { length bytes.now ≤ 1518 }
+    requires room { length frames.old.items < vec_capacity frames.old }
+    ensures frames { frames.new.items ≡ frames.old.items ++ as_sent pad bytes.now ∷ [] }
+    ensures room { vec_capacity frames.old ≤ vec_capacity frames.new }
+{
+    let _ = frames.push(frame_as_sent(bytes, pad));
+}
+
+/// The descriptor in a slot of a ring.
+fn descriptor_in(memory: &HostMemory, ring: &Ring, place: u16) -> Option<TxDesc>
+    requires ring { LiesWhole memory.now ring.now }
+    requires place { place < count_of ring.now }
+    ensures there { IsSome result }
+    ensures value { IfSome result (λ desc. desc ≡ descriptor_at memory.now (address_of ring.now place)) }
+{
+    let size = memory.size();
+    let address = ring.descriptor(place)?;
+    if address >= size {
+        return None;
+    }
+    let mut bytes = [0; TX_DESC_BYTES];
+    memory.load(address, &mut bytes).ok()?;
+    Some(TxDesc::from_bytes(&bytes))
+}
+
+/// The bytes that the descriptor in a slot of a ring names.
+fn queued_bytes<'a>(memory: &'a HostMemory, ring: &Ring, place: u16) -> Option<&'a [u8]>
+    requires ring { LiesWhole memory.now ring.now }
+    requires place { place < count_of ring.now }
+    requires lies { CanBeCopied memory.now (address_of ring.now place) }
+    ensures there { IsSome result }
+    ensures bytes { IfSome result (λ bytes.
+        bytes.now ≡ named_by memory.now (descriptor_at memory.now (address_of ring.now place))) }
+    ensures short { IfSome result (λ bytes. length bytes.now ≤ 1518) }
+{
+    let desc = descriptor_in(memory, ring, place)?;
+    memory.view(desc.address, usize::from(desc.length)).ok()
+}
+
+/// Appends the frames that the descriptors from head to tail name, as they go onto the wire.
+pub(crate) fn append_queued(memory: &HostMemory, ring: &Ring, pad: bool, frames: &mut Vec<Frame>)
+    requires ring { LiesWhole memory.now ring.now }
+    requires slot { (ring.now.head < count_of ring.now) ⊎ (offered_places ring.now ≡ []) }
+    requires lie { All (λ slot. CanBeCopied memory.now (address_of ring.now slot)) (offered_places ring.now) }
+    requires room { length frames.old.items + length (offered_places ring.now) ≤ vec_capacity frames.old }
+    ensures frames { frames.new.items ≡ frames.old.items ++ queued_in pad memory.now ring.now }
+    ensures room { vec_capacity frames.old ≤ vec_capacity frames.new }
+{
+    let count = ring.count();
+    if u32::from(ring.head) >= count {
+        return;
+    }
+    let mut place = ring.head;
+    let mut left = (u32::from(ring.tail) + count - u32::from(ring.head)) % count;
+    while left > 0 {
+        let Some(bytes) = queued_bytes(memory, ring, place) else {
+            return;
+        };
+        append_padded(bytes, pad, frames);
+        place = ring.next(place);
+        left -= 1;
+    }
+}

@@ -1,0 +1,22 @@
+-- The tables of numbers of the receive filter: the groups' (13.5.1 "Multicast Table Array") and the VLANs' (13.5.4
+-- "VLAN Filter Table Array"), each with a bit for every number.
+use Rattle.std.specs.Prelude.{◌≡◌, ◌<◌, ◌↔◌, ℕ, List, length, map}
+use Rattle.std.specs.List.{Contains}
+use Rattle.registers.specs.ReceiveControl.{shift_of}
+use Rattle.registers.specs.declared.receive_control.GroupOffset.TheVariants.{Bits47To36}
+use Rattle.rx_engine.specs.Addresses.{group_number}
+use Rattle.rx_engine.specs.Registers.{HasTableBit}
+use Rattle.rx_engine.specs.declared.filter.TheConstants.{TABLE_WORDS}
+
+-- The numbers of groups and VLANs have 12 bits, so they are below this number: a table has a bit for each.
+abbrev pub table_numbers : ℕ
+table_numbers = 4096
+
+-- A table of 128 words has the bits of these numbers, and no other.
+pub record HasNumbers (table numbers : List ℕ) : Type 0 where
+  pub words : length table ≡ TABLE_WORDS
+  pub bits : (number : ℕ) → number < table_numbers → HasTableBit table number ↔ Contains numbers number
+
+-- the numbers of groups if RCTL.MO is 00
+abbrev pub numbers_of_groups : List (List ℕ) → List ℕ
+numbers_of_groups groups = map (group_number (shift_of Bits47To36)) groups
