@@ -6,7 +6,7 @@ ghost use Rattle.adapter.specs.Outcomes.{framed};
 ghost use Rattle.adapter.specs.Receiving.{IsFate, after_arrive};
 ghost use Rattle.adapter.specs.Registers.{after_read, after_write, answer_at};
 ghost use Rattle.adapter.specs.State.{IsAdapter};
-ghost use Rattle.adapter.specs.Steps.{Answers, ChangesAtMost, after_step, memory_after_step};
+ghost use Rattle.adapter.specs.Steps.{Answers, ChangesAtMost, TellsWork, after_step, memory_after_step};
 ghost use Rattle.adapter.specs.declared.outcome.Outcome.TheVariants.{Fault, Nothing};
 
 use adapter::{Adapter, Fate, Outcome, StepKind};
@@ -57,6 +57,21 @@ pub fn read(adapter: &mut Adapter, offset: u32) -> u32
     ensures adapter { IsAdapter adapter.new }
 {
     adapter.read(offset)
+}
+
+/// A twin of [`Adapter::value`].
+pub fn value(adapter: &Adapter, offset: u32) -> u32
+    ensures answer { result ≡ answer_at offset adapter.now }
+    ensures adapter { IsAdapter adapter.now }
+{
+    adapter.value(offset)
+}
+
+/// A twin of [`Adapter::has_work`].
+pub fn has_work(adapter: &Adapter, kind: StepKind) -> bool
+    ensures work { TellsWork kind result adapter.now }
+{
+    adapter.has_work(kind)
 }
 
 /// A twin of [`Adapter::write`].

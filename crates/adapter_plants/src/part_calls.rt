@@ -6,12 +6,14 @@ ghost use Rattle.dma_memory.specs.Owners.{HaveSameNumbers, copies};
 ghost use Rattle.mdic_phy.specs.Mdic.{mdic_after_tick, phy_after_tick, told};
 ghost use Rattle.mdic_phy.specs.Phy.{after_write};
 ghost use Rattle.registers.specs.Kept.{control_mask, receive_control_mask};
+ghost use Rattle.registers.specs.ReceiveControl.{shift_of};
+ghost use Rattle.rx_engine.specs.Addresses.{group_number};
 ghost use Rattle.rx_engine.specs.Passing.{Passes};
 ghost use Rattle.rx_engine.specs.Registers.{filter_of};
 
 use dma_memory::{BufId, Pool};
 use mdic_phy::{Mdic, Phy, Ticked};
-use registers::{Ctrl, Rctl};
+use registers::{Ctrl, GroupOffset, Rctl};
 use rx_engine::Filter;
 
 /// A twin of [`Ctrl::kept`].
@@ -56,6 +58,13 @@ pub fn passes(filter: &Filter, frame: &[u8]) -> bool
     ensures { IsTrue result ↔ Passes (filter_of filter.now) frame.now }
 {
     filter.passes(frame)
+}
+
+/// A twin of [`rx_engine::hash_of`].
+pub fn hash_of(mo: GroupOffset, address: &[u8; 6]) -> u16
+    ensures { result ≡ group_number (shift_of mo) address.now }
+{
+    rx_engine::hash_of(mo, address)
 }
 
 /// A twin of [`Phy::write`].

@@ -16,9 +16,8 @@ use std::alloc::{AllocError, Global};
 use std::io::Write;
 
 /// A twin of [`access_names::memory_target`].
-pub fn memory_target(machine: &mut Machine, address: u64) -> Target
-    ensures unchanged { machine.new ≡ machine.old }
-    ensures target { result ≡ memory_target_in machine.old.world.adapter address }
+pub fn memory_target(machine: &Machine, address: u64) -> Target
+    ensures target { result ≡ memory_target_in machine.now.world.adapter address }
 {
     access_names::memory_target(machine, address)
 }
