@@ -1,5 +1,5 @@
 -- A driver clears descriptors of its own.
-use Rattle.std.proofs.Common.{Bool, false, ◌≡◌, ◌≤◌, ◌<◌, ◌+◌, ◌-◌, ◌*◌, ◌^◌, ◌++◌, ◌∷◌, [], ℕ, zero, suc, List, length, map, replicate}
+use Rattle.std.proofs.Common.{Bool, false, ◌≡◌, ◌≤◌, ◌<◌, ◌+◌, ◌-◌, ◌*◌, ◌%◌, ◌^◌, ◌++◌, ◌∷◌, [], ℕ, List, length, map, replicate}
 use Rattle.std.proofs.Common.{inr, refl, sym, ap, subst, ◌∙◌, arith}
 use Rattle.std.specs.List.{All}
 use Rattle.std.proofs.Math.Nat.{mod-eq_of_lt}
@@ -7,9 +7,8 @@ use Rattle.dma_memory.specs.Areas.{AreApart, AreSeparate, Area, area_at, descrip
 use Rattle.dma_memory.specs.AreaLaws.{apart-inside, apart-sym, inside-apart}
 use Rattle.dma_memory.specs.HostMemory.{LiesIn, bytes_at, with_bytes}
 use Rattle.dma_memory.specs.Laws.{bytes_at-elsewhere}
-use Rattle.dma_memory.specs.Layout.{ReceiveBuffer, ReceiveRing, TransmitRing, area_of}
+use Rattle.dma_memory.specs.Layout.{ReceiveBuffer, TransmitRing, area_of}
 use Rattle.dma_memory.specs.LayoutLaws.{places-apart}
-use Rattle.descriptors.specs.Ring.{address_of}
 use Rattle.descriptors.specs.RingLaws.{place}
 use Rattle.adapter.specs.HostAreas.{data_of, frame_areas, offered_buffers, ring_area, work_areas}
 use Rattle.adapter.specs.HostFrames.{named}
@@ -19,21 +18,21 @@ use Rattle.adapter.specs.declared.ring.RingRegisters.{RingRegisters}
 use Rattle.bus.specs.RegisterSetting.{with_transmit_ring}
 use Rattle.bus.specs.Keeping.{view_of}
 use Rattle.bus.specs.Law.{Acts}
-use Rattle.bus.specs.WritableSlots.{CanBeWritten}
 use Rattle.bus.specs.DriversStores.{IsDriversArea}
 use Rattle.bus.specs.PastOfStretch.{nothing}
 use Rattle.bus.specs.declared.bus.Bus.{Ghosts}
 use Rattle.bus.specs.declared.event.Access.TheVariants.{Stores}
 use Rattle.bus.proofs.IdleRings.{offered-none, outstanding-none}
 use Rattle.bus.proofs.Lists.{all-head, all-none, all-tail, pairs-head, pairs-tail}
-use Rattle.bus.proofs.WritableSlots.{drivers_receive_slots_can_be_written}
 use Rattle.bus.proofs.Rings.{outstanding-inside}
+use Rattle.driver_law.specs.Beginnings.{spare_slot}
 use Rattle.driver_law.specs.Calls.{GoesTo, Ran, at, driver_did, driver_in, only}
 use Rattle.driver_law.specs.DriverState.{DriverState, receive_slot, receive_tail, transmit_slot}
 use Rattle.driver_law.specs.ReadyDrivers.{ReadyWith}
 use Rattle.driver_law.proofs.Accesses.{ran_by-acts, store-sets}
-use Rattle.driver_law.proofs.Places.{place-add, place-below, places-differ}
-use Rattle.driver_law.proofs.Readiness.{own-staged, stored-kept}
+use Rattle.driver_law.proofs.InitialStores.{spare_slot_is_stored}
+use Rattle.driver_law.proofs.Places.{place-below, place-sum}
+use Rattle.driver_law.proofs.Readiness.{stored-kept}
 use Rattle.driver_law.proofs.Stores.{goes-stores}
 use Rattle.driver_law.proofs.TransmitRing.{transmit_ring_is_written}
 use Rattle.bring_up.specs.ClearedDescriptors.{clears}
@@ -110,65 +109,21 @@ clears-sent d slot world ready below =
     (record { from = omega arith; to = omega (arith, below) })
     (places-apart d.layout TransmitRing (ReceiveBuffer number) tt known (λ same. absurd (cc))))
 
--- A receive slot after those that are staged.
-
-slots-apart : (x y : ℕ) → ¬ (y ≡ x) → AreApart (area_at (receive_slot x) 16) (area_at (receive_slot y) 16)
-slots-apart x y differ = grind arith
-
-clears-received : {up : Bool} (d : DriverState) (i : ℕ) (world : World) → ReadyWith up d world → length d.staged ≤ i
-    → length d.buffers + i < d.layout.rx
-    → GoesTo up (driver_in d world)
-    (driver_in d (world_after_store (receive_slot (place d.layout.rx (receive_tail d) i)) zeros world)) (driver_did [] []) nothing
-clears-received {up} d i world ready behind short =
+-- A receive slot that is neither outstanding nor staged, if the first slot is the oldest.
+clears-spare : {up : Bool} (d : DriverState) (slot : ℕ) (world : World) → ReadyWith up d world → d.oldest_receive ≡ 0
+    → length d.buffers + length d.staged ≤ slot → slot < d.layout.rx
+    → GoesTo up (driver_in d world) (driver_in d (world_after_store (receive_slot slot) zeros world)) (driver_did [] []) nothing
+clears-spare {up} d slot world ready oldest past below =
     let n = d.layout.rx in
-    let first = d.oldest_receive in
-    let slot = place n (receive_tail d) i in
-    let address = receive_slot slot in
-    let at : address_of (receive_ring world) slot ≡ address = omega (arith, ready.receive.begins) in
-    let can : CanBeWritten first d.oldest_transmit world address = subst (CanBeWritten first d.oldest_transmit world) at
-    (drivers_receive_slots_can_be_written first d.oldest_transmit slot world ready.law.sound (own-staged d world i ready short)) in
-    let memory' = with_bytes world.memory address zeros in
-    let below : slot < n = place-below n (receive_tail d) i (place-below n first (length d.buffers) ready.driver_is.oldest_slot) in
-    let others : (j : ℕ) → j < length d.staged
-    → bytes_at memory' (receive_slot (place n (receive_tail d) j)) 16
-    ≡ bytes_at world.memory (receive_slot (place n (receive_tail d) j)) 16 = λ j before.
-    bytes_at-elsewhere world.memory zeros address (receive_slot (place n (receive_tail d) j)) 16 can.lies
-    (slots-apart slot (place n (receive_tail d) j)
-    (λ equal. places-differ n first (length d.buffers + j) (length d.buffers + i) ready.driver_is.oldest_slot
-    (omega (arith, before, behind)) short
-    (place-add n first (length d.buffers) j ∙ equal ∙ sym (place-add n first (length d.buffers) i)))) in
-    goes-stores d d.staged d.pool world address zeros ready can.lies can.own ready.driver_is
-    (stored-kept world.memory memory' d.layout (receive_tail d) d.staged others ready.slots.stored)
-    (λ number known.
-    apart-inside (area_at address 16) (area_of d.layout ReceiveRing) (area_of d.layout (ReceiveBuffer number))
-    (record { from = omega arith; to = omega (arith, below) })
-    (places-apart d.layout ReceiveRing (ReceiveBuffer number) tt known (λ same. absurd (cc))))
-
--- A walk that doesn't go around.
-walked : (n from i : ℕ) → from + i < n → place n from i ≡ from + i
-walked n from zero short = omega arith
-walked n from (suc i) short =
-    let inside : from + 1 < n = omega (arith, short) in
-    ap (λ (index : ℕ). place n index i) (mod-eq_of_lt inside) ∙ walked n (from + 1) i (omega (arith, short)) ∙ omega arith
-
--- The last one, if the first is the oldest.
-clears-last : {up : Bool} (d : DriverState) (world : World) → ReadyWith up d world → d.oldest_receive ≡ 0
-    → GoesTo up (driver_in d world) (driver_in d (world_after_store (receive_slot (d.layout.rx - 1)) zeros world)) (driver_did [] [])
-    nothing
-clears-last {up} d world ready oldest =
-    let n = d.layout.rx in
-    let first = d.oldest_receive in
-    let room = ready.driver_is.room in
-    let slot = ready.driver_is.oldest_slot in
-    let i = n - 1 - length d.buffers in
-    let all : length d.buffers + i ≡ n - 1 = omega (arith, room) in
-    let sum : first + (n - 1) ≡ n - 1 = omega (arith, oldest) in
-    let at : place n (receive_tail d) i ≡ n - 1 = sym (place-add n first (length d.buffers) i) ∙ ap (place n first) all
-    ∙ walked n first (n - 1) (omega (arith, oldest, slot)) ∙ sum in
+    let i = slot - (length d.buffers + length d.staged) in
+    let all : length d.buffers + (length d.staged + i) ≡ slot = omega (arith, past) in
+    let sum : d.oldest_receive + slot ≡ slot = omega (arith, oldest) in
+    let at : spare_slot d i ≡ slot = ap (place n d.oldest_receive) all ∙ place-sum n d.oldest_receive slot ready.driver_is.oldest_slot
+    ∙ ap (λ (index : ℕ). index % n) sum ∙ mod-eq_of_lt below in
     subst
     (λ (index : ℕ). GoesTo up (driver_in d world) (driver_in d (world_after_store (receive_slot index) zeros world)) (driver_did [] [])
     nothing) at
-    (clears-received d i world ready (omega (arith, room)) (omega (arith, all, slot)))
+    (spare_slot_is_stored up d i zeros world ready refl (omega (arith, all, below)))
 
 -- Over a bus.
 
@@ -197,10 +152,10 @@ ran_by-clears_sent bus old new d slot address below at acts ready =
     ran_by-clears bus old new d address (transmit_slot d.layout slot) at acts ready
     (λ middle there. clears-sent d slot middle there below)
 
-pub ran_by-clears_received : {up : Bool} {B : Type 0} (bus : Ghosts B) (old new : B) (d : DriverState) (address : ℕ)
-    → d.oldest_receive ≡ 0 → address ≡ receive_slot (d.layout.rx - 1)
+pub ran_by-clears_spare : {up : Bool} {B : Type 0} (bus : Ghosts B) (old new : B) (d : DriverState) (slot address : ℕ)
+    → d.oldest_receive ≡ 0 → length d.buffers + length d.staged ≤ slot → slot < d.layout.rx → address ≡ receive_slot slot
     → StoreActs bus old new address → ReadyWith up d (bus.world old)
     → Ran bus up (only (clears address ∷ [])) (at old d) (at new d)
-ran_by-clears_received bus old new d address oldest at acts ready =
-    ran_by-clears bus old new d address (receive_slot (d.layout.rx - 1)) at acts ready
-    (λ middle there. clears-last d middle there oldest)
+ran_by-clears_spare bus old new d slot address oldest past below at acts ready =
+    ran_by-clears bus old new d address (receive_slot slot) at acts ready
+    (λ middle there. clears-spare d slot middle there oldest past below)

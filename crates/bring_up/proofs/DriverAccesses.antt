@@ -19,24 +19,23 @@ use Rattle.adapter.specs.declared.register.Register.TheVariants.{Rctl, Tctl}
 use Rattle.bus.specs.RegisterSetting.{with_receive_control, with_transmit_control}
 use Rattle.bus.specs.Keeping.{view_of}
 use Rattle.bus.specs.Law.{Acts}
-use Rattle.bus.specs.PastOfStretch.{Past, nothing}
+use Rattle.bus.specs.PastOfStretch.{Past, joined, nothing}
 use Rattle.bus.specs.Settings.{IsOff}
 use Rattle.bus.specs.declared.bus.Bus.{Ghosts}
 use Rattle.bus.specs.declared.event.Access.{Access}
 use Rattle.bus.specs.declared.event.Access.TheVariants.{Writes}
 use Rattle.bus.proofs.KnownRings.{known_transmit_ring_stays}
-use Rattle.bus.proofs.Settings.{happens-off}
 use Rattle.bus.proofs.WaitingRings.{holds-none, offers_wait}
 use Rattle.driver_law.specs.Beginnings.{Enabled}
 use Rattle.driver_law.specs.Calls.{Goes, GoesTo, Ran, at, driver_did, driver_in, frames_ended, only}
 use Rattle.driver_law.specs.DriverState.{DriverState, transmit_tail}
 use Rattle.driver_law.specs.ReadyDrivers.{Ready, ReadyWith}
-use Rattle.driver_law.proofs.Accesses.{SetsBy, access-link, access-set, write-sets}
+use Rattle.driver_law.proofs.Accesses.{SetsBy, follows-acts, follows-join, write-sets}
 use Rattle.driver_law.proofs.TransmitControl.{causes_are_enabled, transmitter_is_enabled}
 use Rattle.driver_law.proofs.ReceiveControl.{receiver_is_enabled}
 use Rattle.driver_law.proofs.Steps.{goes-happens}
 use Rattle.driver_law.proofs.Stretches.{goes_join, joined-nothing}
-use Rattle.bring_up.specs.DriverSteps.{LeavesDriver, LetsFramesIn, EnablesCauses}
+use Rattle.bring_up.specs.DriverSteps.{Accessed, EnablesCauses, LeavesDriver, LetsFramesIn}
 use Rattle.bring_up.specs.RingRegisters.{receive_control, receive_writes, transmit_writes}
 
 -- One access, from the very world in which it begins.
@@ -55,16 +54,28 @@ ran_by-begins {first_up} {up} bus old new access effect d acts sets ready step =
       goes =
           subst (GoesTo up (driver_in d (bus.world old)) (driver_in d (bus.world new)) (driver_did [] [])) (joined-nothing acts.past)
           (goes_join d d d (bus.world old) acts.middle (bus.world new) [] [] [] [] acts.past nothing first (step first.flows.ready));
-      follows = record {
-        set = access-set bus old new access effect acts sets;
-        off = λ off leaves. happens-off (bus.world old) acts.middle acts.past acts.before off;
-        link = access-link bus old new access effect acts sets;
-      };
+      follows = follows-acts bus old new access effect acts sets;
     }
 
 abbrev pub WriteActs : {B : Type 0} (bus : Ghosts B) (old new : B) (offset value : ℕ) → Type 0
 WriteActs bus old new offset value = Acts (view_of bus) old new (Writes offset value)
     (λ before after. after ≡ world_after_write offset value before)
+
+-- An access, whatever the driver knows.
+unfoldable pub accessed-by : {B : Type 0} (bus : Ghosts B) (old new : B) (access : Access) (effect : World → World → Type 0)
+    → Acts (view_of bus) old new access effect → SetsBy access effect (bus.world new) → Accessed bus (access ∷ []) old new
+accessed-by bus old new access effect acts sets =
+    record { past = acts.past; reports = acts.told; only = acts.only; follows = follows-acts bus old new access effect acts sets }
+
+unfoldable pub accessed-join : {B : Type 0} (bus : Ghosts B)
+    → ((a b c : B) (first later : Past) → bus.happened a b first → bus.happened b c later → bus.happened a c (joined first later))
+    → (a b c : B) (xs ys : List Access) → Accessed bus xs a b → Accessed bus ys b c → Accessed bus (xs ++ ys) a c
+accessed-join bus joins a b c xs ys one two = record {
+  past = joined one.past two.past;
+  reports = joins a b c one.past two.past one.reports two.reports;
+  only = rw (one.only, two.only) refl;
+  follows = follows-join (bus.world a) (bus.world b) (bus.world c) one.past two.past one.follows two.follows;
+}
 
 -- RCTL.
 
@@ -171,26 +182,17 @@ asked-still d a b past goes asked =
 pub enables-causes : {B : Type 0} (bus : Ghosts B) (old new : B) (value : ℕ) (d : DriverState)
     → value ≡ 0xD1 → WriteActs bus old new 0x00D0 value → Ready d (bus.world old)
     → EnablesCauses bus 0xD1 d old new
+unfolding accessed-by
 enables-causes bus old new value d is written ready =
     let acts = subst (WriteActs bus old new 0x00D0) is written in
     let middle = acts.middle in
     let goes = goes-happens d (bus.world old) middle acts.past ready acts.before in
-    let sets = write-sets 0x00D0 0xD1 (bus.world new) in
     let enabled : Enabled true d 0xD1 middle (bus.world new) =
     subst (Enabled true d 0xD1 middle) (sym acts.effect_is) (causes_are_enabled true d 0xD1 middle goes.flows.ready) in
     let mask : HasBit (bus.world new).adapter.causes.mask 7 =
     subst (λ (bits : ℕ). HasBit bits 7) (sym enabled.mask) ((HasBit-union middle.adapter.causes.mask 0xD1 7).1 (inr refl)) in
     record {
-      accessed = record {
-        past = acts.past;
-        reports = acts.told;
-        only = acts.only;
-        follows = record {
-          set = access-set bus old new (Writes 0x00D0 0xD1) _ acts sets;
-          off = λ off leaves. happens-off (bus.world old) middle acts.past acts.before off;
-          link = access-link bus old new (Writes 0x00D0 0xD1) _ acts sets;
-        };
-      };
+      accessed = accessed-by bus old new (Writes 0x00D0 0xD1) _ acts (write-sets 0x00D0 0xD1 (bus.world new));
       middle = middle;
       goes = goes;
       enabled = enabled;

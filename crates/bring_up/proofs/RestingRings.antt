@@ -31,15 +31,18 @@ use Rattle.bus.specs.declared.bus.Bus.{Ghosts}
 use Rattle.bus.proofs.IdleRings.{outstanding-none}
 use Rattle.bus.proofs.Lists.{all-none, pairs-none}
 use Rattle.bus.proofs.AdaptersAtRest.{happenings_keep_rest, rest_is_idle}
+use Rattle.driver_law.proofs.Resets.{rest_keeps_memory}
 use Rattle.driver_law.specs.Beginnings.{HasBegun}
+use Rattle.driver_law.specs.DriverState.{owners}
+use Rattle.driver_law.specs.Resets.{reset_driver}
 use Rattle.driver_law.proofs.Beginnings.{drivers_begin}
 use Rattle.driver_law.proofs.Readiness.{none-to_send}
-use Rattle.bring_up.specs.RestingRings.{DriversBeginAtRest, HasNewRings, HasReceiveRing, SetsAtRest}
+use Rattle.bring_up.specs.RestingRings.{DriversBeginAgain, DriversBeginAtRest, HasNewRings, HasReceiveRing, SetsAtRest}
 use Rattle.bring_up.specs.RingRegisters.{ring_writes}
 use Rattle.bring_up.proofs.DriverAccesses.{WriteActs}
 use Rattle.bring_up.proofs.RingWrites.{IsRingPlace, high-written, length-written, low-written, receive-written, ring-known, ring_at}
 use Rattle.bring_up.proofs.RingWrites.{still-ring, with_receive_ring}
-use Rattle.bring_up.proofs.Steps.{StretchesJoin, no-frames, sets-access, sets-join, sets-write}
+use Rattle.bring_up.proofs.Steps.{StretchesJoin, accesses-join, no-frames, sets-access, sets-join, sets-write}
 
 -- At rest, with these registers of the receive ring.
 record HasRing (receives : RingRegisters) (rx : ℕ) (world : World) : Type 0 where
@@ -75,6 +78,7 @@ rests-write bus old new part value word rx before after is written idle first sh
     let steady = acts.before.steady in
     record {
       sets = sets-write bus old new (0x2800 + ring_distance part) word acts;
+      only = acts.only;
       after_is = λ state.
           let rest = (happenings_keep_rest (bus.world old) middle acts.past acts.before acts.adapter state.rest).0 in
           let receives : middle.adapter.receive_ring ≡ before =
@@ -105,6 +109,8 @@ rests-write bus old new part value word rx before after is written idle first sh
             room = room;
           });
       no_frame = λ state. (happenings_keep_rest (bus.world old) middle acts.past acts.before acts.adapter state.rest).1;
+      memory = λ state.
+          ap (λ (w : World). w.memory) acts.effect_is ∙ rest_keeps_memory (bus.world old) middle acts.past acts.before state.rest;
     }
 
 -- One step, and then another.
@@ -115,8 +121,10 @@ rests-join : {B : Type 0} (bus : Ghosts B) → StretchesJoin bus
 unfolding sets-join
 rests-join bus joins a b c first later P Q R one two = record {
   sets = sets-join bus joins a b c first later one.sets two.sets;
+  only = accesses-join one.sets.past two.sets.past first later one.only two.only;
   after_is = λ before. two.after_is (one.after_is before);
   no_frame = λ before. no-frames one.sets.past two.sets.past (one.no_frame before) (two.no_frame (one.after_is before));
+  memory = λ before. two.memory (one.after_is before) ∙ one.memory before;
 }
 
 -- All five.
@@ -149,6 +157,7 @@ rests-ring bus joins b0 b1 b2 b3 b4 b5 low high base bytes rx low_is high_is fir
     (rests-write bus b4 b5 Tail 0 0 rx r1 r1 refl refl refl (start bytes) short five)))) in
     record {
       sets = all.sets;
+      only = all.only;
       after_is = λ state.
           let behind = all.after_is
           (record { rest = state.rest; receives_is = state.receives; transmits = state.transmits; room = state.room }) in
@@ -159,6 +168,8 @@ rests-ring bus joins b0 b1 b2 b3 b4 b5 low high base bytes rx low_is high_is fir
             transmits = behind.transmits;
           };
       no_frame = λ state. all.no_frame
+          (record { rest = state.rest; receives_is = state.receives; transmits = state.transmits; room = state.room });
+      memory = λ state. all.memory
           (record { rest = state.rest; receives_is = state.receives; transmits = state.transmits; room = state.room });
     }
 
@@ -173,7 +184,7 @@ held-none world rest first =
     ∙ ap (held world.memory []) rest.receiver
 
 pub drivers_begin_at_rest : DriversBeginAtRest
-drivers_begin_at_rest counts pool world allowed owner lies has =
+drivers_begin_at_rest counts groups pool world allowed owner lies has =
     let rest = has.rest in
     let idle = rest_is_idle world rest in
     let behind = begins counts in
@@ -182,7 +193,7 @@ drivers_begin_at_rest counts pool world allowed owner lies has =
     let transmits = has.transmits in
     let off : ¬ (HasBit world.adapter.filter.rctl rctl_en) = subst (λ (control : ℕ). ¬ (HasBit control 1)) (sym rest.control)
     (HasBit-zero 1) in
-    let begun : HasBegun false counts pool world = record {
+    let begun : HasBegun false counts groups pool world = record {
       driver_is = record {
         oldest_slot = omega (arith, allowed.rx.least);
         room = omega (arith, allowed.rx.least);
@@ -205,10 +216,34 @@ drivers_begin_at_rest counts pool world allowed owner lies has =
     } in
     record {
       begun = begun;
-      ready = drivers_begin false counts pool world begun;
+      ready = drivers_begin false counts groups pool world begun;
       quiet = record {
         off = off;
         none_held = held-none world rest has.knows.last;
         none_to_send = none-to_send world.memory (transmit_ring world) world.adapter.transmitter.buffer buffer rest.rings.transmit;
       };
     }
+
+-- It begins as a new driver whose free buffers are those of all owners, so only the owners differ.
+pub drivers_begin_again : DriversBeginAgain
+drivers_begin_again driver pool world allowed rests has =
+    let counts = driver.layout in
+    let again = reset_driver pool driver in
+    let new = drivers_begin_at_rest counts driver.groups (owners again) world allowed rests.one_owner rests.lies has in
+    let base = new.ready in (
+      record {
+        driver_is = record {
+          oldest_slot = base.driver_is.oldest_slot;
+          room = base.driver_is.room;
+          one_owner = rests.one_owner;
+          addresses = base.driver_is.addresses;
+        };
+        law = base.law;
+        lies = rests.lies;
+        receive = base.receive;
+        transmit = base.transmit;
+        slots = record { names = base.slots.names; stored = tt };
+        stand = rests.stand;
+      },
+      record { off = new.quiet.off; none_held = new.quiet.none_held; none_to_send = new.quiet.none_to_send },
+    )

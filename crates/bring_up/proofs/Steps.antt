@@ -1,6 +1,7 @@
 -- Accesses of bring-up, one behind the other.
 use Rattle.std.proofs.Common.{◌≡◌, ◌++◌, ◌∷◌, [], ℕ, List, refl, sym, ap, subst, ◌∙◌}
 use Rattle.std.specs.List.{All}
+use Rattle.std.proofs.lemmas.List.{map-append}
 use Rattle.std.proofs.lemmas.List.Elements.{All-append}
 use Rattle.adapter.specs.World.{World, world_after_read, world_after_write}
 use Rattle.bus.specs.Keeping.{view_of}
@@ -16,7 +17,9 @@ use Rattle.bus.proofs.Links.{accesses_keep_link, happenings_keep_link}
 use Rattle.bus.proofs.Lists.{all-head, all-left, all-none, all-right}
 use Rattle.bus.proofs.AdaptersAtRest.{accesses_keep_rest, happenings_keep_rest}
 use Rattle.bus.proofs.Settings.{happenings_leave_settings, reads-leave, settings-append, writes-append, writes-set}
-use Rattle.bring_up.specs.SettingSteps.{Asks, IsAside, Sets}
+use Rattle.driver_law.proofs.Resets.{rest_keeps_memory}
+use Rattle.bring_up.specs.DriverSteps.{accesses_of}
+use Rattle.bring_up.specs.SettingSteps.{Asks, IsAside, Sets, SetsOnly}
 
 -- What happens in two intervals happens in both together: a law of the bus.
 abbrev pub StretchesJoin : {B : Type 0} → Ghosts B → Type 0
@@ -24,13 +27,14 @@ StretchesJoin {B} bus =
     (a b c : B) (first later : Past) → bus.happened a b first → bus.happened b c later → bus.happened a c (joined first later)
 
 -- Nothing is done.
-pub sets-nothing : {B : Type 0} (bus : Ghosts B) → ((b : B) → bus.happened b b nothing) → (b : B) → Sets bus [] b b
+unfoldable pub sets-nothing : {B : Type 0} (bus : Ghosts B) → ((b : B) → bus.happened b b nothing) → (b : B) → Sets bus [] b b
 sets-nothing bus stays b = record {
   past = nothing;
   reports = stays b;
   writes_are = refl;
   settings = refl;
   rests = λ aside rest. (rest, record { none_put = refl; none_stored = refl; none_missed = refl });
+  memory = λ aside rest. refl;
   link = λ leaves link. link;
 }
 
@@ -56,6 +60,9 @@ sets-join bus joins a b c first later one two = record {
       let middle = one.rests (all-left IsAside first later aside) rest in
       let end = two.rests (all-right IsAside first later aside) middle.0 in
       (end.0, no-frames one.past two.past middle.1 end.1);
+  memory = λ aside rest.
+      two.memory (all-right IsAside first later aside) (one.rests (all-left IsAside first later aside) rest).0
+      ∙ one.memory (all-left IsAside first later aside) rest;
   link = λ leaves link. two.link (all-right LeavesPhy first later leaves) (one.link (all-left LeavesPhy first later leaves) link);
 }
 
@@ -65,8 +72,9 @@ unfoldable pub sets-access : {B : Type 0} (bus : Ghosts B) (old new : B) (access
     → (acts : Acts (view_of bus) old new access effect) → writes_in (access ∷ []) ≡ writes
     → settings_of (bus.world new).adapter ≡ settings_after_all writes (settings_of acts.middle.adapter)
     → (All IsAside writes → IsAtRest acts.middle → IsAtRest (bus.world new))
-    → (All LeavesPhy writes → HasLink acts.middle → HasLink (bus.world new)) → Sets bus writes old new
-sets-access bus old new access effect writes acts are set rests link = record {
+    → (All LeavesPhy writes → HasLink acts.middle → HasLink (bus.world new))
+    → (bus.world new).memory ≡ acts.middle.memory → Sets bus writes old new
+sets-access bus old new access effect writes acts are set rests link memory = record {
   past = acts.past;
   reports = acts.told;
   writes_are = ap writes_in acts.only ∙ are;
@@ -74,10 +82,11 @@ sets-access bus old new access effect writes acts are set rests link = record {
   rests = λ aside rest.
       let waits = happenings_keep_rest (bus.world old) acts.middle acts.past acts.before acts.adapter rest in
       (rests aside waits.0, waits.1);
+  memory = λ aside rest. memory ∙ rest_keeps_memory (bus.world old) acts.middle acts.past acts.before rest;
   link = λ leaves up. link leaves (happenings_keep_link (bus.world old) acts.middle acts.past acts.before up);
 }
 
-pub sets-read : {B : Type 0} (bus : Ghosts B) (old new : B) (offset value : ℕ) (answer : World → Type 0)
+unfoldable pub sets-read : {B : Type 0} (bus : Ghosts B) (old new : B) (offset value : ℕ) (answer : World → Type 0)
     → Acts (view_of bus) old new (Reads offset value)
     (λ before after. answer before × (after ≡ world_after_read offset before))
     → Sets bus [] old new
@@ -86,6 +95,7 @@ sets-read bus old new offset value answer acts =
     (ap (λ (w : World). settings_of w.adapter) acts.effect_is.1 ∙ reads-leave offset acts.middle.adapter)
     (λ aside rest. subst IsAtRest (sym acts.effect_is.1) (accesses_keep_rest (Reads offset value) acts.middle tt refl rest))
     (λ leaves link. subst HasLink (sym acts.effect_is.1) (accesses_keep_link (Reads offset value) acts.middle leaves link))
+    (ap (λ (w : World). w.memory) acts.effect_is.1)
 
 unfoldable pub sets-write : {B : Type 0} (bus : Ghosts B) (old new : B) (offset value : ℕ)
     → Acts (view_of bus) old new (Writes offset value) (λ before after. after ≡ world_after_write offset value before)
@@ -97,14 +107,61 @@ sets-write bus old new offset value acts =
     (λ aside rest. subst IsAtRest (sym acts.effect_is)
     (accesses_keep_rest (Writes offset value) acts.middle (all-head IsAside write [] aside) refl rest))
     (λ leaves link. subst HasLink (sym acts.effect_is) (accesses_keep_link (Writes offset value) acts.middle leaves link))
+    (ap (λ (w : World). w.memory) acts.effect_is)
+
+-- Steps that make no other access.
+
+pub accesses-join : (first later : Past) (xs ys : List Write) → first.accesses ≡ accesses_of xs → later.accesses ≡ accesses_of ys
+    → (joined first later).accesses ≡ accesses_of (xs ++ ys)
+accesses-join first later xs ys one two =
+    ap (λ (list : List Access). list ++ later.accesses) one ∙ ap (λ (list : List Access). accesses_of xs ++ list) two
+    ∙ sym (map-append (λ (write : Write). Writes write.offset write.value) xs ys)
+
+pub only-nothing : {B : Type 0} (bus : Ghosts B) → ((b : B) → bus.happened b b nothing) → (b : B) → SetsOnly bus [] b b
+unfolding sets-nothing
+only-nothing bus stays b = record { sets = sets-nothing bus stays b; only = refl }
+
+pub only-join : {B : Type 0} (bus : Ghosts B) → StretchesJoin bus
+    → (a b c : B) (first later : List Write) → SetsOnly bus first a b → SetsOnly bus later b c
+    → SetsOnly bus (first ++ later) a c
+unfolding sets-join
+only-join bus joins a b c first later one two = record {
+  sets = sets-join bus joins a b c first later one.sets two.sets;
+  only = accesses-join one.sets.past two.sets.past first later one.only two.only;
+}
+
+pub only-write : {B : Type 0} (bus : Ghosts B) (old new : B) (offset value : ℕ)
+    → Acts (view_of bus) old new (Writes offset value) (λ before after. after ≡ world_after_write offset value before)
+    → SetsOnly bus (record { offset = offset; value = value } ∷ []) old new
+unfolding sets-access sets-write
+only-write bus old new offset value acts = record { sets = sets-write bus old new offset value acts; only = acts.only }
 
 -- A write of a word that is known.
-pub sets-word : {B : Type 0} (bus : Ghosts B) (old new : B) (offset value word : ℕ) → value ≡ word
+pub only-word : {B : Type 0} (bus : Ghosts B) (old new : B) (offset value word : ℕ) → value ≡ word
     → Acts (view_of bus) old new (Writes offset value) (λ before after. after ≡ world_after_write offset value before)
-    → Sets bus (record { offset = offset; value = word } ∷ []) old new
-sets-word bus old new offset value word is acts =
-    subst (λ (v : ℕ). Sets bus (record { offset = offset; value = v } ∷ []) old new) is
-    (sets-write bus old new offset value acts)
+    → SetsOnly bus (record { offset = offset; value = word } ∷ []) old new
+only-word bus old new offset value word is acts =
+    subst (λ (v : ℕ). SetsOnly bus (record { offset = offset; value = v } ∷ []) old new) is
+    (only-write bus old new offset value acts)
+
+-- A write at an offset that is known.
+pub only-at : {B : Type 0} (bus : Ghosts B) (old new : B) (offset place value : ℕ) → offset ≡ place
+    → Acts (view_of bus) old new (Writes offset value) (λ before after. after ≡ world_after_write offset value before)
+    → SetsOnly bus (record { offset = place; value = value } ∷ []) old new
+only-at bus old new offset place value is acts =
+    subst (λ (at : ℕ). SetsOnly bus (record { offset = at; value = value } ∷ []) old new) is
+    (only-write bus old new offset value acts)
+
+-- Five writes are one step.
+pub only-five : {B : Type 0} (bus : Ghosts B) → StretchesJoin bus
+    → (b0 b1 b2 b3 b4 b5 : B) (w1 w2 w3 w4 w5 : Write) → SetsOnly bus (w1 ∷ []) b0 b1 → SetsOnly bus (w2 ∷ []) b1 b2
+    → SetsOnly bus (w3 ∷ []) b2 b3
+    → SetsOnly bus (w4 ∷ []) b3 b4 → SetsOnly bus (w5 ∷ []) b4 b5 → SetsOnly bus (w1 ∷ w2 ∷ w3 ∷ w4 ∷ w5 ∷ []) b0 b5
+only-five bus joins b0 b1 b2 b3 b4 b5 w1 w2 w3 w4 w5 one two three four five =
+    only-join bus joins b0 b1 b5 (w1 ∷ []) _ one
+    (only-join bus joins b1 b2 b5 (w2 ∷ []) _ two
+    (only-join bus joins b2 b3 b5 (w3 ∷ []) _ three
+    (only-join bus joins b3 b4 b5 (w4 ∷ []) (w5 ∷ []) four five)))
 
 -- What is asked by one register that isn't set.
 
@@ -146,22 +203,3 @@ asks-join bus joins a b c offset one two = record {
       let end = two.rests middle.0 in
       (end.0, no-frames one.past two.past middle.1 end.1);
 }
-
--- A write at an offset that is known.
-pub sets-at : {B : Type 0} (bus : Ghosts B) (old new : B) (offset place value : ℕ) → offset ≡ place
-    → Acts (view_of bus) old new (Writes offset value) (λ before after. after ≡ world_after_write offset value before)
-    → Sets bus (record { offset = place; value = value } ∷ []) old new
-sets-at bus old new offset place value is acts =
-    subst (λ (at : ℕ). Sets bus (record { offset = at; value = value } ∷ []) old new) is
-    (sets-write bus old new offset value acts)
-
--- Five writes are one step.
-pub sets-five : {B : Type 0} (bus : Ghosts B) → StretchesJoin bus
-    → (b0 b1 b2 b3 b4 b5 : B) (w1 w2 w3 w4 w5 : Write) → Sets bus (w1 ∷ []) b0 b1 → Sets bus (w2 ∷ []) b1 b2
-    → Sets bus (w3 ∷ []) b2 b3
-    → Sets bus (w4 ∷ []) b3 b4 → Sets bus (w5 ∷ []) b4 b5 → Sets bus (w1 ∷ w2 ∷ w3 ∷ w4 ∷ w5 ∷ []) b0 b5
-sets-five bus joins b0 b1 b2 b3 b4 b5 w1 w2 w3 w4 w5 one two three four five =
-    sets-join bus joins b0 b1 b5 (w1 ∷ []) _ one
-    (sets-join bus joins b1 b2 b5 (w2 ∷ []) _ two
-    (sets-join bus joins b2 b3 b5 (w3 ∷ []) _ three
-    (sets-join bus joins b3 b4 b5 (w4 ∷ []) (w5 ∷ []) four five)))

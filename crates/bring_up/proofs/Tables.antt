@@ -5,9 +5,10 @@ use Rattle.std.proofs.lemmas.List.{length-replicate, length-set}
 use Rattle.std.specs.List.{Contains}
 use Rattle.std.proofs.lemmas.List.Elements.{Contains-append_cases, Contains-append_left, Contains-push}
 use Rattle.rx_engine.specs.FilterLaws.{HasTableBit-with_number, HasTableBit-zeros}
+use Rattle.rx_engine.specs.NumberTables.{HasNumbers}
 use Rattle.rx_engine.specs.Writing.{with_number}
 use Rattle.bus.specs.Settings.{Write}
-use Rattle.bring_up.specs.FilterTables.{HasNumbers, empty_entries, entry_writes, table_writes}
+use Rattle.bring_up.specs.FilterTables.{empty_entries, entry_writes, table_writes}
 use Rattle.bring_up.specs.WrittenRegisters.{write_at}
 
 -- An empty list has no element, and one of one element has that.

@@ -7,10 +7,11 @@ use Rattle.adapter.specs.TableLaws.{register_at-there}
 use Rattle.adapter.specs.World.{World, world_after_read, world_after_write}
 use Rattle.adapter.specs.declared.register.Register.{Register}
 use Rattle.adapter.specs.declared.register.Register.TheVariants.{Ctrl, Imc, Pba}
-use Rattle.adapter.specs.Registers.{after_reset, left_by_write}
+use Rattle.adapter.specs.Registers.{left_by_write}
 use Rattle.bus.specs.AdaptersAtRest.{IsAtRest, IsElsewhere}
 use Rattle.bus.proofs.Lists.{all-none}
 use Rattle.bus.proofs.AdaptersAtRest.{rest_after_reset}
+use Rattle.driver_law.specs.Resets.{reset_world}
 use Rattle.bring_up.specs.SettingSteps.{IsAside}
 use Rattle.bring_up.specs.WrittenRegisters.{allocation_writes, link_writes, write_at}
 
@@ -31,12 +32,14 @@ pub link-aside : All IsAside link_writes
 link-aside = aside-of Ctrl 0x60 tt tt
 
 -- CTRL.RST is written.
+pub reset-written : (world : World) → world_after_write 0x0000 0x04000000 world ≡ reset_world world
+reset-written world =
+    ap (λ (found : Option Register). let after : World = record world
+    { adapter = left_by_write found 0x04000000 world.adapter } in after) (register_at-there Ctrl tt)
+
 pub reset-rests : (value : ℕ) (before after : World) → value ≡ 0x04000000 → after ≡ world_after_write 0x0000 value before → IsAtRest after
 reset-rests value before after is written =
-    let resets : world_after_write 0x0000 0x04000000 before ≡ record before { adapter = after_reset before.adapter } =
-    ap (λ (found : Option Register). let w : World = record before { adapter = left_by_write found 0x04000000 before.adapter } in w)
-    (register_at-there Ctrl tt) in
-    subst IsAtRest (sym (written ∙ ap (λ (v : ℕ). world_after_write 0x0000 v before) is ∙ resets)) (rest_after_reset before)
+    subst IsAtRest (sym (written ∙ ap (λ (v : ℕ). world_after_write 0x0000 v before) is ∙ reset-written before)) (rest_after_reset before)
 
 -- A read of ICR leaves no cause recorded.
 pub read-forgets : (world : World) → (world_after_read 0x00C0 world).adapter.causes.recorded ≡ 0

@@ -2,9 +2,9 @@
 use Rattle.std.specs.Prelude.{◌≤◌, ◌<◌, ℕ, List, [], All, Option, None, Some}
 use Rattle.dma_memory.specs.Layout.{Counts, IsAllowed, size_of}
 use Rattle.rx_engine.specs.Addresses.{IsGroup}
+use Rattle.rx_engine.specs.NumberTables.{table_numbers}
 use Rattle.adapter.specs.PacketBuffer.{IsAllocation}
 use Rattle.arrayvec.specs.declared.array_vec.ArrayVec.{ArrayVec}
-use Rattle.bring_up.specs.FilterTables.{table_numbers}
 use Rattle.bring_up.specs.declared.config.Config.{Config}
 use Rattle.bring_up.specs.declared.config.TheConstants.{MOST_VLANS}
 

@@ -6,6 +6,7 @@ use Rattle.dma_memory.specs.Layout.{descriptor_bytes}
 use Rattle.arrayvec.specs.declared.array_vec.ArrayVec.{ArrayVec}
 use Rattle.registers.specs.Places.{alone, rah_av}
 use Rattle.rx_engine.specs.Addresses.{IsAddress, high_word, low_word}
+use Rattle.rx_engine.specs.NumberTables.{HasNumbers, numbers_of_groups}
 use Rattle.rx_engine.specs.Registers.{FilterRegisters}
 use Rattle.adapter.specs.declared.ring.RingRegisters.{RingRegisters}
 use Rattle.adapter.specs.Rings.{ring_of}
@@ -13,7 +14,7 @@ use Rattle.descriptors.specs.Ring.{count_of}
 use Rattle.bus.specs.Link.{LeavesPhy}
 use Rattle.bus.specs.Settings.{Settings, Write, settings_after_all}
 use Rattle.bring_up.specs.Configuration.{CanBeHad, vlans_of}
-use Rattle.bring_up.specs.FilterTables.{HasNumbers, address_writes, numbers_of_groups, table_writes}
+use Rattle.bring_up.specs.FilterTables.{address_writes, table_writes}
 use Rattle.bring_up.specs.RingRegisters.{receive_control, receive_writes, ring_writes, transmit_control, transmit_writes}
 use Rattle.bring_up.specs.SettingSteps.{IsAside}
 use Rattle.bring_up.specs.WrittenRegisters.{allocation_writes, handled_causes, link_control, link_writes, mask_writes, reset_writes}

@@ -1,30 +1,12 @@
 -- What initialization writes into the tables of the receive filter ("13.5.1 Multicast Table Array", "13.5.2 Receive Address Low", "13.5.3
 -- Receive Address High", "13.5.4 VLAN Filter Table Array").
-use Rattle.std.specs.Prelude.{◌≡◌, ◌<◌, ◌↔◌, ◌+◌, ◌-◌, ◌*◌, ◌++◌, ℕ, zero, suc, List, [], ◌∷◌, length, map}
-use Rattle.std.specs.List.{Contains}
+use Rattle.std.specs.Prelude.{◌+◌, ◌-◌, ◌*◌, ◌++◌, ℕ, zero, suc, List, [], ◌∷◌}
 use Rattle.adapter.specs.declared.offsets.TheConstants.{ADDRESS_PAIR_BYTES, RAL, REGISTER_BYTES}
 use Rattle.registers.specs.Places.{alone, rah_av}
-use Rattle.registers.specs.ReceiveControl.{shift_of}
-use Rattle.registers.specs.declared.receive_control.GroupOffset.TheVariants.{Bits47To36}
-use Rattle.rx_engine.specs.Addresses.{group_number, high_word, low_word}
-use Rattle.rx_engine.specs.Registers.{HasTableBit}
-use Rattle.rx_engine.specs.declared.filter.TheConstants.{EXACT_ADDRESSES, TABLE_WORDS}
+use Rattle.rx_engine.specs.Addresses.{high_word, low_word}
+use Rattle.rx_engine.specs.declared.filter.TheConstants.{EXACT_ADDRESSES}
 use Rattle.bus.specs.Settings.{Write}
 use Rattle.bring_up.specs.WrittenRegisters.{write_at}
-
--- The numbers of groups and VLANs have 12 bits, so they are below this number: a table has a bit for each ("13.5.1 Multicast Table Array",
--- "13.5.4 VLAN Filter Table Array").
-abbrev pub table_numbers : ℕ
-table_numbers = 4096
-
--- A table of 128 words has the bits of these numbers, and no other.
-pub record HasNumbers (table numbers : List ℕ) : Type 0 where
-  pub words : length table ≡ TABLE_WORDS
-  pub bits : (number : ℕ) → number < table_numbers → HasTableBit table number ↔ Contains numbers number
-
--- the numbers of groups if RCTL.MO is 00
-abbrev pub numbers_of_groups : List (List ℕ) → List ℕ
-numbers_of_groups groups = map (group_number (shift_of Bits47To36)) groups
 
 -- the writes of the words of a table, from an offset on
 abbrev pub table_writes : ℕ → List ℕ → List Write

@@ -1,4 +1,5 @@
 pub mod EepromReading
+pub mod DriverResets
 pub mod SettingSteps
 pub mod WrittenRegisters
 pub mod FilterTables

@@ -9,7 +9,10 @@ use Rattle.bus.specs.AdaptersAtRest.{IsAtRest, NoFrame}
 use Rattle.bus.specs.Settings.{Write}
 use Rattle.bus.specs.declared.bus.Bus.{Ghosts}
 use Rattle.driver_law.specs.Beginnings.{HasBegun, new_driver}
+use Rattle.driver_law.specs.DriverState.{DriverState}
 use Rattle.driver_law.specs.ReadyDrivers.{ReadyWith}
+use Rattle.driver_law.specs.Resets.{RestsWith, reset_driver}
+use Rattle.bring_up.specs.DriverSteps.{accesses_of}
 use Rattle.bring_up.specs.NoFrames.{HasNoFrames}
 use Rattle.bring_up.specs.SettingSteps.{Sets}
 
@@ -26,22 +29,32 @@ pub record HasReceiveRing (rx : ℕ) (world : World) : Type 0 where
   pub knows : KnowsRing (receive_ring world) 0 rx 0
   pub transmits : world.adapter.transmit_ring ≡ new_ring
 
--- The step makes these writes. If `before` holds of the world before it, `after` holds of the world after it, and no frame arrives or
--- leaves.
+-- The step makes exactly these writes. If `before` holds of the world before it, `after` holds of the world after it, no frame arrives or
+-- leaves, and memory stays the same.
 pub record SetsAtRest {B : Type 0} (bus : Ghosts B) (writes : List Write) (before after : World → Type 0) (old new : B) : Type 0 where
   pub sets : Sets bus writes old new
+  pub only : sets.past.accesses ≡ accesses_of writes
   pub after_is : before (bus.world old) → after (bus.world new)
   pub no_frame : before (bus.world old) → NoFrame sets.past
+  pub memory : before (bus.world old) → (bus.world new).memory ≡ (bus.world old).memory
 
 -- A driver that has offered nothing is ready in this world, and no frame is held or to be sent.
-pub record BeginsAtRest (counts : Counts) (pool : List ℕ) (world : World) : Type 0 where
-  pub begun : HasBegun false counts pool world
-  pub ready : ReadyWith false (new_driver counts pool) world
-  pub quiet : HasNoFrames (new_driver counts pool) world
+pub record BeginsAtRest (counts : Counts) (groups : List (List ℕ)) (pool : List ℕ) (world : World) : Type 0 where
+  pub begun : HasBegun false counts groups pool world
+  pub ready : ReadyWith false (new_driver counts groups pool) world
+  pub quiet : HasNoFrames (new_driver counts groups pool) world
 
 -- This holds if the receive ring is set up at rest, the counts are valid, and each buffer has one owner.
 abbrev pub DriversBeginAtRest : Type 0
 DriversBeginAtRest =
-    (counts : Counts) (pool : List ℕ) (world : World) → IsAllowed counts → HasOneOwner counts.buffers pool
+    (counts : Counts) (groups : List (List ℕ)) (pool : List ℕ) (world : World) → IsAllowed counts → HasOneOwner counts.buffers pool
     → size_of counts ≤ length world.memory
-    → HasReceiveRing counts.rx world → BeginsAtRest counts pool world
+    → HasReceiveRing counts.rx world → BeginsAtRest counts groups pool world
+
+-- A driver whose adapter was reset is ready again when its receive ring is set up at rest, with no slot offered: the same buffers are free,
+-- the pieces of frames that others hold are in their buffers, and no frame is held or to be sent.
+abbrev pub DriversBeginAgain : Type 0
+DriversBeginAgain =
+    (driver : DriverState) (pool : List ℕ) (world : World) → (let again = reset_driver pool driver in
+    IsAllowed driver.layout → RestsWith again world → HasReceiveRing driver.layout.rx world
+    → ReadyWith false again world × HasNoFrames again world)

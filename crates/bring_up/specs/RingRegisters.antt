@@ -28,6 +28,10 @@ receive_control promiscuous by_vlan =
 abbrev pub receive_writes : (promiscuous by_vlan : Bool) → List Write
 receive_writes promiscuous by_vlan = write_at RCTL (receive_control promiscuous by_vlan) ∷ []
 
+-- RCTL is 0, so EN is 0
+abbrev pub disable_writes : List Write
+disable_writes = write_at RCTL 0 ∷ []
+
 -- TCTL: EN, PSP, CT 0x0F, COLD 0x40
 abbrev pub transmit_control : ℕ
 transmit_control = alone tctl_en + alone tctl_psp + 0x0F * alone tctl_ct + 0x40 * alone tctl_cold

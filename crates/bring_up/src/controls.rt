@@ -1,10 +1,13 @@
 //! The registers of the whole device: reset, interrupts, packet buffer, link.
 
-ghost use Rattle.std.specs.Prelude.{◌≡◌, true};
+ghost use Rattle.std.specs.Prelude.{◌≡◌, ◌++◌, ℕ, Bool, List, true};
+ghost use Rattle.dma_memory.specs.Owners.{HaveSameNumbers};
 ghost use Rattle.bus.specs.AdaptersAtRest.{IsAtRest};
 ghost use Rattle.bus.specs.Keeping.{Keeps};
+ghost use Rattle.bus.specs.Link.{HasLink};
+ghost use Rattle.bring_up.specs.DriverResets.{ResetsDriver};
 ghost use Rattle.bring_up.specs.DriverSteps.{EnablesCauses};
-ghost use Rattle.bring_up.specs.SettingSteps.{Sets};
+ghost use Rattle.bring_up.specs.SettingSteps.{Sets, SetsOnly};
 ghost use Rattle.bring_up.specs.WrittenRegisters.{allocation_writes, handled_causes, link_writes};
 ghost use Rattle.bring_up.specs.WrittenRegisters.{mask_writes, reset_writes};
 ghost use Rattle.driver_law.specs.Calls.{IsReady, at};
@@ -16,12 +19,15 @@ use bus::Bus;
 use registers::{Cause, Ctrl};
 
 /// Resets the device, disables all interrupt causes and clears those that were recorded ("14.3 General
-/// Initialization": interrupts are off meanwhile).
+/// Initialization": interrupts are off meanwhile). If a driver was ready, all buffers of its slots are free then, and
+/// pieces of frames that others hold are still in their buffers.
 pub fn reset_device<B: Bus>(bus: &mut B)
     ensures keeps { Keeps B.Bus bus.old bus.new }
     ensures sets { B.honest bus.old → Sets B.Bus reset_writes bus.old bus.new }
     ensures rests { B.honest bus.old → IsAtRest (B.world bus.new) }
     ensures forgets { B.honest bus.old → (B.world bus.new).adapter.causes.recorded ≡ 0 }
+    ensures resets { (up : Bool) (d : DriverState) (pool : List ℕ) → IsReady B.Bus up (at bus.old d)
+        → HaveSameNumbers (d.pool ++ (d.buffers ++ d.staged)) pool → ResetsDriver B.Bus up pool d bus.old bus.new }
 {
     bus.write(CTRL, Ctrl::RST.bits());
     bus.write(IMC, u32::MAX);
@@ -31,15 +37,16 @@ pub fn reset_device<B: Bus>(bus: &mut B)
 /// Assigns this many kilobytes of the packet buffer to received frames (PBA.RXA).
 pub fn allocate_packet_buffer<B: Bus>(bus: &mut B, kilobytes: u8)
     ensures keeps { Keeps B.Bus bus.old bus.new }
-    ensures sets { B.honest bus.old → Sets B.Bus (allocation_writes kilobytes) bus.old bus.new }
+    ensures sets { B.honest bus.old → SetsOnly B.Bus (allocation_writes kilobytes) bus.old bus.new }
 {
     bus.write(PBA, u32::from(kilobytes));
 }
 
-/// Enables the link, at the speed that the PHY detects (CTRL.SLU and CTRL.ASDE).
+/// Enables the link, at the speed that the PHY detects (CTRL.SLU and CTRL.ASDE). A link that is up stays up.
 pub fn set_link_up<B: Bus>(bus: &mut B)
     ensures keeps { Keeps B.Bus bus.old bus.new }
-    ensures sets { B.honest bus.old → Sets B.Bus link_writes bus.old bus.new }
+    ensures sets { B.honest bus.old → SetsOnly B.Bus link_writes bus.old bus.new }
+    ensures link { B.honest bus.old → HasLink (B.world bus.old) → HasLink (B.world bus.new) }
 {
     bus.write(CTRL, Ctrl::SLU.union(Ctrl::ASDE).bits());
 }
@@ -59,7 +66,7 @@ pub fn interrupt_causes() -> Cause
 /// if no frame ended in finished slots before or RXT0 was recorded.
 pub fn enable_interrupts<B: Bus>(bus: &mut B)
     ensures keeps { Keeps B.Bus bus.old bus.new }
-    ensures sets { B.honest bus.old → Sets B.Bus mask_writes bus.old bus.new }
+    ensures sets { B.honest bus.old → SetsOnly B.Bus mask_writes bus.old bus.new }
     ensures enables { (d : DriverState) → IsReady B.Bus true (at bus.old d)
         → EnablesCauses B.Bus handled_causes d bus.old bus.new }
 {

@@ -1,10 +1,10 @@
 //! The receive filter of a configuration.
 
 ghost use Rattle.std.specs.Prelude.{◌≡◌, ◌<◌, All};
+ghost use Rattle.rx_engine.specs.NumberTables.{table_numbers};
 ghost use Rattle.bus.specs.Keeping.{Keeps};
 ghost use Rattle.bring_up.specs.Configuration.{vlans_of};
 ghost use Rattle.bring_up.specs.FilterSetting.{SetsFilter};
-ghost use Rattle.bring_up.specs.FilterTables.{table_numbers};
 
 use crate::config::Config;
 use crate::filter_tables::{group_table, vlan_table, write_addresses, write_groups, write_vlans};

@@ -2,12 +2,12 @@
 
 ghost use Rattle.std.specs.Prelude.{◌≡◌, ◌<◌, ◌^◌, All, replicate};
 ghost use Rattle.rx_engine.specs.Addresses.{IsAddress};
+ghost use Rattle.rx_engine.specs.NumberTables.{HasNumbers, numbers_of_groups, table_numbers};
 ghost use Rattle.rx_engine.specs.Writing.{with_number};
 ghost use Rattle.bus.specs.Keeping.{Keeps};
 ghost use Rattle.bring_up.specs.ConfiguredAdapters.{AreWords};
-ghost use Rattle.bring_up.specs.FilterTables.{HasNumbers, address_writes, entry_writes, numbers_of_groups};
-ghost use Rattle.bring_up.specs.FilterTables.{table_numbers, table_writes};
-ghost use Rattle.bring_up.specs.SettingSteps.{Sets};
+ghost use Rattle.bring_up.specs.FilterTables.{address_writes, entry_writes, table_writes};
+ghost use Rattle.bring_up.specs.SettingSteps.{SetsOnly};
 
 use adapter::offsets::{ADDRESS_PAIR_BYTES, MTA, RAL, REGISTER_BYTES, VFTA};
 use bus::Bus;
@@ -56,7 +56,7 @@ fn add_number(table: &mut [u32; TABLE_WORDS], number: u16)
 /// Writes the group table, MTA.
 pub fn write_groups<B: Bus>(bus: &mut B, table: &[u32; TABLE_WORDS])
     ensures keeps { Keeps B.Bus bus.old bus.new }
-    ensures sets { B.honest bus.old → Sets B.Bus (table_writes MTA table.now) bus.old bus.new }
+    ensures sets { B.honest bus.old → SetsOnly B.Bus (table_writes MTA table.now) bus.old bus.new }
     ensures words { AreWords table.now }
 {
     write_table(bus, MTA, table);
@@ -65,7 +65,7 @@ pub fn write_groups<B: Bus>(bus: &mut B, table: &[u32; TABLE_WORDS])
 /// Writes the VLAN table, VFTA.
 pub fn write_vlans<B: Bus>(bus: &mut B, table: &[u32; TABLE_WORDS])
     ensures keeps { Keeps B.Bus bus.old bus.new }
-    ensures sets { B.honest bus.old → Sets B.Bus (table_writes VFTA table.now) bus.old bus.new }
+    ensures sets { B.honest bus.old → SetsOnly B.Bus (table_writes VFTA table.now) bus.old bus.new }
     ensures words { AreWords table.now }
 {
     write_table(bus, VFTA, table);
@@ -74,7 +74,7 @@ pub fn write_vlans<B: Bus>(bus: &mut B, table: &[u32; TABLE_WORDS])
 /// Writes the exact addresses, RAL and RAH: this one as the first, and the other 15 as 0.
 pub fn write_addresses<B: Bus>(bus: &mut B, address: &[u8; 6])
     ensures keeps { Keeps B.Bus bus.old bus.new }
-    ensures sets { B.honest bus.old → Sets B.Bus (address_writes address.now) bus.old bus.new }
+    ensures sets { B.honest bus.old → SetsOnly B.Bus (address_writes address.now) bus.old bus.new }
     ensures address { IsAddress address.now }
 {
     write_address(bus, 0, AddressWords::of(address));
@@ -87,7 +87,7 @@ pub fn write_addresses<B: Bus>(bus: &mut B, address: &[u8; 6])
 fn write_address<B: Bus>(bus: &mut B, entry: u32, words: AddressWords)
     requires { entry < EXACT_ADDRESSES }
     ensures keeps { Keeps B.Bus bus.old bus.new }
-    ensures sets { B.honest bus.old → Sets B.Bus (entry_writes entry words.low words.high) bus.old bus.new }
+    ensures sets { B.honest bus.old → SetsOnly B.Bus (entry_writes entry words.low words.high) bus.old bus.new }
 {
     let low = RAL + ADDRESS_PAIR_BYTES * entry;
     bus.write(low, words.low);
@@ -98,7 +98,7 @@ fn write_address<B: Bus>(bus: &mut B, entry: u32, words: AddressWords)
 fn write_table<B: Bus>(bus: &mut B, first: u32, words: &[u32; TABLE_WORDS])
     requires { first < 2 ^ 16 }
     ensures keeps { Keeps B.Bus bus.old bus.new }
-    ensures sets { B.honest bus.old → Sets B.Bus (table_writes first words.now) bus.old bus.new }
+    ensures sets { B.honest bus.old → SetsOnly B.Bus (table_writes first words.now) bus.old bus.new }
     ensures words { AreWords words.now }
 {
     let mut offset = first;

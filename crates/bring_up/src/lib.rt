@@ -31,9 +31,10 @@ pub use filter_setting::set_filter;
 pub use filter_tables::{group_table, vlan_table, write_addresses, write_groups, write_vlans};
 pub use init_error::InitError;
 pub use link::{await_link, negotiate};
-pub use resting_law::{drivers_begin_at_rest, drivers_without_frames_stay_so};
+pub use resting_law::{drivers_begin_again, drivers_begin_at_rest, drivers_without_frames_stay_so};
 pub use ring_registers::{
-    RingPlace, enable_receiver, enable_transmitter, set_receive_ring, set_transmit_ring,
+    RingPlace, disable_receiver, enable_receiver, enable_transmitter, set_receive_ring,
+    set_transmit_ring,
 };
 
 /// The number of reads of a register after which a driver gives up (our choice).

@@ -6,12 +6,18 @@ ghost use Rattle.bus.specs.Settings.{writes_in};
 ghost use Rattle.driver_law.specs.Calls.{stores_from};
 ghost use Rattle.bring_up.specs.ClearedDescriptors.{clears_from};
 ghost use Rattle.bring_up.specs.NoFrames.{NewTransmitRingStays, NoFramesStay};
-ghost use Rattle.bring_up.specs.RestingRings.{DriversBeginAtRest};
+ghost use Rattle.bring_up.specs.RestingRings.{DriversBeginAgain, DriversBeginAtRest};
 
 /// If an adapter is at rest and its receive ring is set up with no slot offered, a driver begins ready, with its
 /// transmit side off.
 pub fn drivers_begin_at_rest()
     ensures { DriversBeginAtRest }
+{}
+
+/// If a driver's adapter was reset and its receive ring is set up again with no slot offered, the driver is ready,
+/// with its transmit side off, and others still hold the pieces of frames that they had.
+pub fn drivers_begin_again()
+    ensures { DriversBeginAgain }
 {}
 
 /// What stays while a driver sets up its receive ring.

@@ -1,7 +1,7 @@
 //! The registers of both rings, and RCTL and TCTL, which enable receiver and transmitter ("14.4 Receive
 //! Initialization", "14.5 Transmit Initialization").
 
-ghost use Rattle.std.specs.Prelude.{◌≡◌, ◌%◌, ◌/◌, ◌*◌, ◌<◌, ℕ, [], true, false};
+ghost use Rattle.std.specs.Prelude.{◌≡◌, ◌%◌, ◌/◌, ◌*◌, ◌<◌, ℕ, Bool, [], true, false};
 ghost use Rattle.dma_memory.specs.Layout.{IsRingSize, descriptor_bytes};
 ghost use Rattle.adapter.specs.HostFrames.{frames_held};
 ghost use Rattle.adapter.specs.KnownRing.{KnowsRing};
@@ -12,9 +12,9 @@ ghost use Rattle.driver_law.specs.Calls.{IsReady, at};
 ghost use Rattle.driver_law.specs.DriverState.{DriverState, transmit_tail};
 ghost use Rattle.bring_up.specs.DriverSteps.{CanSetTransmitRing, LeavesDriver, LetsFramesIn, SetsTransmitRing};
 ghost use Rattle.bring_up.specs.RestingRings.{HasNewRings, HasReceiveRing, SetsAtRest};
-ghost use Rattle.bring_up.specs.RingRegisters.{receive_control, receive_writes, ring_writes, transmit_control};
-ghost use Rattle.bring_up.specs.RingRegisters.{transmit_writes};
-ghost use Rattle.bring_up.specs.SettingSteps.{Sets};
+ghost use Rattle.bring_up.specs.RingRegisters.{disable_writes, receive_control, receive_writes, ring_writes};
+ghost use Rattle.bring_up.specs.RingRegisters.{transmit_control, transmit_writes};
+ghost use Rattle.bring_up.specs.SettingSteps.{SetsOnly};
 ghost use Rattle.bring_up.specs.WrittenRegisters.{register_limit};
 
 use adapter::offsets::{RCTL, RDBAH, RDBAL, RDH, RDLEN, RDT, TCTL, TDBAH, TDBAL, TDH, TDLEN, TDT};
@@ -44,7 +44,7 @@ pub struct RingPlace {
 /// are as a reset leaves them stays at rest, and the driver knows its receive ring then.
 pub fn set_receive_ring<B: Bus>(bus: &mut B, ring: RingPlace)
     ensures keeps { Keeps B.Bus bus.old bus.new }
-    ensures sets { B.honest bus.old → Sets B.Bus (ring_writes RDBAL ring.base ring.bytes) bus.old bus.new }
+    ensures sets { B.honest bus.old → SetsOnly B.Bus (ring_writes RDBAL ring.base ring.bytes) bus.old bus.new }
     ensures rests { (rx : ℕ) → B.honest bus.old → IsRingSize rx → ring.base ≡ 0
         → ring.bytes ≡ descriptor_bytes * rx
         → SetsAtRest B.Bus (ring_writes RDBAL ring.base ring.bytes) (HasNewRings rx) (HasReceiveRing rx)
@@ -61,7 +61,7 @@ pub fn set_receive_ring<B: Bus>(bus: &mut B, ring: RingPlace)
 /// the ring is at its place of the layout, and knows its transmit ring then.
 pub fn set_transmit_ring<B: Bus>(bus: &mut B, ring: RingPlace)
     ensures keeps { Keeps B.Bus bus.old bus.new }
-    ensures sets { B.honest bus.old → Sets B.Bus (ring_writes TDBAL ring.base ring.bytes) bus.old bus.new }
+    ensures sets { B.honest bus.old → SetsOnly B.Bus (ring_writes TDBAL ring.base ring.bytes) bus.old bus.new }
     ensures ran { (d : DriverState) → IsReady B.Bus false (at bus.old d)
         → CanSetTransmitRing ring.base ring.bytes d (B.world bus.old)
         → SetsTransmitRing B.Bus (ring_writes TDBAL ring.base ring.bytes) d bus.old bus.new }
@@ -73,12 +73,23 @@ pub fn set_transmit_ring<B: Bus>(bus: &mut B, ring: RingPlace)
     bus.write(TDT, 0);
 }
 
+/// Disables the receiver: RCTL is 0. A driver that is ready stays so, whatever its slots contain.
+pub fn disable_receiver<B: Bus>(bus: &mut B)
+    ensures keeps { Keeps B.Bus bus.old bus.new }
+    ensures sets { B.honest bus.old → SetsOnly B.Bus disable_writes bus.old bus.new }
+    ensures off { B.honest bus.old → (B.world bus.new).adapter.filter.rctl ≡ 0 }
+    ensures ran { (up : Bool) (d : DriverState) → IsReady B.Bus up (at bus.old d)
+        → LeavesDriver B.Bus disable_writes up d bus.old bus.new }
+{
+    bus.write(RCTL, 0);
+}
+
 /// Enables the receiver, with broadcast frames and buffers of 256 bytes. Every frame passes the filter if
 /// `promiscuous`. Of tagged frames only those of the VLAN table pass if `by_vlan`. A driver that is ready, with
 /// RCTL.EN 0 and no frame held, stays so, and no frame is held afterwards.
 pub fn enable_receiver<B: Bus>(bus: &mut B, promiscuous: bool, by_vlan: bool)
     ensures keeps { Keeps B.Bus bus.old bus.new }
-    ensures sets { B.honest bus.old → Sets B.Bus (receive_writes promiscuous by_vlan) bus.old bus.new }
+    ensures sets { B.honest bus.old → SetsOnly B.Bus (receive_writes promiscuous by_vlan) bus.old bus.new }
     ensures ran { (d : DriverState) → IsReady B.Bus false (at bus.old d)
         → frames_held d.oldest_receive (B.world bus.old) ≡ [] → IsOff (B.world bus.old)
         → LetsFramesIn B.Bus (receive_writes promiscuous by_vlan) d bus.old bus.new }
@@ -107,7 +118,7 @@ fn receive_control(promiscuous: bool, by_vlan: bool) -> u32
 /// ready with its transmit side set up.
 pub fn enable_transmitter<B: Bus>(bus: &mut B)
     ensures keeps { Keeps B.Bus bus.old bus.new }
-    ensures sets { B.honest bus.old → Sets B.Bus transmit_writes bus.old bus.new }
+    ensures sets { B.honest bus.old → SetsOnly B.Bus transmit_writes bus.old bus.new }
     ensures ran { (d : DriverState) → IsReady B.Bus false (at bus.old d) → d.oldest_transmit < d.layout.tx
         → KnowsRing (transmit_ring (B.world bus.old)) (descriptor_bytes * d.layout.rx) d.layout.tx (transmit_tail d)
         → LeavesDriver B.Bus transmit_writes true d bus.old bus.new }

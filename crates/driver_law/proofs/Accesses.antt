@@ -14,7 +14,7 @@ use Rattle.bus.specs.declared.event.Access.{Access}
 use Rattle.driver_law.proofs.Steps.{goes-happens, goes-stays}
 use Rattle.driver_law.proofs.Stretches.{goes_join, joined-nothing}
 use Rattle.driver_law.specs.DriverState.{DriverState}
-use Rattle.driver_law.specs.Calls.{GoesTo, Ran, at, call_did, driver_did, driver_in, only}
+use Rattle.driver_law.specs.Calls.{FollowsWrites, GoesTo, Ran, at, call_did, driver_did, driver_in, only}
 use Rattle.driver_law.specs.ReadyDrivers.{ReadyWith}
 use Rattle.bus.specs.declared.bus.Bus.{Ghosts}
 
@@ -75,7 +75,7 @@ read-sets offset value shows new = record {
 }
 
 -- Whatever happened before it.
-pub access-set : {B : Type 0} (bus : Ghosts B) (old new : B) (access : Access) (effect : World → World → Type 0)
+access-set : {B : Type 0} (bus : Ghosts B) (old new : B) (access : Access) (effect : World → World → Type 0)
     → (acts : Acts (view_of bus) old new access effect) → SetsBy access effect (bus.world new)
     → AreSet (bus.world old) (bus.world new) acts.past
 access-set bus old new access effect acts sets =
@@ -83,13 +83,22 @@ access-set bus old new access effect acts sets =
     ∙ ap (settings_after_all (writes_in (access ∷ []))) (happenings_leave_settings (bus.world old) acts.middle acts.past acts.before)
     ∙ ap (λ (list : List Access). settings_after_all (writes_in list) (settings_of (bus.world old).adapter)) (sym acts.only)
 
-pub access-link : {B : Type 0} (bus : Ghosts B) (old new : B) (access : Access) (effect : World → World → Type 0)
+access-link : {B : Type 0} (bus : Ghosts B) (old new : B) (access : Access) (effect : World → World → Type 0)
     → (acts : Acts (view_of bus) old new access effect) → SetsBy access effect (bus.world new)
     → KeepsLink (bus.world old) (bus.world new) acts.past
 access-link bus old new access effect acts sets = λ leaves link.
     sets.link acts.middle acts.effect_is
     (subst (λ (list : List Access). All LeavesPhy (writes_in list)) acts.only leaves)
     (happenings_keep_link (bus.world old) acts.middle acts.past acts.before link)
+
+pub follows-acts : {B : Type 0} (bus : Ghosts B) (old new : B) (access : Access) (effect : World → World → Type 0)
+    → (acts : Acts (view_of bus) old new access effect) → SetsBy access effect (bus.world new)
+    → FollowsWrites (bus.world old) (bus.world new) acts.past
+follows-acts bus old new access effect acts sets = record {
+  set = access-set bus old new access effect acts sets;
+  off = λ off leaves. happens-off (bus.world old) acts.middle acts.past acts.before off;
+  link = access-link bus old new access effect acts sets;
+}
 
 -- One access: something happens, and then what the access does, from any world in which the driver is ready.
 pub ran_by-acts : {up : Bool} {B : Type 0} (bus : Ghosts B) (old new : B) (access : Access) (effect : World → World → Type 0)
@@ -110,14 +119,18 @@ ran_by-acts {up} bus old new access effect d d' taken accepted acts sets ready s
           subst (GoesTo up (driver_in d (bus.world old)) (driver_in d' (bus.world new)) (driver_did taken accepted))
           (joined-nothing acts.past)
           (goes_join d d d' (bus.world old) acts.middle (bus.world new) [] taken [] accepted acts.past nothing first later);
-      follows = record {
-        set = access-set bus old new access effect acts sets;
-        off = λ off leaves. happens-off (bus.world old) acts.middle acts.past acts.before off;
-        link = access-link bus old new access effect acts sets;
-      };
+      follows = follows-acts bus old new access effect acts sets;
     }
 
 -- One interval, and then another.
+pub follows-join : (a b c : World) (first later : Past) → FollowsWrites a b first → FollowsWrites b c later
+    → FollowsWrites a c (joined first later)
+follows-join a b c first later one two = record {
+  set = settings_join a b c first later one.set two.set;
+  off = while_off-joins a b first later one.set one.off two.off;
+  link = link_stretches_join a b c first later one.link two.link;
+}
+
 unfoldable pub ran_by-join : {first_up up : Bool} {B : Type 0} (bus : Ghosts B)
     → ((a b c : B) (first later : Past) → bus.happened a b first → bus.happened b c later → bus.happened a c (joined first later))
     → (xs ys : List Access) (a b c : B) (d1 d2 d3 : DriverState) (t1 t2 g1 g2 : List (List ℕ))
@@ -128,11 +141,7 @@ ran_by-join bus joins xs ys a b c d1 d2 d3 t1 t2 g1 g2 one two = record {
   reports = joins a b c one.past two.past one.reports two.reports;
   only = ap (λ (list : List Access). list ++ two.past.accesses) one.only ∙ ap (λ (list : List Access). xs ++ list) two.only;
   goes = goes_join d1 d2 d3 (bus.world a) (bus.world b) (bus.world c) t1 t2 g1 g2 one.past two.past one.goes two.goes;
-  follows = record {
-    set = settings_join (bus.world a) (bus.world b) (bus.world c) one.past two.past one.follows.set two.follows.set;
-    off = while_off-joins (bus.world a) (bus.world b) one.past two.past one.follows.set one.follows.off two.follows.off;
-    link = link_stretches_join (bus.world a) (bus.world b) (bus.world c) one.past two.past one.follows.link two.follows.link;
-  };
+  follows = follows-join (bus.world a) (bus.world b) (bus.world c) one.past two.past one.follows two.follows;
 }
 
 -- The same accesses, state at the end, and frames, under other names.

@@ -1,5 +1,5 @@
 -- Stores of initialization: to the receive slot that stays the driver's, and to the transmit ring while its side is off.
-use Rattle.std.proofs.Common.{false, ◌≡◌, ◌<◌, ◌+◌, ◌*◌, ℕ, List, length, sym, ap, subst, ◌∙◌, arith}
+use Rattle.std.proofs.Common.{false, ◌≡◌, ◌<◌, ◌+◌, ◌*◌, [], ℕ, List, length, sym, ap, subst, ◌∙◌, arith}
 use Rattle.std.specs.List.{All}
 use Rattle.dma_memory.specs.Areas.{AreApart, Area, IsInside, area_at, descriptor_area}
 use Rattle.dma_memory.specs.AreaLaws.{apart-inside, apart-sym, inside-apart, lies-inside}
@@ -10,13 +10,15 @@ use Rattle.dma_memory.specs.LayoutLaws.{place-below_size, places-apart}
 use Rattle.descriptors.specs.Ring.{address_of}
 use Rattle.descriptors.specs.RingLaws.{place}
 use Rattle.adapter.specs.HostAreas.{ring_area}
-use Rattle.adapter.specs.World.{World, receive_ring}
+use Rattle.adapter.specs.World.{World, receive_ring, world_after_store}
 use Rattle.bus.proofs.Lists.{all-none}
 use Rattle.bus.proofs.Rings.{outstanding-inside}
+use Rattle.bus.specs.PastOfStretch.{nothing}
 use Rattle.bus.specs.WritableSlots.{CanBeWritten}
 use Rattle.bus.specs.DriversStores.{IsDriversArea}
-use Rattle.driver_law.specs.Beginnings.{LastSlotIsStored, TransmitPlaceIsStored}
-use Rattle.driver_law.specs.DriverState.{DriverState, next_receive, receive_slot, receive_tail}
+use Rattle.driver_law.specs.Beginnings.{LastSlotIsStored, SpareSlotIsStored, TransmitPlaceIsStored, spare_slot}
+use Rattle.driver_law.specs.Calls.{GoesTo, driver_did, driver_in}
+use Rattle.driver_law.specs.DriverState.{DriverState, receive_slot, receive_tail}
 use Rattle.driver_law.specs.ReadyDrivers.{ReadyWith}
 use Rattle.driver_law.proofs.Buffers.{known-area}
 use Rattle.bus.proofs.WritableSlots.{drivers_receive_slots_can_be_written}
@@ -26,29 +28,29 @@ use Rattle.driver_law.proofs.Stores.{goes-stores, slots-apart}
 use Rattle.driver_law.proofs.TransmitRing.{areas-idle, none-outstanding, place-away, received_areas}
 use Rattle.driver_law.proofs.TransmitSlots.{stored-elsewhere}
 
-pub last_slot_is_stored : LastSlotIsStored
-last_slot_is_stored up driver bytes world ready long =
+pub spare_slot_is_stored : SpareSlotIsStored
+spare_slot_is_stored up driver e bytes world ready long room =
     let n = driver.layout.rx in
     let o = driver.oldest_receive in
     let p = driver.oldest_transmit in
     let i = length driver.buffers in
-    let j = length driver.staged in
-    let room = ready.driver_is.room in
-    let slot = receive_slot (next_receive driver) in
+    let j = length driver.staged + e in
+    let at_slot = spare_slot driver e in
+    let slot = receive_slot at_slot in
     let area = area_at slot (length bytes) in
-    let walked : place n (receive_tail driver) j ≡ next_receive driver = sym (place-add n o i j) in
+    let walked : place n (receive_tail driver) j ≡ at_slot = sym (place-add n o i j) in
     let at : address_of (receive_ring world) (place n (receive_tail driver) j)
     ≡ slot = omega (arith, ready.receive.begins, ap (λ (index : ℕ). 16 * index) walked) in
     let own : CanBeWritten o p world slot = subst (CanBeWritten o p world) at
     (drivers_receive_slots_can_be_written o p _ world ready.law.sound (own-staged driver world j ready room)) in
     let lies : LiesIn world.memory slot (length bytes) = subst (LiesIn world.memory slot) (sym long) own.lies in
-    let below : next_receive driver < n = place-below n o (i + j) ready.driver_is.oldest_slot in
+    let below : at_slot < n = place-below n o (i + j) ready.driver_is.oldest_slot in
     let inside : IsInside area (area_of driver.layout ReceiveRing) = record { from = omega arith; to = omega (arith, long, below) } in
     let staged : ℕ → ℕ = λ k. receive_slot (place n (receive_tail driver) k) in
-    let others : (k : ℕ) → k < j
+    let others : (k : ℕ) → k < length driver.staged
     → bytes_at (with_bytes world.memory slot bytes) (staged k) 16 ≡ bytes_at world.memory (staged k) 16 = λ k before.
     bytes_at-elsewhere world.memory bytes slot (staged k) 16 lies
-    (slots-apart (next_receive driver) (place n (receive_tail driver) k) (length bytes) long
+    (slots-apart at_slot (place n (receive_tail driver) k) (length bytes) long
     (λ same. places-differ n o (i + k) (i + j) ready.driver_is.oldest_slot (omega (arith, before)) room (place-add n o i k ∙ same))) in
     goes-stores driver driver.staged driver.pool world slot bytes ready lies
     (subst (λ (size : ℕ). IsDriversArea o p world (area_at slot size)) (sym long) own.own) ready.driver_is
@@ -57,6 +59,16 @@ last_slot_is_stored up driver bytes world ready long =
     (λ number known.
     apart-inside area (area_of driver.layout ReceiveRing) (area_of driver.layout (ReceiveBuffer number)) inside
     (places-apart driver.layout ReceiveRing (ReceiveBuffer number) tt known (λ same. absurd (cc))))
+
+-- The last slot is the first of these.
+pub last_slot_is_stored : LastSlotIsStored
+last_slot_is_stored up driver bytes world ready long =
+    let first : length driver.staged + 0 ≡ length driver.staged = omega arith in
+    subst
+    (λ (n : ℕ). GoesTo up (driver_in driver world)
+    (driver_in driver (world_after_store (receive_slot (place driver.layout.rx driver.oldest_receive (length driver.buffers + n))) bytes world))
+    (driver_did [] []) nothing) first
+    (spare_slot_is_stored up driver 0 bytes world ready long (omega (arith, ready.driver_is.room)))
 
 -- While the side is off, the place of the transmit ring is the driver's own.
 place-own : (driver : DriverState) (area : Area) (world : World) → ReadyWith false driver world

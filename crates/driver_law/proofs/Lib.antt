@@ -27,4 +27,5 @@ pub mod RegisterWrites
 pub mod WaitingStates
 pub mod RegisterAccesses
 pub mod FramesCounted
+pub mod Resets
 pub mod Calls

@@ -27,7 +27,7 @@ place-below n from (suc i) slot = place-below n ((from + 1) % n) i (next-below n
 pub place-next : (n from i : ℕ) → place n from (i + 1) ≡ (place n from i + 1) % n
 place-next n from i = place-add n from i 1
 
-place-sum : (n from i : ℕ) → from < n → place n from i ≡ (from + i) % n
+pub place-sum : (n from i : ℕ) → from < n → place n from i ≡ (from + i) % n
 place-sum n from zero slot =
     let none : from + 0 ≡ from = omega arith in
     sym (ap (λ (index : ℕ). index % n) none ∙ mod-eq_of_lt slot)

@@ -7,12 +7,11 @@ use Rattle.adapter.specs.HostFrames.{finished_pieces}
 use Rattle.adapter.specs.Table.{register_at}
 use Rattle.adapter.specs.World.{World, world_after_read}
 use Rattle.bus.proofs.RegisterSetting.{reads_leave_frames}
-use Rattle.bus.proofs.Settings.{happens-off}
 use Rattle.bus.specs.Keeping.{view_of}
 use Rattle.bus.specs.Law.{Acts}
 use Rattle.bus.specs.PastOfStretch.{nothing}
 use Rattle.bus.specs.declared.event.Access.TheVariants.{Reads}
-use Rattle.driver_law.proofs.Accesses.{access-link, access-set, ran_by-acts, read-sets}
+use Rattle.driver_law.proofs.Accesses.{follows-acts, ran_by-acts, read-sets}
 use Rattle.driver_law.proofs.RegisterReads.{causes_are_read, misses_are_read}
 use Rattle.driver_law.proofs.Steps.{goes-happens}
 use Rattle.driver_law.proofs.Stretches.{flows_join, joined-nothing, work_kept}
@@ -64,11 +63,7 @@ reads-causes {up} bus old new d value acts ready =
                 absurd (unread (subst (λ (causes : ℕ). HasBit causes 7) (sym (effect.0 ∙ shown-causes middle)) bit)))
                 before.asked;
           };
-      follows = record {
-        set = access-set bus old new (Reads 0xC0 value) (IsRead 0xC0 value) acts sets;
-        off = λ off leaves. happens-off (bus.world old) middle acts.past acts.before off;
-        link = access-link bus old new (Reads 0xC0 value) (IsRead 0xC0 value) acts sets;
-      };
+      follows = follows-acts bus old new (Reads 0xC0 value) (IsRead 0xC0 value) acts sets;
     }
 
 pub ran_by-misses : {up : Bool} {B : Type 0} (bus : Ghosts B) (old new : B) (d : DriverState) (value : ℕ) → d.missed < 2 ^ 64

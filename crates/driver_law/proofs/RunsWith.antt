@@ -3,13 +3,12 @@ use Rattle.std.proofs.Common.{Bool, ◌∷◌, [], List, ℕ, subst}
 use Rattle.adapter.specs.World.{World}
 use Rattle.bus.specs.Keeping.{view_of}
 use Rattle.bus.specs.Law.{Acts, Happens}
-use Rattle.bus.proofs.Settings.{happens-off}
 use Rattle.bus.specs.PastOfStretch.{Past, nothing}
 use Rattle.bus.specs.declared.event.Access.{Access}
 use Rattle.driver_law.specs.DriverState.{DriverState}
 use Rattle.driver_law.specs.Calls.{Did, GoesTo, Moment, Ran, at, call_did, driver_did, driver_in}
 use Rattle.driver_law.specs.ReadyDrivers.{ReadyWith}
-use Rattle.driver_law.proofs.Accesses.{SetsBy, access-link, access-set}
+use Rattle.driver_law.proofs.Accesses.{SetsBy, follows-acts}
 use Rattle.driver_law.proofs.Steps.{goes-happens}
 use Rattle.driver_law.proofs.Stretches.{goes_join, joined-nothing}
 use Rattle.bus.specs.declared.bus.Bus.{Ghosts}
@@ -41,11 +40,7 @@ run-with {first} {up} bus old new access effect d d' taken accepted Before Behin
             subst (GoesTo up (driver_in d (bus.world old)) (driver_in d' (bus.world new)) (driver_did taken accepted))
             (joined-nothing acts.past)
             (goes_join d d d' (bus.world old) acts.middle (bus.world new) [] taken [] accepted acts.past nothing one two.0);
-        follows = record {
-          set = access-set bus old new access effect acts sets;
-          off = λ off leaves. happens-off (bus.world old) acts.middle acts.past acts.before off;
-          link = access-link bus old new access effect acts sets;
-        };
+        follows = follows-acts bus old new access effect acts sets;
       };
       behind = two.1;
     }

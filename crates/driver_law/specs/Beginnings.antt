@@ -1,10 +1,11 @@
 -- The state in which a driver begins, and what it writes into registers up to the end of its initialization (our choice).
-use Rattle.std.specs.Prelude.{◌≡◌, ◌≤◌, ◌<◌, ◌⊎◌, ◌*◌, ℕ, Bool, true, false, List, [], None, length}
+use Rattle.std.specs.Prelude.{◌≡◌, ◌≤◌, ◌<◌, ◌⊎◌, ◌+◌, ◌*◌, ℕ, Bool, true, false, List, [], None, length}
 use Rattle.adapter.specs.declared.offsets.TheConstants.{IMS}
 use Rattle.registers.specs.Bits.{HasBit, union}
 use Rattle.registers.specs.Kept.{causes_of}
 use Rattle.dma_memory.specs.Areas.{IsInside, area_at}
 use Rattle.dma_memory.specs.Layout.{Counts, TransmitRing, area_of, descriptor_bytes, receive_buffer_bytes, size_of}
+use Rattle.descriptors.specs.RingLaws.{place}
 use Rattle.adapter.specs.HostAreas.{buffer_size, ring_area}
 use Rattle.adapter.specs.HostFrames.{finished_pieces, frames_held, frames_to_send}
 use Rattle.adapter.specs.Rings.{ring_of}
@@ -24,9 +25,9 @@ use Rattle.registers.specs.Places.{rctl_bsex, rctl_en, rxt0, tctl_psp}
 
 -- The beginning.
 
--- a driver that has offered nothing yet, and all of whose buffers are free
-abbrev pub new_driver : Counts → List ℕ → DriverState
-new_driver counts pool = record {
+-- a driver that has offered nothing yet, and all of whose buffers are free; it has joined these groups
+abbrev pub new_driver : Counts → (groups : List (List ℕ)) → (pool : List ℕ) → DriverState
+new_driver counts groups pool = record {
   layout = counts;
   oldest_receive = 0;
   buffers = [];
@@ -38,11 +39,12 @@ new_driver counts pool = record {
   missed = 0;
   exact = true;
   bad = 0;
+  groups = groups;
 }
 
 -- The receive ring is set up, the transmit ring is set up or off, and neither offers a slot.
-pub record HasBegun (up : Bool) (counts : Counts) (pool : List ℕ) (world : World) : Type 0 where
-  pub driver_is : IsDriver (new_driver counts pool)
+pub record HasBegun (up : Bool) (counts : Counts) (groups : List (List ℕ)) (pool : List ℕ) (world : World) : Type 0 where
+  pub driver_is : IsDriver (new_driver counts groups pool)
   pub idle : IsIdle world
   pub runs : CanRun world
   pub lies : size_of counts ≤ length world.memory
@@ -54,8 +56,8 @@ pub record HasBegun (up : Bool) (counts : Counts) (pool : List ℕ) (world : Wor
 -- A driver that begins in such a world is ready.
 abbrev pub DriversBegin : Type 0
 DriversBegin =
-    (up : Bool) (counts : Counts) (pool : List ℕ) (world : World)
-    → HasBegun up counts pool world → ReadyWith up (new_driver counts pool) world
+    (up : Bool) (counts : Counts) (groups : List (List ℕ)) (pool : List ℕ) (world : World)
+    → HasBegun up counts groups pool world → ReadyWith up (new_driver counts groups pool) world
 
 -- Writes of registers other than RDT, which offers staged slots. Functions of the bus law give the world after them.
 
@@ -116,11 +118,23 @@ EnabledForgetsNoWork =
 
 -- Stores other than those that stage slots.
 
+-- the place of the slot this many slots after the first that is neither outstanding nor staged
+abbrev pub spare_slot : DriverState → ℕ → ℕ
+spare_slot driver i = place driver.layout.rx driver.oldest_receive (length driver.buffers + (length driver.staged + i))
+
 -- The descriptor of the slot after all staged ones is stored. That slot stays the driver's.
 abbrev pub LastSlotIsStored : Type 0
 LastSlotIsStored =
     (up : Bool) (driver : DriverState) (bytes : List ℕ) (world : World) → ReadyWith up driver world → length bytes ≡ descriptor_bytes
     → GoesTo up (driver_in driver world) (driver_in driver (world_after_store (receive_slot (next_receive driver)) bytes world))
+    (driver_did [] []) nothing
+
+-- So is the descriptor of any slot that is neither outstanding nor staged, counted from those.
+abbrev pub SpareSlotIsStored : Type 0
+SpareSlotIsStored =
+    (up : Bool) (driver : DriverState) (i : ℕ) (bytes : List ℕ) (world : World) → ReadyWith up driver world
+    → length bytes ≡ descriptor_bytes → length driver.buffers + (length driver.staged + i) < driver.layout.rx
+    → GoesTo up (driver_in driver world) (driver_in driver (world_after_store (receive_slot (spare_slot driver i)) bytes world))
     (driver_did [] []) nothing
 
 -- Bytes are stored to the place of the transmit ring, while the transmit side is off.

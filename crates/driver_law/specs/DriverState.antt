@@ -36,6 +36,8 @@ pub record DriverState : Type 0 where
   pub exact : Bool
   -- the number of runs of finished slots that weren't delivered, as they didn't contain a whole frame
   pub bad : ℕ
+  -- the multicast groups that it has joined
+  pub groups : List (List ℕ)
 
 -- the same driver with other owners of buffers
 abbrev pub with_owners : DriverState → (buffers staged pool : List ℕ) → List HandedOut → DriverState

@@ -7,3 +7,4 @@ pub mod TransmitSteps
 pub mod ReceiveSteps
 pub mod OldestSlot
 pub mod ControlWrites
+pub mod Resets

@@ -3,7 +3,7 @@
 ghost use Rattle.driver_law.specs.Beginnings.{CausesAreEnabled, DriversBegin, LastSlotIsStored, NoFrameComes};
 ghost use Rattle.driver_law.specs.Beginnings.{NothingIsHeld, ReceiverIsEnabled, RingsThatAreOffStay};
 ghost use Rattle.driver_law.specs.Beginnings.{TransmitPlaceIsStored, TransmitRingIsWritten, TransmitterIsEnabled};
-ghost use Rattle.driver_law.specs.Beginnings.{EnabledForgetsNoWork};
+ghost use Rattle.driver_law.specs.Beginnings.{EnabledForgetsNoWork, SpareSlotIsStored};
 
 /// A driver is ready if its receive ring is set up, its transmit ring is set up or off, and it has offered no slot
 /// of either.
@@ -28,9 +28,11 @@ pub fn registers_are_set()
 
 /// A driver that is ready stays so at each other store of its initialization.
 /// - `last`: of the descriptor after all staged receive slots.
+/// - `spare`: of any receive descriptor that is neither outstanding nor staged.
 /// - `transmit_ring`: to the place of the transmit ring, while the side is off.
 pub fn rings_are_stored()
     ensures last { LastSlotIsStored }
+    ensures spare { SpareSlotIsStored }
     ensures transmit_ring { TransmitPlaceIsStored }
 {}
 

@@ -65,7 +65,7 @@ returns-in_err-negotiate-clause-finds g c honest =
     let ready =
     is-set g.B.Bus joins start c.read_image.new.bus c.allocate_packet_buffer.new.bus c.set_link_up.new.bus c.args.kilobytes
     (is-read g.B.Bus joins start c.reset_device.new.bus c.read_image.new.bus resets (c.reset_device.ensures.rests honest) reads.asks)
-    (c.allocate_packet_buffer.ensures.sets h2) (c.set_link_up.ensures.sets h3) in
+    (c.allocate_packet_buffer.ensures.sets h2).sets (c.set_link_up.ensures.sets h3).sets in
     let Lives : g.B.Bus.lively start → g.B.Bus.lively c.set_link_up.new.bus = λ lively.
     c.set_link_up.ensures.keeps.lively
     (c.allocate_packet_buffer.ensures.keeps.lively (c.in_ok-image.ensures.keeps.lively (c.reset_device.ensures.keeps.lively lively))) in
@@ -98,7 +98,7 @@ returns-in_err-await_link-clause-finds g c honest =
     let ready =
     is-set g.B.Bus joins start c.read_image.new.bus c.allocate_packet_buffer.new.bus c.set_link_up.new.bus c.args.kilobytes
     (is-read g.B.Bus joins start c.reset_device.new.bus c.read_image.new.bus resets (c.reset_device.ensures.rests honest) reads.asks)
-    (c.allocate_packet_buffer.ensures.sets h2) (c.set_link_up.ensures.sets h3) in
+    (c.allocate_packet_buffer.ensures.sets h2).sets (c.set_link_up.ensures.sets h3).sets in
     let Lives : g.B.Bus.lively start → g.B.Bus.lively c.set_link_up.new.bus = λ lively.
     c.set_link_up.ensures.keeps.lively
     (c.allocate_packet_buffer.ensures.keeps.lively (c.in_ok-image.ensures.keeps.lively (c.reset_device.ensures.keeps.lively lively))) in
@@ -156,7 +156,7 @@ returns-clause-finds g c honest =
     let ready =
     is-set g.B.Bus joins start c.read_image.new.bus c.allocate_packet_buffer.new.bus c.set_link_up.new.bus c.args.kilobytes
     (is-read g.B.Bus joins start c.reset_device.new.bus c.read_image.new.bus resets (c.reset_device.ensures.rests honest) reads.asks)
-    (c.allocate_packet_buffer.ensures.sets h2) (c.set_link_up.ensures.sets h3) in
+    (c.allocate_packet_buffer.ensures.sets h2).sets (c.set_link_up.ensures.sets h3).sets in
     let asked = c.in_ok-negotiate.ensures.negotiates h4 in
     let still = still-ready g.B.Bus joins start c.set_link_up.new.bus c.negotiate.new.bus c.args.kilobytes ready asked.asks in
     let waits = c.in_ok-await_link.ensures.awaits (c.in_ok-negotiate.ensures.keeps.honest h4) in

@@ -3,8 +3,8 @@ use Rattle.std.proofs.Math.Seq.{take-length, take-suc}
 use Rattle.std.proofs.lemmas.List.{map-append}
 use Rattle.std.proofs.lemmas.Nat.{mod_below}
 use Rattle.rx_engine.specs.Addresses.{group_number}
+use Rattle.rx_engine.specs.NumberTables.{HasNumbers, numbers_of_groups}
 use Rattle.rx_engine.specs.Writing.{with_number}
-use Rattle.bring_up.specs.FilterTables.{HasNumbers, numbers_of_groups}
 use Rattle.bring_up.proofs.Tables.{no-numbers, one-number-more}
 use Rattle.bring_up.proofs.filter_tables.group_table.Goals as goal
 

@@ -1,6 +1,6 @@
 use Rattle.std.proofs.Common.{◌≡◌, ◌+◌, ◌++◌, ◌∷◌, [], ℕ, List, add-one, get_or, length, take, sym, ap, subst, ◌∙◌, arith}
 use Rattle.std.proofs.Math.Seq.{take-length, take-suc}
-use Rattle.bring_up.specs.FilterTables.{HasNumbers}
+use Rattle.rx_engine.specs.NumberTables.{HasNumbers}
 use Rattle.bring_up.proofs.Tables.{no-numbers, one-number-more}
 use Rattle.bring_up.proofs.filter_tables.vlan_table.Goals as goal
 

@@ -1,4 +1,4 @@
-use Rattle.bring_up.proofs.Steps.{sets-at, sets-join}
+use Rattle.bring_up.proofs.Steps.{only-at, only-join}
 use Rattle.bring_up.proofs.filter_tables.write_address.Goals as goal
 use Rattle.std.proofs.Common.{◌≡◌, ◌+◌, ◌*◌, arith}
 
@@ -8,8 +8,8 @@ returns-clause-sets g c honest =
     let start = c.args.bus.now in
     let first : 21504 + 8 * entry ≡ 0x5400 + 8 * entry = omega arith in
     let second : 21504 + 8 * entry + 4 ≡ 0x5404 + 8 * entry = omega arith in
-    let one = sets-at g.B.Bus start c.write.new.self _ (0x5400 + 8 * entry) c.args.words.low first
+    let one = only-at g.B.Bus start c.write.new.self _ (0x5400 + 8 * entry) c.args.words.low first
     (c.write.ensures.acts honest) in
-    let two = sets-at g.B.Bus c.write.new.self c.write-2.new.self _ (0x5404 + 8 * entry) c.args.words.high second
+    let two = only-at g.B.Bus c.write.new.self c.write-2.new.self _ (0x5404 + 8 * entry) c.args.words.high second
     (c.write-2.ensures.acts (c.write.ensures.keeps.honest honest)) in
-    sets-join g.B.Bus g.met.B.Bus.composes.joins start c.write.new.self c.write-2.new.self _ _ one two
+    only-join g.B.Bus g.met.B.Bus.composes.joins start c.write.new.self c.write-2.new.self _ _ one two

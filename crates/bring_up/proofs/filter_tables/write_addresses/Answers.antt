@@ -3,15 +3,15 @@ use Rattle.bus.proofs.Keeping.{keeps-here, keeps-on}
 use Rattle.bus.specs.Settings.{Write}
 use Rattle.rx_engine.specs.Addresses.{high_word, low_word}
 use Rattle.bring_up.specs.FilterTables.{empty_entries, entry_writes}
-use Rattle.bring_up.specs.SettingSteps.{Sets}
-use Rattle.bring_up.proofs.Steps.{sets-join, sets-nothing}
+use Rattle.bring_up.specs.SettingSteps.{SetsOnly}
+use Rattle.bring_up.proofs.Steps.{only-join, only-nothing}
 use Rattle.bring_up.proofs.Tables.{entries-push}
 use Rattle.bring_up.proofs.filter_tables.write_addresses.Goals as goal
 
 pub loop-entry-init : goal.loop-entry-init
 loop-entry-init g c = record {
   keeps = keeps-here g.B.Bus g.met.B.Bus.composes.lent_stays_here c.write_address.new.bus;
-  sets = λ honest. sets-nothing g.B.Bus g.met.B.Bus.composes.stays c.write_address.new.bus;
+  sets = λ honest. only-nothing g.B.Bus g.met.B.Bus.composes.stays c.write_address.new.bus;
 }
 
 pub loop-entry-preserved : goal.loop-entry-preserved
@@ -28,8 +28,8 @@ loop-entry-preserved g c =
           let more : empty_entries 1 k ++ entry_writes here.entry 0 0 ≡ empty_entries 1 (here.entry + 1 - 1) =
           ap (λ (n : ℕ). empty_entries 1 k ++ entry_writes n 0 0) (sym index) ∙ sym (entries-push 1 k)
           ∙ ap (empty_entries 1) (sym (count ∙ add-one k)) in
-          subst (λ (writes : List Write). Sets g.B.Bus writes c.write_address.new.bus step.new.bus) more
-          (sets-join g.B.Bus g.met.B.Bus.composes.joins c.write_address.new.bus here.bus step.new.bus (empty_entries 1 k)
+          subst (λ (writes : List Write). SetsOnly g.B.Bus writes c.write_address.new.bus step.new.bus) more
+          (only-join g.B.Bus g.met.B.Bus.composes.joins c.write_address.new.bus here.bus step.new.bus (empty_entries 1 k)
           (entry_writes here.entry 0 0)
           (here.invariant.sets honest) (step.ensures.sets (here.invariant.keeps.honest honest)));
     }
@@ -40,13 +40,13 @@ returns-clause-sets g c honest =
     let first = c.write_address in
     let low = c.of.ensures.low in
     let high = c.of.ensures.high in
-    let one : Sets g.B.Bus
+    let one : SetsOnly g.B.Bus
     (entry_writes 0 (low_word c.args.address.now) (high_word c.args.address.now + 2147483648)) start first.new.bus =
-    subst (λ (h : ℕ). Sets g.B.Bus (entry_writes 0 (low_word c.args.address.now) h) start first.new.bus) high
-    (subst (λ (l : ℕ). Sets g.B.Bus (entry_writes 0 l c.of.result.high) start first.new.bus) low
+    subst (λ (h : ℕ). SetsOnly g.B.Bus (entry_writes 0 (low_word c.args.address.now) h) start first.new.bus) high
+    (subst (λ (l : ℕ). SetsOnly g.B.Bus (entry_writes 0 l c.of.result.high) start first.new.bus) low
     (first.ensures.sets honest)) in
     let last : c.loop-entry.entry - 1 ≡ 15 = omega (arith, c.loop-entry.auto, c.loop-entry-test.false) in
-    let rest : Sets g.B.Bus (empty_entries 1 15) first.new.bus c.loop-entry.bus =
-    subst (λ (n : ℕ). Sets g.B.Bus (empty_entries 1 n) first.new.bus c.loop-entry.bus) last
+    let rest : SetsOnly g.B.Bus (empty_entries 1 15) first.new.bus c.loop-entry.bus =
+    subst (λ (n : ℕ). SetsOnly g.B.Bus (empty_entries 1 n) first.new.bus c.loop-entry.bus) last
     (c.loop-entry.invariant.sets (first.ensures.keeps.honest honest)) in
-    sets-join g.B.Bus g.met.B.Bus.composes.joins start first.new.bus c.loop-entry.bus _ (empty_entries 1 15) one rest
+    only-join g.B.Bus g.met.B.Bus.composes.joins start first.new.bus c.loop-entry.bus _ (empty_entries 1 15) one rest

@@ -4,9 +4,9 @@ use Rattle.std.proofs.lemmas.List.{length-take-le}
 use Rattle.bus.proofs.Keeping.{keeps-here, keeps-on}
 use Rattle.bus.specs.Settings.{Write}
 use Rattle.bring_up.specs.FilterTables.{table_writes}
-use Rattle.bring_up.specs.SettingSteps.{Sets}
+use Rattle.bring_up.specs.SettingSteps.{SetsOnly}
 use Rattle.bring_up.specs.WrittenRegisters.{write_at}
-use Rattle.bring_up.proofs.Steps.{sets-at, sets-join, sets-nothing}
+use Rattle.bring_up.proofs.Steps.{only-at, only-join, only-nothing}
 use Rattle.bring_up.proofs.Tables.{table-push}
 use Rattle.bring_up.proofs.filter_tables.write_table.Goals as goal
 
@@ -14,7 +14,7 @@ pub loop-word-init : goal.loop-word-init
 loop-word-init g c = record {
   offset = omega arith;
   keeps = keeps-here g.B.Bus g.met.B.Bus.composes.lent_stays_here c.args.bus.now;
-  sets = λ honest. sets-nothing g.B.Bus g.met.B.Bus.composes.stays c.args.bus.now;
+  sets = λ honest. only-nothing g.B.Bus g.met.B.Bus.composes.stays c.args.bus.now;
 }
 
 -- The words so far, and one more.
@@ -36,10 +36,10 @@ loop-word-preserved g c =
       offset = omega (arith, kept.offset);
       keeps = keeps-on g.B.Bus g.met.B.Bus.composes.lent_stays_on start here.bus c.write.new.self kept.keeps c.write.ensures.keeps;
       sets = λ honest.
-          subst (λ (writes : List Write). Sets g.B.Bus writes start c.write.new.self)
+          subst (λ (writes : List Write). SetsOnly g.B.Bus writes start c.write.new.self)
           (more c.args.first here.word-index c.args.words.now (omega (arith, c.loop-word-test.true, c.told-words)))
-          (sets-join g.B.Bus g.met.B.Bus.composes.joins start here.bus c.write.new.self _ _ (kept.sets honest)
-          (sets-at g.B.Bus here.bus c.write.new.self here.offset
+          (only-join g.B.Bus g.met.B.Bus.composes.joins start here.bus c.write.new.self _ _ (kept.sets honest)
+          (only-at g.B.Bus here.bus c.write.new.self here.offset
           (c.args.first + 4 * here.word-index) _ kept.offset (c.write.ensures.acts (kept.keeps.honest honest))));
     }
 
@@ -50,5 +50,5 @@ returns-clause-sets g c honest =
     ap (λ (n : ℕ). take n c.args.words.now) (let last : here.word-index
     ≡ length c.args.words.now = omega (arith, here.auto, c.loop-word-test.false, c.told-words) in last)
     ∙ take-length c.args.words.now in
-    subst (λ (words : List ℕ). Sets g.B.Bus (table_writes c.args.first words) c.args.bus.now here.bus) all
+    subst (λ (words : List ℕ). SetsOnly g.B.Bus (table_writes c.args.first words) c.args.bus.now here.bus) all
     (here.invariant.sets honest)

@@ -1,4 +1,4 @@
-use Rattle.bring_up.proofs.Steps.{sets-five, sets-word, sets-write}
+use Rattle.bring_up.proofs.Steps.{only-five, only-word, only-write}
 use Rattle.bring_up.proofs.TransmitWrites.{sets-transmit_ring}
 use Rattle.bring_up.proofs.ring_registers.set_transmit_ring.Goals as goal
 
@@ -9,13 +9,13 @@ returns-clause-sets g c honest =
     let h2 = c.write-2.ensures.keeps.honest h1 in
     let h3 = c.write-3.ensures.keeps.honest h2 in
     let h4 = c.write-4.ensures.keeps.honest h3 in
-    sets-five g.B.Bus g.met.B.Bus.composes.joins start c.write.new.self c.write-2.new.self c.write-3.new.self c.write-4.new.self
+    only-five g.B.Bus g.met.B.Bus.composes.joins start c.write.new.self c.write-2.new.self c.write-3.new.self c.write-4.new.self
     c.write-5.new.self _ _ _ _ _
-    (sets-word g.B.Bus start c.write.new.self 0x3800 _ _ c.low_word.ensures (c.write.ensures.acts honest))
-    (sets-word g.B.Bus c.write.new.self c.write-2.new.self 0x3804 _ _ c.high_word.ensures (c.write-2.ensures.acts h1))
-    (sets-write g.B.Bus c.write-2.new.self c.write-3.new.self 0x3808 c.args.ring.bytes (c.write-3.ensures.acts h2))
-    (sets-write g.B.Bus c.write-3.new.self c.write-4.new.self 0x3810 0 (c.write-4.ensures.acts h3))
-    (sets-write g.B.Bus c.write-4.new.self c.write-5.new.self 0x3818 0 (c.write-5.ensures.acts h4))
+    (only-word g.B.Bus start c.write.new.self 0x3800 _ _ c.low_word.ensures (c.write.ensures.acts honest))
+    (only-word g.B.Bus c.write.new.self c.write-2.new.self 0x3804 _ _ c.high_word.ensures (c.write-2.ensures.acts h1))
+    (only-write g.B.Bus c.write-2.new.self c.write-3.new.self 0x3808 c.args.ring.bytes (c.write-3.ensures.acts h2))
+    (only-write g.B.Bus c.write-3.new.self c.write-4.new.self 0x3810 0 (c.write-4.ensures.acts h3))
+    (only-write g.B.Bus c.write-4.new.self c.write-5.new.self 0x3818 0 (c.write-5.ensures.acts h4))
 
 pub returns-clause-ran : goal.returns-clause-ran
 returns-clause-ran g c d is can =

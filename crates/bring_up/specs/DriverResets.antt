@@ -1,0 +1,31 @@
+-- What a reset of the adapter leaves of what a driver knows (our choice).
+use Rattle.std.specs.Prelude.{◌≡◌, ℕ, Bool, List, [], ◌∷◌}
+use Rattle.registers.specs.Places.{alone, ctrl_rst}
+use Rattle.adapter.specs.World.{World}
+use Rattle.adapter.specs.declared.offsets.TheConstants.{CTRL, ICR, IMC}
+use Rattle.bus.specs.AdaptersAtRest.{NoFrame}
+use Rattle.bus.specs.Link.{HasLink}
+use Rattle.bus.specs.declared.bus.Bus.{Ghosts}
+use Rattle.bus.specs.declared.event.Access.TheVariants.{Reads, Writes}
+use Rattle.driver_law.specs.Calls.{GoesTo, driver_did, driver_in}
+use Rattle.driver_law.specs.DriverState.{DriverState}
+use Rattle.driver_law.specs.Resets.{RestsWith, reset_driver, reset_world}
+use Rattle.bring_up.specs.DriverSteps.{Accessed}
+
+-- A driver resets its adapter: a write of CTRL with RST, then a write of IMC and a read of ICR. `pool` has the free buffers afterwards.
+pub record ResetsDriver {B : Type 0} (bus : Ghosts B) (up : Bool) (pool : List ℕ) (d : DriverState) (old new : B) : Type 0 where
+  -- right after the write of CTRL
+  pub middle : B
+  pub first : Accessed bus (Writes CTRL (alone ctrl_rst) ∷ []) old middle
+  -- the value read from ICR
+  pub causes : ℕ
+  pub later : Accessed bus (Writes IMC 0xFFFFFFFF ∷ Reads ICR causes ∷ []) middle new
+  -- the world in which the write of CTRL begins: the frames held there, and those to be sent there, are given up
+  pub last : World
+  pub goes : GoesTo up (driver_in d (bus.world old)) (driver_in d last) (driver_did [] []) first.past
+  pub is_reset : bus.world middle ≡ reset_world last
+  -- No frame comes or leaves after it, and the driver has no slot.
+  pub no_frame : NoFrame later.past
+  pub rests : RestsWith (reset_driver pool d) (bus.world new)
+  -- The PHY keeps its link.
+  pub link : HasLink (bus.world old) → HasLink (bus.world new)
