@@ -134,7 +134,7 @@ effect-flows bus composes old new received accepted Does maps honest does =
         reports = passes-reports bus composes act.stages old.bus new.bus it.past it.stages;
         flows = record {
           sizes = it.changed.sizes;
-          driver = flows-changed act.reads_icr true _ _ _ _ it.changed.driver;
+          driver = flows-changed act.kind true _ _ _ _ it.changed.driver;
           accounts = it.changed.accounts;
         };
       },

@@ -54,6 +54,8 @@ use Rattle.bring_up.specs.declared.config.Config.{Config}
 use Rattle.bring_up.proofs.DriverAccesses.{asked-still}
 use Rattle.bring_up.proofs.Steps.{StretchesJoin}
 use Rattle.bring_up.proofs.NoFrames.{clears-write_none, new_transmit_ring_stays, quiet_stays, stores-write_none}
+use Rattle.joined_groups.specs.Groups.{AreNamedOnce}
+use Rattle.joined_groups.proofs.Numbers.{same-numbers}
 use Rattle.driver.specs.Initialisation.{HasFoundRing, Initialises, first_accesses, transmit_accesses}
 use Rattle.driver.proofs.FirstSlots.{head-first, offering}
 
@@ -316,17 +318,18 @@ link-up config address groups vlans groups_whole vlans_whole w1 w2 w3 w4 w5 p2 p
     (keeps2 (subst (All LeavesPhy) (sym two) (all-left LeavesPhy tail (receives ++ (ring ++ masked)) from2)) up)))
 
 pub initialises : {B : Type 0} (bus : Ghosts B) → StretchesJoin bus
-    → (b0 b1 b2 b3 b4 b5 : B) (config : Config) (size : ℕ) (pool numbers : List ℕ) (d : DriverState) (past : Past) → CanBeHad config size
+    → (b0 b1 b2 b3 b4 b5 : B) (config : Config) (size : ℕ) (groups : List (List ℕ)) (pool numbers : List ℕ) (d : DriverState) (past : Past)
+    → CanBeHad config size
     → bus.happened b0 b1 past → HasFoundRing bus config b0 b1 → RecordsNoCause past → length numbers + 1 ≡ config.rx
-    → d ≡ offering (configured_counts config) pool numbers d.pool
+    → d ≡ offering (configured_counts config) groups pool numbers d.pool → AreNamedOnce config.groups.items groups
     → (first : Ran bus false (only (first_accesses (configured_counts config) numbers)) (at b1 (new_driver
-    (configured_counts config) pool)) (at b2 d))
+    (configured_counts config) groups pool)) (at b2 d))
     → HasNoFrames d (bus.world b2) → NoFrame first.past
     → LetsFramesIn bus (receive_writes config.promiscuous (names_vlans config.vlans)) d b2 b3
     → Ran bus true (only (transmit_accesses (configured_counts config))) (at b3 d) (at b4 d) → EnablesCauses bus 0xD1 d b4 b5
     → Initialises bus config b0 b5 d
-initialises bus joins b0 b1 b2 b3 b4 b5 config size pool numbers d past had told found no_cause count is first quiet no_frame lets sends
-    masks =
+initialises bus joins b0 b1 b2 b3 b4 b5 config size groups pool numbers d past had told found no_cause count is named first quiet no_frame
+    lets sends masks =
     let counts = configured_counts config in
     let device = bus.world b0 in
     let words = address_bytes device.adapter.image in
@@ -363,6 +366,7 @@ initialises bus joins b0 b1 b2 b3 b4 b5 config size pool numbers d past had told
     let tables = found.tables in
     let set = writes-configure config words found.groups found.vlans size (settings_of device.adapter) had found.address tables.groups_are
     tables.vlans_are tables.has_groups tables.has_vlans in
+    let configured = subst (IsConfigured config words) (sym all) set.0 in
     let start = joined past (joined first.past lets.ran.past) in
     record {
       middle = b3;
@@ -415,13 +419,15 @@ initialises bus joins b0 b1 b2 b3 b4 b5 config size pool numbers d past had told
       adapter = record {
         sum = found.sum;
         image = ap (λ (settings : Settings). settings.image) all ∙ set.1;
-        configured = subst (IsConfigured config words) (sym all) set.0;
+        configured = configured;
         up = link-up config words found.groups found.vlans tables.has_groups.words tables.has_vlans.words (bus.world b1) (bus.world b2)
             (bus.world b3) (bus.world b4) (bus.world b5) first.past lets.ran.past sends.past masks.accessed.past
             (ap writes_in first.only ∙ first-writes counts numbers) (ap writes_in lets.ran.only)
             (ap writes_in sends.only ∙ transmit-writes counts) (ap writes_in masks.accessed.only)
             first.follows.link lets.ran.follows.link sends.follows.link masks.accessed.follows.link found.up;
       };
+      table = same-numbers (bus.world b5).adapter.filter.mta config.groups.items d.groups
+          (subst (AreNamedOnce config.groups.items) (sym (ap (λ (s : DriverState). s.groups) is)) named) configured.filter.groups;
     }
 
 -- Whether VLANs are named.

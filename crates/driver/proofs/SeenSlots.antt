@@ -1,18 +1,17 @@
 -- What a driver sees of its oldest slots, load by load.
-use Rattle.std.proofs.Common.{◌≡◌, ◌≤◌, ◌<◌, ◌+◌, ◌%◌, ◌++◌, ◌∷◌, [], Bool, true}
-use Rattle.std.proofs.Common.{false, ℕ, zero, suc, List, length, length-append, map, set, take, drop}
+use Rattle.std.proofs.Common.{◌≡◌, ◌≤◌, ◌<◌, ◌+◌, ◌++◌, ◌∷◌, [], Bool, true}
+use Rattle.std.proofs.Common.{false, ℕ, suc, List, length, length-append, map, set, take, drop}
 use Rattle.std.proofs.Common.{refl, sym, ap, subst, ◌∙◌, append_assoc, arith, sum}
 use Rattle.std.specs.Prelude.{IsTrue}
 use Rattle.std.specs.List.{All, concat}
 use Rattle.std.proofs.lemmas.List.{append-nil, drop_at, length-map, map-append, nil_from_length, take_more_set}
 use Rattle.std.proofs.lemmas.List.Elements.{All-append, All-cons}
 use Rattle.std.proofs.lemmas.List.Sums.{sum_by_push}
-use Rattle.std.proofs.Math.Nat.{mod-add-mod, mod-eq_of_lt}
 use Rattle.registers.specs.Bits.{is_set}
 use Rattle.dma_memory.specs.Layout.{receive_buffer_bytes}
 use Rattle.descriptors.specs.Frames.{IsLegal}
 use Rattle.descriptors.specs.Ring.{slots_from}
-use Rattle.descriptors.specs.RingLaws.{length-slots_from, next-below, place}
+use Rattle.descriptors.specs.RingLaws.{length-slots_from}
 use Rattle.descriptors.specs.RxStatus.{dd, status_bits}
 use Rattle.descriptors.specs.declared.rx_desc.RxDesc.{RxDesc}
 use Rattle.rx_engine.specs.Held.{in_work, piece_of}
@@ -288,14 +287,6 @@ frame-legal d world run ready sees =
     record { least = omega (arith, sees.length_is, legal.least); most = omega (arith, sees.length_is, legal.most) }
 
 -- Over a bus.
-
-pub place-sum : (n from i : ℕ) → from < n → place n from i ≡ (from + i) % n
-place-sum n from zero slot =
-    let none : from + 0 ≡ from = omega arith in
-    sym (ap (λ (index : ℕ). index % n) none ∙ mod-eq_of_lt slot)
-place-sum n from (suc i) slot =
-    let sum : from + 1 + i ≡ from + suc i = omega arith in
-    place-sum n ((from + 1) % n) i (next-below n from slot) ∙ mod-add-mod (from + 1) n i ∙ ap (λ (index : ℕ). index % n) sum
 
 -- The descriptors of the slots that were seen were loaded.
 pub record SeesSlots {B : Type 0} (bus : Ghosts B) (run : Run) (up : Bool) (d : DriverState) (old new : B) : Type 0 where

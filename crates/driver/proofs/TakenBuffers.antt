@@ -16,7 +16,7 @@ use Rattle.driver.specs.Parts.{buffers_in, lengths_in}
 use Rattle.driver.specs.declared.driver.Driver.TheInside.{Inside}
 use Rattle.driver.specs.declared.parts.Part.{Part}
 use Rattle.driver.proofs.BufferQueue.{Receives, owners-inside, queue-split}
-use Rattle.driver.proofs.SeenSlots.{place-sum}
+use Rattle.driver_law.proofs.Places.{place-sum}
 
 -- One buffer more leaves the queue.
 pub record OneMore (items lengths : List ℕ) (i : ℕ) (queue : Buffer ℕ) (capacity : ℕ) (parts : List Part) : Type 0 where

@@ -7,6 +7,7 @@ use Rattle.dma_memory.specs.Layout.{Counts, descriptor_bytes}
 use Rattle.dma_memory.specs.Owners.{HasOneOwner, HaveSameNumbers}
 use Rattle.eeprom.specs.Image.{HasRightSum, address_bytes}
 use Rattle.rx_engine.specs.Addresses.{IsAddress}
+use Rattle.rx_engine.specs.NumberTables.{HasNumbers, numbers_of_groups}
 use Rattle.adapter.specs.HostFrames.{frames_held, frames_to_send}
 use Rattle.adapter.specs.Slots.{finished}
 use Rattle.adapter.specs.World.{World}
@@ -21,7 +22,6 @@ use Rattle.bring_up.specs.Configuration.{configured_counts, vlans_of}
 use Rattle.bring_up.specs.ConfiguredAdapters.{AreWords, IsConfigured, names_vlans, writes_before_rings}
 use Rattle.bring_up.specs.Device.{IsErrorOf, IsErrorOfLively}
 use Rattle.bring_up.specs.DriverSteps.{accesses_of}
-use Rattle.bring_up.specs.FilterTables.{HasNumbers, numbers_of_groups}
 use Rattle.bring_up.specs.RestingRings.{HasReceiveRing}
 use Rattle.bring_up.specs.RingRegisters.{receive_writes, ring_writes, transmit_writes}
 use Rattle.bring_up.specs.SettingSteps.{RecordsNoCause}
@@ -32,6 +32,7 @@ use Rattle.bring_up.specs.declared.init_error.InitError.TheVariants.{Memory}
 use Rattle.bring_up.specs.declared.init_error.InitError.TheVariants as errors
 use Rattle.driver_law.specs.Calls.{HasNoForgottenWork, IsReady, IsRefilled, Moment, Ran, only, stores_from}
 use Rattle.driver_law.specs.Beginnings.{new_driver}
+use Rattle.joined_groups.specs.Groups.{AreNamedOnce, HasTable}
 use Rattle.driver_law.specs.DriverState.{DriverState, owners, receive_slot, with_owners}
 use Rattle.driver_law.specs.ReadyDrivers.{Ready}
 
@@ -154,11 +155,15 @@ pub record Initialises {B : Type 0} (bus : Ghosts B) (config : Config) (old new 
   pub no_cause : RecordsNoCause (joined first later)
   pub started : IsStarted d (bus.world new) later
   pub adapter : IsSetUp config (bus.world old) (bus.world new)
+  -- The group table has exactly the numbers of the groups joined.
+  pub table : HasTable d.groups (bus.world new)
 
 -- The driver of an adapter that was initialized, over any bus.
 pub record IsFresh (config : Config) (driver : DriverState) : Type 0 where
   pub layout : driver.layout ≡ configured_counts config
-  pub new : driver ≡ with_owners (new_driver (configured_counts config) []) driver.buffers [] driver.pool []
+  pub new : driver ≡ with_owners (new_driver (configured_counts config) driver.groups []) driver.buffers [] driver.pool []
+  -- It has joined the groups of the configuration.
+  pub joined : AreNamedOnce config.groups.items driver.groups
   pub one_owner : HasOneOwner driver.layout.buffers (owners driver)
   pub none_out : driver.handed_out ≡ []
   pub refilled : IsRefilled driver

@@ -27,6 +27,7 @@ state_of driver = record {
   missed = driver.missed;
   exact = driver.exact;
   bad = driver.bad;
+  groups = driver.groups;
 }
 
 -- The receive side.

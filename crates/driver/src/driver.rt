@@ -7,6 +7,7 @@ ghost use Rattle.driver_law.specs.DriverState.{owners};
 
 use circular_buffer::HeapCircularBuffer;
 use dma_memory::{BufId, Layout, Pool};
+use joined_groups::Groups;
 use std::marker::Model;
 
 /// A driver: where its rings and buffers are, which of its slots are outstanding, and which buffers they have.
@@ -37,6 +38,8 @@ pub struct Driver {
     pub(crate) exact: bool,
     /// The number of runs of finished slots that weren't delivered, up to the greatest `u64`.
     pub(crate) bad: u64,
+    /// The multicast groups that it has joined.
+    pub(crate) groups: Groups,
 }
 
 impl Model for Driver {

@@ -24,6 +24,7 @@ use bring_up::{
 use bus::Bus;
 use circular_buffer::HeapCircularBuffer;
 use dma_memory::{DESCRIPTOR_BYTES, Layout, Pool};
+use joined_groups::Groups;
 use std::alloc::{AllocError, Global};
 
 /// Finds the device, and sets up its receive filter and its receive ring, with no slot offered.
@@ -70,9 +71,9 @@ fn set_up_transmitter<B: Bus>(bus: &mut B, layout: Layout)
 }
 
 impl Driver {
-    /// A driver that has offered nothing, with all buffers in its pool.
-    fn new(alloc: Global, layout: Layout) -> Result<Driver, AllocError>
-        ensures new { IfOk result (λ driver. driver ≡ new_driver layout driver.pool) }
+    /// A driver that has offered nothing, with all buffers in its pool. It has joined these groups.
+    fn new(alloc: Global, layout: Layout, groups: Groups) -> Result<Driver, AllocError>
+        ensures new { IfOk result (λ driver. driver ≡ new_driver layout groups driver.pool) }
         ensures one_owner { IfOk result (λ driver. HasOneOwner layout.buffers driver.pool) }
     {
         Ok(Driver {
@@ -88,13 +89,14 @@ impl Driver {
             missed: 0,
             exact: true,
             bad: 0,
+            groups,
         })
     }
 
     /// Offers all receive slots but the last, whose descriptor it clears.
     fn offer_first<B: Bus>(&mut self, bus: &mut B)
         requires memory { size_of self.old.layout ≤ B.extent bus.old }
-        requires new { self.old ≡ new_driver self.old.layout self.old.pool }
+        requires new { self.old ≡ new_driver self.old.layout self.old.groups self.old.pool }
         requires one_owner { HasOneOwner self.old.layout.buffers self.old.pool }
         requires enough { self.old.layout.rx ≤ self.old.layout.buffers }
         ensures keeps { Keeps B.Bus bus.old bus.new }
@@ -106,7 +108,8 @@ impl Driver {
     }
 
     /// Resets the adapter and initializes it by `config`: reads its EEPROM, awaits its link, and sets up its filter,
-    /// both rings and its interrupts. Frames are received from the write of RCTL on.
+    /// both rings and its interrupts. Frames are received from the write of RCTL on. The driver has joined the groups
+    /// of the configuration, each once.
     ///
     /// All memory that the driver ever needs is allocated here. If that fails, or the configuration isn't valid in
     /// this memory, there is no access. After each error the call may be made again.
@@ -128,7 +131,7 @@ impl Driver {
         ensures refuses { B.honest bus.old → IfErr result (Refuses B.Bus bus.old bus.new) }
     {
         let layout = config.layout(bus.size())?;
-        let mut driver = Driver::new(alloc, layout)?;
+        let mut driver = Driver::new(alloc, layout, Groups::of(config.groups.as_slice()))?;
         find_ring(bus, config, layout)?;
         driver.offer_first(bus);
         enable_receiver(bus, config.promiscuous, config.vlans.is_some());

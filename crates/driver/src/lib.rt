@@ -5,6 +5,7 @@
 #![tactic(auto)]
 
 mod driver;
+mod groups;
 mod init;
 mod interrupt;
 mod look;

@@ -7,3 +7,4 @@
 
 pub mod bring_up_calls;
 pub mod driver_calls;
+pub mod group_calls;

@@ -9,6 +9,7 @@ use bitflags::Flags;
 use bring_up::InitError;
 use bus::{Bus, HonestBus};
 use driver::{Driver, Handled, Parts, Received, Receiver, SendError};
+use joined_groups::GroupError;
 use packet_socket::RecvError;
 use registers::Cause;
 use solo_bus::SoloBus;
@@ -283,6 +284,14 @@ fn refusals_have_texts(rt: HostRuntime) -> Result<(), Fail> {
         (SendError::TooShort, "E20 TooShort"),
         (SendError::TooLong, "E21 TooLong"),
         (SendError::RingFull, "E22 RingFull"),
+    ] {
+        same(&rt, format!(in alloc; "{error}")?.as_str(), wanted);
+    }
+    for (error, wanted) in [
+        (GroupError::NotGroup, "E23 NotGroup"),
+        (GroupError::GroupsFull, "E24 GroupsFull"),
+        (GroupError::NotJoined, "E25 NotJoined"),
+        (GroupError::Joined, "E26 Joined"),
     ] {
         same(&rt, format!(in alloc; "{error}")?.as_str(), wanted);
     }

@@ -8,6 +8,8 @@ mod buses;
 #[cfg(test)]
 mod calls;
 #[cfg(test)]
+mod groups;
+#[cfg(test)]
 mod init_tests;
 #[cfg(test)]
 mod no_memory;

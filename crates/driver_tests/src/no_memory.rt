@@ -5,6 +5,7 @@ use crate::buses::{good_bus, new_host};
 use adapter::{Outcome, StepKind};
 use bus::{Bus, HonestBus};
 use driver::{Handled, SendError};
+use joined_groups::GroupError;
 use packet_socket::{Host, RecvError};
 use solo_bus::{SoloBus, SoloTick};
 use std::process::Abort;
@@ -77,6 +78,19 @@ fn receives(rt: &impl Abort, host: &mut Host, bus: &mut SoloBus) {
     assert!(rt; bytes.starts_with(&FRAME));
 }
 
+/// The host joins a group and leaves it.
+fn joins<B: Bus>(rt: &impl Abort, host: &mut Host, bus: &mut B) {
+    let group = [0x01, 0x00, 0x5E, 0x00, 0x00, 0x01];
+    let joined = host.join(bus, group);
+    assert_eq!(rt; joined, Ok(()));
+    let again = host.join(bus, group);
+    assert_eq!(rt; again, Err(GroupError::Joined));
+    let left = host.leave(bus, group);
+    assert_eq!(rt; left, Ok(()));
+    let again = host.leave(bus, group);
+    assert_eq!(rt; again, Err(GroupError::NotJoined));
+}
+
 #[test]
 fn calls_of_a_host_take_no_memory(rt: HostRuntime) {
     let Ok(mut bus) = good_bus(rt.alloc()) else {
@@ -87,6 +101,7 @@ fn calls_of_a_host_take_no_memory(rt: HostRuntime) {
     };
     sends(&rt, &mut host, &mut bus);
     receives(&rt, &mut host, &mut bus);
+    joins(&rt, &mut host, &mut bus);
     assert_eq!(rt; bus.waiting(), 0);
     bus.play(&[SoloTick::Go, SoloTick::Step(StepKind::PhyTick)]);
     assert_eq!(rt; bus.waiting(), 2);

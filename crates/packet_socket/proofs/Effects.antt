@@ -1,5 +1,7 @@
 -- An effect of a call, run in another way.
-use Rattle.std.proofs.Common.{Bool, true, false, ◌≡◌, ◌++◌, ℕ, List, ap, ◌∙◌}
+use Rattle.std.proofs.Common.{Bool, ◌≡◌, ◌++◌, ℕ, List, ap, inl, inr, ◌∙◌}
+use Rattle.std.specs.List.{All}
+use Rattle.dma_memory.specs.Layout.{Counts}
 use Rattle.adapter.specs.World.{World}
 use Rattle.bus.specs.PastOfStretch.{Past}
 use Rattle.bus.specs.declared.bus.Bus.{Ghosts}
@@ -8,16 +10,19 @@ use Rattle.driver.specs.declared.interrupt.Handled.{Handled}
 use Rattle.driver.specs.declared.interrupt.Handled.TheVariants.{NotMine}
 use Rattle.driver.specs.declared.interrupt.Handled.TheVariants as answers
 use Rattle.driver_law.specs.Calls.{DriverDid, DriverInWorld, FlowsTo}
-use Rattle.packet_socket.specs.HostActs.{HostAct, Effect, Ends, PassesStages, CallStages, Then, accesses_in, changed_by}
+use Rattle.packet_socket.specs.HostActs.{ActKind, CallStages, Effect, Ends, HandlesInterrupt, HostAct, IsAccessOf, IsOfHost, MovesFrames}
+use Rattle.packet_socket.specs.HostActs.{PassesStages, SetsGroups, Then, accesses_in, changed_by}
 use Rattle.std.specs.Prelude.{Err, None, Ok, Option, Result, Some}
-use Rattle.packet_socket.specs.CallEffects.{EffectOf, Interrupting, OfAnswer, Receiving, Request}
-use Rattle.packet_socket.specs.CallEffects.{Sending, interrupted_in, received_in, sent_in}
+use Rattle.joined_groups.specs.declared.groups.GroupError.TheVariants.{GroupsFull, NotGroup, NotJoined}
+use Rattle.joined_groups.specs.declared.groups.GroupError.TheVariants as errors
+use Rattle.packet_socket.specs.CallEffects.{EffectOf, Interrupting, Joining, Leaving, OfAnswer, Receiving, Request}
+use Rattle.packet_socket.specs.CallEffects.{Sending, interrupted_in, joined_in, left_in, received_in, sent_in}
 use Rattle.packet_socket.specs.declared.call.HostAnswer.{HostAnswer}
 use Rattle.driver.specs.SendSteps.{SendAnswer}
 use Rattle.driver.specs.declared.transmit.SendError.TheVariants.{RingFull, TooLong, TooShort}
 use Rattle.packet_socket.specs.declared.receive.RecvError.{RecvError}
 use Rattle.packet_socket.specs.declared.receive.RecvError.TheVariants.{Empty, NoSocket}
-use Rattle.packet_socket.specs.HostEffects.{InterruptEffect, MakesNoAccess, RecvEffect, SendEffect}
+use Rattle.packet_socket.specs.HostEffects.{GroupAnswer, InterruptEffect, JoinEffect, LeaveEffect, MakesNoAccess, RecvEffect, SendEffect}
 use Rattle.packet_socket.specs.HostState.{HostState}
 
 -- The accesses over a bus are those of the stages.
@@ -30,10 +35,18 @@ passes-accesses bus (Then made Holds later) old new past it =
     ∙ ap (λ (list : List Access). made ++ list) (passes-accesses bus later it.middle new it.behind it.later)
 
 -- If ICR isn't read, or after it was read, more is known.
-pub flows-changed : (reads_icr up : Bool) (old new : DriverInWorld) (done : DriverDid) (past : Past)
-    → changed_by reads_icr up old new done past → FlowsTo up old new done past
-flows-changed true up old new done past it = it.flows
-flows-changed false up old new done past it = it.flows
+pub flows-changed : (kind : ActKind) (up : Bool) (old new : DriverInWorld) (done : DriverDid) (past : Past)
+    → changed_by kind up old new done past → FlowsTo up old new done past
+flows-changed HandlesInterrupt up old new done past it = it.flows
+flows-changed MovesFrames up old new done past it = it.flows
+flows-changed SetsGroups up old new done past it = it.flows
+
+-- The accesses of a call are those of a host.
+pub own-host : (kind : ActKind) (counts : Counts) (accesses : List Access) → All (IsAccessOf kind counts) accesses
+    → All (IsOfHost counts) accesses
+own-host HandlesInterrupt counts accesses own = λ k d below. inl (own k d below)
+own-host MovesFrames counts accesses own = λ k d below. inl (own k d below)
+own-host SetsGroups counts accesses own = λ k d below. inr (own k d below)
 
 -- Whatever follows from the way in which an act was run follows from an effect.
 abbrev pub Maps : Effect → Type 1
@@ -98,6 +111,48 @@ interrupt-map (answers.Handled n) S h h' world Runs Also run it =
       },
     )
 
+pub join-map : (group : List ℕ) (result : GroupAnswer) → Maps (JoinEffect group result)
+join-map group (Ok u) S h h' world Runs Also run it =
+    let ran = run _ it.runs in (
+      ran.0,
+      record {
+        group_is = it.group_is;
+        not_yet = it.not_yet;
+        room = it.room;
+        joined = it.joined;
+        accesses = it.accesses;
+        sets = it.sets;
+        runs = ran.1;
+      },
+    )
+join-map group (Err NotGroup) S h h' world Runs Also run it =
+    let ran = none-map S h h' Runs Also run it.1 in (ran.0, (it.0, ran.1))
+join-map group (Err errors.Joined) S h h' world Runs Also run it =
+    let ran = none-map S h h' Runs Also run it.2 in (ran.0, (it.0, it.1, ran.1))
+join-map group (Err GroupsFull) S h h' world Runs Also run it =
+    let ran = none-map S h h' Runs Also run it.3 in (ran.0, (it.0, it.1, it.2, ran.1))
+join-map group (Err NotJoined) S h h' world Runs Also run it = absurd it
+
+pub leave-map : (group : List ℕ) (result : GroupAnswer) → Maps (LeaveEffect group result)
+leave-map group (Ok u) S h h' world Runs Also run it =
+    let ran = run _ it.runs in (
+      ran.0,
+      record {
+        group_is = it.group_is;
+        left = it.left;
+        others = it.others;
+        accesses = it.accesses;
+        sets = it.sets;
+        runs = ran.1;
+      },
+    )
+leave-map group (Err NotGroup) S h h' world Runs Also run it =
+    let ran = none-map S h h' Runs Also run it.1 in (ran.0, (it.0, ran.1))
+leave-map group (Err NotJoined) S h h' world Runs Also run it =
+    let ran = none-map S h h' Runs Also run it.2 in (ran.0, (it.0, it.1, ran.1))
+leave-map group (Err errors.Joined) S h h' world Runs Also run it = absurd it
+leave-map group (Err GroupsFull) S h h' world Runs Also run it = absurd it
+
 -- A call that is a value.
 answer-map : {R : Type 0} (result : Option R) (Does : R → Effect) → ((r : R) → Maps (Does r)) → Maps (OfAnswer result Does)
 answer-map (Some result) Does maps = maps result
@@ -107,3 +162,5 @@ pub call-map : (request : Request) (answer : HostAnswer (List ℕ)) → Maps (Ef
 call-map (Sending frame) answer = answer-map (sent_in answer) (SendEffect frame) (send-map frame)
 call-map (Receiving socket) answer = answer-map (received_in answer) (RecvEffect socket) (recv-map socket)
 call-map Interrupting answer = answer-map (interrupted_in answer) InterruptEffect interrupt-map
+call-map (Joining group) answer = answer-map (joined_in answer) (JoinEffect group) (join-map group)
+call-map (Leaving group) answer = answer-map (left_in answer) (LeaveEffect group) (leave-map group)

@@ -44,7 +44,8 @@ use Rattle.packet_socket.proofs.QueuedPieces.{all-joined, all-pieces, entries-fi
 use Rattle.packet_socket.proofs.WaitingFrames.{AreLong, AreSame, IsLong, all-long, all-long-after, queue-frames-same, read-long}
 use Rattle.packet_socket.proofs.WaitingFrames.{read-pieces, read-stands}
 use Rattle.driver_law.proofs.Steps.{goes-happens}
-use Rattle.packet_socket.proofs.Stretches.{accounts-stay, driver-stays, flows-hold, follows-join, goes-hold, queues-stand}
+use Rattle.driver_law.proofs.Accesses.{follows-join}
+use Rattle.packet_socket.proofs.Stretches.{accounts-stay, driver-stays, flows-hold, goes-hold, queues-stand}
 
 -- a host's moment, of its driver and its sockets
 abbrev pub host_in : {B : Type 0} → Scene B SocketsState → HostMoment B

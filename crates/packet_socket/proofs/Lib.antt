@@ -8,6 +8,8 @@ pub mod Stretches
 pub mod GivenFrames
 pub mod ShownFrames
 pub mod HandledInterrupts
+pub mod DriverActs
 pub mod DriversAccesses
+pub mod ChangedGroups
 pub mod Effects
 pub mod SentFrames

@@ -1,5 +1,5 @@
--- A host makes no access, or sends a frame.
-use Rattle.std.proofs.Common.{Bool, ◌≡◌, ◌<◌, ◌+◌, ◌-◌, ◌%◌, ◌∷◌, [], ℕ, true, false, List, length, refl, sym, ap, subst, ◌∙◌, arith}
+-- A host sends a frame.
+use Rattle.std.proofs.Common.{◌≡◌, ◌<◌, ◌+◌, ◌-◌, ◌%◌, ◌∷◌, [], ℕ, true, List, length, refl, sym, ap, subst, ◌∙◌, arith}
 use Rattle.std.specs.List.{All}
 use Rattle.std.specs.Prelude.{Err, Ok, ◌↔◌}
 use Rattle.dma_memory.specs.Layout.{Counts}
@@ -7,52 +7,26 @@ use Rattle.descriptors.specs.Frames.{longest_frame, padded, shortest_sent}
 use Rattle.adapter.specs.Slots.{written_back}
 use Rattle.adapter.specs.World.{World}
 use Rattle.adapter.specs.declared.offsets.TheConstants.{TDT}
-use Rattle.bus.proofs.Composition.{happens_none}
-use Rattle.bus.proofs.Lists.{all-none}
 use Rattle.bus.specs.PastOfStretch.{Past, joined, nothing}
 use Rattle.bus.specs.declared.bus.Bus.{Ghosts}
 use Rattle.bus.specs.declared.event.Access.{Access}
 use Rattle.bus.specs.declared.event.Access.TheVariants.{Stores, Writes}
 use Rattle.driver_law.proofs.FramesCounted.{slots_have_frames}
-use Rattle.driver_law.proofs.Stretches.{goes_join, joined-nothing, work_kept}
+use Rattle.driver_law.proofs.Stretches.{goes_join, joined-nothing}
 use Rattle.driver_law.specs.Calls.{FollowsWrites, GoesTo, IsRefilled, Moment, driver_did, driver_in, held_at, send_accesses}
 use Rattle.driver_law.specs.Calls.{transmit_buffer, whole_descriptor}
 use Rattle.driver_law.specs.DriverState.{DriverState, holding, transmit_slot, transmit_tail}
 use Rattle.driver_law.specs.ReadyDrivers.{Ready}
 use Rattle.driver.specs.SendSteps.{HasWrongLength, SendAnswer, Sends, accepted_by, loads_to_free, with_transmit_slots}
 use Rattle.driver.specs.declared.transmit.SendError.TheVariants.{RingFull, TooLong, TooShort}
-use Rattle.packet_socket.specs.HostActs.{OverBus, IsOfDriver, OnlyLastWrites, PassesStages, CallStages, accesses_in, no_act}
+use Rattle.packet_socket.specs.HostActs.{CallStages, IsOfDriver, MovesFrames, OnlyLastWrites, OverBus, PassesStages, accesses_in}
 use Rattle.packet_socket.specs.HostCalls.{HostMoment, IsReadyHost, driver_at, driver_of, host_at}
-use Rattle.packet_socket.specs.HostEffects.{AreLeft, IsSendable, MakesNoAccess, SendEffect}
+use Rattle.packet_socket.specs.HostEffects.{AreLeft, IsSendable, SendEffect}
 use Rattle.packet_socket.specs.HostState.{HostState}
 use Rattle.packet_socket.proofs.DriversAccesses.{frees-last, frees-of_driver, sends-last, sends-of_driver}
-use Rattle.packet_socket.proofs.Stretches.{accounts-stay, driver-stays, follows-join, host-happens, with_driver}
-
--- No access.
-
-no-acts : {up : Bool} {B : Type 0} (bus : Ghosts B) (now : HostMoment B) → IsReadyHost bus up now → OverBus bus up [] [] now now no_act
-no-acts {up} bus now is = record {
-  past = nothing;
-  stages = (refl, refl);
-  own = all-none (IsOfDriver now.host.driver.layout);
-  last_writes = tt;
-  changed = host-happens now.host (bus.world now.bus) (bus.world now.bus) nothing is.ready (happens_none (bus.world now.bus));
-  follows = record {
-    set = refl;
-    off = λ off leaves. record { none_stored = refl; none_missed = refl };
-    link = λ leaves link. link;
-  };
-  work = λ work. work;
-  refilled = λ refilled. refilled;
-  offered = λ offered. offered;
-}
-
-pub makes-none : {up : Bool} {B : Type 0} (bus : Ghosts B) (old : HostMoment B) (b : B) (h' : HostState) → IsReadyHost bus up old
-    → b ≡ old.bus → h' ≡ old.host → MakesNoAccess old.host h' (OverBus bus up [] [] old (host_at b h'))
-makes-none {up} {B} bus old b h' is same stays =
-    subst (λ (h : HostState). MakesNoAccess old.host h (OverBus bus up [] [] old (host_at b h))) (sym stays)
-    (subst (λ (x : B). MakesNoAccess old.host old.host (OverBus bus up [] [] old (host_at x old.host))) (sym same)
-    (record { stays = refl; runs = no-acts bus old is }))
+use Rattle.packet_socket.proofs.DriverActs.{driver-acts, makes-none}
+use Rattle.driver_law.proofs.Accesses.{follows-join}
+use Rattle.packet_socket.proofs.Stretches.{with_driver}
 
 -- Sending.
 
@@ -67,33 +41,11 @@ send-acts : {B : Type 0} (bus : Ghosts B) (old : HostMoment B) (new : Moment B) 
     (driver_in (holding (driver_at bus old).driver.handed_out new.driver) (bus.world new.bus)) (driver_did [] accepted) past
     → FollowsWrites (bus.world old.bus) (bus.world new.bus) past
     → OverBus bus true [] accepted old (host_at new.bus (with_driver new.driver old.host))
-    (record { stages = stages; reads_icr = false; taken = [] })
+    (record { stages = stages; kind = MovesFrames; taken = [] })
 send-acts bus old new accepted stages past is others passes own last goes follows =
-    let h = old.host in
-    let a = bus.world old.bus in
-    let b = bus.world new.bus in
-    let d = driver_of h a in
-    let h' = with_driver new.driver h in
-    let stand = goes.flows.ready.stand in
-    let driver : GoesTo true (driver_in d a) (driver_in (driver_of h' b) b) (driver_did [] accepted) past =
-    subst (λ (end : DriverState). GoesTo true (driver_in d a) (driver_in end b) (driver_did [] accepted) past)
-    (sym (driver-stays h new.driver a b is.ready goes.flows.layout stand)) goes in
-    record {
-      past = past;
-      stages = passes;
-      own = own;
-      last_writes = last;
-      changed = record {
-        sizes = is.ready.sizes;
-        driver = driver;
-        accounts = accounts-stay h new.driver a b past.stored is.ready goes.flows.layout stand goes.flows.holds;
-      };
-      follows = follows;
-      work = λ work. let behind = work_kept d (driver_of h' b) a b [] accepted past driver
-          (record { enabled = work.enabled; asked = work.asked }) in record { enabled = behind.enabled; asked = behind.asked };
-      refilled = λ refilled. subst (λ (host : HostState). IsRefilled host.driver) (sym others) refilled;
-      offered = λ offered. subst (λ (host : HostState). host.driver.staged ≡ []) (sym others) offered;
-    }
+    driver-acts bus old new accepted MovesFrames stages past is (λ from to done happened it. it)
+    (λ refilled. subst (λ (host : HostState). IsRefilled host.driver) (sym others) refilled)
+    (λ offered. subst (λ (host : HostState). host.driver.staged ≡ []) (sym others) offered) passes own last goes follows
 
 -- The slots that are left have frames that are still to be sent.
 left-over : (d : DriverState) (world : World) → Ready d world → written_back d.oldest_transmit world ≡ []

@@ -8,9 +8,7 @@ use Rattle.adapter.specs.World.{World}
 use Rattle.bus.specs.Law.{Happens}
 use Rattle.bus.specs.PastOfStretch.{Past, joined}
 use Rattle.driver_law.proofs.Steps.{goes-happens}
-use Rattle.driver_law.specs.Calls.{DriverDid, DriverInWorld, FlowsTo, FollowsWrites, GoesTo, driver_did, driver_in}
-use Rattle.bus.proofs.Links.{link_stretches_join}
-use Rattle.bus.proofs.Settings.{settings_join, while_off-joins}
+use Rattle.driver_law.specs.Calls.{DriverDid, DriverInWorld, FlowsTo, GoesTo, driver_did, driver_in}
 use Rattle.driver_law.specs.DriverState.{DriverState, HandedOut, holding}
 use Rattle.driver_law.specs.ReadyDrivers.{ReadyWith, Stands}
 use Rattle.packet_socket.specs.HostCalls.{Accounts, HostDid, HostGoesTo, HostInWorld, HostInterval, HostReadyWith}
@@ -81,15 +79,6 @@ goes-hold d a e b taken sent past held goes ready = record {
   flows = flows-hold d a e b taken sent past held goes.flows ready;
   causes = goes.causes;
   recorded = goes.recorded;
-}
-
--- Settings over two intervals, one after the other.
-pub follows-join : (a b c : World) (first later : Past) → FollowsWrites a b first → FollowsWrites b c later
-    → FollowsWrites a c (joined first later)
-follows-join a b c first later one two = record {
-  set = settings_join a b c first later one.set two.set;
-  off = while_off-joins a b first later one.set one.off two.off;
-  link = link_stretches_join a b c first later one.link two.link;
 }
 
 -- Whatever happens between two calls.

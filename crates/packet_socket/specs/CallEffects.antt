@@ -6,29 +6,36 @@ use Rattle.driver.specs.SendSteps.{SendAnswer, accepted_by}
 use Rattle.driver.specs.declared.interrupt.Handled.{Handled}
 use Rattle.packet_socket.specs.HostActs.{CallsUp, Effect}
 use Rattle.packet_socket.specs.HostCalls.{Given, HostMoment}
-use Rattle.packet_socket.specs.HostEffects.{InterruptEffect, RecvEffect, SendEffect, frame_answer, given_by}
+use Rattle.packet_socket.specs.HostEffects.{GroupAnswer, InterruptEffect, JoinEffect, LeaveEffect, RecvEffect, SendEffect}
+use Rattle.packet_socket.specs.HostEffects.{frame_answer, given_by}
 use Rattle.packet_socket.specs.declared.receive.RecvError.{RecvError}
 use Rattle.packet_socket.specs.declared.call.HostAnswer.{HostAnswer}
-use Rattle.packet_socket.specs.declared.call.HostAnswer.TheVariants.{Interrupted, Received, Sent}
+use Rattle.packet_socket.specs.declared.call.HostAnswer.TheVariants.{Interrupted, Joined, Left, Received, Sent}
 use Rattle.packet_socket.specs.declared.call.HostCall.{HostCall}
-use Rattle.packet_socket.specs.declared.call.HostCall.TheVariants.{Interrupt, Recv, Send}
+use Rattle.packet_socket.specs.declared.call.HostCall.TheVariants.{Interrupt, Join, Leave, Recv, Send}
 
 -- What is asked of a host by a call.
 pub data Request : Type 0 where
   Sending : (frame : List ℕ) → Request
   Receiving : (socket : ℕ) → Request
   Interrupting : Request
+  Joining : (group : List ℕ) → Request
+  Leaving : (group : List ℕ) → Request
 
 abbrev pub request_of : HostCall → Request
 request_of (Send frame) = Sending frame.now
 request_of (Recv socket) = Receiving socket
 request_of Interrupt = Interrupting
+request_of (Join group) = Joining group
+request_of (Leave group) = Leaving group
 
 -- the answer with the frame that a socket returned in place of its size: the first bytes of `into`
 abbrev pub answer_in : (into : List ℕ) → HostAnswer ℕ → HostAnswer (List ℕ)
 answer_in into (Sent result) = Sent result
 answer_in into (Received result) = Received (frame_answer into result)
 answer_in into (Interrupted result) = Interrupted result
+answer_in into (Joined result) = Joined result
+answer_in into (Left result) = Left result
 
 -- a frame that is returned has 60 to 1,518 bytes
 abbrev pub IsLegalAnswer : HostAnswer ℕ → Type 0
@@ -64,6 +71,14 @@ abbrev pub interrupted_in : HostAnswer (List ℕ) → Option Handled
 interrupted_in (Interrupted result) = Some result
 interrupted_in answer = None
 
+abbrev pub joined_in : HostAnswer (List ℕ) → Option GroupAnswer
+joined_in (Joined result) = Some result
+joined_in answer = None
+
+abbrev pub left_in : HostAnswer (List ℕ) → Option GroupAnswer
+left_in (Left result) = Some result
+left_in answer = None
+
 -- the effect of a result; an answer that belongs to another kind of call is impossible
 abbrev pub OfAnswer : {R : Type 0} → Option R → (R → Effect) → Effect
 OfAnswer (Some result) Does = Does result
@@ -74,6 +89,8 @@ abbrev pub EffectOf : Request → HostAnswer (List ℕ) → Effect
 EffectOf (Sending frame) answer = OfAnswer (sent_in answer) (SendEffect frame)
 EffectOf (Receiving socket) answer = OfAnswer (received_in answer) (RecvEffect socket)
 EffectOf Interrupting answer = OfAnswer (interrupted_in answer) InterruptEffect
+EffectOf (Joining group) answer = OfAnswer (joined_in answer) (JoinEffect group)
+EffectOf (Leaving group) answer = OfAnswer (left_in answer) (LeaveEffect group)
 
 -- A call over a bus had the effect of its answer. The transmit side must be set up.
 abbrev pub CallsBy : {B : Type 0} → Ghosts B → Request → HostAnswer (List ℕ) → (old new : HostMoment B) → Type 0

@@ -1,9 +1,10 @@
 -- What a call of a host does, stage by stage (our choice). An effect states this once, and takes `Runs`, which states how the stages are
 -- run. Over a bus, `Runs` is `OverBus`. In the steps of a network, it is `InSteps` of the crate `host_calls`.
-use Rattle.std.specs.Prelude.{⊤, ◌≡◌, ◌<◌, ◌⊎◌, ◌++◌, ◌∷◌, [], ℕ, Bool, true, false, All, List}
+use Rattle.std.specs.Prelude.{⊤, ◌≡◌, ◌<◌, ◌⊎◌, ◌+◌, ◌*◌, ◌++◌, ◌∷◌, [], ℕ, Bool, true, All, List}
 use Rattle.dma_memory.specs.Layout.{Counts}
 use Rattle.adapter.specs.World.{World}
-use Rattle.adapter.specs.declared.offsets.TheConstants.{ICR, MPC, RDT, TDT}
+use Rattle.adapter.specs.declared.offsets.TheConstants.{ICR, MPC, MTA, RDT, REGISTER_BYTES, TDT}
+use Rattle.rx_engine.specs.declared.filter.TheConstants.{TABLE_WORDS}
 use Rattle.bus.specs.PastOfStretch.{Past, joined, nothing}
 use Rattle.bus.specs.declared.bus.Bus.{Ghosts}
 use Rattle.bus.specs.declared.event.Access.{Access}
@@ -24,28 +25,55 @@ abbrev pub accesses_in : CallStages → List Access
 accesses_in Ends = []
 accesses_in (Then made Holds later) = made ++ accesses_in later
 
+-- The kind of a call: it handles an interrupt, sends or returns a frame, or changes the groups that the host has joined. The first access
+-- of a call that handles an interrupt reads ICR. A call that makes no access counts as `MovesFrames`.
+pub data ActKind : Type 0 where
+  HandlesInterrupt : ActKind
+  MovesFrames : ActKind
+  SetsGroups : ActKind
+
 -- What a call does. An effect passes it to `Runs`.
 pub record HostAct : Type 1 where
   pub stages : CallStages
-  -- whether the first access reads ICR (used over a bus)
-  pub reads_icr : Bool
+  pub kind : ActKind
   -- the frames that it takes off the receive ring
   pub taken : List (List ℕ)
 
 -- a call without accesses
 abbrev pub no_act : HostAct
-no_act = record { stages = Ends; reads_icr = false; taken = [] }
+no_act = record { stages = Ends; kind = MovesFrames; taken = [] }
 
 -- a write of RDT or TDT; the value is the index of a slot of its ring
 abbrev pub IsTailWrite : Counts → (offset value : ℕ) → Type 0
 IsTailWrite counts offset value = ((offset ≡ RDT) × (value < counts.rx)) ⊎ ((offset ≡ TDT) × (value < counts.tx))
 
--- An access of an initialized driver: a load, a store, a read of ICR or MPC, or a write of RDT or TDT.
+-- An access of a call that handles an interrupt or moves frames: a load, a store, a read of ICR or MPC, or a write of RDT or TDT.
 abbrev pub IsOfDriver : Counts → Access → Type 0
 IsOfDriver counts (Reads offset value) = (offset ≡ ICR) ⊎ (offset ≡ MPC)
 IsOfDriver counts (Writes offset value) = IsTailWrite counts offset value
 IsOfDriver counts (Loads address size) = ⊤
 IsOfDriver counts (Stores address bytes) = ⊤
+
+-- the offset of a word of the group table
+pub record IsGroupWord (offset : ℕ) : Type 0 where
+  pub word : ℕ
+  pub below : word < TABLE_WORDS
+  pub is : offset ≡ MTA + REGISTER_BYTES * word
+
+-- An access of a call that changes the groups joined: a write of a word of the group table.
+abbrev pub IsGroupWrite : Access → Type 0
+IsGroupWrite (Writes offset value) = IsGroupWord offset
+IsGroupWrite _ = ⊥
+
+-- An access of a call of this kind.
+abbrev pub IsAccessOf : ActKind → Counts → Access → Type 0
+IsAccessOf HandlesInterrupt = IsOfDriver
+IsAccessOf MovesFrames = IsOfDriver
+IsAccessOf SetsGroups = λ counts. IsGroupWrite
+
+-- An access of any call of a host.
+abbrev pub IsOfHost : Counts → Access → Type 0
+IsOfHost counts access = IsOfDriver counts access ⊎ IsGroupWrite access
 
 -- Only the last access may write a register. So a call puts a frame in the ring, or offers slots, only by its last access.
 abbrev pub OnlyLastWrites : List Access → Type 0
@@ -68,10 +96,11 @@ pub record ReadsThenGoes (up : Bool) (old new : DriverInWorld) (did : DriverDid)
   pub whole : past ≡ joined first later
   pub goes : GoesTo up (driver_in old.driver asked) new did later
 
--- what an interval changes in the driver
-abbrev pub changed_by : (reads_icr up : Bool) → DriverInWorld → DriverInWorld → DriverDid → Past → Type 0
-changed_by true up = ReadsThenGoes up
-changed_by false up = GoesTo up
+-- what a call of this kind changes in the driver
+abbrev pub changed_by : ActKind → (up : Bool) → DriverInWorld → DriverInWorld → DriverDid → Past → Type 0
+changed_by HandlesInterrupt up = ReadsThenGoes up
+changed_by MovesFrames up = GoesTo up
+changed_by SetsGroups up = GoesTo up
 
 -- Over a bus.
 
@@ -99,11 +128,11 @@ pub record OverBus {B : Type 0} (bus : Ghosts B) (up : Bool) (given : List Given
     (act : HostAct) : Type 0 where
   pub past : Past
   pub stages : PassesStages bus act.stages old.bus new.bus past
-  pub own : All (IsOfDriver old.host.driver.layout) (accesses_in act.stages)
+  pub own : All (IsAccessOf act.kind old.host.driver.layout) (accesses_in act.stages)
   pub last_writes : OnlyLastWrites (accesses_in act.stages)
   -- What changed, with the account of frames. In particular, the host is ready at the end.
   pub changed :
-      HostInterval (changed_by act.reads_icr up) (in_world old.host (bus.world old.bus)) (in_world new.host (bus.world new.bus))
+      HostInterval (changed_by act.kind up) (in_world old.host (bus.world old.bus)) (in_world new.host (bus.world new.bus))
       (did act.taken given accepted) past
   pub follows : FollowsWrites (bus.world old.bus) (bus.world new.bus) past
   pub work : HasNoForgottenWork old.host.driver (bus.world old.bus) → HasNoForgottenWork new.host.driver (bus.world new.bus)

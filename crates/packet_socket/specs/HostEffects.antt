@@ -1,20 +1,27 @@
 -- The effects of calls of a host, by their results. Each record states one way in which a call ends: when the call has this result, what
 -- the host is afterwards (h'), and the call's stages (`runs`). `Runs` is explained in specs/HostActs. `world` is the adapter and memory
 -- before the call. A read of ICR clears the causes (13.4.17 "Interrupt Cause Read Register"); the rest is our choice.
-use Rattle.std.specs.Prelude.{⊤, ◌≡◌, ◌≤◌, ◌<◌, ◌+◌, ◌-◌, ◌++◌, ◌∷◌, [], ℕ, Err, false, List, Ok, Result, true, length, map, take}
-use Rattle.std.specs.List.{concat}
+use Rattle.std.specs.Prelude.{⊤, ◌≡◌, ◌≤◌, ◌<◌, ◌+◌, ◌-◌, ◌++◌, ◌∷◌, [], ℕ, Err, List, Ok, Result, length, map, take}
+use Rattle.std.specs.List.{Contains, concat}
 use Rattle.registers.specs.Bits.{HasBit, Meet}
 use Rattle.registers.specs.Places.{rxt0}
 use Rattle.descriptors.specs.Frames.{longest_frame, shortest_sent}
+use Rattle.rx_engine.specs.Addresses.{IsGroup}
+use Rattle.rx_engine.specs.GroupLists.{Removes}
 use Rattle.adapter.specs.HostFrames.{frames_to_send}
 use Rattle.adapter.specs.Slots.{written_back}
 use Rattle.adapter.specs.World.{World}
 use Rattle.adapter.specs.declared.offsets.TheConstants.{ICR}
 use Rattle.bring_up.specs.WrittenRegisters.{handled_causes}
+use Rattle.bring_up.specs.declared.config.TheConstants.{MOST_GROUPS}
 use Rattle.bus.specs.PastOfStretch.{Past}
+use Rattle.bus.specs.declared.event.Access.{Access}
 use Rattle.bus.specs.declared.event.Access.TheVariants.{Reads}
 use Rattle.driver_law.specs.Calls.{HasNoForgottenWork, driver_in, frames_ended, send_accesses}
 use Rattle.driver_law.specs.DriverState.{HandedOut, next_receive, numbers_of, with_owners}
+use Rattle.joined_groups.specs.Groups.{HasTable, SetsTable, with_groups}
+use Rattle.joined_groups.specs.declared.groups.GroupError.{GroupError}
+use Rattle.joined_groups.specs.declared.groups.GroupError.TheVariants.{GroupsFull, Joined, NotGroup, NotJoined}
 use Rattle.driver.specs.HandlerSteps.{GrowsBy, IsLook, OnlyReceives, ReadsMisses, TakesAndOffers, offering_accesses, taking_accesses}
 use Rattle.driver.specs.Parts.{joined_frames}
 use Rattle.driver.specs.SendSteps.{SendAnswer, loads_to_free, with_transmit_slots}
@@ -23,7 +30,7 @@ use Rattle.driver.specs.declared.receiver.Received.{Received}
 use Rattle.driver.specs.declared.interrupt.Handled.{Handled}
 use Rattle.driver.specs.declared.interrupt.Handled.TheVariants.{NotMine}
 use Rattle.driver.specs.declared.interrupt.Handled.TheVariants as answers
-use Rattle.packet_socket.specs.HostActs.{HostAct, Effect, Ends, Then, no_act}
+use Rattle.packet_socket.specs.HostActs.{HandlesInterrupt, HostAct, Effect, Ends, MovesFrames, SetsGroups, Then, no_act}
 use Rattle.packet_socket.specs.HostCalls.{AreSorted, Given, LeavesQueue, receive_accesses, waiting_frames, without_socket}
 use Rattle.packet_socket.specs.HostState.{HostState, queue_at}
 use Rattle.packet_socket.specs.declared.receive.RecvError.{RecvError}
@@ -60,7 +67,7 @@ pub record AcceptsFrame (frame : List ℕ) (h h' : HostState) (Runs : HostAct �
     stages = Then (loads_to_free h.driver (h'.driver.sending - 1))
         (λ old past new. AreLeft h'.driver.oldest_transmit (h'.driver.sending - 1) new)
         (Then (send_accesses h.driver frame) (λ old past new. ⊤) Ends);
-    reads_icr = false;
+    kind = MovesFrames;
     taken = [];
   })
 
@@ -73,7 +80,7 @@ pub record FindsRingFull (frame : List ℕ) (h h' : HostState) (Runs : HostAct �
   pub stays : h' ≡ h
   pub runs : Runs (record {
     stages = Then (loads_to_free h.driver h'.driver.sending) (λ old past new. AreLeft h'.driver.oldest_transmit h'.driver.sending new) Ends;
-    reads_icr = false;
+    kind = MovesFrames;
     taken = [];
   })
 
@@ -110,7 +117,7 @@ pub record ReturnsFrame (socket : ℕ) (frame : List ℕ) (h h' : HostState) (Ru
   pub runs : Runs (record {
     stages = Then (receive_accesses h.driver h'.driver received.parts offered)
         (λ old past new. waiting_frames h socket world ≡ frame ∷ waiting_frames h' socket new) Ends;
-    reads_icr = false;
+    kind = MovesFrames;
     taken = [];
   })
 
@@ -133,7 +140,7 @@ pub record FindsNoCause (h h' : HostState) (Runs : HostAct → Type 0) : Type 0 
   pub causes : ℕ
   pub none : ¬ Meet causes handled_causes
   pub stays : h' ≡ h
-  pub runs : Runs (record { stages = Then (Reads ICR causes ∷ []) (ClearsCauses causes) Ends; reads_icr = true; taken = [] })
+  pub runs : Runs (record { stages = Then (Reads ICR causes ∷ []) (ClearsCauses causes) Ends; kind = HandlesInterrupt; taken = [] })
 
 -- Handled: n frames are taken. `taken` has the pieces of each. They are at least as many as the frames that ended in finished slots when
 -- the call began (`least`), and the first of the frames that the host held, so those are among them. A frame that has a socket goes to the
@@ -151,7 +158,7 @@ pub record HandlesFrames (n : ℕ) (h h' : HostState) (Runs : HostAct → Type 0
   -- The buffers of the frames leave the ring, those of `rest` stay outstanding, and those of `offered` are offered. The index of the oldest
   -- slot isn't stated here: it follows from the host being ready after the call.
   pub served : TakesAndOffers h.driver h'.driver (concat (map numbers_of taken))
-  -- Which transmit slots are outstanding doesn't change.
+  -- Which transmit slots are outstanding, and which groups are joined, doesn't change.
   pub only_receives : OnlyReceives h.driver h'.driver
   -- the number of descriptors that the last look loads
   pub loads : ℕ
@@ -164,7 +171,7 @@ pub record HandlesFrames (n : ℕ) (h h' : HostState) (Runs : HostAct → Type 0
         (λ old past new. IsLook h'.driver.oldest_receive served.rest new loads)
         (Then (offering_accesses h.driver served.offered (next_receive h'.driver))
         (λ old past new. HasBit world.adapter.causes.mask rxt0 → HasNoForgottenWork h'.driver new) Ends));
-    reads_icr = true;
+    kind = HandlesInterrupt;
     taken = joined_frames taken;
   })
 
@@ -172,3 +179,59 @@ pub record HandlesFrames (n : ℕ) (h h' : HostState) (Runs : HostAct → Type 0
 abbrev pub InterruptEffect : Handled → Effect
 InterruptEffect NotMine h h' Runs world = FindsNoCause h h' Runs
 InterruptEffect (answers.Handled n) h h' Runs world = HandlesFrames n h h' Runs world
+
+-- Joining and leaving groups.
+
+-- the host, while its driver has joined these groups
+abbrev pub with_joined : List (List ℕ) → HostState → HostState
+with_joined groups h = record h { driver = with_groups groups h.driver }
+
+-- The group table follows the groups: if it had the numbers of those joined before, it has the numbers of those joined afterwards right
+-- after the last access, or at once if there is no access.
+abbrev pub groups_act : (h h' : HostState) → List Access → HostAct
+groups_act h h' accesses = record {
+  stages = Then accesses (λ old past new. HasTable h.driver.groups old → HasTable h'.driver.groups new) Ends;
+  kind = SetsGroups;
+  taken = [];
+}
+
+-- Ok of a join: the group is joined, and nothing else changes.
+pub record JoinsGroup (group : List ℕ) (h h' : HostState) (Runs : HostAct → Type 0) : Type 0 where
+  pub group_is : IsGroup group
+  pub not_yet : ¬ Contains h.driver.groups group
+  pub room : length h.driver.groups < MOST_GROUPS
+  pub joined : h' ≡ with_joined (h.driver.groups ++ group ∷ []) h
+  -- There is no access if a joined group has the same number. Otherwise one word of the group table is written.
+  pub accesses : List Access
+  pub sets : SetsTable h.driver.groups group h'.driver.groups accesses
+  pub runs : Runs (groups_act h h' accesses)
+
+-- Ok of a leave: the group isn't joined any more, and nothing else changes.
+pub record LeavesGroup (group : List ℕ) (h h' : HostState) (Runs : HostAct → Type 0) : Type 0 where
+  pub group_is : IsGroup group
+  pub left : Removes group h.driver.groups h'.driver.groups
+  pub others : h' ≡ with_joined h'.driver.groups h
+  -- There is no access if a group that stays joined has the same number. Otherwise one word of the group table is written.
+  pub accesses : List Access
+  pub sets : SetsTable h'.driver.groups group h'.driver.groups accesses
+  pub runs : Runs (groups_act h h' accesses)
+
+abbrev pub GroupAnswer : Type 0
+GroupAnswer = Result (Unit {0}) GroupError
+
+-- the effect of each result of a join; NotJoined is impossible
+abbrev pub JoinEffect : List ℕ → GroupAnswer → Effect
+JoinEffect group (Ok u) h h' Runs world = JoinsGroup group h h' Runs
+JoinEffect group (Err NotGroup) h h' Runs world = (¬ IsGroup group) × MakesNoAccess h h' Runs
+JoinEffect group (Err Joined) h h' Runs world = IsGroup group × Contains h.driver.groups group × MakesNoAccess h h' Runs
+JoinEffect group (Err GroupsFull) h h' Runs world =
+    IsGroup group × (¬ Contains h.driver.groups group) × (length h.driver.groups ≡ MOST_GROUPS) × MakesNoAccess h h' Runs
+JoinEffect group (Err NotJoined) h h' Runs world = ⊥
+
+-- the effect of each result of a leave; Joined and GroupsFull are impossible
+abbrev pub LeaveEffect : List ℕ → GroupAnswer → Effect
+LeaveEffect group (Ok u) h h' Runs world = LeavesGroup group h h' Runs
+LeaveEffect group (Err NotGroup) h h' Runs world = (¬ IsGroup group) × MakesNoAccess h h' Runs
+LeaveEffect group (Err NotJoined) h h' Runs world = IsGroup group × (¬ Contains h.driver.groups group) × MakesNoAccess h h' Runs
+LeaveEffect group (Err Joined) h h' Runs world = ⊥
+LeaveEffect group (Err GroupsFull) h h' Runs world = ⊥

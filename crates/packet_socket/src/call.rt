@@ -10,6 +10,7 @@ use crate::Host;
 use crate::receive::RecvError;
 use bus::Bus;
 use driver::{Handled, SendError};
+use joined_groups::GroupError;
 
 /// A call of a host, as a value.
 #[derive(Clone, Copy, Debug, Drop)]
@@ -20,6 +21,10 @@ pub enum HostCall<'a> {
     Recv(usize),
     /// Handles an interrupt ([`Host::interrupt`]).
     Interrupt,
+    /// Joins a multicast group ([`Host::join`]).
+    Join([u8; 6]),
+    /// Leaves a multicast group ([`Host::leave`]).
+    Leave([u8; 6]),
 }
 
 /// The answer of a call of a host. `F` is the frame that a socket returned; [`Host::call`] returns its size in bytes.
@@ -31,6 +36,10 @@ pub enum HostAnswer<F> {
     Received(Result<F, RecvError>),
     /// The result of [`Host::interrupt`].
     Interrupted(Handled),
+    /// The result of [`Host::join`].
+    Joined(Result<(), GroupError>),
+    /// The result of [`Host::leave`].
+    Left(Result<(), GroupError>),
 }
 
 impl Host {
@@ -56,6 +65,8 @@ impl Host {
             HostCall::Send(frame) => HostAnswer::Sent(self.send(bus, frame)),
             HostCall::Recv(socket) => HostAnswer::Received(self.recv(bus, socket, into)),
             HostCall::Interrupt => HostAnswer::Interrupted(self.interrupt(bus)),
+            HostCall::Join(group) => HostAnswer::Joined(self.join(bus, group)),
+            HostCall::Leave(group) => HostAnswer::Left(self.leave(bus, group)),
         }
     }
 }

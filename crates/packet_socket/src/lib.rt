@@ -2,6 +2,7 @@
 #![tactic(auto)]
 
 mod call;
+mod groups;
 mod host;
 mod interrupt;
 mod law;

@@ -6,7 +6,7 @@ use Rattle.driver_law.specs.DriverState.{holding, receive_slot}
 use Rattle.driver_law.specs.OldestSlot.{LooksAtSlot, slot_after_oldest}
 use Rattle.driver.specs.InsideDriver.{state_of}
 use Rattle.driver.proofs.BufferQueue.{queue-split}
-use Rattle.driver.proofs.SeenSlots.{place-sum}
+use Rattle.driver_law.proofs.Places.{place-sum}
 use Rattle.driver.proofs.driver.Driver.descriptor_after.Goals as goal
 
 pub overflow_add-slot : goal.overflow_add-slot

@@ -13,6 +13,7 @@ use Rattle.driver_law.specs.Beginnings.{new_driver}
 use Rattle.driver_law.specs.DriverState.{DriverState, owners}
 use Rattle.driver_law.specs.Calls.{Ran, at, only}
 use Rattle.bus.specs.PastOfStretch.{nothing}
+use Rattle.joined_groups.specs.Groups.{AreNamedOnce}
 use Rattle.driver.specs.Initialisation.{OffersFirst, Refuses, transmit_accesses}
 use Rattle.driver.proofs.Initialisation.{initialises, new-still, stays-quiet, vlans-named}
 use Rattle.driver.proofs.FirstSlots.{offering, owners-offered}
@@ -35,15 +36,20 @@ returns-in_err-driver-clause-refuses g c honest =
 
 -- The driver that is made.
 made : (g : Over) (c : goal.After-enable_interrupts g)
-    → c.in_ok-driver.driver ≡ new_driver (configured_counts c.args.config.now) c.in_ok-driver.driver.pool
-made g c = c.in_ok-driver.ensures.new ∙ ap (λ (layout : Counts). new_driver layout c.in_ok-driver.driver.pool) c.in_ok-layout.ensures.counts
+    → c.in_ok-driver.driver ≡ new_driver (configured_counts c.args.config.now) c.of.result c.in_ok-driver.driver.pool
+made g c = c.in_ok-driver.ensures.new
+    ∙ ap (λ (layout : Counts). new_driver layout c.of.result c.in_ok-driver.driver.pool) c.in_ok-layout.ensures.counts
 
 offered : (g : Over) (c : goal.After-enable_interrupts g)
-    → OffersFirst g.B.Bus (at c.find_ring.new.bus (new_driver (configured_counts c.args.config.now) c.in_ok-driver.driver.pool))
+    → OffersFirst g.B.Bus (at c.find_ring.new.bus (new_driver (configured_counts c.args.config.now) c.of.result c.in_ok-driver.driver.pool))
     (at c.offer_first.new.bus c.offer_first.new.self)
 offered g c =
     subst (λ (d : DriverState). OffersFirst g.B.Bus (at c.find_ring.new.bus d) (at c.offer_first.new.bus c.offer_first.new.self))
     (made g c) c.offer_first.ensures.offers
+
+-- It has joined the groups of the configuration.
+named : (g : Over) (c : goal.After-enable_interrupts g) → AreNamedOnce c.args.config.now.groups.items c.of.result
+named g c = subst (λ (groups : List (List ℕ)). AreNamedOnce groups c.of.result) c.as_slice.ensures.value c.of.ensures
 
 owner : (g : Over) (c : goal.After-enable_interrupts g) → HasOneOwner c.args.config.now.buffers c.in_ok-driver.driver.pool
 owner g c = subst (λ (layout : Counts). HasOneOwner layout.buffers c.in_ok-driver.driver.pool) c.in_ok-layout.ensures.counts
@@ -56,9 +62,12 @@ returns-clause-fresh g c =
     let d = c.offer_first.new.self in
     record {
       layout = ap (λ (s : DriverState). s.layout) o.others;
-      new = o.others ∙ ap (λ (numbers : List ℕ). offering counts [] numbers d.pool) (sym (ap (λ (s : DriverState). s.buffers) o.others));
+      new = o.others
+          ∙ ap (λ (numbers : List ℕ). offering counts c.of.result [] numbers d.pool) (sym (ap (λ (s : DriverState). s.buffers) o.others))
+          ∙ ap (λ (groups : List (List ℕ)). offering counts groups [] d.buffers d.pool) (sym (ap (λ (s : DriverState). s.groups) o.others));
+      joined = subst (AreNamedOnce c.args.config.now.groups.items) (sym (ap (λ (s : DriverState). s.groups) o.others)) (named g c);
       one_owner = subst (λ (d : DriverState). HasOneOwner d.layout.buffers (owners d)) (sym o.others)
-          (owners-offered counts.buffers counts c.in_ok-driver.driver.pool o.numbers d.pool (owner g c) o.pool);
+          (owners-offered counts.buffers counts c.of.result c.in_ok-driver.driver.pool o.numbers d.pool (owner g c) o.pool);
       none_out = ap (λ (s : DriverState). s.handed_out) o.others;
       refilled = let size = ap (λ (s : DriverState). length s.buffers) o.others in
           let rx = ap (λ (s : DriverState). s.layout.rx) o.others in
@@ -87,9 +96,9 @@ returns-clause-initialises g c honest =
     let h4 = c.set_up_transmitter.ensures.keeps.honest h3 in
     let lies : size_of counts ≤ length (world b1).memory = omega
     (arith, had.room, g.met.B.Bus.sized b1 h1, c.in_ok-find_ring.ensures.keeps.extent) in
-    let begins = drivers_begin_at_rest counts pool (world b1) had.counts (owner g c) lies finds.found.ring in
+    let begins = drivers_begin_at_rest counts c.of.result pool (world b1) had.counts (owner g c) lies finds.found.ring in
     let first = o.ran (record { honest = h1; ready = begins.ready }) in
-    let still = stays-quiet counts o.numbers (new_driver counts pool) d (world b1) (world b2) first.past first.only first.goes
+    let still = stays-quiet counts o.numbers (new_driver counts c.of.result pool) d (world b1) (world b2) first.past first.only first.goes
     first.follows.set first.follows.off begins.quiet finds.found.ring.transmits in
     let tagged : c.is_some.result ≡ names_vlans config.vlans = c.is_some.ensures ∙ vlans-named config.vlans in
     let lets : LetsFramesIn g.B.Bus (receive_writes config.promiscuous (names_vlans config.vlans)) d b2 b3 =
@@ -103,6 +112,7 @@ returns-clause-initialises g c honest =
     (c.set_up_transmitter.ensures.ran d (record { honest = h3; ready = lets.ran.goes.flows.ready })
     (same ∙ sym c.in_ok-layout.ensures.counts)
     (ap (λ (s : DriverState). s.oldest_transmit) o.others) (ap (λ (s : DriverState). s.sending) o.others) new) in
-    initialises g.B.Bus g.met.B.Bus.composes.joins b0 b1 b2 b3 b4 c.enable_interrupts.new.bus config (g.B.Bus.extent b0) pool o.numbers d
-    finds.past had finds.reports finds.found finds.no_cause o.count o.others
+    initialises g.B.Bus g.met.B.Bus.composes.joins b0 b1 b2 b3 b4 c.enable_interrupts.new.bus config (g.B.Bus.extent b0) c.of.result
+    pool o.numbers d
+    finds.past had finds.reports finds.found finds.no_cause o.count o.others (named g c)
     first still.0 still.1.1 lets sends (c.enable_interrupts.ensures.enables d (record { honest = h4; ready = sends.goes.flows.ready }))

@@ -5,7 +5,7 @@ use Rattle.packet_socket.specs.HostCalls.{driver_of, host_at}
 use Rattle.packet_socket.specs.InsideHost.{host_inside, host_with}
 use Rattle.packet_socket.specs.HostState.{SocketsState}
 use Rattle.packet_socket.proofs.GivenFrames.{front-long, gives-others, host-receives, if-none}
-use Rattle.packet_socket.proofs.SentFrames.{makes-none}
+use Rattle.packet_socket.proofs.DriverActs.{makes-none}
 use Rattle.packet_socket.proofs.ConsistentHosts.{can-come-back, entry-splits, stays-host, stays-owners}
 use Rattle.packet_socket.proofs.host.Host.recv.Goals as goal
 

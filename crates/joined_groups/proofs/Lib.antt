@@ -1,0 +1,3 @@
+pub mod JoinedLists
+pub mod Numbers
+pub mod Words

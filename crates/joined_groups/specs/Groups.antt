@@ -1,0 +1,90 @@
+-- The groups that a host has joined, and how the group table follows them ("13.5.1 Multicast Table Array"). That a host keeps a list of at
+-- most 32 groups is our choice.
+use Rattle.std.specs.Prelude.{⊤, ◌≡◌, ◌≤◌, ◌<◌, ◌⊎◌, ◌↔◌, ◌+◌, ◌*◌, ◌/◌, ◌∷◌, [], ℕ, All, Bool, List, length, slice_set}
+use Rattle.std.specs.List.{Contains}
+use Rattle.registers.specs.Bits.{HasBit}
+use Rattle.registers.specs.ReceiveControl.{shift_of}
+use Rattle.registers.specs.declared.receive_control.GroupOffset.TheVariants.{Bits47To36}
+use Rattle.rx_engine.specs.Addresses.{IsGroup, group_number}
+use Rattle.rx_engine.specs.NumberTables.{HasNumbers, numbers_of_groups}
+use Rattle.adapter.specs.World.{World}
+use Rattle.adapter.specs.declared.offsets.TheConstants.{MTA, REGISTER_BYTES}
+use Rattle.bring_up.specs.declared.config.TheConstants.{MOST_GROUPS}
+use Rattle.bus.specs.declared.bus.Bus.{Ghosts}
+use Rattle.bus.specs.declared.event.Access.{Access}
+use Rattle.bus.specs.declared.event.Access.TheVariants.{Writes}
+use Rattle.driver_law.specs.Calls.{Moment, Ran, at, only}
+use Rattle.driver_law.specs.DriverState.{DriverState}
+
+-- No group stands twice.
+abbrev pub EachOnce : List (List ℕ) → Type 0
+EachOnce [] = ⊤
+EachOnce (group ∷ later) = (¬ (Contains later group)) × EachOnce later
+
+-- What holds of the groups that a host has joined.
+pub record AreJoined (groups : List (List ℕ)) : Type 0 where
+  pub most : length groups ≤ MOST_GROUPS
+  pub groups_all : All IsGroup groups
+  pub once : EachOnce groups
+
+-- These are the named groups, each once.
+pub record AreNamedOnce (named groups : List (List ℕ)) : Type 0 where
+  pub once : EachOnce groups
+  pub same : (group : List ℕ) → Contains groups group ↔ Contains named group
+
+-- The group table.
+
+-- the number of a group, while RCTL.MO is 00
+abbrev pub number_of : List ℕ → ℕ
+number_of group = group_number (shift_of Bits47To36) group
+
+-- A group in the list has the number of this one.
+abbrev pub HasNumber : List (List ℕ) → List ℕ → Type 0
+HasNumber groups group = Contains (numbers_of_groups groups) (number_of group)
+
+-- The group table of an adapter has exactly the numbers of these groups.
+abbrev pub HasTable : List (List ℕ) → World → Type 0
+HasTable groups world = HasNumbers world.adapter.filter.mta (numbers_of_groups groups)
+
+-- A word of the group table has exactly the bits of these numbers.
+abbrev pub IsWord : (word : ℕ) → (numbers : List ℕ) → (value : ℕ) → Type 0
+IsWord word numbers value = (place : ℕ) → place < 32 → HasBit value place ↔ Contains numbers (word * 32 + place)
+
+-- the word of the group table that has the bit of a group's number
+abbrev pub word_of : List ℕ → ℕ
+word_of group = number_of group / 32
+
+-- The only access is a write of the word that has the bit of a group's number. The word has exactly the bits of these groups' numbers.
+pub record WritesWord (group : List ℕ) (groups : List (List ℕ)) (accesses : List Access) : Type 0 where
+  pub value : ℕ
+  pub bits : IsWord (word_of group) (numbers_of_groups groups) value
+  pub is : accesses ≡ Writes (MTA + REGISTER_BYTES * word_of group) value ∷ []
+
+-- The accesses by which the table follows a group that is joined or left. `kept` are the groups that stay joined, and `groups` are those
+-- joined afterwards. If a group of `kept` has the same number, there is no access. Otherwise one word is written.
+abbrev pub SetsTable : (kept : List (List ℕ)) → (group : List ℕ) → (groups : List (List ℕ)) → List Access → Type 0
+SetsTable kept group groups accesses =
+    (HasNumber kept group × (accesses ≡ [])) ⊎ ((¬ HasNumber kept group) × WritesWord group groups accesses)
+
+-- A driver joins or leaves a group.
+
+-- the same driver, with these groups joined
+abbrev pub with_groups : List (List ℕ) → DriverState → DriverState
+with_groups groups driver = record driver { groups = groups }
+
+-- A driver joined or left a group over a bus that obeys the law, while it kept these groups. It made exactly these accesses. If the table
+-- had the numbers of the groups joined before, it has those of the groups joined afterwards.
+pub record ChangesJoined {B : Type 0} (bus : Ghosts B) (up : Bool) (kept : List (List ℕ)) (group : List ℕ) (old new : Moment B) : Type 0
+  where
+    pub accesses : List Access
+    pub sets : SetsTable kept group new.driver.groups accesses
+    pub ran : Ran bus up (only accesses) old new
+    pub table : HasTable old.driver.groups (bus.world old.bus) → HasTable new.driver.groups (bus.world new.bus)
+
+-- That word of the table was written: in the adapter it alone changed, and no frame came or went.
+pub record RewritesWord {B : Type 0} (bus : Ghosts B) (up : Bool) (group : List ℕ) (groups : List (List ℕ)) (d : DriverState) (old new : B)
+    : Type 0 where
+  pub value : ℕ
+  pub bits : IsWord (word_of group) (numbers_of_groups groups) value
+  pub table : (bus.world new).adapter.filter.mta ≡ slice_set (bus.world old).adapter.filter.mta (word_of group) value
+  pub ran : Ran bus up (only (Writes (MTA + REGISTER_BYTES * word_of group) value ∷ [])) (at old d) (at new d)
