@@ -24,7 +24,7 @@ use Rattle.stations.specs.AtomicSteps.{At, AtomicStep, Idles, after, outcome_of_
 use Rattle.stations.specs.Stations.{StationState, world_at}
 use Rattle.stations.proofs.HostTrails.{trail-of}
 use Rattle.stations.specs.AtomicRuns.{LeadsTo, events_at, past_at}
-use Rattle.delivery.specs.Fates.{Came, Left, Mark, mark_by, marks}
+use Rattle.delivery.specs.Fates.{Came, Mark, Went, mark_by, marks}
 use Rattle.delivery.specs.Happenings.{Happening, Moved, Put, Reached, accepted, accepted_in_one, given, given_in_one, happened_in}
 use Rattle.delivery.specs.Happenings.{missed, missed_of, of_host, put, put_by, reached, reached_by, stored, stored_by, told_of}
 
@@ -238,7 +238,7 @@ reached-told caller k steps a b leads = by-events (reached_by k) arrived_in call
 -- What came to its packet buffer and left it.
 
 abbrev pub marks_of_answer : FrameOutcome → List Mark
-marks_of_answer answer = by_answer (λ frame. []) (Left ∷ []) answer
+marks_of_answer answer = by_answer (λ frame. []) (Went ∷ []) answer
 
 abbrev pub marks_in : Event → List Mark
 marks_in (Steps kind wire_free answer) = marks_of_answer answer
@@ -246,14 +246,14 @@ marks_in (Arrives frame fate) = Came frame fate ∷ []
 marks_in (Accesses access) = []
 
 marks-chosen : (here : Bool) (answer : FrameOutcome)
-    → by_answer (λ frame. []) (if here then Left ∷ [] else []) answer ≡ (if here then marks_of_answer answer else [])
+    → by_answer (λ frame. []) (if here then Went ∷ [] else []) answer ≡ (if here then marks_of_answer answer else [])
 marks-chosen here (outcome.Put frame) = none-chosen here
 marks-chosen here outcome.Moved = refl
 marks-chosen here _ = none-chosen here
 
 marks-event : (k : ℕ) → Tells (mark_by k) marks_in k
 marks-event k host (Steps kind wire_free answer) world occurs =
-    step-told (mark_by k) host (λ frame. []) (of_host k host (Left ∷ [])) kind wire_free answer world occurs (λ frame. refl) refl
+    step-told (mark_by k) host (λ frame. []) (of_host k host (Went ∷ [])) kind wire_free answer world occurs (λ frame. refl) refl
     ∙ marks-chosen (k == host) answer
 marks-event k host (Arrives frame fate) world occurs = append-nil (mark_by k (Reached host frame fate))
 marks-event k host (Accesses access) world occurs = none-chosen (k == host)

@@ -6,11 +6,14 @@ use Rattle.std.proofs.lemmas.List.{append-nil, drop-drop}
 use Rattle.std.proofs.lemmas.List.Sums.{sum_by-append}
 use Rattle.rx_engine.specs.Arriving.{kept}
 use Rattle.rx_engine.specs.Registers.{FilterRegisters}
-use Rattle.delivery.specs.Fates.{AreRightByList, AreRightFates, Came, Left, Mark, buffered_after, left_in, mark_by, marks, stored_in}
+use Rattle.delivery.specs.Fates.{AreGroupsAfter, AreRightByList, AreRightFates, Came, Joins, Mark, Quits, Reception, Went, buffered_after}
+use Rattle.delivery.specs.Fates.{left_in, mark_by, marks, reception, stored_in}
 use Rattle.delivery.specs.Happenings.{
   Accepted,
   Given,
   Happening,
+  Joined,
+  Left,
   Moved,
   Put,
   Reached,
@@ -59,6 +62,8 @@ by-same wires others k (Put host frame) same =
 by-same wires others k (Reached host frame fate) same = refl
 by-same wires others k (Moved host) same = refl
 by-same wires others k (Given host socket frame) same = refl
+by-same wires others k (Joined host group) same = refl
+by-same wires others k (Left host group) same = refl
 
 pub toward-same : (wires others : ℕ → Option ℕ) (k : ℕ) (happened : List Happening) → ((host : ℕ) → wires host ≡ others host)
     → toward wires k happened ≡ toward others k happened
@@ -86,13 +91,17 @@ waits-append k wires others first later old mid new same one two =
 
 -- Fates.
 
-pub fates-append : (filter : FilterRegisters) (room : ℕ) (n m l : List (List ℕ)) (first later : List Mark)
-    → AreRightFates filter room n first m → AreRightFates filter room m later l → AreRightFates filter room n (first ++ later) l
-fates-append filter room n m l [] later one two = subst (λ (frames : List (List ℕ)). AreRightFates filter room frames later l) one two
-fates-append filter room n m l (Came frame fate ∷ first) later one two =
-    (one.0, fates-append filter room (n ++ kept fate frame) m l first later one.1 two)
-fates-append filter room n m l (Left ∷ first) later one two =
-    (one.0, fates-append filter room (drop 1 n) m l first later one.1 two)
+pub fates-append : (registers : FilterRegisters) (room : ℕ) (n m l : Reception) (first later : List Mark)
+    → AreRightFates registers room n first m → AreRightFates registers room m later l → AreRightFates registers room n (first ++ later) l
+fates-append registers room n m l [] later one two = subst (λ (now : Reception). AreRightFates registers room now later l) one two
+fates-append registers room n m l (Came frame fate ∷ first) later one two =
+    (one.0, fates-append registers room (record n { buffered = n.buffered ++ kept fate frame }) m l first later one.1 two)
+fates-append registers room n m l (Went ∷ first) later one two =
+    (one.0, fates-append registers room (record n { buffered = drop 1 n.buffered }) m l first later one.1 two)
+fates-append registers room n m l (Joins group ∷ first) later one two =
+    fates-append registers room (record n { groups = n.groups ++ group ∷ [] }) m l first later one two
+fates-append registers room n m l (Quits group ∷ first) later one two =
+    (one.0, one.1, fates-append registers room (record n { groups = one.0 }) m l first later one.2 two)
 
 -- Whether the oldest leaves before the others come, or with those that leave after.
 drop-more : (frames more : List (List ℕ)) (k : ℕ) → frames ≢ [] → drop k (drop 1 frames ++ more) ≡ drop (k + 1) (frames ++ more)
@@ -102,21 +111,54 @@ drop-more (frame ∷ frames) more k some =
     drop-drop k 1 (frame ∷ frames ++ more) ∙ ap (λ (n : ℕ). drop n (frame ∷ frames ++ more)) order
 
 -- Right fates are right from any mark on.
-fates-after : (filter : FilterRegisters) (room : ℕ) (n final : List (List ℕ)) (first later : List Mark)
-    → AreRightFates filter room n (first ++ later) final → AreRightFates filter room (buffered_after n first) later final
-fates-after filter room n final [] later are =
-    subst (λ (frames : List (List ℕ)). AreRightFates filter room frames later final) (sym (append-nil n)) are
-fates-after filter room n final (Came frame fate ∷ first) later are =
-    subst (λ (frames : List (List ℕ)). AreRightFates filter room (drop (left_in first) frames) later final)
-    (append_assoc n (kept fate frame) (stored_in first))
-    (fates-after filter room (n ++ kept fate frame) final first later are.1)
-fates-after filter room n final (Left ∷ first) later are =
-    subst (λ (frames : List (List ℕ)). AreRightFates filter room frames later final)
-    (drop-more n (stored_in first) (left_in first) are.0)
-    (fates-after filter room (drop 1 n) final first later are.1)
+record After (registers : FilterRegisters) (room : ℕ) (start : Reception) (first later : List Mark) (final : Reception) : Type 0 where
+  groups : List (List ℕ)
+  are : AreGroupsAfter start.groups first groups
+  fates : AreRightFates registers room (reception groups (buffered_after start.buffered first)) later final
 
-pub fates-by_list : (filter : FilterRegisters) (room : ℕ) (n final : List (List ℕ)) (all : List Mark)
-    → AreRightFates filter room n all final → AreRightByList filter room n all
-fates-by_list filter room n final all are = λ before later frame fate is.
-    (fates-after filter room n final before (Came frame fate ∷ later)
-    (subst (λ (list : List Mark). AreRightFates filter room n list final) is are)).0
+on-frames : (registers : FilterRegisters) (room : ℕ) (start next : Reception) (first all later : List Mark) (final : Reception)
+    → buffered_after next.buffered first ≡ buffered_after start.buffered all
+    → ((groups : List (List ℕ)) → AreGroupsAfter next.groups first groups → AreGroupsAfter start.groups all groups)
+    → After registers room next first later final → After registers room start all later final
+on-frames registers room start next first all later final frames groups after = record {
+  groups = after.groups;
+  are = groups after.groups after.are;
+  fates = subst (λ (list : List (List ℕ)). AreRightFates registers room (reception after.groups list) later final) frames after.fates;
+}
+
+fates-after : (registers : FilterRegisters) (room : ℕ) (start final : Reception) (first later : List Mark)
+    → AreRightFates registers room start (first ++ later) final → After registers room start first later final
+fates-after registers room start final [] later are = record {
+  groups = start.groups;
+  are = refl;
+  fates =
+      subst (λ (list : List (List ℕ)). AreRightFates registers room (reception start.groups list) later final)
+      (sym (append-nil start.buffered)) are;
+}
+fates-after registers room start final (Came frame fate ∷ first) later are =
+    let next : Reception = record start { buffered = start.buffered ++ kept fate frame } in
+    on-frames registers room start next first (Came frame fate ∷ first) later final
+    (ap (drop (left_in first)) (append_assoc start.buffered (kept fate frame) (stored_in first)))
+    (λ groups same. same) (fates-after registers room next final first later are.1)
+fates-after registers room start final (Went ∷ first) later are =
+    let next : Reception = record start { buffered = drop 1 start.buffered } in
+    on-frames registers room start next first (Went ∷ first) later final
+    (drop-more start.buffered (stored_in first) (left_in first) are.0)
+    (λ groups same. same) (fates-after registers room next final first later are.1)
+fates-after registers room start final (Joins group ∷ first) later are =
+    let next : Reception = record start { groups = start.groups ++ group ∷ [] } in
+    on-frames registers room start next first (Joins group ∷ first) later final refl
+    (λ groups same. same) (fates-after registers room next final first later are)
+fates-after registers room start final (Quits group ∷ first) later are =
+    let next : Reception = record start { groups = are.0 } in
+    on-frames registers room start next first (Quits group ∷ first) later final refl
+    (λ groups rest. (are.0, are.1, rest)) (fates-after registers room next final first later are.2)
+
+pub fates-by_list : (registers : FilterRegisters) (room : ℕ) (start final : Reception) (all : List Mark)
+    → AreRightFates registers room start all final → AreRightByList registers room start all
+fates-by_list registers room start final all are = λ before later frame fate is.
+    let after =
+    fates-after registers room start final before (Came frame fate ∷ later)
+    (subst (λ (list : List Mark). AreRightFates registers room start list final) is are)
+    in
+    record { groups = after.groups; are = after.are; right = after.fates.0 }

@@ -11,27 +11,40 @@ use Rattle.stations.specs.declared.tick.Tick.{Tick}
 use Rattle.stations.specs.declared.tick.Tick.TheVariants.{Deliver, Go, Step}
 use Rattle.stations.specs.AtomicRuns.{IsTick, is_go, noted_of}
 use Rattle.delivery.proofs.Telling.{told-without_go}
-use Rattle.delivery.specs.DeliveryLaws.{NoAccessIsToldAtTheEnd, OneAccessIsToldAtItsPlace, OnlyTicksAreTold}
+use Rattle.delivery.specs.DeliveryLaws.{CallsAreToldBetweenTicks, IsBetween, NoAccessIsToldAtTheEnd, OneAccessIsToldAtItsPlace}
+use Rattle.delivery.specs.DeliveryLaws.{OnlyTicksAreTold}
 use Rattle.delivery.specs.Happenings.{Happening, happened_by, happened_in, told, told_around, told_of}
 
--- Without anything in between.
+-- It is between two of them.
 
-either-way : (before : Bool) (front others rest : List Happening) → others ≡ rest
-    → (if before then front ++ others else front ++ rest) ≡ front ++ rest
-either-way true front others rest same = ap (λ (list : List Happening). front ++ list) same
-either-way false front others rest same = refl
+nothing-more : (middle : List Happening) → IsBetween middle [] middle
+nothing-more middle = record { before = []; behind = []; ticks = refl; all = sym (append-nil middle) }
+
+either-place : (before : Bool) (middle front later said : List Happening) → IsBetween middle later said
+    → IsBetween middle (front ++ later) (if before then front ++ said else middle ++ (front ++ later))
+either-place true middle front later said between = record {
+  before = front ++ between.before;
+  behind = between.behind;
+  ticks = ap (λ (list : List Happening). front ++ list) between.ticks ∙ sym (append_assoc front between.before between.behind);
+  all = ap (λ (list : List Happening). front ++ list) between.all
+      ∙ sym (append_assoc front between.before (middle ++ between.behind));
+}
+either-place false middle front later said between = record { before = []; behind = front ++ later; ticks = refl; all = refl }
+
+pub around_ticks : CallsAreToldBetweenTicks
+around_ticks middle [] outcomes = nothing-more middle
+around_ticks middle (Go ∷ ticks) outcomes = around_ticks middle ticks outcomes
+around_ticks middle (Step host kind ∷ ticks) [] = nothing-more middle
+around_ticks middle (Step host kind ∷ ticks) (one ∷ outcomes) =
+    either-place (one.accesses == 0) middle (told_of host one.outcome) (told ticks outcomes) (told_around middle ticks outcomes)
+    (around_ticks middle ticks outcomes)
+around_ticks middle (Deliver host ∷ ticks) [] = nothing-more middle
+around_ticks middle (Deliver host ∷ ticks) (one ∷ outcomes) =
+    either-place (one.accesses == 0) middle (told_of host one.outcome) (told ticks outcomes) (told_around middle ticks outcomes)
+    (around_ticks middle ticks outcomes)
 
 pub told-around_nothing : OnlyTicksAreTold
-told-around_nothing [] outcomes = refl
-told-around_nothing (Go ∷ ticks) outcomes = told-around_nothing ticks outcomes
-told-around_nothing (Step host kind ∷ ticks) [] = refl
-told-around_nothing (Step host kind ∷ ticks) (one ∷ outcomes) =
-    either-way (one.accesses == 0) (told_of host one.outcome) (told_around [] ticks outcomes) (told ticks outcomes)
-    (told-around_nothing ticks outcomes)
-told-around_nothing (Deliver host ∷ ticks) [] = refl
-told-around_nothing (Deliver host ∷ ticks) (one ∷ outcomes) =
-    either-way (one.accesses == 0) (told_of host one.outcome) (told_around [] ticks outcomes) (told ticks outcomes)
-    (told-around_nothing ticks outcomes)
+told-around_nothing ticks outcomes = let between = around_ticks [] ticks outcomes in between.all ∙ sym between.ticks
 
 -- A Go tells nothing.
 

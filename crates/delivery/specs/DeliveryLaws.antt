@@ -1,10 +1,14 @@
 -- What outcomes tell, what atomic steps do to frames, and how happenings join.
-use Rattle.std.specs.Prelude.{◌≡◌, ◌⊎◌, ◌+◌, ◌++◌, ◌∷◌, [], ℕ, false, Option, List, All, length, map}
+use Rattle.std.specs.Prelude.{◌≡◌, ◌⊎◌, ◌<◌, ◌+◌, ◌*◌, ◌++◌, ◌∷◌, [], ℕ, false, Option, List, All, length, map}
 use Rattle.registers.specs.Bits.{HasBit}
 use Rattle.registers.specs.Places.{rctl_en}
+use Rattle.rx_engine.specs.GroupLists.{Removes}
+use Rattle.rx_engine.specs.NumberTables.{HasNumbers, numbers_of_groups}
 use Rattle.rx_engine.specs.Registers.{FilterRegisters}
+use Rattle.rx_engine.specs.declared.filter.TheConstants.{TABLE_WORDS}
 use Rattle.adapter.specs.State.{AdapterState}
-use Rattle.adapter.specs.declared.offsets.TheConstants.{RDT, TDT}
+use Rattle.adapter.specs.World.{World, world_after_write}
+use Rattle.adapter.specs.declared.offsets.TheConstants.{MTA, RDT, REGISTER_BYTES, TDT}
 use Rattle.bus.specs.TickGroups.{played_in, waiting_after, without_go}
 use Rattle.bus.specs.PastOfStretch.{Past}
 use Rattle.bus.specs.declared.event.Access.{Access}
@@ -20,7 +24,7 @@ use Rattle.stations.specs.Retelling.{Finished, Retells}
 use Rattle.stations.specs.declared.lent_bus.LentBus.{LentBus}
 use Rattle.stations.specs.declared.observer.Observer.{Ghosts as OfObserver}
 use Rattle.stations.specs.declared.outcomes.Numbered.{Numbered}
-use Rattle.delivery.specs.Fates.{AreRightByList, AreRightFates, Mark, marks}
+use Rattle.delivery.specs.Fates.{AreRightByList, AreRightFates, Came, Joins, Mark, Quits, Reception, Went, marks}
 use Rattle.delivery.specs.Happenings.{Happening, accepted, given, happened_in, missed, put, reached, stored, told, told_alone}
 use Rattle.delivery.specs.Happenings.{told_around, toward}
 use Rattle.delivery.specs.Reception.{LeavesReception, ReceivesRightly}
@@ -70,6 +74,18 @@ abbrev pub LentCallsAreTold : {O : Type 0} → OfObserver O → Type 0
 LentCallsAreTold {O} g =
     (a m b : LentBus O g) (past : Past) (told : Retells a m past) (finished : Finished m b) → a.accesses ≡ 0
     → IsToldCall a m b past told.steps finished.plays.steps
+
+-- What a call itself did (`middle`) is between the first of what its ticks did and the rest.
+pub record IsBetween (middle ticked said : List Happening) : Type 0 where
+  pub before : List Happening
+  pub behind : List Happening
+  pub ticks : ticked ≡ before ++ behind
+  pub all : said ≡ before ++ (middle ++ behind)
+
+abbrev pub CallsAreToldBetweenTicks : Type 0
+CallsAreToldBetweenTicks =
+    (middle : List Happening) (ticks : List Tick) (outcomes : List Numbered)
+    → IsBetween middle (told ticks outcomes) (told_around middle ticks outcomes)
 
 -- If a call itself did nothing, only its ticks are told.
 abbrev pub OnlyTicksAreTold : Type 0
@@ -126,12 +142,37 @@ abbrev pub StepsMoveFrames : Type 0
 StepsMoveFrames =
     (caller k : ℕ) (steps : List AtomicStep) (a b : List StationState) → LeadsTo caller steps a b → MovesFrames k steps a b
 
--- While RCTL.EN is 1 and each access of a host leaves reception alone, the fates of what reaches it are right.
+-- The fates of what reaches a host are right, while it has joined these groups. At the end MTA has exactly the bits of their numbers.
+pub record KeepsReceiving (groups : List (List ℕ)) (a : AdapterState) (all : List Mark) (b : AdapterState) : Type 0 where
+  pub right : ReceivesRightly groups a all groups b
+  pub has : HasNumbers b.filter.mta (numbers_of_groups groups)
+
+-- While RCTL.EN is 1 and each access of a host leaves reception alone, this holds if MTA has the bits of the groups' numbers at the start.
 abbrev pub FatesAreRight : Type 0
 FatesAreRight =
-    (caller k : ℕ) (steps : List AtomicStep) (a b : List StationState) → LeadsTo caller steps a b
+    (caller k : ℕ) (steps : List AtomicStep) (a b : List StationState) (groups : List (List ℕ)) → LeadsTo caller steps a b
     → All LeavesReception (past_at k steps).accesses → HasBit (world_at a k).adapter.filter.rctl rctl_en
-    → ReceivesRightly (world_at a k).adapter (marks k (happened_in steps)) (world_at b k).adapter
+    → HasNumbers (world_at a k).adapter.filter.mta (numbers_of_groups groups)
+    → KeepsReceiving groups (world_at a k).adapter (marks k (happened_in steps)) (world_at b k).adapter
+
+-- The groups joined after a mark, if `groups` were joined before it.
+abbrev pub ChangesGroups : Mark → (groups groups' : List (List ℕ)) → Type 0
+ChangesGroups (Came frame fate) groups groups' = ⊥
+ChangesGroups Went groups groups' = ⊥
+ChangesGroups (Joins group) groups groups' = groups' ≡ groups ++ group ∷ []
+ChangesGroups (Quits group) groups groups' = Removes group groups groups'
+
+-- A group may be joined or left by a write of a word of MTA,
+abbrev pub WritesChangeGroups : Type 0
+WritesChangeGroups =
+    (mark : Mark) (word value : ℕ) (groups groups' : List (List ℕ)) (a : World) → ChangesGroups mark groups groups' → word < TABLE_WORDS
+    → ReceivesRightly groups a.adapter (mark ∷ []) groups' (world_after_write (MTA + REGISTER_BYTES * word) value a).adapter
+
+-- or without an access.
+abbrev pub GroupsChangeAlone : Type 0
+GroupsChangeAlone =
+    (mark : Mark) (groups groups' : List (List ℕ)) (a : AdapterState) → ChangesGroups mark groups groups'
+    → ReceivesRightly groups a (mark ∷ []) groups' a
 
 -- A write of RDT or TDT leaves reception alone.
 abbrev pub TailWritesLeaveReception : Type 0
@@ -170,17 +211,17 @@ WaitsJoin =
 -- Right fates join.
 abbrev pub RightFatesJoin : Type 0
 RightFatesJoin =
-    (filter : FilterRegisters) (room : ℕ) (n m l : List (List ℕ)) (first later : List Mark) → AreRightFates filter room n first m
-    → AreRightFates filter room m later l → AreRightFates filter room n (first ++ later) l
+    (registers : FilterRegisters) (room : ℕ) (n m l : Reception) (first later : List Mark) → AreRightFates registers room n first m
+    → AreRightFates registers room m later l → AreRightFates registers room n (first ++ later) l
 
 -- So does what an adapter receives.
 abbrev pub ReceptionsJoin : Type 0
 ReceptionsJoin =
-    (a b c : AdapterState) (first later : List Mark) → ReceivesRightly a first b → ReceivesRightly b later c
-    → ReceivesRightly a (first ++ later) c
+    (g1 g2 g3 : List (List ℕ)) (a b c : AdapterState) (first later : List Mark) → ReceivesRightly g1 a first g2 b
+    → ReceivesRightly g2 b later g3 c → ReceivesRightly g1 a (first ++ later) g3 c
 
--- Right fates are right one by one, by the frames that are in the buffer when a frame comes.
+-- Right fates are right one by one, by the groups in force and the frames that are in the buffer when a frame comes.
 abbrev pub FatesAreJudgedByTheBuffer : Type 0
 FatesAreJudgedByTheBuffer =
-    (filter : FilterRegisters) (room : ℕ) (buffered final : List (List ℕ)) (all : List Mark)
-    → AreRightFates filter room buffered all final → AreRightByList filter room buffered all
+    (registers : FilterRegisters) (room : ℕ) (start final : Reception) (all : List Mark)
+    → AreRightFates registers room start all final → AreRightByList registers room start all

@@ -11,7 +11,7 @@ use Rattle.adapter.specs.declared.outcome.Outcome.TheVariants as outcome
 use Rattle.stations.specs.declared.tick.Tick.{Tick}
 use Rattle.stations.specs.declared.tick.Tick.TheVariants.{Deliver, Go, Step}
 
--- What happened to a frame at a host.
+-- What happened at a host: to a frame, or to the groups that it has joined.
 pub data Happening : Type 0 where
   -- a host was given a frame to send, and accepted it
   Accepted : (host : ℕ) (frame : List ℕ) → Happening
@@ -23,6 +23,10 @@ pub data Happening : Type 0 where
   Moved : (host : ℕ) → Happening
   -- a socket of it gave a frame to who asked
   Given : (host socket : ℕ) (frame : List ℕ) → Happening
+  -- it joined a multicast group, given by its address
+  Joined : (host : ℕ) (group : List ℕ) → Happening
+  -- it left a multicast group
+  Left : (host : ℕ) (group : List ℕ) → Happening
 
 -- What ticks and their outcomes tell.
 
@@ -90,6 +94,8 @@ accepted_in_one k (Put host frame) = []
 accepted_in_one k (Reached host frame fate) = []
 accepted_in_one k (Moved host) = []
 accepted_in_one k (Given host socket frame) = []
+accepted_in_one k (Joined host group) = []
+accepted_in_one k (Left host group) = []
 
 -- The frame that host k put on its wire in this happening, if any, as a list.
 abbrev pub put_by : ℕ → Happening → List (List ℕ)
@@ -98,6 +104,8 @@ put_by k (Put host frame) = of_host k host (frame ∷ [])
 put_by k (Reached host frame fate) = []
 put_by k (Moved host) = []
 put_by k (Given host socket frame) = []
+put_by k (Joined host group) = []
+put_by k (Left host group) = []
 
 -- The frame that reached host k in this happening, if any, as a list.
 abbrev pub reached_by : ℕ → Happening → List (List ℕ)
@@ -106,6 +114,8 @@ reached_by k (Put host frame) = []
 reached_by k (Reached host frame fate) = of_host k host (frame ∷ [])
 reached_by k (Moved host) = []
 reached_by k (Given host socket frame) = []
+reached_by k (Joined host group) = []
+reached_by k (Left host group) = []
 
 -- the frame, where it was stored
 abbrev pub stored_by : ℕ → Happening → List (List ℕ)
@@ -114,6 +124,8 @@ stored_by k (Put host frame) = []
 stored_by k (Reached host frame fate) = of_host k host (kept fate frame)
 stored_by k (Moved host) = []
 stored_by k (Given host socket frame) = []
+stored_by k (Joined host group) = []
+stored_by k (Left host group) = []
 
 -- The frame that a socket of host k returned in this happening, if any, as a list.
 abbrev pub given_in_one : (k socket : ℕ) → Happening → List (List ℕ)
@@ -122,6 +134,8 @@ given_in_one k s (Put host frame) = []
 given_in_one k s (Reached host frame fate) = []
 given_in_one k s (Moved host) = []
 given_in_one k s (Given host socket frame) = if (k == host) && (s == socket) then frame ∷ [] else []
+given_in_one k s (Joined host group) = []
+given_in_one k s (Left host group) = []
 
 -- 1 where a frame was missed
 abbrev pub missed_of : ℕ → Happening → ℕ
@@ -130,6 +144,8 @@ missed_of k (Put host frame) = 0
 missed_of k (Reached host frame fate) = if k == host then missed_by fate else 0
 missed_of k (Moved host) = 0
 missed_of k (Given host socket frame) = 0
+missed_of k (Joined host group) = 0
+missed_of k (Left host group) = 0
 
 -- both are there, and on one wire
 abbrev pub share_wire : Option ℕ → Option ℕ → Bool
@@ -144,6 +160,8 @@ toward_by wires k (Put host frame) = if not (k == host) && share_wire (wires k) 
 toward_by wires k (Reached host frame fate) = []
 toward_by wires k (Moved host) = []
 toward_by wires k (Given host socket frame) = []
+toward_by wires k (Joined host group) = []
+toward_by wires k (Left host group) = []
 
 -- The frames that host k accepted, in order.
 abbrev pub accepted : ℕ → List Happening → List (List ℕ)

@@ -1,5 +1,6 @@
 -- What an adapter receives meanwhile, and the accesses that leave this alone (our choice).
-use Rattle.std.specs.Prelude.{⊤, ◌≡◌, List, IfSome}
+use Rattle.std.specs.Prelude.{⊤, ◌≡◌, ℕ, List, IfSome}
+use Rattle.rx_engine.specs.Registers.{FilterRegisters}
 use Rattle.adapter.specs.Receiving.{room}
 use Rattle.adapter.specs.State.{AdapterState}
 use Rattle.adapter.specs.Table.{register_at}
@@ -8,7 +9,7 @@ use Rattle.adapter.specs.declared.register.Register.TheVariants.{Receive, Transm
 use Rattle.adapter.specs.declared.register.RingRegister.TheVariants.{Tail}
 use Rattle.bus.specs.declared.event.Access.{Access}
 use Rattle.bus.specs.declared.event.Access.TheVariants.{Loads, Reads, Stores, Writes}
-use Rattle.delivery.specs.Fates.{AreRightFates, Mark}
+use Rattle.delivery.specs.Fates.{AreRightFates, KeepsGroups, Mark, reception}
 
 -- RDT or TDT
 abbrev pub IsTail : Register → Type 0
@@ -24,11 +25,19 @@ LeavesReception (Writes offset value) = IfSome (register_at offset) IsTail
 LeavesReception (Loads address size) = ⊤
 LeavesReception (Stores address bytes) = ⊤
 
--- From one state of an adapter to another its filter and its room stay, and the fates of what came are right.
-pub record ReceivesRightly (a : AdapterState) (all : List Mark) (b : AdapterState) : Type 0 where
-  -- The registers of the receive filter, RCTL among them, don't change.
-  pub filter : b.filter ≡ a.filter
+-- These registers are the same, except for MTA.
+abbrev pub SameButGroups : FilterRegisters → FilterRegisters → Type 0
+SameButGroups a b = b ≡ record a { mta = b.mta }
+
+-- From one state of an adapter, whose host has joined `groups`, to another, whose host has joined `groups'`, the filter except for its
+-- groups stays, and so does the room. The fates of what came are right.
+pub record ReceivesRightly (groups : List (List ℕ)) (a : AdapterState) (all : List Mark) (groups' : List (List ℕ)) (b : AdapterState)
+    : Type 0 where
+  -- The registers of the receive filter, RCTL among them, don't change, except for MTA.
+  pub filter : SameButGroups a.filter b.filter
+  -- MTA doesn't change either, if no group is joined or left.
+  pub unchanged : KeepsGroups all → b.filter ≡ a.filter
   -- RXA of PBA doesn't change.
   pub kilobytes : b.receive_kilobytes ≡ a.receive_kilobytes
-  -- Each frame that came met the right fate, by the frames that were in the packet buffer.
-  pub fates : AreRightFates a.filter (room a) a.receiver.buffer all b.receiver.buffer
+  -- Each frame that came met the right fate, by the groups in force and the frames in the packet buffer when it came.
+  pub fates : AreRightFates a.filter (room a) (reception groups a.receiver.buffer) all (reception groups' b.receiver.buffer)

@@ -1,10 +1,12 @@
 // Laws of what happens to frames.
 
-ghost use Rattle.delivery.specs.DeliveryLaws.{DeliveriesJoin, FatesAreJudgedByTheBuffer, FatesAreRight};
-ghost use Rattle.delivery.specs.DeliveryLaws.{LentCallsAreTold, NoAccessIsToldAtTheEnd, OneAccessIsToldAtItsPlace};
-ghost use Rattle.delivery.specs.DeliveryLaws.{OneOutcomeTellsItsStep, OneTickLeads, OnlyTicksAreTold};
-ghost use Rattle.delivery.specs.DeliveryLaws.{OutcomesTellSteps, ReceptionsJoin, RightFatesJoin, StepsMoveFrames};
-ghost use Rattle.delivery.specs.DeliveryLaws.{TailWritesLeaveReception, WaitsJoin, WiresDecideToward};
+ghost use Rattle.delivery.specs.DeliveryLaws.{CallsAreToldBetweenTicks, DeliveriesJoin, FatesAreJudgedByTheBuffer};
+ghost use Rattle.delivery.specs.DeliveryLaws.{FatesAreRight};
+ghost use Rattle.delivery.specs.DeliveryLaws.{GroupsChangeAlone, LentCallsAreTold, NoAccessIsToldAtTheEnd};
+ghost use Rattle.delivery.specs.DeliveryLaws.{OneAccessIsToldAtItsPlace, OneOutcomeTellsItsStep, OneTickLeads};
+ghost use Rattle.delivery.specs.DeliveryLaws.{OnlyTicksAreTold, OutcomesTellSteps, ReceptionsJoin, RightFatesJoin};
+ghost use Rattle.delivery.specs.DeliveryLaws.{StepsMoveFrames, TailWritesLeaveReception, WaitsJoin};
+ghost use Rattle.delivery.specs.DeliveryLaws.{WiresDecideToward, WritesChangeGroups};
 
 use stations::Observer;
 
@@ -26,10 +28,12 @@ pub fn lent_calls_are_told<O: Observer>()
 {}
 
 /// `told_around` adds what a call itself did to the happenings of the call's ticks.
+/// - `between`: it adds this between two of them, before all or after all, and changes none of them.
 /// - `nothing`: if the call itself did nothing, the happenings are those of its ticks.
 /// - `access`: if the call made one access, what it did is between the ticks before this access and the ticks after it.
 /// - `none`: if the call made no access, what it did is after all its ticks.
 pub fn calls_say_at_their_access()
+    ensures between { CallsAreToldBetweenTicks }
     ensures nothing { OnlyTicksAreTold }
     ensures access { OneAccessIsToldAtItsPlace }
     ensures none { NoAccessIsToldAtTheEnd }
@@ -45,12 +49,21 @@ pub fn steps_move_frames()
 
 /// Fates are right while RCTL.EN is 1 and a host loads, stores, reads registers, and writes none but RDT
 /// and TDT.
-/// - `fates`: each frame that reaches it meets the first fate that applies, by the filter, which stays, and
-///   by the frames in the packet buffer, whose room stays.
+/// - `fates`: each frame that reaches it meets the first fate that applies, by the filter and by the frames in
+///   the packet buffer, if MTA has exactly the bits of the numbers of the groups in force. The filter, these groups
+///   and the buffer's room don't change.
 /// - `tails`: writes of RDT and TDT are among these accesses.
 pub fn fates_are_right()
     ensures fates { FatesAreRight }
     ensures tails { TailWritesLeaveReception }
+{}
+
+/// A host joins or leaves a group. The filter, except for its groups, and the frames in the packet buffer don't change.
+/// - `written`: by a write of a word of MTA.
+/// - `alone`: without an access.
+pub fn groups_change()
+    ensures written { WritesChangeGroups }
+    ensures alone { GroupsChangeAlone }
 {}
 
 /// What happens first and what happens then are one.
@@ -59,7 +72,7 @@ pub fn fates_are_right()
 /// - `waits`: what waited at a host's end and was put toward it has reached it or waits, over both, where it
 ///   is so over each and wires stay.
 /// - `fates`: right fates, and then right fates from where the first ended, are right.
-/// - `receptions`: so is what an adapter receives, with its filter and its room.
+/// - `receptions`: so is what an adapter receives, with its filter, its groups and its room.
 pub fn deliveries_join()
     ensures lists { DeliveriesJoin }
     ensures toward { WiresDecideToward }
@@ -68,8 +81,9 @@ pub fn deliveries_join()
     ensures receptions { ReceptionsJoin }
 {}
 
-/// Fates that are right are right one by one, by the frames in the packet buffer when a frame comes. These are the
-/// frames of the start, then the frames stored since, without those that left since.
+/// Fates that are right are right one by one, by the groups in force and the frames in the packet buffer when a frame
+/// comes. The groups are those of the start, with each joined since added and each left since removed. The frames are
+/// those of the start, then the frames stored since, without those that left since.
 pub fn fates_are_judged_by_the_buffer()
     ensures { FatesAreJudgedByTheBuffer }
 {}

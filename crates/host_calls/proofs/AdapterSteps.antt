@@ -36,6 +36,7 @@ use Rattle.stations.specs.AtomicRuns.{IsTick, LeadsTo, events_at, past_at}
 use Rattle.delivery.specs.Happenings.{Moved, happened_in}
 use Rattle.packet_socket.specs.HostState.{HostState}
 use Rattle.host_calls.proofs.Calling.{runs-alone}
+use Rattle.host_calls.proofs.GroupsKept.{stay-alone}
 use Rattle.host_calls.proofs.HostTrails.{happens-alone, none-alone}
 use Rattle.host_calls.specs.CallsOfHosts.{HostRuns}
 use Rattle.host_calls.specs.DrainedHosts.{CanBeDrained, IsDrainStep, count_left, pieces_left}
@@ -151,6 +152,7 @@ step-on steps moves number kind answer a b h receives stands takes moved buffere
       only = All-cons (IsDrainStep number) (At number (Steps kind true answer)) [] (refl, receives) (all-none (IsDrainStep number));
       taken = [];
       runs = runs;
+      stay = stay-alone number played (connected h a) (connected h b) refl (none-alone number played (ticks number kind answer));
       moves = record {
         count = moves;
         moved = moved;

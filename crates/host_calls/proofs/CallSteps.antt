@@ -35,17 +35,18 @@ use Rattle.packet_socket.specs.declared.receive.RecvError.{RecvError}
 use Rattle.packet_socket.specs.declared.receive.RecvError.TheVariants.{Empty, NoSocket}
 use Rattle.host_calls.specs.CallsInSteps.{Calls, InSteps}
 use Rattle.host_calls.specs.InterruptCauses.{ReadsIcrFirst, TellsCauses}
-use Rattle.packet_socket.specs.CallEffects.{EffectOf, OfAnswer, Receiving, answer_in, given_in, interrupted_in, received_in}
+use Rattle.packet_socket.specs.CallEffects.{EffectOf, OfAnswer, Receiving, answer_in, given_in, interrupted_in}
 use Rattle.packet_socket.specs.declared.call.HostAnswer.{HostAnswer}
-use Rattle.packet_socket.specs.declared.call.HostAnswer.TheVariants.{Interrupted, Received, Sent}
+use Rattle.packet_socket.specs.declared.call.HostAnswer.TheVariants.{Interrupted, Joined, Left, Received, Sent}
 use Rattle.packet_socket.specs.HostActs.{HostAct}
-use Rattle.host_calls.specs.CallsOfHosts.{CallRuns, HostRuns}
+use Rattle.host_calls.specs.CallsOfHosts.{GroupsStay, HostRuns}
 use Rattle.packet_socket.specs.HostActs.{IsOfDriver}
 use Rattle.host_calls.specs.ConnectedHosts.{ConnectedHost, PlayedCall, connected, played_call}
 use Rattle.packet_socket.specs.QueueLaws.{queue-within}
 use Rattle.host_calls.specs.DrainedHosts.{IsDrainStep, count_frames, pieces_left}
 use Rattle.host_calls.specs.DrainSteps.{StepsOn, count_line}
 use Rattle.host_calls.proofs.AdapterSteps.{work-none}
+use Rattle.host_calls.proofs.GroupsKept.{interrupt-stay, recv-stay}
 use Rattle.host_calls.proofs.JoinedSteps.{nothing-stored}
 use Rattle.host_calls.proofs.QuietCalls.{IsAccess, LeavesEngine, accesses-alone, drain-steps, events-elsewhere, events-here}
 use Rattle.host_calls.proofs.QuietCalls.{nothing-happened, trail-clears, trail-leaves}
@@ -113,13 +114,14 @@ one-call : (number n : ℕ) (played : List AtomicStep) (a b : List StationState)
     (given : List Given)
     → HostReady h (world_at a number) → LeadsTo number played a b → without_go is_go (map tick_of played) ≡ []
     → HostRuns number played (did taken given []) (connected h a) (connected h' b)
+    → GroupsStay number played (connected h a) (connected h' b)
     → length h.queues ≤ n → length h'.queues ≤ n → length given ≤ sum_to n (λ socket. length (given_for socket given))
     → (world_at a number).adapter.receiver.work ≡ None → length given ≤ 1
     → 1 + (count_line (world_at b number).adapter.causes + length taken) ≤ count_line (world_at a number).adapter.causes
     + (length given + length taken)
     → StepsOn 1 number given (connected h a) (connected h' b)
-one-call number n played a b h h' taken given ready leads none runs fits fits' known free few line =
-    let calm = quiet number played a b h.driver.layout leads none runs.accesses in
+one-call number n played a b h h' taken given ready leads none runs stay fits fits' known free few line =
+    let calm = quiet number played a b h.driver.layout leads none stay.accesses in
     let flow = flows number n played a b h h' taken given leads calm.happened runs fits fits' known in
     let before = work-none (world_at a number).adapter.receiver.work free in
     let behind = work-none (world_at b number).adapter.receiver.work
@@ -137,6 +139,7 @@ one-call number n played a b h h' taken given ready leads none runs fits fits' k
       only = calm.only;
       taken = taken;
       runs = runs;
+      stay = stay;
       moves = record {
         count = 0;
         moved = calm.happened;
@@ -190,13 +193,14 @@ handled-steps result number a b heard accesses h h' ready calls free meets =
     let runs = calls.runs in
     let of_call = runs.of_call in
     let reads = reads-first result number runs.steps (connected h a) (connected h' b) calls.does in
+    let stay = interrupt-stay result number [] runs.steps (connected h a) (connected h' b) _ calls.does in
     let recorded = clears number runs.steps reads.1.early a b h.driver.layout reads.0 of_call.leads of_call.played
-    runs.runs.accesses reads.1.first in
+    stay.accesses reads.1.first in
     let causes = (world_at b number).adapter.causes in
     let none : bit_and causes.recorded causes.mask ≡ 0 =
     ap (λ (r : ℕ). bit_and r causes.mask) recorded ∙ and_zero_l causes.mask in
     one-call number (length h.queues + length h'.queues) runs.steps a b h h' runs.taken [] ready of_call.leads
-    of_call.played runs.runs (omega arith) (omega arith) (omega arith) free (omega arith) (omega (arith, none, meets))
+    of_call.played runs.runs stay (omega arith) (omega arith) (omega arith) free (omega arith) (omega (arith, none, meets))
 
 -- A frame that is given.
 
@@ -208,16 +212,19 @@ queue-there (queue ∷ later) (suc socket) some = let rest = queue-there later s
 pub given-steps : (number socket : ℕ) (frame : List ℕ) (a b : List StationState) (heard : List TickTold → Type 0) (accesses : ℕ)
     (h h' : HostState)
     → HostReady h (world_at a number)
-    → CallRuns (played_call number [] heard accesses) (given_by socket (Ok frame)) [] (connected h a) (connected h' b)
+    → Calls (played_call number [] heard accesses) (given_by socket (Ok frame)) [] (RecvEffect socket (Ok frame)) (connected h a)
+    (connected h' b)
     → (world_at a number).adapter.receiver.work ≡ None → StepsOn 1 number (given_by socket (Ok frame)) (connected h a) (connected h' b)
-given-steps number socket frame a b heard accesses h h' ready runs free =
+given-steps number socket frame a b heard accesses h h' ready calls free =
+    let runs = calls.runs in
     let of_call = runs.of_call in
+    let stay = recv-stay socket (Ok frame) number (given_by socket (Ok frame)) runs.steps (connected h a) (connected h' b) _ calls.does in
     let n = length h.queues + (length h'.queues + (socket + 1)) in
-    let calm = quiet number runs.steps a b h.driver.layout of_call.leads of_call.played runs.runs.accesses in
+    let calm = quiet number runs.steps a b h.driver.layout of_call.leads of_call.played stay.accesses in
     let line = line-stays (world_at a number).adapter (world_at b number).adapter calm.engine in
     let known = given-sum n (record { socket = socket; frame = frame }) (omega arith) in
     one-call number n runs.steps a b h h' runs.taken (given_by socket (Ok frame)) ready of_call.leads of_call.played runs.runs
-    (omega arith) (omega arith) (omega (arith, known)) free (omega arith) (omega (arith, line))
+    stay (omega arith) (omega arith) (omega (arith, known)) free (omega arith) (omega (arith, line))
 
 -- One was given, as one waited.
 pub not-refused : (result : Result (List ℕ) RecvError) (error : RecvError) (socket : ℕ) (h h' : HostState) (Runs : HostAct → Type 0)
@@ -234,15 +241,9 @@ pub interrupted-call : (answer : HostAnswer (List ℕ)) (call : PlayedCall) (old
     → ((result : Handled) × Calls call [] [] (InterruptEffect result) old new)
 interrupted-call (Sent result) call old new calls = absurd calls.does
 interrupted-call (Received result) call old new calls = absurd calls.does
+interrupted-call (Joined result) call old new calls = absurd calls.does
+interrupted-call (Left result) call old new calls = absurd calls.does
 interrupted-call (Interrupted result) call old new calls = (result, record { runs = calls.runs; does = calls.does })
-
-pub received-call : (answer : HostAnswer (List ℕ)) (socket : ℕ) (call : PlayedCall) (old new : ConnectedHost)
-    → Calls call (given_in (Receiving socket) answer) [] (OfAnswer (received_in answer) (RecvEffect socket)) old new
-    → ((result : Result (List ℕ) RecvError) × (answer ≡ Received result)
-    × Calls call (given_by socket result) [] (RecvEffect socket result) old new)
-received-call (Sent result) socket call old new calls = absurd calls.does
-received-call (Received result) socket call old new calls = (result, refl, record { runs = calls.runs; does = calls.does })
-received-call (Interrupted result) socket call old new calls = absurd calls.does
 
 pub returned-call : (socket size : ℕ) (into : List ℕ) (answer : HostAnswer ℕ) (received : Result ℕ RecvError) (call : PlayedCall)
     (old new : ConnectedHost) → answer ≡ Received received → received ≡ Ok size
@@ -259,6 +260,8 @@ pub no-other : (socket : ℕ) (into : List ℕ) (answer : HostAnswer ℕ) (h h' 
 no-other socket into (Sent result) h h' Runs world not does = does
 no-other socket into (Received result) h h' Runs world not does = not result refl
 no-other socket into (Interrupted result) h h' Runs world not does = does
+no-other socket into (Joined result) h h' Runs world not does = does
+no-other socket into (Left result) h h' Runs world not does = does
 
 -- There is room for it.
 pub room-left : (h : HostState) (world : World) (socket left : ℕ) → queue_at h.queues socket ≢ [] → count_frames h world ≤ left

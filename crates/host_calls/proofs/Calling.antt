@@ -25,7 +25,7 @@ use Rattle.packet_socket.specs.HostState.{HostState}
 use Rattle.delivery.proofs.Laws.{lent-calls, outcomes-tell}
 use Rattle.delivery.specs.TickNumbers.{numbers}
 use Rattle.host_calls.specs.CallsOfHosts.{CallRuns, HostRuns}
-use Rattle.packet_socket.specs.HostActs.{IsOfDriver, OnlyLastWrites}
+use Rattle.packet_socket.specs.HostActs.{IsOfHost, OnlyLastWrites}
 use Rattle.host_calls.proofs.HostTrails.{happens-alone, happens-elsewhere, none-alone, none-elsewhere}
 use Rattle.host_calls.specs.ConnectedHosts.{PlayedCall, connected, played_call}
 
@@ -63,8 +63,8 @@ runs-alone k steps a b h ready happens none =
     let goes = host-happens h (world_at a k) (world_at b k) (past_at k steps) ready happens in
     record {
       flows = flows-of h (world_at a k) h (world_at b k) [] [] [] (past_at k steps) goes;
-      accesses = subst (λ (accesses : List Access). All (IsOfDriver h.driver.layout) accesses) (sym none)
-          (all-none (IsOfDriver h.driver.layout));
+      accesses = subst (λ (accesses : List Access). All (IsOfHost h.driver.layout) accesses) (sym none)
+          (all-none (IsOfHost h.driver.layout));
       work = work-goes h (world_at a k) h (world_at b k) [] [] [] (past_at k steps) goes;
       refilled = λ refilled. refilled;
       offered = λ offered. offered;
@@ -84,9 +84,9 @@ runs-join k first later a b c h1 h2 h3 t1 t2 given more s1 s2 counts one two = r
       (host-join (FlowsTo true) (FlowsTo true) flows_join (in_world h1 (world_at a k)) (in_world h2 (world_at b k))
       (in_world h3 (world_at c k)) (did t1 given s1) (did t2 more s2) (past_at k first) (past_at k later) one.flows two.flows);
   accesses =
-      subst (λ (past : Past). All (IsOfDriver h1.driver.layout) past.accesses) (sym (past_join k first later))
-      (All-append (IsOfDriver h1.driver.layout) (past_at k first).accesses (past_at k later).accesses one.accesses
-      (subst (λ (own : Counts). All (IsOfDriver own) (past_at k later).accesses) counts two.accesses));
+      subst (λ (past : Past). All (IsOfHost h1.driver.layout) past.accesses) (sym (past_join k first later))
+      (All-append (IsOfHost h1.driver.layout) (past_at k first).accesses (past_at k later).accesses one.accesses
+      (subst (λ (own : Counts). All (IsOfHost own) (past_at k later).accesses) counts two.accesses));
   work = λ work. two.work (one.work work);
   refilled = λ refilled. two.refilled (one.refilled refilled);
   offered = λ offered. two.offered (one.offered offered);
@@ -110,7 +110,7 @@ pub call-runs_by : {O : Type 0} {g : OfObserver O} → ComposesTold g.heard
     (accepted : List (List ℕ))
     → a.accesses ≡ 0 → (retells : Retells a m past)
     → HostFlowsTo true (in_world h (world_here a)) (in_world h' (world_here m)) (did taken given accepted) past
-    → All (IsOfDriver h.driver.layout) past.accesses → OnlyLastWrites past.accesses
+    → All (IsOfHost h.driver.layout) past.accesses → OnlyLastWrites past.accesses
     → (HasNoForgottenWork h.driver (world_here a) → HasNoForgottenWork h'.driver (world_here m))
     → (IsRefilled h.driver → IsRefilled h'.driver)
     → (h.driver.staged ≡ [] → h'.driver.staged ≡ [])
@@ -132,7 +132,7 @@ call-runs_by composes a m b past h h' taken given accepted zero retells flows ac
     (λ f w. record {
       flows = subst (HostFlowsTo true (in_world h (world_here a)) (in_world h' (world_at m.stations.now a.host))
           (did taken given accepted)) retells.past_is f;
-      accesses = subst (λ (p : Past). All (IsOfDriver h.driver.layout) p.accesses) retells.past_is accesses;
+      accesses = subst (λ (p : Past). All (IsOfHost h.driver.layout) p.accesses) retells.past_is accesses;
       work = w;
       refilled = refilled;
       offered = offered;

@@ -305,6 +305,7 @@ drains steps number a b h h' given on none stands adapter =
         only = on.only;
         taken = on.taken;
         runs = on.runs;
+        stay = on.stay;
         moved = on.moves.moved ∙ ap (λ (n : ℕ). replicate n (Moved number)) (omega (arith, on.moves.buffered, behind, empty));
       };
     }

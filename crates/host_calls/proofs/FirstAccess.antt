@@ -39,7 +39,7 @@ behind-tick caller step steps a access is happens of_call first = record {
 }
 
 -- A tick is no access.
-tick-accesses : (k : ℕ) (step : AtomicStep) (later : List AtomicStep) → IsTick step
+pub tick-accesses : (k : ℕ) (step : AtomicStep) (later : List AtomicStep) → IsTick step
     → (past_at k (step ∷ later)).accesses ≡ (past_at k later).accesses
 tick-accesses k step later is =
     let alone = steps-alone k (step ∷ []) (All-cons IsTick step [] is (all-none IsTick)) in

@@ -18,6 +18,7 @@ use Rattle.delivery.specs.Happenings.{Happening, Moved, happened_by, happened_in
 use Rattle.packet_socket.specs.HostState.{HostState}
 use Rattle.packet_socket.specs.HostCalls.{Given}
 use Rattle.host_calls.proofs.Calling.{ready-behind, runs-alone, runs-join}
+use Rattle.host_calls.proofs.GroupsKept.{stay-alone, stay-join}
 use Rattle.host_calls.proofs.HostTrails.{happens-alone, none-alone}
 use Rattle.host_calls.specs.DrainedHosts.{CanBeDrained, IsDrainStep}
 use Rattle.host_calls.specs.ConnectedHosts.{connected}
@@ -45,6 +46,7 @@ steps-none number a h stands = record {
   taken = [];
   runs = runs-alone number [] a a h stands.ready (happens-alone number number [] a a (all-none IsTick) refl)
       (none-alone number [] (all-none IsTick));
+  stay = stay-alone number [] (connected h a) (connected h a) refl (none-alone number [] (all-none IsTick));
   moves = record { count = 0; moved = refl; buffered = omega arith; alone = λ k other. refl; filter = refl };
   counts = record { most = omega arith; least = omega arith; held = omega arith };
 }
@@ -62,6 +64,8 @@ steps-join m n number a b c h1 h2 h3 given more one two =
       taken = one.taken ++ two.taken;
       runs = runs-join number one.played two.played a b c h1 h2 h3 one.taken two.taken given more [] [] one.runs.flows.driver.layout
           one.runs two.runs;
+      stay = stay-join number one.played two.played (connected h1 a) (connected h2 b) (connected h3 c) one.runs.flows.driver.layout
+          one.stay two.stay;
       moves = record {
         count = one.moves.count + two.moves.count;
         moved =

@@ -1,5 +1,6 @@
 pub mod HostTrails
 pub mod Calling
+pub mod GroupsKept
 pub mod Retellings
 pub mod Lifting
 pub mod FirstAccess

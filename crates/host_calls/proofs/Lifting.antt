@@ -15,12 +15,12 @@ use Rattle.stations.specs.Stations.{StationState, world_at}
 use Rattle.stations.specs.ToldTicks.{ComposesTold}
 use Rattle.stations.specs.declared.lent_bus.LentBus.{LentBus}
 use Rattle.stations.specs.declared.observer.Observer.{Ghosts as OfObserver}
-use Rattle.packet_socket.specs.HostActs.{HostAct, OverBus, Effect, Ends, IsOfDriver, OnlyLastWrites, PassesStages, CallStages, Then}
+use Rattle.packet_socket.specs.HostActs.{HostAct, OverBus, Effect, Ends, IsAccessOf, OnlyLastWrites, PassesStages, CallStages, Then}
 use Rattle.packet_socket.specs.HostCalls.{Given, HostFlowsTo, HostReady, did, given_for, host_at, in_world, socket_frames, waiting_frames}
 use Rattle.packet_socket.specs.HostState.{HostState}
 use Rattle.packet_socket.specs.SocketKinds.{goes_to}
 use Rattle.packet_socket.specs.declared.socket_kind.SocketKind.{SocketKind}
-use Rattle.packet_socket.proofs.Effects.{Maps, flows-changed, passes-accesses}
+use Rattle.packet_socket.proofs.Effects.{Maps, own-host, flows-changed, passes-accesses}
 use Rattle.host_calls.specs.CallsInSteps.{Calls, InSteps, MakesStages}
 use Rattle.host_calls.specs.CallsOfHosts.{CallRuns, HostRuns}
 use Rattle.host_calls.specs.ConnectedHosts.{connected}
@@ -110,18 +110,23 @@ lift-act composes a m b h h' given accepted zero ready finished act it =
     let last = finished.plays.steps in
     let told = stages-told composes act.stages a m last it.past (λ k. none-alone k last finished.plays.are) it.stages in
     let only = passes-accesses lent act.stages a m it.past it.stages in
+    let own = subst (λ (list : List Access). All (IsAccessOf act.kind h.driver.layout) list) (sym only) it.own in
     let flows : HostFlowsTo true (in_world h (world_here a)) (in_world h' (world_here m)) (did act.taken given accepted) it.past = record {
       sizes = it.changed.sizes;
-      driver = flows-changed act.reads_icr true _ _ _ _ it.changed.driver;
+      driver = flows-changed act.kind true _ _ _ _ it.changed.driver;
       accounts = it.changed.accounts;
     } in
     let made = call-runs_by composes a m b it.past h h' act.taken given accepted zero told.0 flows
-    (subst (λ (list : List Access). All (IsOfDriver h.driver.layout) list) (sym only) it.own)
+    (own-host act.kind h.driver.layout it.past.accesses own)
     (subst OnlyLastWrites (sym only) it.last_writes) it.work it.refilled it.offered finished in
     let runs = made.0 in (
       runs,
       record {
         stages = subst (λ (steps : List AtomicStep). MakesStages a.host act.stages steps a.stations.now) (sym made.1) told.1;
+        own = subst (λ (list : List Access). All (IsAccessOf act.kind h.driver.layout) list)
+            (ap (λ (p : Past). p.accesses) told.0.past_is
+            ∙ sym (whole-accesses a.host told.0.steps last (none-alone a.host last finished.plays.are))
+            ∙ ap (λ (steps : List AtomicStep). (past_at a.host steps).accesses) (sym made.1)) own;
         left = subst (λ (taken : List (List ℕ)). taken ++ frames_held h'.driver.oldest_receive (world_at b.stations.now a.host)
             ≡ frames_held h.driver.oldest_receive (world_here a) ++ (past_at a.host runs.steps).stored) made.2
             runs.runs.flows.driver.holds;

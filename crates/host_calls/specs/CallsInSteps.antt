@@ -1,6 +1,6 @@
 -- What a call of a host does, in the atomic steps of its network (our choice). The effects of calls are in packet_socket/specs/HostEffects.
 -- Here their parameter `Runs` is `InSteps`. An atomic step is an access of the host's driver, or a tick that isn't Go.
-use Rattle.std.specs.Prelude.{◌≡◌, ◌++◌, ◌∷◌, [], ℕ, List}
+use Rattle.std.specs.Prelude.{◌≡◌, ◌++◌, ◌∷◌, [], ℕ, All, List}
 use Rattle.adapter.specs.HostFrames.{frames_held}
 use Rattle.adapter.specs.World.{World}
 use Rattle.adapter.specs.declared.offsets.TheConstants.{ICR}
@@ -10,7 +10,7 @@ use Rattle.bus.specs.declared.event.Access.TheVariants.{Reads}
 use Rattle.stations.specs.AtomicRuns.{LeadsTo, past_at}
 use Rattle.stations.specs.AtomicSteps.{AtomicStep}
 use Rattle.stations.specs.Stations.{StationState, world_at}
-use Rattle.packet_socket.specs.HostActs.{HostAct, Effect, Ends, CallStages, Then, accesses_in}
+use Rattle.packet_socket.specs.HostActs.{HostAct, Effect, Ends, CallStages, IsAccessOf, Then, accesses_in}
 use Rattle.packet_socket.specs.CallEffects.{EffectOf, Request, accepted_in, given_in}
 use Rattle.packet_socket.specs.declared.call.HostAnswer.{HostAnswer}
 use Rattle.packet_socket.specs.HostCalls.{Given, given_for, socket_frames, waiting_frames}
@@ -42,6 +42,8 @@ MakesStages k (Then made Holds later) steps old =
 -- Host k ran this act in these steps, and its sockets returned the frames `given`.
 pub record InSteps (k : ℕ) (given : List Given) (steps : List AtomicStep) (old new : ConnectedHost) (act : HostAct) : Type 0 where
   pub stages : MakesStages k act.stages steps old.stations
+  -- each access is one of a call of this kind
+  pub own : All (IsAccessOf act.kind old.host.driver.layout) (past_at k steps).accesses
   -- The frames that it took off the receive ring are the beginning of this list: the frames that the host held when the call began, then
   -- those that were stored during the call.
   pub left : act.taken ++ frames_held new.host.driver.oldest_receive (world_at new.stations k)

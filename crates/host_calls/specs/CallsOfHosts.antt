@@ -5,7 +5,7 @@ use Rattle.stations.specs.AtomicSteps.{AtomicStep, IsNoAccess, tick_of}
 use Rattle.stations.specs.Stations.{StationState, world_at}
 use Rattle.stations.specs.AtomicRuns.{LeadsTo, counted_of, is_go, noted_of, past_at, steps_told}
 use Rattle.driver_law.specs.Calls.{HasNoForgottenWork, IsRefilled}
-use Rattle.packet_socket.specs.HostActs.{IsOfDriver, OnlyLastWrites}
+use Rattle.packet_socket.specs.HostActs.{IsOfDriver, IsOfHost, OnlyLastWrites}
 use Rattle.packet_socket.specs.HostCalls.{Given, HostDid, HostFlowsTo, did, in_world}
 use Rattle.delivery.specs.Happenings.{happened_in, told}
 use Rattle.delivery.specs.TickNumbers.{numbers, noted_numbers}
@@ -35,11 +35,16 @@ pub record StepsOfCall (call : PlayedCall) (steps : List AtomicStep) (old new : 
 pub record HostRuns (k : ℕ) (steps : List AtomicStep) (done : HostDid) (old new : ConnectedHost) : Type 0 where
   pub flows : HostFlowsTo true (in_world old.host (world_at old.stations k)) (in_world new.host (world_at new.stations k)) done
       (past_at k steps)
-  pub accesses : All (IsOfDriver old.host.driver.layout) (past_at k steps).accesses
+  pub accesses : All (IsOfHost old.host.driver.layout) (past_at k steps).accesses
   pub work : HasNoForgottenWork old.host.driver (world_at old.stations k) → HasNoForgottenWork new.host.driver (world_at new.stations k)
   pub refilled : IsRefilled old.host.driver → IsRefilled new.host.driver
   -- If no slot was staged before the call, no slot is staged after it.
   pub offered : old.host.driver.staged ≡ [] → new.host.driver.staged ≡ []
+
+-- No group is joined or left: the groups joined don't change, and no word of the group table is written.
+pub record GroupsStay (k : ℕ) (steps : List AtomicStep) (old new : ConnectedHost) : Type 0 where
+  pub groups : new.host.driver.groups ≡ old.host.driver.groups
+  pub accesses : All (IsOfDriver old.host.driver.layout) (past_at k steps).accesses
 
 -- A call of a host: the atomic steps that it and its ticks made, and what the host did. Its sockets returned the frames `given`, and it
 -- accepted the frames `accepted` for sending.

@@ -11,7 +11,7 @@ use Rattle.delivery.specs.Happenings.{Moved, happened_in}
 use Rattle.driver_law.specs.Calls.{driver_in, frames_ended}
 use Rattle.packet_socket.specs.HostState.{HostState, all_of}
 use Rattle.packet_socket.specs.HostCalls.{Given, did}
-use Rattle.host_calls.specs.CallsOfHosts.{HostRuns}
+use Rattle.host_calls.specs.CallsOfHosts.{GroupsStay, HostRuns}
 use Rattle.host_calls.specs.ConnectedHosts.{ConnectedHost}
 use Rattle.host_calls.specs.DrainedHosts.{IsDrainStep, count_adapter_steps, count_frames, count_left}
 
@@ -61,6 +61,7 @@ pub record StepsOn (steps number : ℕ) (given : List Given) (old new : Connecte
   pub only : All (IsDrainStep number) played
   pub taken : List (List ℕ)
   pub runs : HostRuns number played (did taken given []) old new
+  pub stay : GroupsStay number played old new
   pub moves : DrainMovesFrames number played old.stations new.stations
   pub counts : CountsSteps steps number (length given) old new
 

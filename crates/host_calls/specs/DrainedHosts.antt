@@ -21,7 +21,7 @@ use Rattle.driver.specs.HandlerSteps.{GrowsBy}
 use Rattle.driver.specs.declared.receiver.Received.{Received}
 use Rattle.packet_socket.specs.HostCalls.{Given, HostReady, did, given_for, held_for_socket, without_socket}
 use Rattle.packet_socket.specs.HostState.{HostState, all_of}
-use Rattle.host_calls.specs.CallsOfHosts.{HostRuns}
+use Rattle.host_calls.specs.CallsOfHosts.{GroupsStay, HostRuns}
 use Rattle.host_calls.specs.ConnectedHosts.{ConnectedHost}
 
 -- What a drain requires of a host. It holds between any two calls.
@@ -111,6 +111,7 @@ pub record GoesBy (number : ℕ) (given : List Given) (old new : ConnectedHost) 
   pub only : All (IsDrainStep number) played
   pub taken : List (List ℕ)
   pub runs : HostRuns number played (did taken given []) old new
+  pub stay : GroupsStay number played old new
   pub moved : happened_in played ≡ replicate (length (world_at old.stations number).adapter.receiver.buffer) (Moved number)
 
 -- A drain of a host gave these frames, in this number of steps.

@@ -14,7 +14,7 @@ pub record NetworkState : Type 0 where
 abbrev pub IsHost : NetworkState → (k : ℕ) → HostState → Type 0
 IsHost network k host = slice_get network.hosts k ≡ Some host
 
--- What is known of a host, also of one that isn't there: that one has no slots, no buffers and no sockets.
+-- What is known of a host, also of one that isn't there: that one has no slots, no buffers, no sockets and no groups.
 
 abbrev pub no_driver : DriverState
 no_driver = record {
@@ -29,6 +29,7 @@ no_driver = record {
   missed = 0;
   exact = true;
   bad = 0;
+  groups = [];
 }
 
 abbrev pub host_or_empty : Option HostState → HostState

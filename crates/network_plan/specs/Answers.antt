@@ -2,11 +2,12 @@
 use Rattle.std.specs.Prelude.{◌∷◌, [], Err, List, Ok, ℕ}
 use Rattle.stations.specs.declared.tick.Tick.{Tick}
 use Rattle.packet_socket.specs.declared.call.HostAnswer.{HostAnswer}
-use Rattle.packet_socket.specs.declared.call.HostAnswer.TheVariants.{Interrupted as InterruptedBy, Received as ReceivedBy, Sent as SentBy}
+use Rattle.packet_socket.specs.declared.call.HostAnswer.TheVariants.{Interrupted as InterruptedBy, Joined as JoinedBy, Left as LeftBy}
+use Rattle.packet_socket.specs.declared.call.HostAnswer.TheVariants.{Received as ReceivedBy, Sent as SentBy}
 use Rattle.network_plan.specs.EventCalls.{Alone, ByCall, CallOrTick, in_event}
 use Rattle.network_plan.specs.declared.event.Event.{Event}
 use Rattle.network_plan.specs.declared.reply.Answer.{Answer}
-use Rattle.network_plan.specs.declared.reply.Answer.TheVariants.{Interrupted, NoHost, Received, Sent, Ticked}
+use Rattle.network_plan.specs.declared.reply.Answer.TheVariants.{Interrupted, Joined, Left, NoHost, Received, Sent, Ticked}
 
 -- an answer with the bytes of its frame
 abbrev pub FrameAnswer : Type 0
@@ -18,6 +19,8 @@ answer_with frame (Sent sent) = Sent sent
 answer_with frame (Received (Ok old)) = Received (Ok frame)
 answer_with frame (Received (Err error)) = Received (Err error)
 answer_with frame (Interrupted handled) = Interrupted handled
+answer_with frame (Joined joined) = Joined joined
+answer_with frame (Left left) = Left left
 answer_with frame Ticked = Ticked
 answer_with frame NoHost = NoHost
 
@@ -26,6 +29,8 @@ abbrev pub event_answer : HostAnswer (List ℕ) → FrameAnswer
 event_answer (SentBy result) = Sent result
 event_answer (ReceivedBy result) = Received result
 event_answer (InterruptedBy result) = Interrupted result
+event_answer (JoinedBy result) = Joined result
+event_answer (LeftBy result) = Left result
 
 -- the ticks of an event, each Go among them
 abbrev pub ticks_by : CallOrTick → List Tick

@@ -1,10 +1,10 @@
 -- The two kinds of events: a call of a host with the ticks that are played in it, or a tick by itself (our choice). So a definition of
 -- calls doesn't need a case for each kind of call.
 use Rattle.std.specs.Prelude.{List, ℕ}
-use Rattle.packet_socket.specs.CallEffects.{Interrupting, Receiving, Request, Sending}
+use Rattle.packet_socket.specs.CallEffects.{Interrupting, Joining, Leaving, Receiving, Request, Sending}
 use Rattle.stations.specs.declared.tick.Tick.{Tick}
 use Rattle.network_plan.specs.declared.event.Event.{Event}
-use Rattle.network_plan.specs.declared.event.Event.TheVariants.{Interrupt, Recv, Send, Tick as OfTick}
+use Rattle.network_plan.specs.declared.event.Event.TheVariants.{Interrupt, Join, Leave, Recv, Send, Tick as OfTick}
 
 -- the host that is called, which call it makes, and the ticks that are played in the call
 pub record EventCall : Type 0 where
@@ -21,4 +21,6 @@ abbrev pub in_event : Event → CallOrTick
 in_event (Send host frame ticks) = ByCall (record { host = host; request = Sending frame.items; ticks = ticks.items })
 in_event (Recv host socket ticks) = ByCall (record { host = host; request = Receiving socket; ticks = ticks.items })
 in_event (Interrupt host ticks) = ByCall (record { host = host; request = Interrupting; ticks = ticks.items })
+in_event (Join host group ticks) = ByCall (record { host = host; request = Joining group; ticks = ticks.items })
+in_event (Leave host group ticks) = ByCall (record { host = host; request = Leaving group; ticks = ticks.items })
 in_event (OfTick tick) = Alone tick

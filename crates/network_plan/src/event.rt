@@ -33,6 +33,24 @@ pub enum Event {
         /// What is played inside the call.
         ticks: Vec<Tick>,
     },
+    /// A host joins a multicast group.
+    Join {
+        /// The host.
+        host: usize,
+        /// The group's address.
+        group: [u8; 6],
+        /// What is played inside the call.
+        ticks: Vec<Tick>,
+    },
+    /// A host leaves a multicast group.
+    Leave {
+        /// The host.
+        host: usize,
+        /// The group's address.
+        group: [u8; 6],
+        /// What is played inside the call.
+        ticks: Vec<Tick>,
+    },
     /// A tick by itself, between calls. `Go` does nothing here.
     Tick(Tick),
 }
@@ -48,7 +66,9 @@ impl Event {
         match self {
             Event::Send { ticks, .. }
             | Event::Recv { ticks, .. }
-            | Event::Interrupt { ticks, .. } => { ticks.len() }
+            | Event::Interrupt { ticks, .. }
+            | Event::Join { ticks, .. }
+            | Event::Leave { ticks, .. } => { ticks.len() }
             Event::Tick(_) => 1,
         }
     }

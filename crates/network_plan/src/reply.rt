@@ -1,6 +1,7 @@
 // What came of an event.
 
 use driver::{Handled, SendError};
+use joined_groups::GroupError;
 use packet_socket::RecvError;
 use stations::{HeapFrame, Outcomes};
 use thiserror::Error;
@@ -17,6 +18,10 @@ pub enum Answer<F> {
     Received(Result<F, RecvError>),
     /// An interrupt was handled.
     Interrupted(Handled),
+    /// A group was joined, or not.
+    Joined(Result<(), GroupError>),
+    /// A group was left, or not.
+    Left(Result<(), GroupError>),
     /// A tick was played by itself.
     Ticked,
     /// There is no such host; the ticks of the call were played.
@@ -39,6 +44,8 @@ impl<F> Answer<F> {
             Answer::Received(Ok(_)) => Answer::Received(Ok(frame)),
             Answer::Received(Err(error)) => Answer::Received(Err(error)),
             Answer::Interrupted(handled) => Answer::Interrupted(handled),
+            Answer::Joined(joined) => Answer::Joined(joined),
+            Answer::Left(left) => Answer::Left(left),
             Answer::Ticked => Answer::Ticked,
             Answer::NoHost => Answer::NoHost,
         }

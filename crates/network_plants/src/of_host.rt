@@ -94,5 +94,7 @@ pub fn call<B: Bus>(
         HostAnswer::Sent(sent) => HostAnswer::Sent(sent),
         HostAnswer::Received(received) => HostAnswer::Received(received),
         HostAnswer::Interrupted(handled) => HostAnswer::Interrupted(handled),
+        HostAnswer::Joined(joined) => HostAnswer::Joined(joined),
+        HostAnswer::Left(left) => HostAnswer::Left(left),
     }
 }

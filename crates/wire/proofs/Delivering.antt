@@ -1,21 +1,14 @@
 -- The equations of one host, over one event and over several.
-use Rattle.std.proofs.Common.{◌≡◌, ◌≤◌, ◌<◌, ◌+◌, ◌^◌, ◌++◌, [], ℕ, IsTrue, List, Option, cond, inl, inr, ⊎_elim}
+use Rattle.std.proofs.Common.{◌≡◌, ◌≤◌, ◌<◌, ◌+◌, ◌^◌, ◌++◌, [], ℕ, IsTrue, List, Option, cond}
 use Rattle.std.proofs.Common.{map, refl, sym, ap, subst, ◌∙◌}
 use Rattle.std.proofs.Common.{append_assoc, arith}
-use Rattle.std.specs.List.{All}
 use Rattle.std.proofs.lemmas.List.{append-nil, map-append}
 use Rattle.std.proofs.lemmas.List.Elements.{filter-append}
 use Rattle.std.proofs.lemmas.List.Sums.{sum_by-append}
-use Rattle.registers.specs.Bits.{HasBit}
-use Rattle.registers.specs.Places.{rctl_en}
 use Rattle.rx_engine.specs.Addresses.{ether_type}
 use Rattle.descriptors.specs.Frames.{padded}
 use Rattle.adapter.specs.HostFrames.{frames_to_send}
 use Rattle.adapter.specs.World.{World}
-use Rattle.bus.proofs.Lists.{all-weaker}
-use Rattle.bus.specs.declared.event.Access.{Access}
-use Rattle.bus.specs.declared.event.Access.TheVariants.{Loads, Reads, Stores, Writes}
-use Rattle.dma_memory.specs.Layout.{Counts}
 use Rattle.stations.specs.AtomicSteps.{AtomicStep}
 use Rattle.stations.specs.Stations.{StationState, backlog_at, wire_at, world_at}
 use Rattle.stations.specs.AtomicRuns.{LeadsTo, past_at}
@@ -25,29 +18,14 @@ use Rattle.packet_socket.specs.SocketKinds.{goes_to, has_none}
 use Rattle.packet_socket.specs.declared.socket_kind.SocketKind.{SocketKind}
 use Rattle.delivery.proofs.Joining.{accepted-append, given-append, marks-append, missed-append, put-append, stored-append, waits-append}
 use Rattle.delivery.proofs.Laws.{frames-move}
-use Rattle.delivery.proofs.RightFates.{fates-right, receives-append, receives-none, tails-leave_reception}
+use Rattle.delivery.proofs.RightFates.{receives-append, receives-none}
 use Rattle.delivery.specs.Fates.{Mark, marks}
 use Rattle.delivery.specs.Happenings.{Happening, accepted, given, happened_in, missed, put, reached, stored, toward}
-use Rattle.delivery.specs.Reception.{LeavesReception, ReceivesRightly}
+use Rattle.delivery.specs.Reception.{ReceivesRightly}
 use Rattle.host_calls.specs.CallsOfHosts.{HostRuns}
-use Rattle.packet_socket.specs.HostActs.{IsOfDriver, IsTailWrite}
 use Rattle.wire.specs.Equations.{CountsMisses, CountsUnclaimed, Delivers, kept, sum_of}
 use Rattle.host_calls.specs.ConnectedHosts.{connected}
-
--- An access of a driver that is up leaves reception alone.
-tail-leaves : (counts : Counts) (offset value : ℕ) → IsTailWrite counts offset value → LeavesReception (Writes offset value)
-tail-leaves counts offset value is = tails-leave_reception offset value
-    (⊎_elim (λ (receive : (offset ≡ Rattle.adapter.specs.declared.offsets.TheConstants.RDT) × (value < counts.rx)). inl receive.0)
-    (λ (transmit : (offset ≡ Rattle.adapter.specs.declared.offsets.TheConstants.TDT) × (value < counts.tx)). inr transmit.0) is)
-
-leaves : (counts : Counts) (access : Access) → IsOfDriver counts access → LeavesReception access
-leaves counts (Reads offset value) is = tt
-leaves counts (Writes offset value) is = tail-leaves counts offset value is
-leaves counts (Loads address size) is = tt
-leaves counts (Stores address bytes) is = tt
-
-pub all-leave : (counts : Counts) (accesses : List Access) → All (IsOfDriver counts) accesses → All LeavesReception accesses
-all-leave counts accesses are = all-weaker (IsOfDriver counts) LeavesReception accesses (leaves counts) are
+use Rattle.wire.proofs.GroupsInForce.{Right}
 
 -- Counts of misses.
 misses-of : (h : HostState) (a : World) (h' : HostState) (b : World) (misses : ℕ)
@@ -132,13 +110,18 @@ delivers-join k first later a b c h1 h2 h3 wires one two =
     let plan = one.plan_is_kept in
     let next = two.plan_is_kept in
     let stored_is = stored-append k first later in
+    let right =
+    subst (λ (all : List Mark). ReceivesRightly h1.driver.groups (world_at a k).adapter all h3.driver.groups (world_at c k).adapter)
+    (sym (marks-append k first later))
+    (receives-append h1.driver.groups h2.driver.groups h3.driver.groups (world_at a k).adapter (world_at b k).adapter (world_at c k).adapter
+    (marks k first) (marks k later) one.fates_are_right two.fates_are_right) in
     record {
       plan_is_kept = record {
         wire = next.wire ∙ plan.wire;
         kinds = next.kinds ∙ plan.kinds;
         layout = next.layout ∙ plan.layout;
-        filter = next.filter ∙ plan.filter;
-        kilobytes = next.kilobytes ∙ plan.kilobytes;
+        filter = right.filter;
+        kilobytes = right.kilobytes;
       };
       sent_is_accepted =
           ap (λ (frames : List (List ℕ)). frames ++ frames_to_send (world_at c k)) (put-append k first later)
@@ -158,10 +141,7 @@ delivers-join k first later a b c h1 h2 h3 wires one two =
           ∙ ap (λ (kinds : List SocketKind). held_for_socket h2 socket (world_at b k) ++ kept kinds k socket later) plan.kinds)
           ∙ ap (λ (frames : List (List ℕ)). held_for_socket h1 socket (world_at a k) ++ frames)
           (sym (kept-append h1.kinds k socket first later));
-      fates_are_right =
-          subst (λ (all : List Mark). ReceivesRightly (world_at a k).adapter all (world_at c k).adapter) (sym (marks-append k first later))
-          (receives-append (world_at a k).adapter (world_at b k).adapter (world_at c k).adapter (marks k first) (marks k later)
-          one.fates_are_right two.fates_are_right);
+      fates_are_right = right;
       misses_are_counted =
           misses-join h1 h2 h3 (world_at a k) (world_at b k) (world_at c k) (missed k first) (missed k later) (missed k (first ++ later))
           (missed-append k first later) one.misses_are_counted two.misses_are_counted;
@@ -182,23 +162,21 @@ pub record Tells (k : ℕ) (happened : List Happening) (steps : List AtomicStep)
   pub toward : toward wires k happened ≡ toward wires k (happened_in steps)
   pub stored : stored k happened ≡ stored k (happened_in steps)
   pub missed : missed k happened ≡ missed k (happened_in steps)
-  pub marks : marks k happened ≡ marks k (happened_in steps)
   pub accepted : map padded (accepted k happened) ≡ accepted_are
   pub given : (socket : ℕ) → given k socket happened ≡ given_for socket given_are
 
 -- Over one event.
 pub delivers-runs : (caller k : ℕ) (steps : List AtomicStep) (happened : List Happening) (a b : List StationState) (h h' : HostState)
     (taken : List (List ℕ)) (given_are : List Given) (accepted_are : List (List ℕ))
-    → LeadsTo caller steps a b → HasBit (world_at a k).adapter.filter.rctl rctl_en
+    → LeadsTo caller steps a b → Right k happened a b h h'
     → HostRuns k steps (did taken given_are accepted_are) (connected h a) (connected h' b)
     → Tells k happened steps (wire_at a) given_are accepted_are
     → Delivers k happened a b h h'
-delivers-runs caller k steps happened a b h h' taken given_are accepted_are leads enabled runs tells =
+delivers-runs caller k steps happened a b h h' taken given_are accepted_are leads right runs tells =
     let moves = frames-move caller k steps a b leads in
     let flows = runs.flows.driver in
     let accounts = runs.flows.accounts in
     let past = past_at k steps in
-    let right = fates-right caller k steps a b leads (all-leave h.driver.layout past.accesses runs.accesses) enabled in
     let stored_are : stored k happened ≡ past.stored = tells.stored ∙ moves.stored in
     let missed_are : missed k happened ≡ past.missed = tells.missed ∙ moves.missed in
     record {
@@ -206,8 +184,8 @@ delivers-runs caller k steps happened a b h h' taken given_are accepted_are lead
         wire = moves.wires;
         kinds = accounts.kinds;
         layout = flows.layout;
-        filter = right.filter;
-        kilobytes = right.kilobytes;
+        filter = right.right.filter;
+        kilobytes = right.right.kilobytes;
       };
       sent_is_accepted =
           ap (λ (frames : List (List ℕ)). frames ++ frames_to_send (world_at b k)) (tells.put ∙ moves.put)
@@ -222,8 +200,7 @@ delivers-runs caller k steps happened a b h h' taken given_are accepted_are lead
           ∙ accounts.sockets socket
           ∙ ap (λ (frames : List (List ℕ)). held_for_socket h socket (world_at a k) ++ socket_frames h.kinds socket frames)
           (sym stored_are);
-      fates_are_right =
-          subst (λ (all : List Mark). ReceivesRightly (world_at a k).adapter all (world_at b k).adapter) (sym tells.marks) right;
+      fates_are_right = right.right;
       misses_are_counted =
           misses-of h (world_at a k) h' (world_at b k) (missed k happened)
           (let most = flows.misses.at_most in omega (arith, most, missed_are))
@@ -248,7 +225,7 @@ delivers-none k a h = record {
   sent_is_accepted = sym (append-nil (frames_to_send (world_at a k)));
   reached_is_put = sym (append-nil (backlog_at a k));
   given_is_kept = λ socket. sym (append-nil (held_for_socket h socket (world_at a k)));
-  fates_are_right = receives-none (world_at a k).adapter;
+  fates_are_right = receives-none h.driver.groups (world_at a k).adapter;
   misses_are_counted = record {
     at_most = omega arith;
     exactly = λ exact. (exact, omega arith);

@@ -10,6 +10,7 @@ use Rattle.packet_socket.specs.HostState.{HostState}
 use Rattle.packet_socket.specs.HostCalls.{Given}
 use Rattle.stations.specs.AtomicSteps.{AtomicStep}
 use Rattle.stations.specs.Stations.{StationState, wire_at, world_at, world_of}
+use Rattle.delivery.specs.Fates.{marks}
 use Rattle.delivery.specs.Happenings.{Happening, Moved, happened_in, of_host}
 use Rattle.host_calls.specs.DrainedHosts.{CanBeDrained, Drains, DrainsInto, KeepsMisses}
 use Rattle.host_calls.specs.ConnectedHosts.{connected}
@@ -20,8 +21,9 @@ use Rattle.host_calls.specs.Networks.{IsHost, NetworkState, OnlyHostChanges, con
 use Rattle.host_calls.proofs.HostsOfNetworks.{host-there}
 use Rattle.wire.proofs.Delivering.{Tells, delivers-none}
 use Rattle.wire.proofs.Playing.{hosts-as}
-use Rattle.wire.proofs.Standing.{caller-behind, each-runs, hosts-go}
-use Rattle.wire.proofs.Tellings.{gives, tells-given}
+use Rattle.wire.proofs.GroupsInForce.{stay-right}
+use Rattle.wire.proofs.Standing.{caller-behind, each-right, each-runs, hosts-go}
+use Rattle.wire.proofs.Tellings.{gives, marks-given, tells-given}
 
 -- A host that stands can be drained.
 pub can-drain : (host : HostState) (world : World) → HostStands host world → CanBeDrained host world
@@ -40,6 +42,11 @@ tells-drain : (k host moves : ℕ) (list : List Given) (steps : List AtomicStep)
 tells-drain k host moves list steps wires moved =
     subst (λ (happened : List Happening). Tells k (happened ++ gives host list) steps wires (of_host k host list) (of_host k host [])) moved
     (tells-given k host list steps wires)
+
+marks-drain : (k host moves : ℕ) (list : List Given) (steps : List AtomicStep) → happened_in steps ≡ replicate moves (Moved host)
+    → marks k (said_of_drain host moves list) ≡ marks k (happened_in steps)
+marks-drain k host moves list steps moved =
+    ap (λ (happened : List Happening). marks k (happened ++ gives host list)) (sym moved) ∙ marks-given k host list steps
 
 -- A host that is there.
 
@@ -72,6 +79,11 @@ set-drained old stations host steps h h' before behind stands there below into =
     (λ k was is first now.
     each-runs host k drains.by.played old.stations stations old.hosts h h' was is drains.by.taken into.given [] drains.by.leads there
     drains.by.runs first now (stands.each k was first).ready)
+    (λ k was is first now.
+    each-right host k drains.by.played (said_of_drain host moves into.given) old.stations stations old.hosts h h' was is drains.by.leads
+    there (stay-right host host drains.by.played (said_of_drain host moves into.given) old.stations stations h h' drains.by.leads
+    (stands.each host h there) drains.by.stay (marks-drain host host moves into.given drains.by.played drains.by.moved))
+    (λ other. marks-drain k host moves into.given drains.by.played drains.by.moved) first now (stands.each k was first))
     (λ k. tells-drain k host moves into.given drains.by.played (wire_at old.stations) drains.by.moved) in
     record {
       given = into.given;

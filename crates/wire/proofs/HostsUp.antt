@@ -33,6 +33,7 @@ use Rattle.driver_law.specs.DriverState.{DriverState, with_owners}
 use Rattle.driver_law.specs.ReadyDrivers.{Ready}
 use Rattle.driver_law.specs.Calls.{IsRefilled}
 use Rattle.driver.specs.Initialisation.{Initialises, transmit_accesses}
+use Rattle.joined_groups.specs.Groups.{AreNamedOnce}
 use Rattle.packet_socket.specs.HostCalls.{HostReady}
 use Rattle.packet_socket.specs.HostState.{HostState, new_host}
 use Rattle.packet_socket.specs.declared.socket_kind.SocketKind.{SocketKind}
@@ -96,7 +97,9 @@ pub record IsBroughtUp (plan : HostPlan) (old new : LivelyBus) (host : HostState
   pub adapter : (machine_world old).adapter ≡ new_adapter plan.image plan.link
   pub memory : length (machine_world new).memory ≡ size_of (configured_counts plan.config)
   pub host_is : host ≡ new_host host.driver plan.sockets.items
-  pub fresh : host.driver ≡ with_owners (new_driver (configured_counts plan.config) []) host.driver.buffers [] host.driver.pool []
+  pub fresh : host.driver ≡ with_owners (new_driver (configured_counts plan.config) host.driver.groups []) host.driver.buffers []
+      host.driver.pool []
+  pub joined : AreNamedOnce plan.config.groups.items host.driver.groups
   pub refilled : IsRefilled host.driver
   pub initialises : Initialises lively plan.config old new host.driver
   pub ready : HostReady host (machine_world new)
@@ -197,6 +200,8 @@ comes-up plan old new host wire is =
         kinds = ap (λ (h : HostState). h.kinds) is.host_is;
         allocation = configured.allocation;
         filter = plans-filter plan (settings_of (machine_world new).adapter) is.address configured;
+        groups = is.joined;
+        table = init.table;
       };
       devices = record {
         image = init.adapter.image ∙ image;

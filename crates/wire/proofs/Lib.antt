@@ -1,3 +1,4 @@
+pub mod GroupsInForce
 pub mod Delivering
 pub mod Tellings
 pub mod Calls

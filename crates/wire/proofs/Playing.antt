@@ -1,5 +1,5 @@
 -- Calls of hosts that are there, and of hosts that aren't.
-use Rattle.std.proofs.Common.{◌≡◌, ◌≤◌, ◌<◌, ◌∷◌, [], ℕ, List, Some, None, length, map, slice_get, slice_set}
+use Rattle.std.proofs.Common.{◌≡◌, ◌≢◌, ◌≤◌, ◌<◌, ◌∷◌, [], ℕ, List, Some, None, length, map, slice_get, slice_set}
 use Rattle.std.proofs.Common.{refl, sym, ap, subst, ◌∙◌, arith}
 use Rattle.std.specs.List.{All}
 use Rattle.std.proofs.lemmas.List.{length-set}
@@ -20,6 +20,7 @@ use Rattle.stations.specs.declared.tick.Tick.{Tick}
 use Rattle.stations.specs.declared.tick.Tick.TheVariants.{Deliver, Go, Step}
 use Rattle.stations.proofs.TickLoops.{keeps-tick}
 use Rattle.delivery.proofs.Laws.{outcomes-tell}
+use Rattle.delivery.specs.Fates.{marks}
 use Rattle.delivery.specs.Happenings.{Happening, happened_in, of_host}
 use Rattle.delivery.specs.TickNumbers.{noted_numbers, numbers}
 use Rattle.network_plan.specs.Answers.{FrameAnswer}
@@ -27,6 +28,7 @@ use Rattle.network_plan.specs.declared.event.Event.{Event}
 use Rattle.network_plan.specs.declared.reply.Answer.TheVariants.{NoHost}
 use Rattle.network_plan.specs.declared.reply.Reply.{Reply}
 use Rattle.host_calls.proofs.Calling.{runs-alone}
+use Rattle.host_calls.proofs.GroupsKept.{stay-alone}
 use Rattle.host_calls.proofs.HostTrails.{happens-alone, none-alone}
 use Rattle.host_calls.specs.CallsInSteps.{MakesCall}
 use Rattle.host_calls.specs.CallsOfHosts.{CallRuns, HostRuns}
@@ -42,8 +44,9 @@ use Rattle.host_calls.specs.Networks.{IsHost, NetworkState, OnlyHostChanges, con
 use Rattle.host_calls.proofs.HostsOfNetworks.{host-there}
 use Rattle.wire.specs.RunObservers.{AreOfTicks, EventTold, Replies, TellsReply, ending, played_ticks, tick_in}
 use Rattle.wire.proofs.Delivering.{Tells}
-use Rattle.wire.proofs.Calls.{answer-some, none-said, tells-said}
-use Rattle.wire.proofs.Standing.{caller-behind, each-runs, hosts-go}
+use Rattle.wire.proofs.Calls.{answer-some, call-own, call-right, none-said, others-said, tells-said}
+use Rattle.wire.proofs.GroupsInForce.{Right, stay-right}
+use Rattle.wire.proofs.Standing.{caller-behind, each-right, each-runs, hosts-go}
 use Rattle.wire.proofs.Tellings.{tells-steps}
 
 -- What the call of a host that is there tells of all hosts.
@@ -51,15 +54,20 @@ pub call-goes : (caller : ℕ) (ticks : List Tick) (old : NetworkState) (station
     (accesses : ℕ) (h h' : HostState) (given : List Given) (accepted : List (List ℕ)) (happened : List Happening)
     → NetworkStands old → IsHost old caller h
     → (runs : CallRuns (played_call caller ticks heard accesses) given accepted (connected h old.stations) (connected h' stations))
+    → Right caller happened old.stations stations h h'
+    → ((k : ℕ) → k ≢ caller → marks k happened ≡ marks k (happened_in runs.steps))
     → ((k : ℕ) → Tells k happened runs.steps (wire_at old.stations) (of_host k caller given) (of_host k caller accepted))
     → HostsGo caller happened runs.steps old (record { hosts = slice_set old.hosts caller h'; stations = stations })
-call-goes caller ticks old stations heard accesses h h' given accepted happened stands there runs tells =
+call-goes caller ticks old stations heard accesses h h' given accepted happened stands there runs right others tells =
     hosts-go caller happened runs.steps old (record { hosts = slice_set old.hosts caller h'; stations = stations })
     (λ k. of_host k caller runs.taken) (λ k. of_host k caller given) (λ k. of_host k caller accepted) stands runs.of_call.leads
     (length-set old.hosts caller h')
     (λ k was is then now.
     each-runs caller k runs.steps old.stations stations old.hosts h h' was is runs.taken given accepted runs.of_call.leads there runs.runs
     then now (stands.each k was then).ready)
+    (λ k was is then now.
+    each-right caller k runs.steps happened old.stations stations old.hosts h h' was is runs.of_call.leads there right (others k) then now
+    (stands.each k was then))
     tells
 
 -- An observer of a call is told of the ticks that are played, in order.
@@ -137,6 +145,9 @@ set-played call old stations heard accesses result h h' reply stands there below
       steps = runs.steps;
       go = said-as (λ (list : List Happening). HostsGo caller list runs.steps old new) call accesses answer runs.steps reply replies
           (call-goes caller call.ticks old stations heard accesses h h' given accepted happened stands there runs
+          (call-right call result runs.steps old.stations stations h h' given (stands.each caller h there) runs.of_call.leads
+          runs.of_call.played runs.of_call.said calls.does)
+          (λ k other. others-said k call result runs.steps h h' _ _ calls.does runs.of_call.said other)
           (λ k. tells-said k call result runs.steps (wire_at old.stations) _ _ _ _ calls.does runs.of_call.said));
       replied = record {
         played = runs.of_call.played;
@@ -159,7 +170,7 @@ set-played call old stations heard accesses result h h' reply stands there below
             result = result;
             is = replies.answer;
             does = calls.does;
-            accesses = runs.runs.accesses;
+            accesses = call-own caller call.request result given runs.steps (connected h old.stations) (connected h' stations) _ calls.does;
             last_writes = runs.last_writes;
           }));
     }
@@ -192,12 +203,18 @@ ticks-run k steps old stations was is stands are leads then now =
 pub ticks-go : (caller : ℕ) (happened : List Happening) (steps : List AtomicStep) (old : NetworkState) (stations : List StationState)
     → NetworkStands old → All IsTick steps
     → ((k : ℕ) → LeadsTo k steps old.stations stations)
-    → ((k : ℕ) → Tells k happened steps (wire_at old.stations) [] [])
+    → happened ≡ happened_in steps
     → HostsGo caller happened steps old (record { hosts = old.hosts; stations = stations })
-ticks-go caller happened steps old stations stands are leads tells =
+ticks-go caller happened steps old stations stands are leads said =
     hosts-go caller happened steps old (record { hosts = old.hosts; stations = stations }) (λ k. []) (λ k. []) (λ k. []) stands
     (leads caller)
-    refl (λ k was is then now. ticks-run k steps old stations was is stands are (leads k) then now) tells
+    refl (λ k was is then now. ticks-run k steps old stations was is stands are (leads k) then now)
+    (λ k was is then now.
+    let same : is ≡ was = let e : Some was ≡ Some is = sym then ∙ now in cc in
+    stay-right k k steps happened old.stations stations was is (leads k) (stands.each k was then)
+    (stay-alone k steps (connected was old.stations) (connected is stations) same (none-alone k steps are)) (ap (marks k) said))
+    (λ k. subst (λ (list : List Happening). Tells k list steps (wire_at old.stations) [] []) (sym said)
+    (tells-steps k steps (wire_at old.stations)))
 
 -- A call for a host that isn't there plays ticks.
 absent-ticked : {O : Type 0} {g : OfObserver O} {ran : O → O → List Event → List Reply → Type 0} (call : EventCall) (event : Event)
@@ -226,9 +243,7 @@ absent-ticked call event old stations from to stands past absent =
       holds = record {
         steps = plays.steps;
         go = said-as (λ (list : List Happening). HostsGo caller list plays.steps old new) call 0 NoHost plays.steps reply replies
-            (ticks-go caller happened plays.steps old stations stands plays.are plays.leads
-            (λ k. subst (λ (list : List Happening). Tells k list plays.steps (wire_at old.stations) [] []) (sym said)
-            (tells-steps k plays.steps (wire_at old.stations))));
+            (ticks-go caller happened plays.steps old stations stands plays.are plays.leads said);
         replied = record {
           played = tells.played;
           unmade = λ past. none-alone caller plays.steps plays.are;

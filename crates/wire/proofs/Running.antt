@@ -20,9 +20,8 @@ use Rattle.host_calls.specs.ConnectedHosts.{connected}
 use Rattle.host_calls.specs.Networks.{IsHost, NetworkState}
 use Rattle.stations.specs.ToldTicks.{ComposesTold, TickTold}
 use Rattle.wire.specs.RunObservers.{ComposesRuns, EventTold}
-use Rattle.wire.proofs.Delivering.{Tells, delivers-join, delivers-none}
+use Rattle.wire.proofs.Delivering.{delivers-join, delivers-none}
 use Rattle.wire.proofs.Playing.{ticks-go}
-use Rattle.wire.proofs.Tellings.{tells-steps}
 
 -- Events. What is said of each is said of its call, or of its tick.
 
@@ -42,9 +41,7 @@ pub tick-event : (old : NetworkState) (stations : List StationState) (event : Ev
     → EventRuns old event reply (record { hosts = old.hosts; stations = stations })
 tick-event old stations event tick reply is stands played =
     let new : NetworkState = record { hosts = old.hosts; stations = stations } in
-    let go = ticks-go 0 (told_alone tick reply.outcomes.list) played.steps old stations stands played.are played.leads
-    (λ k. subst (λ (list : List Happening). Tells k list played.steps (wire_at old.stations) [] []) (sym played.said)
-    (tells-steps k played.steps (wire_at old.stations))) in
+    let go = ticks-go 0 (told_alone tick reply.outcomes.list) played.steps old stations stands played.are played.leads played.said in
     let replied = played.replied old.hosts in
     record {
       stood = stands;

@@ -1,5 +1,5 @@
 -- Hosts stand after each event.
-use Rattle.std.proofs.Common.{◌≡◌, ◌≢◌, ◌<◌, [], ℕ, Bool, List, Some, inl, inr, ⊎_elim}
+use Rattle.std.proofs.Common.{◌≡◌, ◌≢◌, ◌<◌, [], ℕ, Bool, List, Option, Some, inl, inr, ⊎_elim}
 use Rattle.std.proofs.Common.{length, slice_get}
 use Rattle.std.proofs.Common.{refl, sym, subst, ◌∙◌, arith, if◌then◌else◌, slice_set}
 use Rattle.std.specs.List.{All}
@@ -12,6 +12,8 @@ use Rattle.registers.specs.Counting.{greatest_count}
 use Rattle.dma_memory.specs.Layout.{Counts}
 use Rattle.descriptors.specs.Ring.{count_of}
 use Rattle.adapter.specs.Table.{register_at}
+use Rattle.adapter.specs.TableLaws.{register_at-mta}
+use Rattle.adapter.specs.declared.register.Register.{Register}
 use Rattle.adapter.specs.World.{World, receive_ring, transmit_ring}
 use Rattle.adapter.specs.declared.offsets.TheConstants.{RDT, TDT}
 use Rattle.adapter.specs.declared.register.RingRegister.TheVariants.{Tail}
@@ -27,20 +29,25 @@ use Rattle.driver_law.specs.Calls.{HasNoForgottenWork, IsRefilled}
 use Rattle.packet_socket.specs.HostCalls.{Given, HostReady, did, driver_of}
 use Rattle.packet_socket.specs.HostState.{HostState}
 use Rattle.stations.proofs.Lengths.{length-stays}
-use Rattle.delivery.specs.Happenings.{Happening, of_host}
+use Rattle.delivery.specs.Fates.{marks}
+use Rattle.delivery.specs.Happenings.{Happening, happened_in, of_host}
 use Rattle.delivery.proofs.HostSteps.{trail-goes}
 use Rattle.delivery.proofs.Ticks.{absent-nothing, counts-go, ticks-answered}
 use Rattle.delivery.specs.Counts.{tail_of}
 use Rattle.delivery.specs.CountedHosts.{CanAnswer, CanBeCounted, IsCounted, IsCountedWrite}
 use Rattle.host_calls.proofs.Calling.{others-run, ready-behind}
+use Rattle.host_calls.proofs.GroupsKept.{stay-alone}
+use Rattle.host_calls.proofs.HostTrails.{none-elsewhere}
+use Rattle.joined_groups.specs.Groups.{HasTable}
 use Rattle.host_calls.specs.CallsOfHosts.{HostRuns}
-use Rattle.packet_socket.specs.HostActs.{IsOfDriver, IsTailWrite}
+use Rattle.packet_socket.specs.HostActs.{IsGroupWord, IsGroupWrite, IsOfDriver, IsOfHost, IsTailWrite}
 use Rattle.host_calls.specs.ConnectedHosts.{connected}
 use Rattle.wire.specs.Equations.{HostStands, NetworkStands}
 use Rattle.wire.specs.Runs.{HostsGo}
 use Rattle.host_calls.specs.Networks.{IsHost, NetworkState}
 use Rattle.wire.proofs.AdaptersStay.{adapter-behind}
 use Rattle.wire.proofs.Delivering.{Tells, delivers-runs}
+use Rattle.wire.proofs.GroupsInForce.{Right, stay-right}
 
 -- Accesses of a driver that is up can be counted.
 
@@ -67,23 +74,39 @@ counts-one counts (Writes offset value) is = tail-counted counts offset value is
 counts-one counts (Loads address size) is = tt
 counts-one counts (Stores address bytes) is = tt
 
+group-counted : (rx tx offset value : ℕ) → IsGroupWord offset → IfSome (register_at offset) (IsCountedWrite rx tx value)
+group-counted rx tx offset value is =
+    subst (λ (o : ℕ). IfSome (register_at o) (IsCountedWrite rx tx value)) (sym is.is)
+    (subst (λ (found : Option Register). IfSome found (IsCountedWrite rx tx value)) (sym (register_at-mta is.word is.below)) tt)
+
+group-counts : (rx tx : ℕ) (access : Access) → IsGroupWrite access → IsCounted rx tx access
+group-counts rx tx (Writes offset value) is = group-counted rx tx offset value is
+group-counts rx tx access is = absurd is
+
+host-counts : (counts : Counts) (access : Access) → IsOfHost counts access → IsCounted counts.rx counts.tx access
+host-counts counts access is =
+    ⊎_elim (λ (own : IsOfDriver counts access). counts-one counts access own)
+    (λ (group : IsGroupWrite access). group-counts counts.rx counts.tx access group) is
+
 -- of an adapter whose rings the driver knows
-pub all-counted : (h : HostState) (world : World) (accesses : List Access) → HostReady h world → All (IsOfDriver h.driver.layout) accesses
+pub all-counted : (h : HostState) (world : World) (accesses : List Access) → HostReady h world → All (IsOfHost h.driver.layout) accesses
     → All (IsCounted (count_of (receive_ring world)) (count_of (transmit_ring world))) accesses
 all-counted h world accesses ready are =
     let own = h.driver.layout in
     subst (λ (n : ℕ). All (IsCounted n (count_of (transmit_ring world))) accesses) (sym ready.ready.receive.slots)
     (subst (λ (n : ℕ). All (IsCounted own.rx n) accesses) (sym ready.ready.transmit.knows.slots)
-    (all-weaker (IsOfDriver own) (IsCounted own.rx own.tx) accesses (counts-one own) are))
+    (all-weaker (IsOfHost own) (IsCounted own.rx own.tx) accesses (host-counts own) are))
 
 -- A host that is ready, with no work forgotten, refilled and able to answer, stands.
 pub stands-with : (h : HostState) (world : World) → HostReady h world → HasNoForgottenWork h.driver world → IsRefilled h.driver
-    → h.driver.staged ≡ [] → CanAnswer world.adapter → (h.driver.missed < greatest_count → IsTrue h.driver.exact) → HostStands h world
-stands-with h world ready work refilled offered can exactly = record {
+    → h.driver.staged ≡ [] → HasTable h.driver.groups world → CanAnswer world.adapter
+    → (h.driver.missed < greatest_count → IsTrue h.driver.exact) → HostStands h world
+stands-with h world ready work refilled offered groups can exactly = record {
   ready = ready;
   work = work;
   refilled = refilled;
   offered = offered;
+  groups = groups;
   can = can;
   one_owner = ready.ready.driver_is.one_owner;
   sends_at_most = (slots_have_frames (driver_of h world) world ready.ready).most;
@@ -101,11 +124,11 @@ stands-with h world ready work refilled offered can exactly = record {
 pub stands-behind : (caller k : ℕ) (steps : List AtomicStep) (a b : List StationState) (h h' : HostState) (taken : List (List ℕ))
     (given : List Given) (accepted : List (List ℕ))
     → LeadsTo caller steps a b → HostStands h (world_at a k) → HostRuns k steps (did taken given accepted) (connected h a) (connected h' b)
-    → HostStands h' (world_at b k)
-stands-behind caller k steps a b h h' taken given accepted leads stands runs =
+    → HasTable h'.driver.groups (world_at b k) → HostStands h' (world_at b k)
+stands-behind caller k steps a b h h' taken given accepted leads stands runs groups =
     stands-with h' (world_at b k)
     (ready-behind h (world_at a k) h' (world_at b k) taken given accepted (past_at k steps) runs.flows)
-    (runs.work stands.work) (runs.refilled stands.refilled) (runs.offered stands.offered)
+    (runs.work stands.work) (runs.refilled stands.refilled) (runs.offered stands.offered) groups
     (trail-goes (events_at k steps) (world_at a k) (world_at b k) (count_of (receive_ring (world_at a k)))
     (count_of (transmit_ring (world_at a k))) refl refl
     (all-counted h (world_at a k) (past_at k steps).accesses stands.ready runs.accesses) (trail-of caller k steps a b leads)
@@ -161,9 +184,31 @@ each-runs caller k steps a b hosts h h' was is taken given accepted leads there 
           (others-run caller k steps a b was differ.1 leads ready))
     ]
 
+-- what each host receives
+pub each-right : (caller k : ℕ) (steps : List AtomicStep) (happened : List Happening) (a b : List StationState) (hosts : List HostState)
+    (h h' was is : HostState)
+    → LeadsTo caller steps a b → slice_get hosts caller ≡ Some h → Right caller happened a b h h'
+    → (k ≢ caller → marks k happened ≡ marks k (happened_in steps))
+    → slice_get hosts k ≡ Some was → slice_get (slice_set hosts caller h') k ≡ Some is → HostStands was (world_at a k)
+    → Right k happened a b was is
+each-right caller k steps happened a b hosts h h' was is leads there right others old new stands =
+    elim (eqb_tells k caller) [
+      | inl same ↦
+          let before : was ≡ h = same-host hosts caller h was there (subst (λ (n : ℕ). slice_get hosts n ≡ Some was) same.1 old) in
+          let behind : is ≡ h' = caller-behind hosts caller h h' is there
+          (subst (λ (n : ℕ). slice_get (slice_set hosts caller h') n ≡ Some is) same.1 new) in
+          subst (λ (n : ℕ). Right n happened a b was is) (sym same.1)
+          (subst (λ (w : HostState). Right caller happened a b w is) (sym before)
+          (subst (λ (w : HostState). Right caller happened a b h w) (sym behind) right))
+      | inr differ ↦
+          let stays : is ≡ was = other-behind hosts caller k was h' is differ.1 old new in
+          stay-right caller k steps happened a b was is leads stands
+          (stay-alone k steps (connected was a) (connected is b) stays (none-elsewhere caller k steps a b differ.1 leads)) (others differ.1)
+    ]
+
 -- A host that stands can be counted over accesses of its driver.
 can-count : (k : ℕ) (steps : List AtomicStep) (a : List StationState) (h : HostState) → HostStands h (world_at a k)
-    → All (IsOfDriver h.driver.layout) (past_at k steps).accesses → CanBeCounted k steps a
+    → All (IsOfHost h.driver.layout) (past_at k steps).accesses → CanBeCounted k steps a
 can-count k steps a h stands accesses = record {
   can = stands.can;
   accesses = all-counted h (world_at a k) (past_at k steps).accesses stands.ready accesses;
@@ -175,14 +220,15 @@ pub hosts-go : (caller : ℕ) (happened : List Happening) (steps : List AtomicSt
     → NetworkStands old → LeadsTo caller steps old.stations new.stations → length new.hosts ≡ length old.hosts
     → ((k : ℕ) (was is : HostState) → IsHost old k was → IsHost new k is
     → HostRuns k steps (did (taken k) (given k) (accepted k)) (connected was old.stations) (connected is new.stations))
+    → ((k : ℕ) (was is : HostState) → IsHost old k was → IsHost new k is → Right k happened old.stations new.stations was is)
     → ((k : ℕ) → Tells k happened steps (wire_at old.stations) (given k) (accepted k))
     → HostsGo caller happened steps old new
-hosts-go caller happened steps old new taken given accepted stands leads same runs tells = record {
+hosts-go caller happened steps old new taken given accepted stands leads same runs rights tells = record {
   leads = leads;
   hosts = same;
   delivers = λ k was is there here.
       delivers-runs caller k steps happened old.stations new.stations was is (taken k) (given k) (accepted k) leads
-      (stands.each k was there).can.receives (runs k was is there here) (tells k);
+      (rights k was is there here) (runs k was is there here) (tells k);
   ticks = record {
     there = λ k was there.
         let some = slice_get-some new.hosts k (let below = slice_get_within old.hosts k was there in omega (arith, below, same)) in
@@ -206,7 +252,7 @@ hosts-go caller happened steps old new taken given accepted stands leads same ru
     each = λ k is here.
         let some = slice_get-some old.hosts k (let below = slice_get_within new.hosts k is here in omega (arith, below, same)) in
         stands-behind caller k steps old.stations new.stations some.0 is (taken k) (given k) (accepted k) leads
-        (stands.each k some.0 some.1) (runs k some.0 is some.1 here);
+        (stands.each k some.0 some.1) (runs k some.0 is some.1 here) (rights k some.0 is some.1 here).table;
     adapters = λ k is here.
         let some = slice_get-some old.hosts k (let below = slice_get_within new.hosts k is here in omega (arith, below, same)) in
         adapter-behind (events_at k steps) (world_at old.stations k) (world_at new.stations k)

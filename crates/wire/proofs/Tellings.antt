@@ -11,12 +11,20 @@ use Rattle.packet_socket.specs.declared.receive.RecvError.{RecvError}
 use Rattle.stations.specs.AtomicSteps.{AtomicStep}
 use Rattle.delivery.proofs.HostLists.{accepted-none, given-none}
 use Rattle.delivery.proofs.Laws.{lists-append}
+use Rattle.delivery.proofs.ToldAround.{around_ticks}
 use Rattle.delivery.specs.Fates.{Mark, marks}
 use Rattle.delivery.specs.Happenings.{Accepted, Given as WasGiven, Happening, accepted, given, happened_in, missed, of_host, put, reached}
-use Rattle.delivery.specs.Happenings.{stored, toward}
-use Rattle.network_plan.specs.declared.reply.Answer.TheVariants.{Received, Sent}
+use Rattle.delivery.specs.Happenings.{accepted_in_one, given_in_one, missed_of, put_by, reached_by, stored, stored_by, told, told_around}
+use Rattle.delivery.specs.Happenings.{toward, toward_by}
+use Rattle.stations.specs.declared.outcomes.Numbered.{Numbered}
+use Rattle.stations.specs.declared.tick.Tick.{Tick}
+use Rattle.std.specs.List.{flat_map}
+use Rattle.std.proofs.lemmas.Grind.{flat_map-append}
+use Rattle.std.proofs.lemmas.List.Sums.{sum_by-append}
+use Rattle.network_plan.specs.Answers.{FrameAnswer}
+use Rattle.network_plan.specs.declared.reply.Answer.TheVariants.{Joined, Left, Received, Sent}
 use Rattle.packet_socket.specs.HostEffects.{given_by}
-use Rattle.wire.specs.Runs.{accepted_of, given_of}
+use Rattle.wire.specs.Runs.{accepted_of, given_of, joined_of, left_of}
 use Rattle.wire.proofs.Delivering.{Tells}
 
 -- Ticks alone.
@@ -27,7 +35,6 @@ tells-steps k steps wires = record {
   toward = refl;
   stored = refl;
   missed = refl;
-  marks = refl;
   accepted = ap (map padded) (accepted-none k steps);
   given = λ socket. given-none k socket steps;
 }
@@ -46,7 +53,6 @@ tells-call k host steps wires = record {
   toward = refl;
   stored = refl;
   missed = refl;
-  marks = refl;
   accepted = ap (map padded) (accepted-none k steps) ∙ none-of (k == host);
   given = λ s. given-none k s steps ∙ ap (given_for s) (none-of (k == host));
 }
@@ -70,7 +76,6 @@ tells-send k host frame (Ok u) steps wires =
       toward = lists.toward wires;
       stored = lists.stored;
       missed = missed ∙ omega arith;
-      marks = lists.marks;
       accepted = ap (map padded) lists.accepted ∙ accepted-one (k == host) frame (accepted k (happened_in steps)) (accepted-none k steps);
       given = λ socket. lists.given socket ∙ given-none k socket steps ∙ ap (given_for socket) (none-of (k == host));
     }
@@ -155,7 +160,6 @@ tells-given k host list steps wires =
       stored =
           lists.stored ∙ ap (λ (later : List (List ℕ)). stored k (happened_in steps) ++ later) (gives-stored k host list) ∙ append-nil _;
       missed = omega (arith, lost, gives-missed k host list);
-      marks = lists.marks ∙ ap (λ (later : List Mark). marks k (happened_in steps) ++ later) (gives-marks k host list) ∙ append-nil _;
       accepted =
           ap (map padded) (lists.accepted
           ∙ ap (λ (later : List (List ℕ)). accepted k (happened_in steps) ++ later) (gives-accepted k host list)
@@ -173,3 +177,109 @@ pub tells-recv : (k host socket : ℕ) (answer : Result (List ℕ) RecvError) (s
     (of_host k host [])
 tells-recv k host socket (Ok frame) steps wires = tells-given k host (record { socket = socket; frame = frame } ∷ []) steps wires
 tells-recv k host socket (Err error) steps wires = tells-given k host [] steps wires
+
+-- What comes to the packet buffer of any host, and which groups it joins and leaves, the steps tell alone.
+
+pub marks-send : (k host : ℕ) (frame : List ℕ) (answer : SendAnswer) (steps : List AtomicStep)
+    → marks k (accepted_of host frame (Sent answer) ++ happened_in steps) ≡ marks k (happened_in steps)
+marks-send k host frame (Ok u) steps = (lists-append k (Accepted host frame ∷ []) (happened_in steps)).marks
+marks-send k host frame (Err error) steps = refl
+
+pub marks-given : (k host : ℕ) (list : List Given) (steps : List AtomicStep)
+    → marks k (happened_in steps ++ gives host list) ≡ marks k (happened_in steps)
+marks-given k host list steps =
+    (lists-append k (happened_in steps) (gives host list)).marks
+    ∙ ap (λ (later : List Mark). marks k (happened_in steps) ++ later) (gives-marks k host list) ∙ append-nil _
+
+pub marks-recv : (k host socket : ℕ) (answer : Result (List ℕ) RecvError) (steps : List AtomicStep)
+    → marks k (happened_in steps ++ given_of host socket (Received answer)) ≡ marks k (happened_in steps)
+marks-recv k host socket (Ok frame) steps = marks-given k host (record { socket = socket; frame = frame } ∷ []) steps
+marks-recv k host socket (Err error) steps = marks-given k host [] steps
+
+-- A group that was joined or left stands among them, and adds to no list of frames.
+
+pub around-list : {X : Type 0} (f : Happening → List X) (middle : List Happening) (ticks : List Tick) (outcomes : List Numbered)
+    → flat_map f middle ≡ [] → flat_map f (told_around middle ticks outcomes) ≡ flat_map f (told ticks outcomes)
+around-list {X} f middle ticks outcomes none =
+    let between = around_ticks middle ticks outcomes in
+    ap (flat_map f) between.all ∙ flat_map-append f between.before (middle ++ between.behind)
+    ∙ ap (λ (list : List X). flat_map f between.before ++ list)
+    (flat_map-append f middle between.behind ∙ ap (λ (list : List X). list ++ flat_map f between.behind) none)
+    ∙ sym (flat_map-append f between.before between.behind) ∙ sym (ap (flat_map f) between.ticks)
+
+around-missed : (k : ℕ) (middle : List Happening) (ticks : List Tick) (outcomes : List Numbered)
+    → missed k middle ≡ 0 → missed k (told_around middle ticks outcomes) ≡ missed k (told ticks outcomes)
+around-missed k middle ticks outcomes none =
+    let between = around_ticks middle ticks outcomes in
+    let whole = sum_by-append (missed_of k) between.before (middle ++ between.behind) in
+    let behind = sum_by-append (missed_of k) middle between.behind in
+    let alone = sum_by-append (missed_of k) between.before between.behind in
+    ap (missed k) between.all ∙ omega (arith, whole, behind, alone, none) ∙ sym (ap (missed k) between.ticks)
+
+-- This happening adds to no list of frames.
+pub record IsOfGroups (k : ℕ) (wires : ℕ → Option ℕ) (middle : List Happening) : Type 0 where
+  pub put : put k middle ≡ []
+  pub reached : reached k middle ≡ []
+  pub toward : toward wires k middle ≡ []
+  pub stored : stored k middle ≡ []
+  pub accepted : accepted k middle ≡ []
+  pub missed : missed k middle ≡ 0
+  pub given : (socket : ℕ) → given k socket middle ≡ []
+
+pub tells-group : (k host : ℕ) (middle : List Happening) (ticks : List Tick) (outcomes : List Numbered) (steps : List AtomicStep)
+    (wires : ℕ → Option ℕ) → IsOfGroups k wires middle → told ticks outcomes ≡ happened_in steps
+    → Tells k (told_around middle ticks outcomes) steps wires (of_host k host []) (of_host k host [])
+tells-group k host middle ticks outcomes steps wires none said =
+    let alone = tells-call k host steps wires in
+    record {
+      put = around-list (put_by k) middle ticks outcomes none.put ∙ ap (put k) said;
+      reached = around-list (reached_by k) middle ticks outcomes none.reached ∙ ap (reached k) said;
+      toward = around-list (toward_by wires k) middle ticks outcomes none.toward ∙ ap (toward wires k) said;
+      stored = around-list (stored_by k) middle ticks outcomes none.stored ∙ ap (stored k) said;
+      missed = around-missed k middle ticks outcomes none.missed ∙ ap (missed k) said;
+      accepted =
+          ap (map padded) (around-list (accepted_in_one k) middle ticks outcomes none.accepted ∙ ap (accepted k) said) ∙ alone.accepted;
+      given = λ s. around-list (given_in_one k s) middle ticks outcomes (none.given s) ∙ ap (given k s) said ∙ alone.given s;
+    }
+
+pub joined-adds_none : (k host : ℕ) (group : List ℕ) (answer : FrameAnswer) (wires : ℕ → Option ℕ)
+    → IsOfGroups k wires (joined_of host group answer)
+joined-adds_none k host group (Joined (Ok u)) wires = record {
+  put = refl;
+  reached = refl;
+  toward = refl;
+  stored = refl;
+  accepted = refl;
+  missed = omega arith;
+  given = λ s. refl;
+}
+joined-adds_none k host group _ wires = record {
+  put = refl;
+  reached = refl;
+  toward = refl;
+  stored = refl;
+  accepted = refl;
+  missed = refl;
+  given = λ s. refl;
+}
+
+pub left-adds_none : (k host : ℕ) (group : List ℕ) (answer : FrameAnswer) (wires : ℕ → Option ℕ)
+    → IsOfGroups k wires (left_of host group answer)
+left-adds_none k host group (Left (Ok u)) wires = record {
+  put = refl;
+  reached = refl;
+  toward = refl;
+  stored = refl;
+  accepted = refl;
+  missed = omega arith;
+  given = λ s. refl;
+}
+left-adds_none k host group _ wires = record {
+  put = refl;
+  reached = refl;
+  toward = refl;
+  stored = refl;
+  accepted = refl;
+  missed = refl;
+  given = λ s. refl;
+}

@@ -16,6 +16,7 @@ use Rattle.adapter.specs.State.{IsAdapter}
 use Rattle.adapter.specs.World.{World}
 use Rattle.driver_law.specs.DriverState.{owners}
 use Rattle.driver_law.specs.Calls.{HasNoForgottenWork, IsRefilled}
+use Rattle.joined_groups.specs.Groups.{HasTable}
 use Rattle.stations.specs.Stations.{StationState, backlog_at, wire_at, world_at}
 use Rattle.packet_socket.specs.HostCalls.{HostReady, driver_of, held_for_socket, socket_frames, unclaimed_in, without_socket}
 use Rattle.packet_socket.specs.HostState.{HostState}
@@ -23,7 +24,7 @@ use Rattle.packet_socket.specs.declared.socket_kind.SocketKind.{SocketKind}
 use Rattle.delivery.specs.CountedHosts.{CanAnswer}
 use Rattle.delivery.specs.Fates.{marks}
 use Rattle.delivery.specs.Happenings.{Happening, accepted, given, missed, put, reached, stored, toward}
-use Rattle.delivery.specs.Reception.{ReceivesRightly}
+use Rattle.delivery.specs.Reception.{ReceivesRightly, SameButGroups}
 use Rattle.host_calls.specs.Networks.{IsHost, NetworkState}
 
 -- 1. Misses.
@@ -71,16 +72,19 @@ pub record CountsUnclaimed (h : HostState) (a : World) (frames : ℕ) (h' : Host
   -- as many, if the count isn't saturated
   pub exactly : h'.unclaimed < most_counted → unclaimed_in h' b ≡ unclaimed_in h a + frames
 
--- Of what the plan fixes, these don't change: the wire, the sockets, the sizes of rings and pool, the filter, and the size of the receive
--- packet buffer. `wire_at stations k` is the number of the k-th host's wire, and `world_at stations k` is the k-th host's world.
+-- Of what the plan fixes, these don't change: the wire, the sockets, the sizes of rings and pool, the filter except for the groups joined,
+-- and the size of the receive packet buffer. `wire_at stations k` is the number of the k-th host's wire, and `world_at stations k` is the
+-- k-th host's world.
 pub record KeepsPlan (k : ℕ) (old new : List StationState) (h h' : HostState) : Type 0 where
   pub wire : wire_at new k ≡ wire_at old k
   -- the table of sockets
   pub kinds : h'.kinds ≡ h.kinds
   -- how many slots each ring has, and how many receive buffers there are
   pub layout : h'.driver.layout ≡ h.driver.layout
-  -- the registers of the receive filter
-  pub filter : (world_at new k).adapter.filter ≡ (world_at old k).adapter.filter
+  -- The registers of the receive filter, except for MTA (`SameButGroups`). MTA has the bits of the numbers of the groups joined (`groups`
+  -- of `HostStands`).
+  pub filter : SameButGroups (world_at old k).adapter.filter (world_at new k).adapter.filter
+  -- the size of the receive packet buffer
   pub kilobytes : (world_at new k).adapter.receive_kilobytes ≡ (world_at old k).adapter.receive_kilobytes
 
 -- 3. The equations. The lists of a host are parts of what happened, in order (`accepted`, `put`, `reached`, `stored`, `given`, `toward`).
@@ -92,7 +96,7 @@ kept kinds k socket happened = socket_frames kinds socket (stored k happened)
 
 -- The k-th host, from one state to another, and what happened between them.
 pub record Delivers (k : ℕ) (happened : List Happening) (old new : List StationState) (h h' : HostState) : Type 0 where
-  -- the wire, the sockets, the filter and the sizes don't change
+  -- the wire, the sockets, the filter except for the groups joined, and the sizes don't change
   pub plan_is_kept : KeepsPlan k old new h h'
   -- The frames put on the wire, then those still to be sent, are those that were to be sent, then those accepted, padded.
   -- `frames_to_send`: the frames in the transmit packet buffer, then those of the descriptors from TDH up to, but not including, TDT,
@@ -110,9 +114,12 @@ pub record Delivers (k : ℕ) (happened : List Happening) (old new : List Statio
   -- Each frame that reached it met the first fate that applies: illegal (it has less than 60 or more than 1,518 bytes), filtered, missed as
   -- the receive packet buffer had no room for it, stored. None has the fate Off, as the receive side is enabled. There is room for a frame
   -- if the frames in the buffer and this one occupy at most the buffer's size (`HasRoomFor`). The buffer has the frames of the beginning,
-  -- then those stored, without those that left (`ReceivesRightly`). `marks`: each frame that reached it, with its fate, and each time that
-  -- the oldest frame left this buffer, in order.
-  pub fates_are_right : ReceivesRightly (world_at old k).adapter (marks k happened) (world_at new k).adapter
+  -- then those stored, without those that left (`ReceivesRightly`). The filter of a frame's fate is the one in force when the frame comes:
+  -- its groups are those joined at the beginning, with each joined since added, and each left since removed (`in_force`). `marks`: each frame
+  -- that reached it, with its fate, each time that the oldest frame left this buffer, and each group that was joined or left, in order.
+  -- Without a join or a leave MTA doesn't change.
+  pub fates_are_right : ReceivesRightly h.driver.groups (world_at old k).adapter (marks k happened) h'.driver.groups
+      (world_at new k).adapter
   -- missed frames are counted until a counter saturates
   pub misses_are_counted : CountsMisses h (world_at old k) (missed k happened) h' (world_at new k)
   -- stored frames without a socket are counted, until the count saturates, or still held (`without_socket` is their number)
@@ -136,6 +143,8 @@ pub record HostStands (host : HostState) (world : World) : Type 0 where
   pub refilled : IsRefilled host.driver
   -- each slot whose descriptor is stored is offered
   pub offered : host.driver.staged ≡ []
+  -- MTA has exactly the bits of the numbers of the groups joined
+  pub groups : HasTable host.driver.groups world
   -- both sides of its adapter are enabled, and each head and tail is the index of a slot of its ring
   pub can : CanAnswer world.adapter
   -- No buffer has two owners: each number of a buffer is exactly once in the list of owners, which are the pool, the slots of the receive

@@ -5,12 +5,12 @@ use Rattle.eeprom.specs.Image.{address_bytes}
 use Rattle.registers.specs.ReceiveControl.{shift_of}
 use Rattle.registers.specs.declared.receive_control.GroupOffset.TheVariants.{Bits47To36}
 use Rattle.rx_engine.specs.FilterLaws.{SameSets}
+use Rattle.rx_engine.specs.NumberTables.{numbers_of_groups}
 use Rattle.rx_engine.specs.Passing.{ReceiveFilter}
 use Rattle.rx_engine.specs.Registers.{FilterRegisters, filter_of}
 use Rattle.rx_engine.specs.declared.filter.TheConstants.{VLAN_TYPE}
 use Rattle.bring_up.specs.Configuration.{vlans_of}
 use Rattle.bring_up.specs.ConfiguredAdapters.{names_vlans}
-use Rattle.bring_up.specs.FilterTables.{numbers_of_groups}
 use Rattle.network_plan.specs.declared.plan.HostPlan.{HostPlan}
 
 -- The image's address only; the configured groups by RCTL.MO 00; the configured VLANs, or all if none is named; every address if the host

@@ -18,6 +18,7 @@ use Rattle.bring_up.specs.Link.{NeedsMoreThan}
 use Rattle.bring_up.specs.declared.init_error.InitError.{InitError}
 use Rattle.bring_up.specs.declared.init_error.InitError.TheVariants.{Checksum, Memory, NoLink}
 use Rattle.driver_law.specs.Calls.{HasNoForgottenWork, IsRefilled}
+use Rattle.joined_groups.specs.Groups.{AreNamedOnce, HasTable}
 use Rattle.packet_socket.specs.HostCalls.{HostReady}
 use Rattle.packet_socket.specs.HostState.{HostState}
 use Rattle.stations.specs.Stations.{StationState}
@@ -54,13 +55,17 @@ pub record IsReadyToRun (host : HostState) (world : World) : Type 0 where
   pub offered : host.driver.staged ≡ []
   pub can : CanAnswer world.adapter
 
--- Its rings, buffers, sockets, packet buffer and filter are the plan's, and its memory ends with its last buffer.
+-- Its rings, buffers, sockets, packet buffer, filter and groups are the plan's, and its memory ends with its last buffer.
 pub record HasPlansSizes (plan : HostPlan) (host : HostState) (world : World) : Type 0 where
   pub layout : host.driver.layout ≡ configured_counts plan.config
   pub memory : length world.memory ≡ size_of (configured_counts plan.config)
   pub kinds : host.kinds ≡ plan.sockets.items
   pub allocation : world.adapter.receive_kilobytes ≡ plan.config.rxa
   pub filter : HasPlansFilter plan world.adapter.filter
+  -- the groups that its configuration names are joined, each once
+  pub groups : AreNamedOnce plan.config.groups.items host.driver.groups
+  -- MTA has exactly the bits of their numbers
+  pub table : HasTable host.driver.groups world
 
 -- Its EEPROM is the plan's, with a right checksum. Its link comes up as the plan says, and is up now.
 pub record HasPlansDevices (plan : HostPlan) (world : World) : Type 0 where

@@ -14,8 +14,8 @@
 use Rattle.std.specs.Prelude.{◌≡◌, ◌≢◌, ◌≤◌, ◌↔◌, ◌++◌, ◌∷◌, [], ℕ, All, List, Ok, Option, Some, length, map, slice_get}
 use Rattle.adapter.specs.declared.outcome.Outcome.TheVariants.{Nothing}
 use Rattle.bus.specs.TickGroups.{without_go}
-use Rattle.packet_socket.specs.CallEffects.{EffectOf, Interrupting, Receiving, Request, Sending, given_in}
-use Rattle.packet_socket.specs.HostActs.{IsOfDriver, OnlyLastWrites}
+use Rattle.packet_socket.specs.CallEffects.{EffectOf, Interrupting, Joining, Leaving, Receiving, Request, Sending, given_in}
+use Rattle.packet_socket.specs.HostActs.{ActKind, HandlesInterrupt, IsAccessOf, MovesFrames, OnlyLastWrites, SetsGroups}
 use Rattle.packet_socket.specs.HostState.{HostState}
 use Rattle.packet_socket.specs.declared.call.HostAnswer.{HostAnswer}
 use Rattle.stations.specs.AtomicRuns.{LeadsTo, counted_of, is_go, noted_of, past_at}
@@ -25,13 +25,13 @@ use Rattle.stations.specs.declared.outcomes.Numbered.{Numbered}
 use Rattle.stations.specs.declared.tick.Tick.{Tick}
 use Rattle.stations.specs.declared.tick.Tick.TheVariants.{Deliver, Go, Step}
 use Rattle.delivery.specs.Counts.{counts_of}
-use Rattle.delivery.specs.Happenings.{Accepted, Given, Happening, told, told_alone}
+use Rattle.delivery.specs.Happenings.{Accepted, Given, Happening, Joined as HasJoined, Left as HasLeft, told, told_alone, told_around}
 use Rattle.delivery.specs.StepAnswers.{AreAnswered, OfEachTick, counts_at}
 use Rattle.delivery.specs.TickNumbers.{numbers, noted_numbers}
 use Rattle.network_plan.specs.Answers.{FrameAnswer, event_answer}
 use Rattle.network_plan.specs.EventCalls.{Alone, ByCall, CallOrTick, EventCall, in_event}
 use Rattle.network_plan.specs.declared.event.Event.{Event}
-use Rattle.network_plan.specs.declared.reply.Answer.TheVariants.{NoHost, Received, Sent, Ticked}
+use Rattle.network_plan.specs.declared.reply.Answer.TheVariants.{Joined, Left, NoHost, Received, Sent, Ticked}
 use Rattle.network_plan.specs.declared.reply.Reply.{Reply}
 use Rattle.host_calls.specs.CallsInSteps.{InSteps}
 use Rattle.host_calls.specs.ConnectedHosts.{ConnectedHost, connected}
@@ -50,13 +50,26 @@ abbrev pub given_of : (host socket : ℕ) → FrameAnswer → List Happening
 given_of host socket (Received (Ok frame)) = Given host socket frame ∷ []
 given_of host socket _ = []
 
+-- a group that was joined, by the answer
+abbrev pub joined_of : (host : ℕ) (group : List ℕ) → FrameAnswer → List Happening
+joined_of host group (Joined (Ok u)) = HasJoined host group ∷ []
+joined_of host group _ = []
+
+-- a group that was left, by the answer
+abbrev pub left_of : (host : ℕ) (group : List ℕ) → FrameAnswer → List Happening
+left_of host group (Left (Ok u)) = HasLeft host group ∷ []
+left_of host group _ = []
+
 -- Of a call: a frame that was accepted, what the outcomes of its ticks tell, and a frame that was given. `told`: of each tick that isn't Go
 -- with its outcome, a frame that was put on the wire, reached a host with its fate, or left the receive packet buffer for memory. The
--- outcomes have the numbers of accesses before them, so what a call says can stand between two of them.
+-- outcomes have the numbers of accesses before them. A group that was joined or left is after the outcomes with number 0 and before those
+-- with number 1 (`told_around`): so it is at the call's only access, or after all outcomes if the call makes none.
 abbrev pub said_in_call : (host : ℕ) → Request → FrameAnswer → (ticks : List Tick) → (outcomes : List Numbered) → List Happening
 said_in_call host (Sending frame) answer ticks outcomes = accepted_of host frame answer ++ told ticks outcomes
 said_in_call host (Receiving socket) answer ticks outcomes = told ticks outcomes ++ given_of host socket answer
 said_in_call host Interrupting answer ticks outcomes = told ticks outcomes
+said_in_call host (Joining group) answer ticks outcomes = told_around (joined_of host group answer) ticks outcomes
+said_in_call host (Leaving group) answer ticks outcomes = told_around (left_of host group answer) ticks outcomes
 
 abbrev pub said_by : EventCall → Reply → List Happening
 said_by call reply = said_in_call call.host call.request reply.answer call.ticks reply.outcomes.list
@@ -108,9 +121,17 @@ pub record HostsGo (caller : ℕ) (happened : List Happening) (steps : List Atom
 
 -- 3. What a call of a host that is there answers. A `ConnectedHost` is a host with all stations.
 
--- The call answered this result and had its effect: `SendEffect`, `RecvEffect` or `InterruptEffect` of packet_socket/specs/HostEffects, the
--- same that the contracts of `Host::send`, `recv` and `interrupt` state over a bus. There each result has its record, which says when it
--- comes, what the host is afterwards, and which accesses were made in which stages.
+-- the kind of accesses that a call makes
+abbrev pub kind_of : Request → ActKind
+kind_of (Sending frame) = MovesFrames
+kind_of (Receiving socket) = MovesFrames
+kind_of Interrupting = HandlesInterrupt
+kind_of (Joining group) = SetsGroups
+kind_of (Leaving group) = SetsGroups
+
+-- The call answered this result and had its effect: `SendEffect`, `RecvEffect`, `InterruptEffect`, `JoinEffect` or `LeaveEffect` of
+-- packet_socket/specs/HostEffects, the same that the contracts of `Host::send`, `recv`, `interrupt`, `join` and `leave` state over a bus.
+-- There each result has its record, which says when it comes, what the host is afterwards, and which accesses were made in which stages.
 pub record AnswersCall (call : EventCall) (answer : FrameAnswer) (steps : List AtomicStep) (old new : ConnectedHost) : Type 0 where
   -- the answer, with the bytes of the frame that a socket gave
   pub result : HostAnswer (List ℕ)
@@ -119,9 +140,10 @@ pub record AnswersCall (call : EventCall) (answer : FrameAnswer) (steps : List A
   -- in order, and what holds of a stage holds right after its last access. `given_in`: the frames that a socket gave.
   pub does : EffectOf call.request result old.host new.host (InSteps call.host (given_in call.request result) steps old new)
       (world_at old.stations call.host)
-  -- Each access is one of an initialized driver (`IsOfDriver`: a load, a store, a read of ICR or MPC, or a write of TDT or RDT), and only
-  -- the last may write a register.
-  pub accesses : All (IsOfDriver old.host.driver.layout) (past_at call.host steps).accesses
+  -- Each access of a send, a recv or an interrupt is one of an initialized driver (`IsOfDriver`: a load, a store, a read of ICR or MPC, or
+  -- a write of TDT or RDT). Each access of a join or a leave writes a word of MTA (`IsGroupWrite`). Only the last access may write a
+  -- register.
+  pub accesses : All (IsAccessOf (kind_of call.request) old.host.driver.layout) (past_at call.host steps).accesses
   pub last_writes : OnlyLastWrites (past_at call.host steps).accesses
 
 -- 4. What a reply says of the steps. First of a call, then of a tick that is played in no call.

@@ -59,6 +59,16 @@ impl<'a> Part<'a> {
                 call: HostCall::Interrupt,
                 ticks: ticks.as_slice(),
             }),
+            Event::Join { host, group, ticks } => Part::Call(Call {
+                host: *host,
+                call: HostCall::Join(*group),
+                ticks: ticks.as_slice(),
+            }),
+            Event::Leave { host, group, ticks } => Part::Call(Call {
+                host: *host,
+                call: HostCall::Leave(*group),
+                ticks: ticks.as_slice(),
+            }),
             Event::Tick(tick) => Part::Tick(*tick),
         }
     }
@@ -76,6 +86,8 @@ fn ending_of(answer: HostAnswer<usize>) -> (Answer<()>, usize)
         HostAnswer::Received(Ok(size)) => (Answer::Received(Ok(())), size),
         HostAnswer::Received(Err(error)) => (Answer::Received(Err(error)), 0),
         HostAnswer::Interrupted(handled) => (Answer::Interrupted(handled), 0),
+        HostAnswer::Joined(joined) => (Answer::Joined(joined), 0),
+        HostAnswer::Left(left) => (Answer::Left(left), 0),
     }
 }
 

@@ -4,6 +4,8 @@
 #[cfg(test)]
 mod drains;
 #[cfg(test)]
+mod groups;
+#[cfg(test)]
 mod logs;
 #[cfg(test)]
 mod memory_tests;

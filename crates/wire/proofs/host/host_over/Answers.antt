@@ -23,6 +23,7 @@ returns-clause-comes_up c wire =
           c.in_ok-host.ensures.ok.new
           ∙ ap (λ (kinds : List SocketKind). new_host host.driver kinds) (c.table_of-table.ensures ∙ c.as_slice.ensures.value);
       fresh = c.in_ok-host.ensures.ok.fresh.new;
+      joined = c.in_ok-host.ensures.ok.fresh.joined;
       refilled = c.in_ok-host.ensures.ok.fresh.refilled;
       initialises = c.in_ok-host.ensures.initialises tt;
       ready = c.in_ok-host.ensures.ready tt;

@@ -22,7 +22,7 @@ returns-in-Ok-clause-steps g c =
       on = given-steps k socket frame c.args.self.now.stations called.new.self.stations _ called.result.accesses
           (nth_host c.args.self.now k) (nth_host called.new.self k) c.requires.stands.ready
           (returned-call socket c.in-Ok.size called.new.into called.result.answer c.in-Received.received _
-          (connected_at c.args.self.now k) (connected_at called.new.self k) c.in-Received.is c.in-Ok.is called.ensures.does).runs
+          (connected_at c.args.self.now k) (connected_at called.new.self k) c.in-Received.is c.in-Ok.is called.ensures.does)
           c.requires.free;
     }
 

@@ -1,0 +1,307 @@
+-- The fates of frames over a call, by the groups that its host has joined at each point.
+use Rattle.std.proofs.Common.{◌≡◌, ◌==◌, ◌<◌, ◌+◌, ◌*◌, ◌++◌, ◌∷◌, [], ℕ, Bool, true, List, map, refl, sym, ap, subst, ◌∙◌}
+use Rattle.std.proofs.Common.{append_assoc, arith, if◌then◌else◌, inl, inr, ⊎_elim}
+use Rattle.std.specs.List.{All}
+use Rattle.std.proofs.lemmas.Bool.{eq-eqb}
+use Rattle.std.proofs.lemmas.Grind.{flat_map-append}
+use Rattle.std.proofs.lemmas.List.{append-nil}
+use Rattle.std.proofs.lemmas.List.Elements.{All-append, All-cons}
+use Rattle.registers.specs.Bits.{HasBit}
+use Rattle.registers.specs.Places.{rctl_en}
+use Rattle.rx_engine.specs.NumberTables.{HasNumbers, numbers_of_groups}
+use Rattle.rx_engine.specs.Registers.{FilterRegisters}
+use Rattle.adapter.specs.World.{World, world_after_write}
+use Rattle.bus.proofs.Lists.{all-head, all-none, all-tail, all-weaker}
+use Rattle.bus.specs.PastOfStretch.{Past}
+use Rattle.bus.specs.TickGroups.{without_go}
+use Rattle.bus.specs.Trails.{past_of}
+use Rattle.bus.specs.declared.event.Access.{Access}
+use Rattle.bus.specs.declared.event.Access.TheVariants.{Loads, Reads, Stores, Writes}
+use Rattle.bus.specs.declared.event.Event.TheVariants.{Accesses, Arrives, Steps}
+use Rattle.dma_memory.specs.Layout.{Counts}
+use Rattle.joined_groups.specs.Groups.{HasTable, SetsTable, WritesWord, word_of}
+use Rattle.stations.proofs.HostTrails.{world-here}
+use Rattle.stations.specs.AtomicRunLaws.{past_join}
+use Rattle.stations.specs.AtomicRuns.{IsTick, LeadsTo, events_at, is_go, noted_of, past_at}
+use Rattle.stations.specs.AtomicSteps.{At, AtomicStep, Idles, IsNoAccess, after, tick_of}
+use Rattle.stations.specs.Stations.{StationState, world_at}
+use Rattle.stations.specs.declared.tick.Tick.{Tick}
+use Rattle.delivery.proofs.Joining.{marks-append}
+use Rattle.delivery.proofs.RightFates.{changes-alone, fates-right, receives-append, tails-leave_reception, word-changes}
+use Rattle.delivery.proofs.ToldAround.{told-at_access, told-at_end}
+use Rattle.delivery.specs.DeliveryLaws.{ChangesGroups}
+use Rattle.delivery.specs.Fates.{Joins, Mark, Quits, marks}
+use Rattle.delivery.specs.Happenings.{Happening, Joined, Left, happened_by, happened_in, of_host, told_around}
+use Rattle.delivery.specs.Reception.{LeavesReception, ReceivesRightly}
+use Rattle.packet_socket.specs.HostActs.{IsOfDriver, IsTailWrite}
+use Rattle.packet_socket.specs.HostCalls.{Given}
+use Rattle.packet_socket.specs.HostEffects.{JoinsGroup, LeavesGroup, groups_act}
+use Rattle.packet_socket.specs.HostState.{HostState}
+use Rattle.host_calls.proofs.FirstAccess.{first-access, tick-accesses}
+use Rattle.host_calls.proofs.HostTrails.{none-alone}
+use Rattle.host_calls.specs.CallsInSteps.{InSteps}
+use Rattle.host_calls.specs.CallsOfHosts.{EndsWithAccess, GroupsStay}
+use Rattle.host_calls.specs.ConnectedHosts.{connected}
+use Rattle.wire.specs.Equations.{HostStands}
+
+-- From one state of host k to another, and what happened between them: fates are right, and MTA has the groups' numbers at the end.
+pub record Right (k : ℕ) (happened : List Happening) (a b : List StationState) (h h' : HostState) : Type 0 where
+  pub right : ReceivesRightly h.driver.groups (world_at a k).adapter (marks k happened) h'.driver.groups (world_at b k).adapter
+  pub table : HasTable h'.driver.groups (world_at b k)
+
+-- An access of a driver that is up leaves reception alone.
+tail-leaves : (counts : Counts) (offset value : ℕ) → IsTailWrite counts offset value → LeavesReception (Writes offset value)
+tail-leaves counts offset value is = tails-leave_reception offset value
+    (⊎_elim (λ (receive : (offset ≡ Rattle.adapter.specs.declared.offsets.TheConstants.RDT) × (value < counts.rx)). inl receive.0)
+    (λ (transmit : (offset ≡ Rattle.adapter.specs.declared.offsets.TheConstants.TDT) × (value < counts.tx)). inr transmit.0) is)
+
+leaves : (counts : Counts) (access : Access) → IsOfDriver counts access → LeavesReception access
+leaves counts (Reads offset value) is = tt
+leaves counts (Writes offset value) is = tail-leaves counts offset value is
+leaves counts (Loads address size) is = tt
+leaves counts (Stores address bytes) is = tt
+
+all-leave : (counts : Counts) (accesses : List Access) → All (IsOfDriver counts) accesses → All LeavesReception accesses
+all-leave counts accesses are = all-weaker (IsOfDriver counts) LeavesReception accesses (leaves counts) are
+
+-- Without a join or a leave.
+pub stay-right : (caller k : ℕ) (steps : List AtomicStep) (happened : List Happening) (a b : List StationState) (h h' : HostState)
+    → LeadsTo caller steps a b → HostStands h (world_at a k) → GroupsStay k steps (connected h a) (connected h' b)
+    → marks k happened ≡ marks k (happened_in steps) → Right k happened a b h h'
+stay-right caller k steps happened a b h h' leads stands stay same =
+    let groups = h.driver.groups in
+    let keeps = fates-right caller k steps a b groups leads (all-leave h.driver.layout (past_at k steps).accesses stay.accesses)
+    stands.can.receives stands.groups in
+    record {
+      right =
+          subst (λ (behind : List (List ℕ)). ReceivesRightly groups (world_at a k).adapter (marks k happened) behind (world_at b k).adapter)
+          (sym stay.groups)
+          (subst (λ (all : List Mark). ReceivesRightly groups (world_at a k).adapter all groups (world_at b k).adapter) (sym same)
+          keeps.right);
+      table = subst (λ (list : List (List ℕ)). HasTable list (world_at b k)) (sym stay.groups) keeps.has;
+    }
+
+-- Steps of a call with at most one access.
+
+-- what the first steps leave, the later ones begin with
+leads-behind : (caller : ℕ) (first later : List AtomicStep) (a m b : List StationState) → LeadsTo caller (first ++ later) a b
+    → LeadsTo caller first a m → LeadsTo caller later m b
+leads-behind caller [] later a m b all one = subst (λ (s : List StationState). LeadsTo caller later s b) (sym one) all
+leads-behind caller (step ∷ first) later a m b all one = leads-behind caller first later (after step a) m b all.2 one.2
+
+-- steps of a call without an access are ticks
+only-ticks : (caller : ℕ) (steps : List AtomicStep) (a b : List StationState) → LeadsTo caller steps a b
+    → (past_at caller steps).accesses ≡ [] → All IsTick steps
+only-ticks caller [] a b leads none = all-none IsTick
+only-ticks caller (At host (Steps kind wire_free answer) ∷ later) a b leads none =
+    let step = At host (Steps kind wire_free answer) in
+    All-cons IsTick step later tt (only-ticks caller later (after step a) b leads.2 (sym (tick-accesses caller step later tt) ∙ none))
+only-ticks caller (At host (Arrives frame fate) ∷ later) a b leads none =
+    let step = At host (Arrives frame fate) in
+    All-cons IsTick step later tt (only-ticks caller later (after step a) b leads.2 (sym (tick-accesses caller step later tt) ∙ none))
+only-ticks caller (Idles tick ∷ later) a b leads none =
+    All-cons IsTick (Idles tick) later leads.1 (only-ticks caller later a b leads.2 none)
+only-ticks caller (At host (Accesses access) ∷ later) a b leads none =
+    let here : (caller == host) ≡ true = eq-eqb caller host (sym leads.1) in
+    let some : access ∷ (past_at caller later).accesses ≡ [] =
+    subst (λ (c : Bool). (past_of ((if c then Accesses access ∷ [] else []) ++ events_at caller later)).accesses ≡ []) here none in
+    absurd (cc some)
+
+-- if steps end with an access, no tick follows it
+none-behind : (early later : List AtomicStep) (step : AtomicStep) → EndsWithAccess (early ++ step ∷ later) → All IsTick later → later ≡ []
+none-behind [] [] step ends are = refl
+none-behind [] (next ∷ later) step ends are = absurd (never next later ends are)
+  where
+    is-no_access : (tick : AtomicStep) → IsTick tick → IsNoAccess tick
+    is-no_access (At host (Steps kind wire_free answer)) is = tt
+    is-no_access (At host (Arrives frame fate)) is = tt
+    is-no_access (At host (Accesses access)) is = absurd (cc is)
+    is-no_access (Idles tick) is = tt
+
+    never : (tick : AtomicStep) (more : List AtomicStep) → EndsWithAccess (tick ∷ more) → All IsTick (tick ∷ more) → ⊥
+    never tick [] ends are = ends (is-no_access tick (all-head IsTick tick [] are))
+    never tick (next ∷ more) ends are = never next more ends (all-tail IsTick tick (next ∷ more) are)
+none-behind (first ∷ []) later step ends are = none-behind [] later step ends are
+none-behind (first ∷ next ∷ early) later step ends are = none-behind (next ∷ early) later step ends are
+
+-- The only access among these steps, which is the last of them.
+record OnlyAccess (caller : ℕ) (steps : List AtomicStep) (a b : List StationState) (access : Access) : Type 0 where
+  early : List AtomicStep
+  middle : List StationState
+  split : steps ≡ early ++ At caller (Accesses access) ∷ []
+  ticks : All IsTick early
+  leads : LeadsTo caller early a middle
+  then_it : LeadsTo caller (At caller (Accesses access) ∷ []) middle b
+
+only-access : (caller : ℕ) (steps : List AtomicStep) (a b : List StationState) (access : Access) → LeadsTo caller steps a b
+    → (past_at caller steps).accesses ≡ access ∷ [] → EndsWithAccess steps → OnlyAccess caller steps a b access
+only-access caller steps a b access leads made ends =
+    let one = first-access caller steps a b access [] leads made in
+    let step = At caller (Accesses access) in
+    let all = subst (λ (list : List AtomicStep). LeadsTo caller list a b) one.split leads in
+    let behind = leads-behind caller one.early (step ∷ one.later) a one.middle b all one.leads in
+    let count : (past_at caller one.early).accesses ++ (past_at caller (step ∷ one.later)).accesses ≡ access ∷ [] =
+    sym (ap (λ (past : Past). past.accesses) (past_join caller one.early (step ∷ one.later)))
+    ∙ ap (λ (list : List AtomicStep). (past_at caller list).accesses) (sym one.split) ∙ made in
+    let rest : (past_at caller (step ∷ one.later)).accesses ≡ access ∷ [] =
+    sym (ap (λ (list : List Access). list ++ (past_at caller (step ∷ one.later)).accesses) (none-alone caller one.early one.ticks))
+    ∙ count in
+    let itself : (caller == caller) ≡ true = eq-eqb caller caller refl in
+    let more : access ∷ (past_at caller one.later).accesses ≡ access ∷ [] =
+    subst (λ (c : Bool). (past_of ((if c then Accesses access ∷ [] else []) ++ events_at caller one.later)).accesses ≡ access ∷ [])
+    itself rest in
+    let none : (past_at caller one.later).accesses ≡ [] = cc more in
+    let are = only-ticks caller one.later (after step one.middle) b behind.2 none in
+    let last = none-behind one.early one.later step (subst EndsWithAccess one.split ends) are in
+    record {
+      early = one.early;
+      middle = one.middle;
+      split = one.split ∙ ap (λ (list : List AtomicStep). one.early ++ step ∷ list) last;
+      ticks = one.ticks;
+      leads = one.leads;
+      then_it = subst (λ (list : List AtomicStep). LeadsTo caller (step ∷ list) one.middle b) last behind;
+    }
+
+-- A call that joined or left a group.
+
+below-words : (group : List ℕ) → word_of group < 128
+below-words group = omega arith
+
+around-marks : (k : ℕ) (mark : Mark) (first middle last : List Happening) → marks k middle ≡ mark ∷ []
+    → marks k (first ++ (middle ++ last)) ≡ marks k first ++ (mark ∷ [] ++ marks k last)
+around-marks k mark first middle last is =
+    marks-append k first (middle ++ last)
+    ∙ ap (λ (list : List Mark). marks k first ++ list) (marks-append k middle last)
+    ∙ ap (λ (list : List Mark). marks k first ++ (list ++ marks k last)) is
+
+-- By a write: the ticks before it, the write, and the ticks after it.
+written-right : (caller : ℕ) (mark : Mark) (middle : List Happening) (ticks : List Tick) (steps first rest : List AtomicStep)
+    (a m b : List StationState) (h h' : HostState) (group : List ℕ) (made : List Access)
+    → HostStands h (world_at a caller) → ChangesGroups mark h.driver.groups h'.driver.groups → marks caller middle ≡ mark ∷ []
+    → steps ≡ first ++ rest → LeadsTo caller first a m → LeadsTo caller rest m b
+    → without_go is_go (map tick_of steps) ≡ without_go is_go ticks
+    → (past_at caller first).accesses ≡ made → (past_at caller rest).accesses ≡ [] → EndsWithAccess first
+    → WritesWord group h'.driver.groups made → HasNumbers (world_at m caller).adapter.filter.mta (numbers_of_groups h'.driver.groups)
+    → Right caller (told_around middle ticks (noted_of 0 steps)) a b h h'
+written-right caller mark middle ticks steps first rest a m b h h' group made stands changes says split leads later played made_are quiet
+    ends writes has =
+    let g = h.driver.groups in
+    let g' = h'.driver.groups in
+    let offset = 0x5200 + 4 * word_of group in
+    let access = Writes offset writes.value in
+    let step = At caller (Accesses access) in
+    let one = only-access caller first a m access leads (made_are ∙ writes.is) ends in
+    let after_ticks = only-ticks caller rest m b later quiet in
+    let w = world_at one.middle caller in
+    let world : world_at m caller ≡ world_after_write offset writes.value w =
+    ap (λ (s : List StationState). world_at s caller) one.then_it.2
+    ∙ world-here one.middle caller (Accesses access) (eq-eqb caller caller refl) one.then_it.0 in
+    let before = fates-right caller caller one.early a one.middle g one.leads
+    (subst (λ (list : List Access). All LeavesReception list) (sym (none-alone caller one.early one.ticks)) (all-none LeavesReception))
+    stands.can.receives stands.groups in
+    let written = subst (λ (v : World). ReceivesRightly g w.adapter (mark ∷ []) g' v.adapter) (sym world)
+    (word-changes mark (word_of group) writes.value g g' w changes (below-words group)) in
+    let enabled : HasBit (world_at m caller).adapter.filter.rctl rctl_en =
+    subst (λ (word : ℕ). HasBit word rctl_en)
+    (sym (ap (λ (f : FilterRegisters). f.rctl) written.filter ∙ ap (λ (f : FilterRegisters). f.rctl) before.right.filter))
+    stands.can.receives in
+    let behind = fates-right caller caller rest m b g' later
+    (subst (λ (list : List Access). All LeavesReception list) (sym quiet) (all-none LeavesReception)) enabled has in
+    let whole : steps ≡ one.early ++ step ∷ rest =
+    split ∙ ap (λ (list : List AtomicStep). list ++ rest) one.split ∙ append_assoc one.early (step ∷ []) rest in
+    let said : told_around middle ticks (noted_of 0 steps) ≡ happened_in one.early ++ (middle ++ happened_in rest) =
+    ap (λ (list : List AtomicStep). told_around middle ticks (noted_of 0 list)) whole
+    ∙ told-at_access caller ticks access one.early rest middle one.ticks after_ticks
+    (ap (λ (list : List AtomicStep). without_go is_go (map tick_of list)) (sym whole) ∙ played) in
+    record {
+      right =
+          subst (λ (all : List Mark). ReceivesRightly g (world_at a caller).adapter all g' (world_at b caller).adapter)
+          (sym (ap (marks caller) said ∙ around-marks caller mark (happened_in one.early) middle (happened_in rest) says))
+          (receives-append g g g' (world_at a caller).adapter w.adapter (world_at b caller).adapter (marks caller (happened_in one.early))
+          (mark ∷ [] ++ marks caller (happened_in rest)) before.right
+          (receives-append g g' g' w.adapter (world_at m caller).adapter (world_at b caller).adapter (mark ∷ [])
+          (marks caller (happened_in rest)) written behind.right));
+      table = behind.has;
+    }
+
+-- Without an access: all ticks, and then what is said of the group.
+shared-right : (caller : ℕ) (mark : Mark) (middle : List Happening) (ticks : List Tick) (steps first rest : List AtomicStep)
+    (a m b : List StationState) (h h' : HostState)
+    → HostStands h (world_at a caller) → ChangesGroups mark h.driver.groups h'.driver.groups → marks caller middle ≡ mark ∷ []
+    → steps ≡ first ++ rest → LeadsTo caller first a m → LeadsTo caller rest m b
+    → without_go is_go (map tick_of steps) ≡ without_go is_go ticks
+    → (past_at caller first).accesses ≡ [] → (past_at caller rest).accesses ≡ []
+    → HasNumbers (world_at m caller).adapter.filter.mta (numbers_of_groups h'.driver.groups)
+    → Right caller (told_around middle ticks (noted_of 0 steps)) a b h h'
+shared-right caller mark middle ticks steps first rest a m b h h' stands changes says split leads later played none quiet has =
+    let g = h.driver.groups in
+    let g' = h'.driver.groups in
+    let free = all-none LeavesReception in
+    let early = fates-right caller caller first a m g leads (subst (λ (list : List Access). All LeavesReception list) (sym none) free)
+    stands.can.receives stands.groups in
+    let enabled : HasBit (world_at m caller).adapter.filter.rctl rctl_en =
+    subst (λ (word : ℕ). HasBit word rctl_en) (sym (ap (λ (f : FilterRegisters). f.rctl) early.right.filter)) stands.can.receives in
+    let leave = subst (λ (list : List Access). All LeavesReception list) (sym quiet) free in
+    let late = fates-right caller caller rest m b g later leave enabled early.has in
+    let late' = fates-right caller caller rest m b g' later leave enabled has in
+    let are : All IsTick steps =
+    subst (λ (list : List AtomicStep). All IsTick list) (sym split)
+    (All-append IsTick first rest (only-ticks caller first a m leads none) (only-ticks caller rest m b later quiet)) in
+    let said : told_around middle ticks (noted_of 0 steps) ≡ (happened_in first ++ happened_in rest) ++ middle =
+    told-at_end ticks steps middle are played
+    ∙ ap (λ (list : List AtomicStep). happened_in list ++ middle) split
+    ∙ ap (λ (list : List Happening). list ++ middle) (flat_map-append happened_by first rest) in
+    record {
+      right =
+          subst (λ (all : List Mark). ReceivesRightly g (world_at a caller).adapter all g' (world_at b caller).adapter)
+          (sym (ap (marks caller) said ∙ marks-append caller (happened_in first ++ happened_in rest) middle
+          ∙ ap (λ (list : List Mark). list ++ marks caller middle) (marks-append caller (happened_in first) (happened_in rest))
+          ∙ ap (λ (list : List Mark). (marks caller (happened_in first) ++ marks caller (happened_in rest)) ++ list) says))
+          (receives-append g g g' (world_at a caller).adapter (world_at b caller).adapter (world_at b caller).adapter
+          (marks caller (happened_in first) ++ marks caller (happened_in rest)) (mark ∷ [])
+          (receives-append g g g (world_at a caller).adapter (world_at m caller).adapter (world_at b caller).adapter
+          (marks caller (happened_in first)) (marks caller (happened_in rest)) early.right late.right)
+          (changes-alone mark g g' (world_at b caller).adapter changes));
+      table = late'.has;
+    }
+
+changed : (caller : ℕ) (mark : Mark) (middle : List Happening) (ticks : List Tick) (steps : List AtomicStep)
+    (a b : List StationState) (h h' : HostState) (given : List Given) (kept : List (List ℕ)) (group : List ℕ) (made : List Access)
+    → HostStands h (world_at a caller) → LeadsTo caller steps a b → ChangesGroups mark h.driver.groups h'.driver.groups
+    → marks caller middle ≡ mark ∷ [] → without_go is_go (map tick_of steps) ≡ without_go is_go ticks
+    → SetsTable kept group h'.driver.groups made
+    → InSteps caller given steps (connected h a) (connected h' b) (groups_act h h' made)
+    → Right caller (told_around middle ticks (noted_of 0 steps)) a b h h'
+changed caller mark middle ticks steps a b h h' given kept group made stands leads changes says played sets runs =
+    let stage = runs.stages in
+    let later = leads-behind caller stage.first stage.rest a stage.middle b
+    (subst (λ (list : List AtomicStep). LeadsTo caller list a b) stage.split leads) stage.leads in
+    elim sets [
+      | inl shared ↦
+          shared-right caller mark middle ticks steps stage.first stage.rest a stage.middle b h h' stands changes says stage.split
+          stage.leads later played (stage.made_are ∙ shared.1) stage.later (stage.holds stands.groups)
+      | inr writes ↦
+          written-right caller mark middle ticks steps stage.first stage.rest a stage.middle b h h' group made stands changes says
+          stage.split stage.leads later played stage.made_are stage.later stage.ends writes.1 (stage.holds stands.groups)
+    ]
+
+itself : {T : Type 0} (k : ℕ) (list : List T) → of_host k k list ≡ list
+itself k list = ap (λ (here : Bool). if here then list else []) (eq-eqb k k refl)
+
+pub joined-right : (caller : ℕ) (group : List ℕ) (ticks : List Tick) (steps : List AtomicStep) (a b : List StationState)
+    (h h' : HostState) (given : List Given) → HostStands h (world_at a caller) → LeadsTo caller steps a b
+    → without_go is_go (map tick_of steps) ≡ without_go is_go ticks
+    → JoinsGroup group h h' (InSteps caller given steps (connected h a) (connected h' b))
+    → Right caller (told_around (Joined caller group ∷ []) ticks (noted_of 0 steps)) a b h h'
+joined-right caller group ticks steps a b h h' given stands leads played it =
+    changed caller (Joins group) (Joined caller group ∷ []) ticks steps a b h h' given h.driver.groups group it.accesses stands leads
+    (ap (λ (host : HostState). host.driver.groups) it.joined) (append-nil _ ∙ itself caller (Joins group ∷ [])) played it.sets it.runs
+
+pub left-right : (caller : ℕ) (group : List ℕ) (ticks : List Tick) (steps : List AtomicStep) (a b : List StationState)
+    (h h' : HostState) (given : List Given) → HostStands h (world_at a caller) → LeadsTo caller steps a b
+    → without_go is_go (map tick_of steps) ≡ without_go is_go ticks
+    → LeavesGroup group h h' (InSteps caller given steps (connected h a) (connected h' b))
+    → Right caller (told_around (Left caller group ∷ []) ticks (noted_of 0 steps)) a b h h'
+left-right caller group ticks steps a b h h' given stands leads played it =
+    changed caller (Quits group) (Left caller group ∷ []) ticks steps a b h h' given h'.driver.groups group it.accesses stands leads
+    it.left (append-nil _ ∙ itself caller (Quits group ∷ [])) played it.sets it.runs
