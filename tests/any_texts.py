@@ -34,6 +34,8 @@ tick txput:d
 tick deliver:e
 tick rxdata:e
 tick rxdone:e
+join e 01:00:5e:00:00:01 / deliver:e go
+leave e 01:00:5e:00:00:01
 interrupt e / eeprom:e phy:e go
 recv e 0 / go
 interrupt b / deliver:b go rxdata:b rxdone:b
@@ -198,7 +200,8 @@ def random_ticks(drawn, hosts):
 def random_line(drawn, kind, hosts):
     """A line of this kind, nearly always of its form."""
     host = pick(drawn, (len(hosts), hosts + NAMES))
-    tables = {"group": GROUPS, "vlan": VLANS, "socket": ETHER_TYPES, "send": FRAMES, "recv": NUMBERS, "feed": PATHS, "auto": NUMBERS}
+    tables = {"group": GROUPS, "vlan": VLANS, "socket": ETHER_TYPES, "send": FRAMES, "recv": NUMBERS, "join": GROUPS, "leave": GROUPS, "feed": PATHS,
+              "auto": NUMBERS}
     if kind == "host":
         hosts.append(pick(drawn, (3, [f"h{len(hosts)}", f"_{len(hosts)}", "f", "a", *NAMES])))
         words = [hosts[-1], pick(drawn, ADDRESSES), pick(drawn, WIRES), *random_options(drawn)]
@@ -240,13 +243,14 @@ def each_word(bench, met):
     lines += [f"{host} {option} {value}" for option, (_, values) in HOST_OPTIONS.items() for value in values]
     lines += [f"{host} {option} {values[0]} {option} {values[0]}" for option, (_, values) in HOST_OPTIONS.items()]
     lines += [f"{host} rx {rx} buffers {buffers}" for rx in (248, 256, 264) for buffers in (rx - 1, rx, rx + 1)]
-    lines += [f"group a {group}" for group in GROUPS[1]] + [f"vlan a {vlan}" for vlan in VLANS[1]] + [f"socket a {word}" for word in ETHER_TYPES[1]]
+    lines += [f"{kind} a {group}" for kind in ("group", "join", "leave") for group in GROUPS[1]]
+    lines += [f"vlan a {vlan}" for vlan in VLANS[1]] + [f"socket a {word}" for word in ETHER_TYPES[1]]
     lines += [f"send a {frame}" for frame in FRAMES[1]] + [f"recv a {number}" for number in NUMBERS[1]] + [f"feed a {path}" for path in PATHS[1]]
     lines += [f"auto {number} 1" for number in NUMBERS[1]] + [f"auto 1 {number}" for number in NUMBERS[1]]
     ticks = [*(f"{step}:{name}" for step in sorted(STEPS) for name in ("a", "b", "f", "")), *BAD_TICKS]
     lines += [f"tick {tick}" for tick in ticks] + [f"interrupt a / go {tick} go" for tick in ticks]
     for kind in CALLS:
-        lines += [f"{kind} a{words} / {tick}" for words in ("", " 00", " 0 0") for tick in ("", "go", "go / go", "/")]
+        lines += [f"{kind} a{words} / {tick}" for words in ("", " 00", " 0 0", " ff:ff:ff:ff:ff:ff") for tick in ("", "go", "go / go", "/")]
     for line in lines:
         text = "\n".join([*begin, line])
         for options in ((), ("--wires",)):

@@ -142,9 +142,11 @@ First come the lines that set up hosts:
   host NAME ADDRESS WIRE  a host with this Ethernet address at this wire. Options may follow;
                           defaults are in parentheses: rx N and tx N, the number of descriptors in
                           each ring (8); buffers N, the number of receive buffers (16); rxa N, the
-                          KB of its receive packet buffer, 2 for each frame (48); link N, the ticks
-                          of its PHY until its link is up (1), or link never; promiscuous
-  group HOST ADDRESS      a multicast address whose frames it also receives
+                          KB of its receive packet buffer (48), of which a frame takes its length,
+                          rounded up to 16 bytes, and 16 bytes more; link N, the ticks of its PHY
+                          until its link is up (1), or link never; promiscuous
+  group HOST ADDRESS      a multicast group that it has joined from the start: it also receives
+                          its frames
   vlan HOST N             a VLAN. The host receives tagged frames of this VLAN only; without a vlan
                           line, it receives those of any VLAN
   socket HOST N           a socket for an EtherType, four hexadecimal digits such as 88b5; or 'all',
@@ -156,6 +158,9 @@ Then come the events, numbered from 0:
   send HOST HEX           a call: it sends a frame of these bytes
   recv HOST S             a call: its socket S returns the oldest frame in its queue
   interrupt HOST          a call: its driver handles an interrupt
+  join HOST ADDRESS       a call: its driver joins a multicast group, and so its adapter stores the
+                          frames of this group, too
+  leave HOST ADDRESS      a call: its driver leaves a group
   tick TICK               not a call, but a tick: txtake:HOST, txput:HOST, rxdata:HOST or
                           rxdone:HOST is a step of its adapter, deliver:HOST delivers the next frame
                           of its wire, eeprom:HOST and phy:HOST are steps of its EEPROM and PHY, go

@@ -37,7 +37,12 @@ LINES = [
     ("send c 00", "E53 Name"), ("send a 00 / txput:c", "E53 Name"), ("send a 00 / txput:c txput", "E52 Value"),
     ("recv a 18446744073709551615 / deliver:a", None), ("recv a 18446744073709551616", "E52 Value"), ("recv a /", "E51 Count"),
     ("recv c 0", "E53 Name"), ("interrupt a / phy:a eeprom:b", None), ("interrupt a 0", "E51 Count"), ("interrupt a / Go", "E52 Value"),
-    ("interrupt c", "E53 Name"),
+    ("interrupt c", "E53 Name"), ("join a 01:00:5E:00:00:01 / go deliver:b", None), ("leave a fF:fF:fF:fF:fF:fF", None),
+    ("join a 02:00:00:00:00:00 /", None), ("join", "E51 Count"), ("join a / 01:00:5e:00:00:01", "E51 Count"),
+    ("leave a 01:00:5e:00:00:01 go", "E51 Count"), ("join a 01:00:5e:00:00", "E52 Value"), ("leave a all", "E52 Value"),
+    ("join a 01:00:5e:00:00:01 / go / go", "E52 Value"), ("leave a 01:00:5e:00:00:01 / run:a", "E52 Value"),
+    ("join c 01:00:5e:00:00:0", "E52 Value"), ("join c 01:00:5e:00:00:01", "E53 Name"), ("leave a 01:00:5e:00:00:01 / txput:c", "E53 Name"),
+    ("leave a 01:00:5e:00:00:01\ngroup a 01:00:5e:00:00:01", "E54 Order"), ("Join a 01:00:5e:00:00:01", "E50 Word"),
     # other events
     ("tick go", None), ("tick", "E51 Count"), ("tick / go", "E51 Count"), ("tick /", "E52 Value"), ("tick rxdata", "E52 Value"),
     ("tick rxdata:", "E53 Name"), ("tick rxdata:a:b", "E53 Name"), ("feed a t.pcap", None), ("feed a /", None), ("feed a", "E51 Count"),

@@ -90,28 +90,47 @@ impl<'a> From<InvalidValue<'a>> for LineError<'a> {
 
 impl fmt::Display for InvalidValue<'_> {
     fn fmt<W: fmt::Write>(&self, f: &mut fmt::Formatter<W>) -> fmt::Result {
-        let (option, form) = shown(self.option);
+        let option = shown(self.option);
+        let form = form_of(self.option);
         let text = self.text;
         write!(f, "error: invalid value '{text}' for '{option}': {form}\n")?;
         write!(f, "\nFor more information, try '--help'.\n")
     }
 }
 
-/// An option as help shows it, and the form of its values.
-fn shown(option: ValueOption) -> (&'static str, &'static str) {
+/// An option as help shows it.
+fn shown(option: ValueOption) -> &'static str {
     match option {
-        ValueOption::Address => ("--address <A>", ADDRESS_FORM),
-        ValueOption::Group => ("--group <G>", GROUP_FORM),
-        ValueOption::Vlan => ("--vlan <N>", VLAN_FORM),
-        ValueOption::Memory => ("--memory <BYTES>", MEMORY_FORM),
-        ValueOption::Registers => ("--registers <ADDRESS>", REGISTERS_FORM),
-        ValueOption::Image => ("--image <FILE>", IMAGE_FORM),
-        ValueOption::Link => ("--link <N|never>", LINK_FORM),
-        ValueOption::Rxa => ("--rxa <N>", RXA_FORM),
-        ValueOption::Seed => ("--seed <N>", SEED_FORM),
-        ValueOption::Missed => ("--missed <N>", MISSED_FORM),
-        ValueOption::Expect => ("--expect <N>", EXPECT_FORM),
-        ValueOption::Idle => ("--idle <N>", IDLE_FORM),
+        ValueOption::Address => "--address <A>",
+        ValueOption::Group => "--group <G>",
+        ValueOption::Vlan => "--vlan <N>",
+        ValueOption::Memory => "--memory <BYTES>",
+        ValueOption::Registers => "--registers <ADDRESS>",
+        ValueOption::Image => "--image <FILE>",
+        ValueOption::Link => "--link <N|never>",
+        ValueOption::Rxa => "--rxa <N>",
+        ValueOption::Seed => "--seed <N>",
+        ValueOption::Missed => "--missed <N>",
+        ValueOption::Expect => "--expect <N>",
+        ValueOption::Idle => "--idle <N>",
+    }
+}
+
+/// The form of an option's values.
+fn form_of(option: ValueOption) -> &'static str {
+    match option {
+        ValueOption::Address => ADDRESS_FORM,
+        ValueOption::Group => GROUP_FORM,
+        ValueOption::Vlan => VLAN_FORM,
+        ValueOption::Memory => MEMORY_FORM,
+        ValueOption::Registers => REGISTERS_FORM,
+        ValueOption::Image => IMAGE_FORM,
+        ValueOption::Link => LINK_FORM,
+        ValueOption::Rxa => RXA_FORM,
+        ValueOption::Seed => SEED_FORM,
+        ValueOption::Missed => MISSED_FORM,
+        ValueOption::Expect => EXPECT_FORM,
+        ValueOption::Idle => IDLE_FORM,
     }
 }
 

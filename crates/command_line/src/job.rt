@@ -1,7 +1,7 @@
 //! What the words may ask for.
 
 /// What the program is to do.
-#[derive(Clone, Copy, Debug)]
+#[derive(Clone, Copy)]
 pub enum Job<'a> {
     /// `pass`: the frames of a trace go through a receive filter and a ring to another trace.
     Pass(PassJob<'a>),
@@ -16,7 +16,7 @@ pub enum Job<'a> {
 }
 
 /// The job of `pass [--address A] [--group G] [--vlan N] IN OUT`.
-#[derive(Clone, Copy, Debug)]
+#[derive(Clone, Copy)]
 pub struct PassJob<'a> {
     /// Which frames pass.
     pub filter: PassFilter,
@@ -27,7 +27,7 @@ pub struct PassJob<'a> {
 }
 
 /// The job of `run [--wires] SCENARIO OUTDIR`.
-#[derive(Clone, Copy, Debug)]
+#[derive(Clone, Copy)]
 pub struct RunJob<'a> {
     /// The path of the scenario that is run, SCENARIO.
     pub scenario: &'a str,
@@ -38,14 +38,14 @@ pub struct RunJob<'a> {
 }
 
 /// The job of `show TRACE`.
-#[derive(Clone, Copy, Debug)]
+#[derive(Clone, Copy)]
 pub struct ShowJob<'a> {
     /// The path of the trace that is read, TRACE.
     pub trace: &'a str,
 }
 
 /// The options of `pass`, each `None` where it isn't given. The default has none of them.
-#[derive(Clone, Copy, Debug, Default)]
+#[derive(Clone, Copy, Default)]
 pub struct PassFilter {
     /// The adapter's own address (`--address`), the first byte first.
     pub address: Option<[u8; 6]>,
@@ -57,7 +57,7 @@ pub struct PassFilter {
 
 /// The job of `serve [--memory BYTES] [--registers ADDRESS] [--address A | --image FILE] [--link N|never] [--rxa N]
 /// [--seed N] [--missed N] [--schedule FILE] [--record FILE]`. Each option that isn't given has its default here.
-#[derive(Clone, Copy, Debug)]
+#[derive(Clone, Copy)]
 pub struct ServeJob<'a> {
     /// How many bytes of memory there are, from address 0 on (`--memory`, 1 MiB).
     pub memory: u64,
@@ -81,7 +81,7 @@ pub struct ServeJob<'a> {
 
 /// The job of `drive [--registers ADDRESS] [--memory BYTES] [--expect N] [--idle N] --send IN --receive OUT`. Addresses
 /// and sizes that aren't given have their defaults here.
-#[derive(Clone, Copy, Debug)]
+#[derive(Clone, Copy)]
 pub struct DriveJob<'a> {
     /// The address of the first byte of registers (`--registers`, 0xFEB00000).
     pub registers: u64,
@@ -98,7 +98,7 @@ pub struct DriveJob<'a> {
 }
 
 /// The contents of the EEPROM of an adapter that is served.
-#[derive(Clone, Copy, Debug, PartialEq, Eq)]
+#[derive(Clone, Copy, PartialEq, Eq)]
 pub enum ServeImage<'a> {
     /// An image of this Ethernet address, the first byte first (`--address`).
     Address([u8; 6]),
@@ -107,7 +107,7 @@ pub enum ServeImage<'a> {
 }
 
 /// When the link of an adapter that is served comes up.
-#[derive(Clone, Copy, Debug, PartialEq, Eq)]
+#[derive(Clone, Copy, PartialEq, Eq)]
 pub enum ServeLink {
     /// After so many ticks of the PHY, 1 or more.
     After(u16),

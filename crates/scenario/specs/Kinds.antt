@@ -2,6 +2,7 @@
 use Rattle.std.specs.Prelude.{List, [], ◌∷◌, Option, codes}
 use Rattle.scenario.specs.Tables.{value_in}
 use Rattle.scenario.specs.Words.{Text}
+use Rattle.scenario.specs.declared.line_kind.GroupChange.TheVariants as change
 use Rattle.scenario.specs.declared.line_kind.LineKind.{LineKind}
 use Rattle.scenario.specs.declared.line_kind.LineKind.TheVariants as line
 
@@ -15,6 +16,8 @@ kinds =
     ∷ (codes "send", line.Send)
     ∷ (codes "recv", line.Recv)
     ∷ (codes "interrupt", line.Interrupt)
+    ∷ (codes "join", line.Membership change.Join)
+    ∷ (codes "leave", line.Membership change.Leave)
     ∷ (codes "tick", line.Tick)
     ∷ (codes "feed", line.Feed)
     ∷ (codes "auto", line.Auto)

@@ -11,11 +11,14 @@ use Rattle.packet_socket.specs.declared.socket_kind.SocketKind.TheVariants as so
 use Rattle.stations.specs.declared.tick.Tick.{Tick}
 use Rattle.stations.specs.declared.tick.Tick.TheVariants as tick
 use Rattle.scenario.specs.HostOptions.{AreCounted, AreRead, options_asked, uses_in}
-use Rattle.scenario.specs.SoFar.{Host, Said, SoFar, Sends, Receives, Interrupts, Ticks, Feeds, Draws, Drains, has_name, place_of}
+use Rattle.scenario.specs.SoFar.{Host, Said, SoFar, Sends, Receives, Interrupts, Joins, Leaves, Ticks, Feeds, Draws, Drains}
+use Rattle.scenario.specs.SoFar.{has_name, place_of}
 use Rattle.scenario.specs.Spellings.{IsAddress, IsFrame, address_in, frame_in, is_number, socket_in}
 use Rattle.scenario.specs.TickWords.{is_tick, tick_named}
 use Rattle.scenario.specs.Words.{Text, word}
 use Rattle.scenario.specs.declared.host_use.HostOptions.{HostOptions}
+use Rattle.scenario.specs.declared.line_kind.GroupChange.{GroupChange}
+use Rattle.scenario.specs.declared.line_kind.GroupChange.TheVariants as change
 use Rattle.scenario.specs.declared.line_kind.LineKind.{LineKind}
 use Rattle.scenario.specs.declared.line_kind.LineKind.TheVariants as line
 
@@ -52,7 +55,7 @@ option_words words = drop 4 words
 
 -- a number of events to draw
 abbrev pub is_count : Text → Bool
-is_count text = is_number 10 32 text && nat_le (digits_value 10 text) most_events
+is_count text = is_number 10 64 text && nat_le (digits_value 10 text) most_events
 
 -- each word spells a tick
 abbrev pub are_ticks : List Text → Bool
@@ -80,6 +83,7 @@ HasCount line.Socket words = length words ≡ 3
 HasCount line.Send words = length (call_words words) ≡ 3
 HasCount line.Recv words = length (call_words words) ≡ 3
 HasCount line.Interrupt words = length (call_words words) ≡ 2
+HasCount (line.Membership one) words = length (call_words words) ≡ 3
 HasCount line.Tick words = length words ≡ 2
 HasCount line.Feed words = length words ≡ 3
 HasCount line.Auto words = length words ≡ 3
@@ -94,6 +98,7 @@ HasValues line.Socket words = IsSome (socket_in (word 2 words))
 HasValues line.Send words = IsFrame (word 2 (call_words words)) × (are_ticks (tick_words words) ≡ true)
 HasValues line.Recv words = (is_number 10 64 (word 2 (call_words words)) ≡ true) × (are_ticks (tick_words words) ≡ true)
 HasValues line.Interrupt words = are_ticks (tick_words words) ≡ true
+HasValues (line.Membership one) words = IsAddress (word 2 (call_words words)) × (are_ticks (tick_words words) ≡ true)
 HasValues line.Tick words = is_tick (word 1 words) ≡ true
 HasValues line.Feed words = Unit {0}
 HasValues line.Auto words = (is_count (word 1 words) ≡ true) × (is_number 10 64 (word 2 words) ≡ true)
@@ -129,6 +134,7 @@ HasHostNames line.Socket hosts words = IsRoomAt (word 1 words) sockets_held most
 HasHostNames line.Send hosts words = AreKnown hosts (word 1 (call_words words)) (tick_words words)
 HasHostNames line.Recv hosts words = AreKnown hosts (word 1 (call_words words)) (tick_words words)
 HasHostNames line.Interrupt hosts words = AreKnown hosts (word 1 (call_words words)) (tick_words words)
+HasHostNames (line.Membership one) hosts words = AreKnown hosts (word 1 (call_words words)) (tick_words words)
 HasHostNames line.Tick hosts words = IsSome (tick_named hosts (word 1 words))
 HasHostNames line.Feed hosts words = NamesHost (word 1 words) hosts
 HasHostNames line.Auto hosts words = Unit {0}
@@ -195,6 +201,11 @@ changing name change before = with_hosts (changed_first (has_name name) change b
 abbrev pub saying : Said → SoFar → SoFar
 saying said before = record before { commands = before.commands ++ said ∷ [] }
 
+-- a host joins or leaves a group
+abbrev pub changes_groups : GroupChange → (host : ℕ) (group : List ℕ) (ticks : List Tick) → Said
+changes_groups change.Join host group ticks = Joins host group ticks
+changes_groups change.Leave host group ticks = Leaves host group ticks
+
 -- the number of the host of this name
 abbrev pub number_of : Text → List Host → ℕ
 number_of name hosts = unwrap_or (place_of name hosts) 0
@@ -221,6 +232,11 @@ after_line line.Recv before words =
     before
 after_line line.Interrupt before words =
     saying (Interrupts (number_of (word 1 (call_words words)) before.hosts) (ticks_in before.hosts (tick_words words))) before
+after_line (line.Membership one) before words =
+    saying
+    (changes_groups one (number_of (word 1 (call_words words)) before.hosts) (address_in (word 2 (call_words words)))
+    (ticks_in before.hosts (tick_words words)))
+    before
 after_line line.Tick before words = saying (Ticks (unwrap_or (tick_named before.hosts (word 1 words)) tick.Go)) before
 after_line line.Feed before words =
     let fed = saying (Feeds (number_of (word 1 words) before.hosts) (length before.traces)) before in

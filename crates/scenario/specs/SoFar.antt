@@ -38,6 +38,8 @@ pub data Said : Type 0 where
   Sends : (host : ℕ) (frame : List ℕ) (ticks : List Tick) → Said
   Receives : (host socket : ℕ) (ticks : List Tick) → Said
   Interrupts : (host : ℕ) (ticks : List Tick) → Said
+  Joins : (host : ℕ) (group : List ℕ) (ticks : List Tick) → Said
+  Leaves : (host : ℕ) (group : List ℕ) (ticks : List Tick) → Said
   Ticks : (tick : Tick) → Said
   Feeds : (host trace : ℕ) → Said
   Draws : (count start : ℕ) → Said
@@ -47,6 +49,8 @@ abbrev pub event_of : Event → Said
 event_of (event.Send host frame ticks) = Sends host frame.items ticks.items
 event_of (event.Recv host socket ticks) = Receives host socket ticks.items
 event_of (event.Interrupt host ticks) = Interrupts host ticks.items
+event_of (event.Join host group ticks) = Joins host group ticks.items
+event_of (event.Leave host group ticks) = Leaves host group ticks.items
 event_of (event.Tick tick) = Ticks tick
 
 abbrev pub said_of : Command → Said

@@ -5,15 +5,16 @@ ghost use Rattle.std.specs.Option.{SomeIff};
 ghost use Rattle.std.specs.Str.Parse.{digits_value};
 ghost use Rattle.scenario.specs.Answers.{AreTicks, IsAnswer, IsCall, IsFaultyCall};
 ghost use Rattle.scenario.specs.Meanings as meanings;
-ghost use Rattle.scenario.specs.SoFar.{hosts_of, said_of, so_far};
+ghost use Rattle.scenario.specs.SoFar.{event_of, hosts_of, said_of, so_far};
 ghost use Rattle.scenario.specs.Stops.{IfFault};
 ghost use Rattle.scenario.specs.Words.{texts};
 ghost use Rattle.scenario.specs.declared.line_kind.LineKind.TheVariants as line;
 ghost use Rattle.scenario.specs.declared.refusal.Fault.TheVariants as faults;
 
 use crate::command::{Command, Scenario};
+use crate::line_kind::GroupChange;
 use crate::refusal::{Fault, Stop};
-use crate::spelling::{frame_of, number_of, number32_of};
+use crate::spelling::{address_of, frame_of, number_of};
 use crate::text::{split_call, word_at};
 use crate::tick_word::{host_named, is_tick, tick_of};
 use network_plan::{Event, HostPlan};
@@ -21,7 +22,7 @@ use stations::Tick;
 use std::alloc::{AllocError, Global};
 
 /// The maximum number of events that an `auto` line draws (our choice).
-const MOST_EVENTS: u32 = 1_000_000;
+const MOST_EVENTS: u64 = 1_000_000;
 
 /// Whether each word spells a tick.
 fn are_ticks(words: &[&str]) -> bool
@@ -140,6 +141,41 @@ pub(crate) fn read_interrupt(
     Ok(())
 }
 
+impl GroupChange {
+    /// The event in which a host joins or leaves a group.
+    fn event(self, host: usize, group: [u8; 6], ticks: Vec<Tick>) -> Event
+        ensures { event_of result ≡ meanings.changes_groups self host group ticks.items }
+    {
+        match self {
+            GroupChange::Join => Event::Join { host, group, ticks },
+            GroupChange::Leave => Event::Leave { host, group, ticks },
+        }
+    }
+}
+
+/// `join HOST ADDRESS` and `leave HOST ADDRESS`, and ticks.
+pub(crate) fn read_membership(
+    alloc: Global,
+    scenario: &mut Scenario,
+    change: GroupChange,
+    words: &[&str],
+) -> Result<(), Stop>
+    ensures { IsAnswer (line.Membership change) (so_far scenario.old) (texts words.now) result (so_far scenario.new) }
+{
+    let (call, ticks) = split_call(words);
+    if call.len() != 3 {
+        return Err(Stop::Fault(Fault::Count));
+    }
+    let Some(group) = address_of(word_at(call, 2)) else {
+        return Err(Stop::Fault(Fault::Value));
+    };
+    let hosts = scenario.plan.hosts.as_slice();
+    let (host, ticks) = call_of(alloc, hosts, word_at(call, 1), ticks)?;
+    let event = change.event(host, group, ticks);
+    say(scenario, Command::Event(event))?;
+    Ok(())
+}
+
 /// `tick TICK`.
 pub(crate) fn read_tick(scenario: &mut Scenario, words: &[&str]) -> Result<(), Stop>
     ensures { IsAnswer line.Tick (so_far scenario.old) (texts words.now) result (so_far scenario.new) }
@@ -179,11 +215,11 @@ pub(crate) fn read_feed(alloc: Global, scenario: &mut Scenario, words: &[&str]) 
 fn count_of(text: &str) -> Option<u32>
     ensures { SomeIff result (meanings.is_count text.now ≡ true) (digits_value 10 text.now) }
 {
-    let count = number32_of(text)?;
+    let count = number_of(text)?;
     if count > MOST_EVENTS {
         return None;
     }
-    Some(count)
+    Some(count as u32)
 }
 
 /// `auto COUNT START`.

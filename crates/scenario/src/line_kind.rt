@@ -5,6 +5,15 @@ ghost use Rattle.scenario.specs.Kinds.{kind_named};
 
 use crate::table::value_of;
 
+/// How a line changes the groups of a host in a run.
+#[derive(Clone, Copy)]
+pub(crate) enum GroupChange {
+    /// `join`: the host joins a group.
+    Join,
+    /// `leave`: the host leaves a group.
+    Leave,
+}
+
 /// The kinds of lines. The first four set up, the others are events.
 #[derive(Clone, Copy)]
 pub(crate) enum LineKind {
@@ -22,6 +31,8 @@ pub(crate) enum LineKind {
     Recv,
     /// `interrupt`: a host handles an interrupt.
     Interrupt,
+    /// `join` or `leave`: a host joins or leaves a group.
+    Membership(GroupChange),
     /// `tick`: a tick between calls.
     Tick,
     /// `feed`: a host sends the frames of a trace.
@@ -33,7 +44,7 @@ pub(crate) enum LineKind {
 }
 
 /// The words that lines begin with, and the kinds of these lines.
-const KINDS: [(&str, LineKind); 11] = [
+const KINDS: [(&str, LineKind); 13] = [
     ("host", LineKind::Host),
     ("group", LineKind::Group),
     ("vlan", LineKind::Vlan),
@@ -41,6 +52,8 @@ const KINDS: [(&str, LineKind); 11] = [
     ("send", LineKind::Send),
     ("recv", LineKind::Recv),
     ("interrupt", LineKind::Interrupt),
+    ("join", LineKind::Membership(GroupChange::Join)),
+    ("leave", LineKind::Membership(GroupChange::Leave)),
     ("tick", LineKind::Tick),
     ("feed", LineKind::Feed),
     ("auto", LineKind::Auto),

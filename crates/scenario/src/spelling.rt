@@ -30,13 +30,6 @@ pub(crate) fn number_of(text: &str) -> Option<u64>
     text.parse::<u64>().ok()
 }
 
-/// The same with 32 bits.
-pub(crate) fn number32_of(text: &str) -> Option<u32>
-    ensures { result ≡ number_in 10 32 text.now }
-{
-    u32::try_from(number_of(text)?).ok()
-}
-
 /// The same with 16 bits.
 pub(crate) fn number16_of(text: &str) -> Option<u16>
     ensures { result ≡ number_in 10 16 text.now }

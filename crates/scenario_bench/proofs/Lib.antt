@@ -4,6 +4,7 @@ pub mod EventsOfCommands
 pub mod Printed
 pub mod Noting
 pub mod RecordLaws
+pub mod AroundTicks
 pub mod NotedEvents
 pub mod NotedDrains
 pub mod JoinedActs

@@ -4,7 +4,8 @@ use Rattle.std.proofs.Common.{map, replicate, suc, zero}
 use Rattle.std.proofs.Common.{slice_get, option_map, if◌then◌else◌, refl, sym, ap, subst, ◌∙◌, append-nil}
 use Rattle.std.proofs.lemmas.Grind.{flat_map-append}
 use Rattle.pcap_trace.specs.Format.{Timed}
-use Rattle.delivery.specs.Happenings.{Given, Happening, Moved, given, given_in_one, told, told_alone, told_of}
+use Rattle.delivery.proofs.ToldAround.{around_ticks}
+use Rattle.delivery.specs.Happenings.{Given, Happening, Moved, given, given_in_one, told, told_alone, told_around, told_of}
 use Rattle.network_plan.specs.declared.event.Event.{Event}
 use Rattle.network_plan.specs.declared.event.Event.TheVariants as event
 use Rattle.network_plan.specs.Answers.{FrameAnswer}
@@ -17,7 +18,7 @@ use Rattle.stations.specs.declared.tick.Tick.{Tick}
 use Rattle.stations.specs.declared.tick.Tick.TheVariants as tick
 use Rattle.packet_socket.specs.HostCalls.{Given as GivenFrame}
 use Rattle.wire.specs.DrainedNetworks.{said_of_drain}
-use Rattle.wire.specs.Runs.{accepted_of, given_of, said}
+use Rattle.wire.specs.Runs.{accepted_of, given_of, joined_of, left_of, said}
 use Rattle.scenario_bench.specs.Acts.{Act, Drained, Ran, said_in}
 use Rattle.scenario_bench.specs.Given.{next_number, numbered_frame}
 use Rattle.scenario_bench.specs.Puts.{PutFrame, PutsGrow, put_frames_in}
@@ -26,6 +27,7 @@ use Rattle.scenario_bench.specs.SocketLists.{SocketFrames, with_socket_frames, w
 use Rattle.scenario_bench.specs.Tallies.{AreNoted, GetsGiven, GetsSaid, TalliesGrow, socket_behind}
 use Rattle.scenario_bench.specs.Tallies.{with_said}
 use Rattle.scenario_bench.specs.declared.record.Record.{Record}
+use Rattle.scenario_bench.proofs.AroundTicks.{AreQuiet, gives_around, joins_quiet, leaves_quiet}
 
 -- The frame that an event returns.
 
@@ -57,17 +59,19 @@ given-alone k s (tick.Deliver host) (first ∷ outcomes) = given-of k s host fir
 pub given-accepted : (k s host : ℕ) (frame : List ℕ) (one : FrameAnswer) → given k s (accepted_of host frame one) ≡ []
 given-accepted k s host frame (answer.Sent (Ok u)) = refl
 given-accepted k s host frame (answer.Sent (Err error)) = refl
-given-accepted k s host frame (answer.Received result) = refl
-given-accepted k s host frame (answer.Interrupted handled) = refl
-given-accepted k s host frame answer.Ticked = refl
-given-accepted k s host frame answer.NoHost = refl
+given-accepted k s host frame _ = refl
+
+-- A call of groups returns no frame.
+gives-by-ticks : (k s : ℕ) (middle : List Happening) → AreQuiet middle → (ticks : List Tick) (outcomes : List Numbered)
+    → given k s (told_around middle ticks outcomes) ≡ []
+gives-by-ticks k s middle quiet ticks outcomes =
+    gives_around middle (told ticks outcomes) (told_around middle ticks outcomes) (around_ticks middle ticks outcomes) quiet k s
+    ∙ given-told k s ticks outcomes
 
 -- Only the answer of a socket has a frame.
 abbrev pub answer_of : Event → FrameAnswer → List Happening
-answer_of (event.Send host frame ticks) one = []
 answer_of (event.Recv host socket ticks) one = given_of host socket one
-answer_of (event.Interrupt host ticks) one = []
-answer_of (event.Tick tick) one = []
+answer_of other one = []
 
 pub given-said : (k s : ℕ) (one : Event) (reply : Reply) → given k s (said one reply) ≡ given k s (answer_of one reply.answer)
 given-said k s (event.Send host frame ticks) reply =
@@ -77,6 +81,10 @@ given-said k s (event.Recv host socket ticks) reply =
     flat_map-append (given_in_one k s) (told ticks.items reply.outcomes.list) (given_of host socket reply.answer)
     ∙ ap (λ (l : List (List ℕ)). l ++ given k s (given_of host socket reply.answer)) (given-told k s ticks.items reply.outcomes.list)
 given-said k s (event.Interrupt host ticks) reply = given-told k s ticks.items reply.outcomes.list
+given-said k s (event.Join host group ticks) reply =
+    gives-by-ticks k s (joined_of host group reply.answer) (joins_quiet host group reply.answer) ticks.items reply.outcomes.list
+given-said k s (event.Leave host group ticks) reply =
+    gives-by-ticks k s (left_of host group reply.answer) (leaves_quiet host group reply.answer) ticks.items reply.outcomes.list
 given-said k s (event.Tick one) reply = given-alone k s one reply.outcomes.list
 
 -- Sockets.

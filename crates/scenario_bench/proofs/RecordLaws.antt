@@ -5,8 +5,11 @@ use Rattle.std.specs.List.{flat_map, fold}
 use Rattle.std.proofs.lemmas.Grind.{flat_map-append}
 use Rattle.stations.specs.Outcomes.{note_of}
 use Rattle.stations.specs.ToldTicks.{TickTold}
+use Rattle.stations.specs.declared.outcomes.Numbered.{Numbered}
 use Rattle.stations.specs.declared.tick.Tick.{Tick}
-use Rattle.delivery.specs.Happenings.{Accepted, Given, Happening, Moved, Put, Reached, given, tick_host, told, told_alone, told_of}
+use Rattle.delivery.proofs.ToldAround.{around_ticks}
+use Rattle.delivery.specs.Happenings.{Accepted, Given, Happening, Put, Reached, given, tick_host, told, told_alone, told_around}
+use Rattle.delivery.specs.Happenings.{told_of}
 use Rattle.network_plan.specs.Answers.{FrameAnswer}
 use Rattle.network_plan.specs.declared.event.Event.{Event}
 use Rattle.network_plan.specs.declared.event.Event.TheVariants as event
@@ -14,7 +17,7 @@ use Rattle.network_plan.specs.declared.reply.Answer.TheVariants as answer
 use Rattle.network_plan.specs.declared.reply.Reply.{Reply}
 use Rattle.wire.specs.RunObservers.{AreOfTicks, TellsReply, ending, happened_of, tick_in}
 use Rattle.wire.specs.RunObserverLaws.{told_happened}
-use Rattle.wire.specs.Runs.{accepted_of, given_of, said}
+use Rattle.wire.specs.Runs.{accepted_of, given_of, joined_of, left_of, said}
 use Rattle.scenario_bench.specs.Given.{next_number, numbered_frame}
 use Rattle.scenario_bench.specs.Puts.{PutFrame, PutsGrow, put_frame_in, put_frames_in}
 use Rattle.scenario_bench.specs.Recording.{NotesAnswer, HearsTicks, RecordsReplies, answered}
@@ -24,6 +27,7 @@ use Rattle.scenario_bench.specs.declared.record.Record.{Record}
 use Rattle.scenario_bench.specs.declared.tally.Passage.{Passage}
 use Rattle.scenario_bench.specs.declared.tally.Passage.TheVariants as passage
 use Rattle.scenario_bench.specs.declared.tally.Tally.{Tally}
+use Rattle.scenario_bench.proofs.AroundTicks.{AreQuiet, grows_around, joins_quiet, leaves_quiet, puts_around}
 use Rattle.scenario_bench.proofs.NotedEvents.{gets_none, given-accepted, given-said, noted}
 use Rattle.scenario_bench.specs.RecordingLaws.{grows_join}
 
@@ -54,8 +58,8 @@ accepted-commutes : (k host : ℕ) (frame : List ℕ) (one : Happening) (tally :
 accepted-commutes k host frame (Accepted at other) tally = counts-commute (k == host) (k == at) passage.Accepted tally
 accepted-commutes k host frame (Put at other) tally = counts-commute (k == host) (k == at) passage.Put tally
 accepted-commutes k host frame (Reached at other fate) tally = counts-commute (k == host) (k == at) (passage_by fate) tally
-accepted-commutes k host frame (Moved at) tally = refl
 accepted-commutes k host frame (Given at socket other) tally = counts-commute (k == host) (k == at) passage.Given tally
+accepted-commutes k host frame _ tally = refl
 
 accepted-first : (k host : ℕ) (frame : List ℕ) (list : List Happening) (tally : Tally)
     → tallied_by k (fold (tallied_by k) tally list) (Accepted host frame)
@@ -81,10 +85,7 @@ accepted-last : (list : List Happening) (host : ℕ) (frame : List ℕ) (one : F
 accepted-last list host frame (answer.Sent (Ok u)) a b c ticks sent = λ k.
     sent k ∙ ap (option_map (tally_behind (Accepted host frame ∷ []) k)) (ticks k) ∙ grows-as list host frame k (slice_get a k)
 accepted-last list host frame (answer.Sent (Err error)) a b c ticks sent = none-more list a b c ticks sent
-accepted-last list host frame (answer.Received result) a b c ticks sent = none-more list a b c ticks sent
-accepted-last list host frame (answer.Interrupted handled) a b c ticks sent = none-more list a b c ticks sent
-accepted-last list host frame answer.Ticked a b c ticks sent = none-more list a b c ticks sent
-accepted-last list host frame answer.NoHost a b c ticks sent = none-more list a b c ticks sent
+accepted-last list host frame _ a b c ticks sent = none-more list a b c ticks sent
 
 -- the outcome of a tick by itself
 alone : (one : Tick) (ticks : List TickTold) → map tick_in ticks ≡ one ∷ []
@@ -96,6 +97,14 @@ alone one (told ∷ []) same =
 alone one (told ∷ next ∷ later) same =
     let none : next.tick ∷ map tick_in later ≡ [] = rest one told.tick [] (next.tick ∷ map tick_in later) same in
     absurd (cc)
+
+-- a call of groups is said in the midst of what its ticks say, and changes no count
+around-grows : (middle : List Happening) → AreQuiet middle → (list : List Tick) (outcomes : List Numbered) (happened : List Happening)
+    (a b c : List Tally) → told list outcomes ≡ happened → TalliesGrow happened a b → TalliesGrow [] b c
+    → TalliesGrow (told_around middle list outcomes) a c
+around-grows middle quiet list outcomes happened a b c same ticked none =
+    grows_around middle (told list outcomes) (told_around middle list outcomes) (around_ticks middle list outcomes) quiet a c
+    (subst (λ (said : List Happening). TalliesGrow said a c) (sym same) (none-more happened a b c ticked none))
 
 event-grows : (one : Event) (reply : Reply) (ticks : List TickTold) (a b c : List Tally) → AreOfTicks one ticks
     → reply.outcomes.list ≡ map note_of ticks → TalliesGrow (flat_map happened_of ticks) a b
@@ -112,6 +121,12 @@ event-grows (event.Interrupt host list) reply ticks a b c of_ticks outcomes tick
     subst (λ (happened : List Happening). TalliesGrow happened a c)
     (sym (ap (told list.items) outcomes ∙ told_happened list.items ticks of_ticks))
     (none-more (flat_map happened_of ticks) a b c ticked answers)
+event-grows (event.Join host group list) reply ticks a b c of_ticks outcomes ticked answers =
+    around-grows (joined_of host group reply.answer) (joins_quiet host group reply.answer) list.items reply.outcomes.list
+    (flat_map happened_of ticks) a b c (ap (told list.items) outcomes ∙ told_happened list.items ticks of_ticks) ticked answers
+event-grows (event.Leave host group list) reply ticks a b c of_ticks outcomes ticked answers =
+    around-grows (left_of host group reply.answer) (leaves_quiet host group reply.answer) list.items reply.outcomes.list
+    (flat_map happened_of ticks) a b c (ap (told list.items) outcomes ∙ told_happened list.items ticks of_ticks) ticked answers
 event-grows (event.Tick one) reply ticks a b c of_ticks outcomes ticked answers =
     subst (λ (happened : List Happening). TalliesGrow happened a c)
     (sym (ap (told_alone one) outcomes ∙ alone one ticks of_ticks))
@@ -122,18 +137,19 @@ event-grows (event.Tick one) reply ticks a b c of_ticks outcomes ticked answers 
 puts-accepted : (number host : ℕ) (frame : List ℕ) (one : FrameAnswer) → put_frames_in number (accepted_of host frame one) ≡ []
 puts-accepted number host frame (answer.Sent (Ok u)) = refl
 puts-accepted number host frame (answer.Sent (Err error)) = refl
-puts-accepted number host frame (answer.Received result) = refl
-puts-accepted number host frame (answer.Interrupted handled) = refl
-puts-accepted number host frame answer.Ticked = refl
-puts-accepted number host frame answer.NoHost = refl
+puts-accepted number host frame _ = refl
 
 puts-given : (number host socket : ℕ) (one : FrameAnswer) → put_frames_in number (given_of host socket one) ≡ []
 puts-given number host socket (answer.Received (Ok frame)) = refl
 puts-given number host socket (answer.Received (Err error)) = refl
-puts-given number host socket (answer.Sent result) = refl
-puts-given number host socket (answer.Interrupted handled) = refl
-puts-given number host socket answer.Ticked = refl
-puts-given number host socket answer.NoHost = refl
+puts-given number host socket _ = refl
+
+around-puts : (number : ℕ) (middle : List Happening) → AreQuiet middle → (list : List Tick) (outcomes : List Numbered)
+    (happened : List Happening) → told list outcomes ≡ happened
+    → put_frames_in number happened ≡ put_frames_in number (told_around middle list outcomes)
+around-puts number middle quiet list outcomes happened same =
+    sym (puts_around middle (told list outcomes) (told_around middle list outcomes) (around_ticks middle list outcomes) quiet number
+    ∙ ap (put_frames_in number) same)
 
 -- the frames that an event puts are those of its ticks
 event-puts : (number : ℕ) (one : Event) (reply : Reply) (ticks : List TickTold) → AreOfTicks one ticks
@@ -155,6 +171,12 @@ event-puts number (event.Recv host socket list) reply ticks of_ticks outcomes =
     ∙ sym (flat_map-append (put_frame_in number) ticked behind)
 event-puts number (event.Interrupt host list) reply ticks of_ticks outcomes =
     sym (ap (put_frames_in number) (ap (told list.items) outcomes ∙ told_happened list.items ticks of_ticks))
+event-puts number (event.Join host group list) reply ticks of_ticks outcomes =
+    around-puts number (joined_of host group reply.answer) (joins_quiet host group reply.answer) list.items reply.outcomes.list
+    (flat_map happened_of ticks) (ap (told list.items) outcomes ∙ told_happened list.items ticks of_ticks)
+event-puts number (event.Leave host group list) reply ticks of_ticks outcomes =
+    around-puts number (left_of host group reply.answer) (leaves_quiet host group reply.answer) list.items reply.outcomes.list
+    (flat_map happened_of ticks) (ap (told list.items) outcomes ∙ told_happened list.items ticks of_ticks)
 event-puts number (event.Tick one) reply ticks of_ticks outcomes =
     sym (ap (put_frames_in number) (ap (told_alone one) outcomes ∙ alone one ticks of_ticks))
 
@@ -164,8 +186,7 @@ answered-as : (k s : ℕ) (one : Event) (reply : Reply) → given k s (answered 
 answered-as k s (event.Send host frame list) reply =
     given-accepted k s host frame.items reply.answer ∙ sym (given-said k s (event.Send host frame list) reply)
 answered-as k s (event.Recv host socket list) reply = sym (given-said k s (event.Recv host socket list) reply)
-answered-as k s (event.Interrupt host list) reply = sym (given-said k s (event.Interrupt host list) reply)
-answered-as k s (event.Tick one) reply = sym (given-said k s (event.Tick one) reply)
+answered-as k s one reply = sym (given-said k s one reply)
 
 with-as : (number : ℕ) (xs ys : List Happening) → ((k s : ℕ) → given k s xs ≡ given k s ys) → (found : Option SocketFrames)
     → option_map (with_said number xs) found ≡ option_map (with_said number ys) found

@@ -6,7 +6,7 @@ use Rattle.std.proofs.lemmas.List.{length-append}
 use Rattle.std.proofs.lemmas.List.Sums.{sum_by_push}
 use Rattle.std.specs.List.{flat_map, fold}
 use Rattle.rx_engine.specs.declared.arrival.Fate.TheVariants as fate
-use Rattle.delivery.specs.Happenings.{Accepted, Given, Happening, Moved, Put, Reached, accepted, accepted_in_one, put, put_by, reached}
+use Rattle.delivery.specs.Happenings.{Accepted, Given, Happening, Put, Reached, accepted, accepted_in_one, put, put_by, reached}
 use Rattle.delivery.specs.Happenings.{reached_by, stored, stored_by}
 use Rattle.scenario_bench.specs.Acts.{Act}
 use Rattle.scenario_bench.specs.Given.{next_number}
@@ -127,10 +127,10 @@ one-counted k done (Reached host frame fate.Illegal) = counts-reached (k == host
     (length (reached k done)) (length (stored k done)) (all_given k done)
 one-counted k done (Reached host frame fate.Off) = counts-reached (k == host) frame (length (accepted k done)) (length (put k done))
     (length (reached k done)) (length (stored k done)) (all_given k done)
-one-counted k done (Moved host) = as-is (length (accepted k done)) (length (put k done)) (length (reached k done))
-    (length (stored k done)) (all_given k done)
 one-counted k done (Given host socket frame) = counts-given (k == host) (length (accepted k done)) (length (put k done))
     (length (reached k done)) (length (stored k done)) (all_given k done)
+one-counted k done _ = as-is (length (accepted k done)) (length (put k done)) (length (reached k done)) (length (stored k done))
+    (all_given k done)
 
 counted-all : (k : ℕ) (done rest : List Happening) → fold (tallied_by k) (tally_of k done) rest ≡ tally_of k (done ++ rest)
 counted-all k done [] = ap (tally_of k) (sym (append-nil done))

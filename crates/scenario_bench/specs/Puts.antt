@@ -4,7 +4,7 @@ use Rattle.std.specs.List.{flat_map, fold, list_any}
 use Rattle.std.specs.Str.{bytes_eq}
 use Rattle.adapter.specs.declared.outcome.Outcome.{Outcome}
 use Rattle.adapter.specs.declared.outcome.Outcome.TheVariants as outcome
-use Rattle.delivery.specs.Happenings.{Accepted, Given, Happening, Moved, Put, Reached}
+use Rattle.delivery.specs.Happenings.{Happening, Put}
 use Rattle.pcap_trace.specs.Format.{Timed}
 use Rattle.scenario.specs.SoFar.{Host}
 use Rattle.scenario_bench.specs.Acts.{Act, said_in}
@@ -21,11 +21,8 @@ put_frame host number frame = record { host = host; frame = numbered_frame numbe
 
 -- the frame of a happening, if it was put; the number is that of its event
 abbrev pub put_frame_in : (number : ℕ) → Happening → List PutFrame
-put_frame_in number (Accepted host frame) = []
 put_frame_in number (Put host frame) = put_frame host number frame ∷ []
-put_frame_in number (Reached host frame fate) = []
-put_frame_in number (Moved host) = []
-put_frame_in number (Given host socket frame) = []
+put_frame_in number one = []
 
 abbrev pub put_frames_in : (number : ℕ) → List Happening → List PutFrame
 put_frames_in number happened = flat_map (put_frame_in number) happened

@@ -26,8 +26,7 @@ pub record HearsTicks (old new : Record) (ticks : List TickTold) : Type 0 where
 abbrev pub answered : Event → FrameAnswer → List Happening
 answered (event.Send host frame ticks) answer = accepted_of host frame.items answer
 answered (event.Recv host socket ticks) answer = given_of host socket answer
-answered (event.Interrupt host ticks) answer = []
-answered (event.Tick tick) answer = []
+answered one answer = []
 
 -- This is recorded, unless memory was refused.
 pub record NotesAnswer (happened : List Happening) (old new : Record) : Type 0 where

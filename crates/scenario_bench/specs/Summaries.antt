@@ -1,7 +1,7 @@
 -- The summary of each host after a run (our choice).
 use Rattle.std.specs.Prelude.{◌≡◌, ◌↔◌, ℕ, IsTrue, List, Some, length, min, slice_get, string_bytes, sum_by}
 use Rattle.std.specs.Prelude.{◌==◌, if◌then◌else◌}
-use Rattle.delivery.specs.Happenings.{Happening, Accepted, Put, Reached, Moved, Given, accepted, put, reached, stored}
+use Rattle.delivery.specs.Happenings.{Happening, Given, accepted, put, reached, stored}
 use Rattle.packet_socket.specs.HostState.{HostState}
 use Rattle.adapter.specs.World.{World}
 use Rattle.stations.specs.Stations.{world_at}
@@ -17,11 +17,8 @@ as_told number = min number greatest_number
 
 -- the number of frames that the sockets of a host returned
 abbrev pub count_given : ℕ → Happening → ℕ
-count_given k (Accepted host frame) = 0
-count_given k (Put host frame) = 0
-count_given k (Reached host frame fate) = 0
-count_given k (Moved host) = 0
 count_given k (Given host socket frame) = if k == host then 1 else 0
+count_given k one = 0
 
 abbrev pub all_given : ℕ → List Happening → ℕ
 all_given k happened = sum_by (count_given k) happened

@@ -4,7 +4,7 @@ use Rattle.std.specs.List.{fold}
 use Rattle.rx_engine.specs.declared.arrival.Fate.{Fate}
 use Rattle.rx_engine.specs.declared.arrival.Fate.TheVariants as fate
 use Rattle.pcap_trace.specs.Format.{Timed}
-use Rattle.delivery.specs.Happenings.{Happening, Accepted, Put, Reached, Moved, Given, given}
+use Rattle.delivery.specs.Happenings.{Happening, Accepted, Put, Reached, Given, given}
 use Rattle.adapter.specs.Outcomes.{FrameOutcome}
 use Rattle.adapter.specs.declared.outcome.Outcome.TheVariants as outcome
 use Rattle.scenario_bench.specs.Acts.{Act, history}
@@ -38,8 +38,8 @@ abbrev pub tallied_by : ℕ → Tally → Happening → Tally
 tallied_by k tally (Accepted host frame) = counted_at k host passage.Accepted tally
 tallied_by k tally (Put host frame) = counted_at k host passage.Put tally
 tallied_by k tally (Reached host frame one) = counted_at k host (passage_by one) tally
-tallied_by k tally (Moved host) = tally
 tallied_by k tally (Given host socket frame) = counted_at k host passage.Given tally
+tallied_by k tally one = tally
 
 abbrev pub no_tally : Tally
 no_tally = record { accepted = 0; put = 0; reached = 0; stored = 0; given = 0 }

@@ -163,7 +163,7 @@ impl EventMemory {
         match event {
             Event::Send { frame, .. } => self.frame = frame,
             Event::Interrupt { ticks, .. } => self.ticks = ticks,
-            Event::Recv { .. } | Event::Tick(_) => {}
+            Event::Recv { .. } | Event::Join { .. } | Event::Leave { .. } | Event::Tick(_) => {}
         }
     }
 

@@ -167,8 +167,11 @@ fn puts_among(ticks: &[Tick]) -> usize
 /// How many frames an event may put onto wires.
 fn most_puts(event: &Event) -> usize {
     match event {
-        Event::Send { ticks, .. } | Event::Recv { ticks, .. } | Event::Interrupt { ticks, .. } =>
-            puts_among(ticks.as_slice()),
+        Event::Send { ticks, .. }
+        | Event::Recv { ticks, .. }
+        | Event::Interrupt { ticks, .. }
+        | Event::Join { ticks, .. }
+        | Event::Leave { ticks, .. } => puts_among(ticks.as_slice()),
         Event::Tick(tick) => puts_among(std::slice::from_ref(tick)),
     }
 }
@@ -282,7 +285,7 @@ impl Record {
         }
     }
 
-    /// Records the answer of an event, with the frame that a socket returned.
+    /// Records the answer of an event, with the frame that a socket returned. Joins and leaves aren't counted.
     fn note_answer(&mut self, event: &Event, answer: Answer<()>, frame: &[u8])
         requires fits { length frame.now ≤ 1518 }
         ensures { NotesAnswer (answered event.now (answer_with frame.now answer)) self.old self.new }
@@ -290,7 +293,8 @@ impl Record {
         match event {
             Event::Send { host, .. } => note_sent(self.hosts.as_mut_slice(), *host, answer),
             Event::Recv { host, socket, .. } => self.note_received(*host, *socket, answer, frame),
-            Event::Interrupt { .. } | Event::Tick(_) => {}
+            Event::Interrupt { .. } | Event::Join { .. } | Event::Leave { .. } | Event::Tick(_) =>
+                {}
         }
     }
 
