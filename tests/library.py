@@ -27,7 +27,7 @@ import adapter  # noqa: E402
 import nic82540em  # noqa: E402
 import sweep  # noqa: E402
 from bench import Bench  # noqa: E402
-from driver import CTRL, RCTL  # noqa: E402
+from driver import CTRL, EERD, RCTL  # noqa: E402
 from expected import EN, RST  # noqa: E402
 from random_requests import BAM, RandomRequests, Words  # noqa: E402
 
@@ -242,6 +242,60 @@ def state_without_accesses(library):
     library.check("a store by the pointer", inside.nic.load(7, 1), b"\x5a")
 
 
+def steps_that_are_possible(library):
+    """A step is possible if and only if, on a copy of the adapter, it does something."""
+    found, differ = {True: 0, False: 0}, None
+    for seed in 3, 6:
+        inside = InProcess(library.shared, MEMORY)
+        for place, request in enumerate(requests_of(seed)):
+            inside.reply(request, seed)
+            possible = inside.nic.possible()
+            for kind in nic82540em.KINDS if place % 5 == 0 else ():
+                with inside.nic.copy() as copy:
+                    moved = copy.step(kind) != "nothing"
+                found[moved] += 1
+                if moved != (kind in possible):
+                    differ = differ or (seed, place, kind, possible)
+    library.check("steps that are possible", (differ, min(found.values()) > 100), (None, True))
+
+
+def copies(library):
+    """A copy answers as the adapter does, and has its digest. Its memory is its own."""
+    inside, copied = InProcess(library.shared, MEMORY), InProcess(library.shared, MEMORY)
+    asked = requests_of(5)
+    for request in asked[:REQUESTS // 2]:
+        inside.reply(request, 5)
+    copied.nic = inside.nic.copy()
+    library.check("the digest of a copy", copied.nic.digest(), inside.nic.digest())
+    answers = [[one.reply(request, 5) for request in asked[REQUESTS // 2:]] for one in (copied, inside)]
+    library.check("the answers of a copy", answers[0], answers[1])
+    counts = [one.nic.accesses() for one in (copied, inside)]
+    library.check("the accesses of a copy", counts[0], counts[1])
+    digest = inside.nic.digest()
+    inside.nic.recount(3)
+    library.check("the number of accesses that was set", (inside.nic.accesses(), inside.nic.digest()), (3, digest))
+    copied.nic.memory()[9] ^= 1
+    library.check("the memory of a copy", (inside.nic.digest(), copied.nic.digest() != digest), (digest, True))
+
+
+def steps_by_ticks(library):
+    """With ticks, an access has the effect of two steps and the access."""
+    ticked, stepped = InProcess(library.shared, MEMORY), InProcess(library.shared, MEMORY)
+    ticked.nic.ticks(True)
+    differ = None
+    for request in requests_of(8):
+        accesses = ticked.nic.accesses()
+        got = ticked.reply(request, 8)
+        if ticked.nic.accesses() != accesses:
+            stepped.nic.step("eeprom"), stepped.nic.step("phy")
+        if got != stepped.reply(request, 8):
+            differ = differ or request
+    library.check("ticks", (differ, ticked.nic.digest()), (None, stepped.nic.digest()))
+    ticked.nic.ticks(False)
+    ticked.nic.write(EERD, 1)
+    library.check("no ticks", ticked.nic.read(EERD), 0)
+
+
 def frames_that_wait(library):
     """The packet buffer's number of frames, up to the most: 614 of 60 bytes in 48 KB."""
     with nic82540em.Nic(library.shared) as nic:
@@ -416,7 +470,7 @@ def refused_memory(library):
         flags = ["-std=c99", "-g", *WARNINGS, SANITIZERS]
         if library.compiles("refused memory", "cc", *flags, "-o", target, source, *library.flags):
             library.prints("refused memory: runs", [target], "new: refused at each of 10 allocations\n"
-                           "peek: refused at each of 6 allocations\nno block is left\n")
+                           "copy: refused at each of 10 allocations\nno block is left\n")
 
 
 def examples_in_other_languages(library):
@@ -447,8 +501,8 @@ def is_built(library, words):
     return ran.returncode == 0
 
 
-PARTS = (same_answers, steps_by_schedule, state_without_accesses, frames_that_wait, drivers, refused_memory, examples_in_c, fuzzers,
-         examples_in_other_languages, by_pkg_config, by_cmake, by_pip)
+PARTS = (same_answers, steps_by_schedule, state_without_accesses, steps_that_are_possible, copies, steps_by_ticks, frames_that_wait,
+         drivers, refused_memory, examples_in_c, fuzzers, examples_in_other_languages, by_pkg_config, by_cmake, by_pip)
 
 
 def main():

@@ -17,19 +17,23 @@ NAME = sources.LIBRARY
 # The bitcode of a crate alone or of the runtime is smaller, that of the library is larger.
 LEAST_LIBRARY_BYTES = 300_000
 EXPORT = re.compile(r'^pub extern "C" fn (\w+)\(\s*(.*?),?\s*\)', re.M | re.S)
+HANDLE = "&mut Nic"
 # A value for each type that a parameter has
-VALUES = {"Global": "rt.alloc()", "&mut Nic": "&mut nic", "&AdapterOptions": "&options", "u32": "0", "u64": "0",
+VALUES = {"Global": "rt.alloc()", HANDLE: "&mut nic", "&AdapterOptions": "&options", "u32": "0", "u64": "0",
           "bool": "false", "&[u8]": "&bytes", "&mut [u8]": "&mut bytes", "&mut u32": "&mut word",
           "&mut *const u8": "&mut place"}
 MAIN = """
 fn main(rt: HostRuntime) {
     let mut nic = Nic { held: false, owner: owner::probed(rt.alloc()) };
+    let mut other = Nic { held: false, owner: owner::probed(rt.alloc()) };
     let options = AdapterOptions { memory: 0, link: 0, receive_kilobytes: 0, address: [0; 6] };
     let mut bytes = [0_u8; 1];
     let mut word = 0_u32;
     let mut place: *const u8 = std::ptr::null();
     CALLS
     let Nic { held: _, owner } = nic;
+    owner::end(owner);
+    let Nic { held: _, owner } = other;
     owner::end(owner);
 }
 """
@@ -64,6 +68,11 @@ def exports(text):
     return found
 
 
+def values_of(types):
+    """A value for each of these types of parameters. A second handle is another one."""
+    return ["&mut other" if kind == HANDLE and HANDLE in types[:place] else VALUES[kind] for place, kind in enumerate(types)]
+
+
 def copy(crates, top):
     """Copies the crates, that of the exports as a program. Returns its folder, and the names of the exports."""
     for crate in crates:
@@ -77,7 +86,7 @@ def copy(crates, top):
     library, owner = (os.path.join(folder, "src", name) for name in ("lib.rt", "owner.rt"))
     text = read(library)
     found = exports(text)
-    calls = [f"{name}({', '.join(VALUES[kind] for kind in types)});" for name, types in found.items()]
+    calls = [f"{name}({', '.join(values_of(types))});" for name, types in found.items()]
     write(os.path.join(folder, "src", "main.rt"), text + MAIN.replace("CALLS", "\n    ".join(calls)))
     os.remove(library)
     write(owner, read(owner) + OWNER)

@@ -107,8 +107,10 @@ bool nic82540em_load(struct nic82540em *nic, uint64_t address, void *into, size_
  * nothing changed, and no access is counted. */
 bool nic82540em_store(struct nic82540em *nic, uint64_t address, const void *bytes, size_t count);
 
-/* The number of accesses so far. So it is the number of the next access; the first has number 0. */
+/* The number of accesses so far. So it is the number of the next access; the first has number 0. nic82540em_recount sets
+ * it. */
 uint64_t nic82540em_accesses(struct nic82540em *nic);
+void nic82540em_recount(struct nic82540em *nic, uint64_t accesses);
 
 /* The numbers of frames in the packet buffer: frames that arrived (one of which pieces are moved counts until its last
  * piece is), and frames that were fetched and aren't on the wire yet. */
@@ -120,14 +122,18 @@ uint32_t nic82540em_waiting_transmit(struct nic82540em *nic);
  * nic82540em_free. Such an access is none of the accesses above: it isn't counted, and no step is played before it. */
 uint64_t nic82540em_memory(struct nic82540em *nic, void **into);
 
-/* Stores the value that a read of the register at an offset would return now in `into`. Nothing else changes: it is no
- * access, and clears no register. It copies the host's memory meanwhile; returns false if the copy is refused. */
+/* Stores the value that a read of the register at an offset would return now in `into`, and returns true. Nothing else
+ * changes: it is no access, and clears no register. */
 bool nic82540em_peek(struct nic82540em *nic, uint32_t offset, uint32_t *into);
 
 /* What the adapter and the wire do. */
 
 /* Makes the adapter take a step of this kind. Returns the outcome, or NIC_REFUSED if there is no such kind. */
 uint32_t nic82540em_step(struct nic82540em *nic, uint32_t kind);
+
+/* The kinds of steps that have something to do: bit `kind` is set if and only if a step of this kind would not have the
+ * outcome NIC_NOTHING now. Nothing changes. */
+uint32_t nic82540em_possible(struct nic82540em *nic);
 
 /* Delivers a frame of `count` bytes to the adapter, without its checksum. Returns the frame's fate. */
 uint32_t nic82540em_arrive(struct nic82540em *nic, const void *frame, size_t count);
@@ -153,6 +159,23 @@ bool nic82540em_interleave(struct nic82540em *nic, uint32_t count, uint64_t seed
  * `access` is at most the number of the access are played, before random steps. So add steps in the order of their
  * accesses. Returns false, and changes nothing, if there is no such kind, or 4,096 steps wait. */
 bool nic82540em_schedule(struct nic82540em *nic, uint64_t access, uint32_t kind);
+
+/* From now on, a step NIC_EEPROM and then a step NIC_PHY are played before each access, before the steps of the schedule,
+ * if `on` is true. So an EEPROM read or an MDIC command ends before the next access, and the link comes up after some
+ * accesses. A new adapter has no such steps. */
+void nic82540em_ticks(struct nic82540em *nic, bool on);
+
+/* States of an adapter. */
+
+/* Makes a copy of the adapter in the handle `into`, which has no adapter: with its memory, its wire, its schedule, its
+ * random steps and the number of accesses. The same calls on both have the same results. Returns false, and changes
+ * nothing, if there is no adapter to copy, if `into` has an adapter, or if memory is refused. */
+bool nic82540em_copy(struct nic82540em *nic, struct nic82540em *into);
+
+/* A digest of the adapter and its host's memory, as `digest` of `nicbench serve`. It doesn't cover the wire, the steps before
+ * accesses, and the number of accesses. Equal states have equal digests, and other states nearly always have others. It
+ * takes time in proportion to the size of memory. */
+uint64_t nic82540em_digest(struct nic82540em *nic);
 
 #ifdef __cplusplus
 }

@@ -78,14 +78,35 @@ static void more(struct nic82540em *nic)
     printf(", and then %08" PRIx32 "\n", nic82540em_read(nic, NIC_ICR));
 }
 
+/* Uses a copy of the adapter, the steps that are possible, and ticks. */
+static void copy(struct nic82540em *nic)
+{
+    struct nic82540em other = NIC82540EM_NONE;
+
+    printf("copied: %d", nic82540em_copy(nic, &other));
+    printf(", again: %d\n", nic82540em_copy(nic, &other));
+    printf("the same digest: %d", nic82540em_digest(nic) == nic82540em_digest(&other));
+    nic82540em_write(&other, NIC_EERD, NIC_EERD_START | NIC_EERD_ADDR(2));
+    printf(", and after an access %d\n", nic82540em_digest(nic) == nic82540em_digest(&other));
+    printf("possible: %02" PRIx32 ", of the copy %02" PRIx32, nic82540em_possible(nic), nic82540em_possible(&other));
+    nic82540em_ticks(&other, true);
+    printf(", EERD by ticks %08" PRIx32 "\n", nic82540em_read(&other, NIC_EERD));
+    nic82540em_recount(&other, 7);
+    printf("accesses: %" PRIu64 ", of the copy %" PRIu64 "\n", nic82540em_accesses(nic), nic82540em_accesses(&other));
+    nic82540em_free(&other);
+}
+
 /* What each call returns if the handle has no adapter. */
 static void without(struct nic82540em *nic)
 {
+    struct nic82540em other = NIC82540EM_NONE;
     uint8_t bytes[4] = { 1, 2, 3, 4 };
     uint32_t value = 5;
     void *memory = bytes;
 
     nic82540em_write(nic, NIC_IMS, 1);
+    nic82540em_ticks(nic, true);
+    nic82540em_recount(nic, 5);
     nic82540em_free(nic);
     printf("no adapter: %" PRIx32 " %d %d %" PRIx32 " %" PRIx32 " %zu %d %" PRIu64 " %d %" PRIu64,
            nic82540em_read(nic, NIC_VET), nic82540em_load(nic, 0, bytes, 4), nic82540em_store(nic, 0, bytes, 4),
@@ -93,6 +114,7 @@ static void without(struct nic82540em *nic)
            nic82540em_line(nic), nic82540em_settle(nic), nic82540em_interleave(nic, 1, 1), nic82540em_accesses(nic));
     printf(" %d %d %" PRIu64, nic82540em_schedule(nic, 0, NIC_PHY), nic82540em_peek(nic, NIC_VET, &value),
            nic82540em_memory(nic, &memory));
+    printf(" %" PRIx32 " %" PRIu64 " %d", nic82540em_possible(nic), nic82540em_digest(nic), nic82540em_copy(nic, &other));
     printf(", %s\n", bytes[0] == 1 && value == 5 && memory == bytes ? "and nothing changed" : "and something changed");
 }
 
@@ -133,6 +155,7 @@ int main(void)
     receive(&nic);
     send(&nic);
     more(&nic);
+    copy(&nic);
     nic82540em_interleave(&nic, 3, 7);
     printf("read with steps before it: %08" PRIx32 "\n", nic82540em_read(&nic, NIC_PBA));
     refusals(&nic);

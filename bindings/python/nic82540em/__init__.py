@@ -56,6 +56,11 @@ CALLS = {
     "settle": (ctypes.c_uint64, []),
     "interleave": (ctypes.c_bool, [ctypes.c_uint32, ctypes.c_uint64]),
     "schedule": (ctypes.c_bool, [ctypes.c_uint64, ctypes.c_uint32]),
+    "ticks": (None, [ctypes.c_bool]),
+    "recount": (None, [ctypes.c_uint64]),
+    "possible": (ctypes.c_uint32, []),
+    "digest": (ctypes.c_uint64, []),
+    "copy": (ctypes.c_bool, [ctypes.POINTER(Handle)]),
 }
 
 
@@ -144,9 +149,26 @@ class Nic:
     def peek(self, register):
         """Returns the value that a read of a register would return now. Nothing changes."""
         value = ctypes.c_uint32()
-        if not self.call("peek", register, ctypes.byref(value)):
-            raise Refused(f"peek {register:#x}")
+        self.call("peek", register, ctypes.byref(value))
         return value.value
+
+    def recount(self, accesses):
+        """Sets the number of accesses so far."""
+        if not 0 <= accesses < 1 << 64:
+            raise Refused(f"recount {accesses}")
+        self.call("recount", accesses)
+
+    def digest(self):
+        """Returns a digest of the adapter and its memory, without the wire and the number of accesses."""
+        return self.call("digest")
+
+    def copy(self):
+        """Returns a copy of the adapter, with its memory, its wire and its schedule. Raises Refused if memory is refused."""
+        copy = Nic.__new__(Nic)
+        copy.handle, copy.library = Handle(), self.library
+        if not self.call("copy", ctypes.byref(copy.handle)):
+            raise Refused("memory is refused")
+        return copy
 
     # What the adapter and the wire do
 
@@ -155,6 +177,11 @@ class Nic:
         if kind not in KINDS:
             raise Refused(f"step {kind}")
         return OUTCOMES[self.call("step", KINDS.index(kind))]
+
+    def possible(self):
+        """Returns the kinds of steps that would have another outcome than "nothing" now."""
+        mask = self.call("possible")
+        return [kind for number, kind in enumerate(KINDS) if mask >> number & 1]
 
     def arrive(self, frame):
         """Delivers a frame to the adapter. Returns its fate, one of FATES."""
@@ -183,6 +210,10 @@ class Nic:
         """Adds a step to the end of the schedule. It is played before the access with this number; the first has number 0."""
         if kind not in KINDS or not 0 <= access < 1 << 64 or not self.call("schedule", access, KINDS.index(kind)):
             raise Refused(f"schedule {access} {kind}")
+
+    def ticks(self, on):
+        """From now on, plays a step of the EEPROM and one of the PHY before each access, or not."""
+        self.call("ticks", on)
 
 
 def options_of(words):

@@ -197,6 +197,11 @@ extern "C" {
     fn nic82540em_settle(nic: &mut Handle) -> u64;
     fn nic82540em_interleave(nic: &mut Handle, count: u32, seed: u64) -> bool;
     fn nic82540em_schedule(nic: &mut Handle, access: u64, kind: u32) -> bool;
+    fn nic82540em_ticks(nic: &mut Handle, on: bool);
+    fn nic82540em_recount(nic: &mut Handle, accesses: u64);
+    fn nic82540em_possible(nic: &mut Handle) -> u32;
+    fn nic82540em_digest(nic: &mut Handle) -> u64;
+    fn nic82540em_copy(nic: &mut Handle, into: &mut Handle) -> bool;
 }
 
 /// An adapter with its host's memory and its wire. It is freed when it is dropped.
@@ -259,11 +264,16 @@ impl Nic {
         unsafe { std::slice::from_raw_parts_mut(address, size as usize) }
     }
 
-    /// The value that a read of the register at an offset would return now. Nothing changes. `None` if memory for a copy
-    /// of the host's memory is refused.
-    pub fn peek(&mut self, offset: u32) -> Option<u32> {
+    /// The value that a read of the register at an offset would return now. Nothing changes.
+    pub fn peek(&mut self, offset: u32) -> u32 {
         let mut value = 0;
-        unsafe { nic82540em_peek(&mut self.handle, offset, &mut value) }.then_some(value)
+        unsafe { nic82540em_peek(&mut self.handle, offset, &mut value) };
+        value
+    }
+
+    /// Whether a step of this kind would have another outcome than [`Outcome::Nothing`] now.
+    pub fn is_possible(&mut self, kind: Step) -> bool {
+        unsafe { nic82540em_possible(&mut self.handle) >> kind as u32 & 1 == 1 }
     }
 
     /// Makes the adapter take a step of this kind.
@@ -305,6 +315,32 @@ impl Nic {
     pub fn schedule(&mut self, access: u64, kind: Step) -> Result<(), Error> {
         let is_done = unsafe { nic82540em_schedule(&mut self.handle, access, kind as u32) };
         is_done.then_some(()).ok_or(Error::TooManySteps)
+    }
+
+    /// From now on, plays a step of the EEPROM and one of the PHY before each access, or not.
+    pub fn ticks(&mut self, on: bool) {
+        unsafe { nic82540em_ticks(&mut self.handle, on) }
+    }
+
+    /// Sets the number of accesses so far.
+    pub fn recount(&mut self, accesses: u64) {
+        unsafe { nic82540em_recount(&mut self.handle, accesses) }
+    }
+
+    /// A digest of the adapter and its host's memory. It doesn't cover the wire, the steps before accesses, and the number
+    /// of accesses.
+    pub fn digest(&mut self) -> u64 {
+        unsafe { nic82540em_digest(&mut self.handle) }
+    }
+
+    /// A copy of the adapter, with its memory, its wire and its schedule.
+    pub fn copy(&mut self) -> Result<Nic, Error> {
+        let mut handle = Handle { held: false, state: null_mut() };
+        if unsafe { nic82540em_copy(&mut self.handle, &mut handle) } {
+            Ok(Nic { handle })
+        } else {
+            Err(Error::New)
+        }
     }
 }
 

@@ -1,3 +1,4 @@
 pub mod Playing
 pub mod Rounds
 pub mod Schedules
+pub mod Works

@@ -1,5 +1,5 @@
 -- Steps that are played in order, and accesses after them.
-use Rattle.std.proofs.Common.{◌≡◌, ◌∙◌, ◌+◌, ◌≤◌, ◌++◌, [], ◌∷◌, ℕ, List, true, ap, arith, length, refl, subst}
+use Rattle.std.proofs.Common.{◌≡◌, ◌∙◌, ◌+◌, ◌≤◌, ◌++◌, [], ◌∷◌, ℕ, Bool, List, true, false, ap, arith, cond, length, refl, subst}
 use Rattle.std.proofs.lemmas.Bool.Decides.{nat_tests}
 use Rattle.rand_pcg.specs.Lcg.{Lcg}
 use Rattle.adapter.specs.declared.outcome.Outcome.{Outcome}
@@ -8,9 +8,9 @@ use Rattle.served_device.specs.Draws.{drawn_count}
 use Rattle.bus.proofs.Trails.{event_happens}
 use Rattle.bus.specs.Trails.{Occurs}
 use Rattle.bus.specs.declared.event.Event.TheVariants.{Accesses}
-use Rattle.linked_adapter.specs.LinkedAdapters.{DrawsStep, Interleaves, PlaysScheduled, PlaysStep, Prepares}
+use Rattle.linked_adapter.specs.LinkedAdapters.{DrawsStep, Interleaves, PlaysScheduled, PlaysStep, PlaysTick, Prepares}
 use Rattle.linked_adapter.specs.LinkedAdapters.{QuietAccessesAreExact, after_access, counted, drawn_kind, due_in, has_bytes}
-use Rattle.linked_adapter.specs.LinkedAdapters.{step_of, without_next}
+use Rattle.linked_adapter.specs.LinkedAdapters.{both_ticks, step_of, ticks_in, without_next}
 use Rattle.linked_adapter.specs.Order.{InOrder, Times}
 use Rattle.linked_adapter.specs.declared.linked_adapter.LinkedAdapter.{LinkedAdapter}
 use Rattle.linked_adapter.specs.declared.scheduling.ScheduledStep.{ScheduledStep}
@@ -57,14 +57,18 @@ drawn_keeps a b drawn = step_keeps (drawn_kind a.generator).0 drawn.outcome _ b 
 scheduled_keeps : (step : ScheduledStep) (a b : LinkedAdapter) → PlaysScheduled step a b → size_of b ≡ size_of a
 scheduled_keeps step a b played = step_keeps step.kind played.outcome (without_next a) b played.plays
 
+tick_keeps : (kind : StepKind) (a b : LinkedAdapter) → PlaysTick kind a b → size_of b ≡ size_of a
+tick_keeps kind a b played = step_keeps kind played.outcome a b played.plays
+
 -- The steps before an access leave its bytes in memory.
 pub still_fits : (a b : LinkedAdapter) (address count : ℕ) → has_bytes a address count ≡ true → Prepares a b → address + count ≤ size_of b
 still_fits a b address count fits steps =
-    let first : size_of steps.waited ≡ size_of a = in_order_keeps PlaysScheduled size_of scheduled_keeps (due_in a) a steps.waited
-    steps.scheduled in
+    let ticks : size_of steps.ticked ≡ size_of a = in_order_keeps PlaysTick size_of tick_keeps (ticks_in a) a steps.ticked steps.ticks in
+    let first : size_of steps.waited ≡ size_of steps.ticked = in_order_keeps PlaysScheduled size_of scheduled_keeps (due_in steps.ticked)
+    steps.ticked steps.waited steps.scheduled in
     let later : size_of steps.drawn ≡ size_of steps.waited = in_order_keeps (λ (turn : ℕ). DrawsStep) size_of (λ turn. drawn_keeps) _ _
     steps.drawn steps.interleaves in
-    let kept : size_of b ≡ size_of a = ap size_of steps.after ∙ later ∙ first in
+    let kept : size_of b ≡ size_of a = ap size_of steps.after ∙ later ∙ first ∙ ticks in
     let before : address + count ≤ size_of a = grind (arith, nat_tests) in
     omega arith
 
@@ -76,10 +80,13 @@ none_drawn a b none steps =
     (ap (λ (most : ℕ). drawn_count most a.generator) none) steps
 
 pub quiet_accesses : QuietAccessesAreExact
-quiet_accesses access a b none_is_drawn none_is_due accessed =
+quiet_accesses access a b no_ticks none_is_drawn none_is_due accessed =
     let steps = accessed.steps in
-    let waited : steps.waited ≡ a = subst (λ (due : List ScheduledStep). InOrder PlaysScheduled due a steps.waited) none_is_due
-    steps.scheduled in
+    let ticked : steps.ticked ≡ a = subst (λ (on : Bool). InOrder PlaysTick (cond on both_ticks []) a steps.ticked) no_ticks
+    steps.ticks in
+    let none_due : due_in steps.ticked ≡ [] = ap due_in ticked ∙ none_is_due in
+    let waited : steps.waited ≡ a = subst (λ (due : List ScheduledStep). InOrder PlaysScheduled due steps.ticked steps.waited) none_due
+    steps.scheduled ∙ ticked in
     let drawn : steps.drawn ≡ steps.waited = none_drawn steps.waited steps.drawn
     (ap (λ (linked : LinkedAdapter). linked.most_steps) waited ∙ none_is_drawn) steps.interleaves in
     let same : accessed.middle ≡ counted a = steps.after ∙ ap counted (drawn ∙ waited) in (

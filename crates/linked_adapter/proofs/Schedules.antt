@@ -5,7 +5,8 @@ use Rattle.std.proofs.Common.{refl, slice_get, subst, sym}
 use Rattle.std.proofs.lemmas.Bool.Decides.{nat_tests}
 use Rattle.std.proofs.lemmas.List.{append-nil}
 use Rattle.adapter.specs.declared.outcome.Outcome.{Outcome}
-use Rattle.linked_adapter.specs.LinkedAdapters.{Interleaves, PlaysScheduled, PlaysStep, Prepares, counted, due, due_in, without_next}
+use Rattle.linked_adapter.specs.LinkedAdapters.{Interleaves, PlaysScheduled, PlaysStep, PlaysTick, Prepares, counted, due, due_in}
+use Rattle.linked_adapter.specs.LinkedAdapters.{ticks_in, without_next}
 use Rattle.linked_adapter.specs.Order.{InOrder}
 use Rattle.linked_adapter.specs.declared.linked_adapter.LinkedAdapter.{LinkedAdapter}
 use Rattle.linked_adapter.specs.declared.scheduling.ScheduledStep.{ScheduledStep}
@@ -78,8 +79,15 @@ all_scheduled a b c so_far none same =
     (sym (so_far.rest ∙ ap (λ (steps : List ScheduledStep). so_far.done ++ steps) (nothing_left (due_in b) none)
     ∙ append-nil so_far.done)) so_far.plays)
 
--- Both kinds of steps were played, and the access is counted.
-pub prepared : (a waited drawn b : LinkedAdapter) → InOrder PlaysScheduled (due_in a) a waited → Interleaves waited drawn
-    → b ≡ counted drawn → Prepares a b
-prepared a waited drawn b scheduled interleaves after =
-    record { waited = waited; drawn = drawn; scheduled = scheduled; interleaves = interleaves; after = after }
+-- All steps before an access were played, and the access is counted.
+pub prepared : (a ticked waited drawn b : LinkedAdapter) → InOrder PlaysTick (ticks_in a) a ticked
+    → InOrder PlaysScheduled (due_in ticked) ticked waited → Interleaves waited drawn → b ≡ counted drawn → Prepares a b
+prepared a ticked waited drawn b ticks scheduled interleaves after = record {
+  ticked = ticked;
+  waited = waited;
+  drawn = drawn;
+  ticks = ticks;
+  scheduled = scheduled;
+  interleaves = interleaves;
+  after = after;
+}

@@ -1,6 +1,6 @@
 -- An adapter in the process of its driver: what each call does (our choice; steps are drawn as `nicbench serve` draws them).
 use denote.RawPtr.{Ptr}
-use Rattle.std.specs.Prelude.{◌≡◌, ◌+◌, ◌++◌, ◌<◌, ◌≤◌, ◌&&◌, [], ◌∷◌, ℕ, Bool, false, true, List, Option, Some, None, All}
+use Rattle.std.specs.Prelude.{◌≡◌, ◌≢◌, ◌↔◌, ◌+◌, ◌++◌, ◌<◌, ◌≤◌, ◌&&◌, [], ◌∷◌, ℕ, Bool, false, true, IsTrue, List, Option, Some, None, All}
 use Rattle.std.specs.Prelude.{drop, if◌then◌else◌, length, min, nat_le, nat_lt, replicate, sum, IfSome}
 use Rattle.rand_core.specs.Pcg32Seed.{pcg32_seed}
 use Rattle.rand_pcg.specs.Pcg.{pcg32_of_seed}
@@ -9,6 +9,7 @@ use Rattle.adapter.specs.Registers.{after_write, new_adapter}
 use Rattle.adapter.specs.State.{AdapterState}
 use Rattle.adapter.specs.declared.outcome.Outcome.{Outcome}
 use Rattle.adapter.specs.declared.step.StepKind.{StepKind}
+use Rattle.adapter.specs.declared.step.StepKind.TheVariants.{EepromTick, PhyTick, RxData, RxDone, TxPut, TxTake}
 use Rattle.served_device.specs.Devices.{most_rounds, round, with_last}
 use Rattle.served_device.specs.Outcomes.{moved_by}
 use Rattle.served_device.specs.Draws.{drawn, drawn_count}
@@ -55,6 +56,7 @@ new_linked options link address = record {
   most_steps = 0;
   scheduled = record { items = []; capacity = 4096 };
   accesses = 0;
+  ticks = false;
 }
 
 -- The options are in range, and the adapter is new.
@@ -63,6 +65,11 @@ pub record IsNew (options : AdapterOptions) (linked : LinkedAdapter) : Type 0 wh
   pub link_is : link_with options.link ≡ Some link
   pub share : is_receive_share options.receive_kilobytes ≡ true
   pub new : linked ≡ new_linked options link linked.address
+
+-- A copy of an adapter: only the address of its memory differs, and the last report of its interrupt line, which no call makes.
+pub record IsCopy (linked copy : LinkedAdapter) : Type 0 where
+  pub world : copy.machine.world ≡ linked.machine.world
+  pub same : copy ≡ record linked { machine = copy.machine; address = copy.address }
 
 -- Steps.
 
@@ -134,7 +141,43 @@ pub record AnswersTaking (old new : List ℕ) (answer : ℕ) (a b : LinkedAdapte
   pub same_bytes : length old < answer → new ≡ old
   pub same : length old < answer → b ≡ a
 
+-- What is possible.
+
+-- Whether a step of this kind has something to do: if and only if not, 0 stands for its outcome, the number of `Nothing`.
+abbrev pub HasWork : StepKind → (works : Bool) → LinkedAdapter → Type 0
+HasWork kind works a = (answer : ℕ) (b : LinkedAdapter) → StepAnswered kind answer a b → IsTrue works ↔ (answer ≢ 0)
+
+-- the value of a bit of a mask, if it is set
+abbrev pub bit_if : Bool → (value : ℕ) → ℕ
+bit_if is_set value = if is_set then value else 0
+
+-- A bit with this value is set if and only if a step of this kind has something to do.
+pub record TellsWork (kind : StepKind) (value : ℕ) (answer : ℕ) (linked : LinkedAdapter) : Type 0 where
+  pub works : Bool
+  pub has_work : HasWork kind works linked
+  pub answer_is : answer ≡ bit_if works value
+
+-- The kinds of steps that have something to do: the bit of a mask with the number of a kind is set if and only if a step of this kind has.
+pub record TellsPossible (mask : ℕ) (linked : LinkedAdapter) : Type 0 where
+  pub works : StepKind → Bool
+  pub each : (kind : StepKind) → HasWork kind (works kind) linked
+  pub mask_is : mask ≡ bit_if (works TxTake) 1 + bit_if (works TxPut) 2 + bit_if (works RxData) 4 + bit_if (works RxDone) 8
+      + bit_if (works EepromTick) 16 + bit_if (works PhyTick) 32
+
 -- Steps before an access.
+
+-- the ticks before an access: a step of the EEPROM, and one of the PHY
+abbrev pub both_ticks : List StepKind
+both_ticks = EepromTick ∷ PhyTick ∷ []
+
+-- the ticks before each access, if they are on
+abbrev pub ticks_in : LinkedAdapter → List StepKind
+ticks_in linked = if linked.ticks then both_ticks else []
+
+-- A step of this kind is played, with some outcome.
+pub record PlaysTick (kind : StepKind) (a b : LinkedAdapter) : Type 0 where
+  pub outcome : Outcome (Unit {0})
+  pub plays : PlaysStep kind outcome a b
 
 -- the greatest maximum of steps that are drawn before an access
 abbrev pub most_drawn : ℕ
@@ -184,11 +227,14 @@ pub record AnswersSchedule (access number : ℕ) (answer : Bool) (a b : LinkedAd
 abbrev pub counted : LinkedAdapter → LinkedAdapter
 counted linked = record linked { accesses = min (linked.accesses + 1) most_accesses }
 
--- The steps of the schedule that are due are played, and then the steps that the generator chooses. The access is counted.
+-- The ticks are played, if they are on, then the steps of the schedule that are due, and then the steps that the generator chooses. The
+-- access is counted.
 pub record Prepares (a b : LinkedAdapter) : Type 0 where
+  pub ticked : LinkedAdapter
   pub waited : LinkedAdapter
   pub drawn : LinkedAdapter
-  pub scheduled : InOrder PlaysScheduled (due_in a) a waited
+  pub ticks : InOrder PlaysTick (ticks_in a) a ticked
+  pub scheduled : InOrder PlaysScheduled (due_in ticked) ticked waited
   pub interleaves : Interleaves waited drawn
   pub after : b ≡ counted drawn
 
@@ -231,7 +277,7 @@ pub record AnswersInterleave (count seed : ℕ) (answer : Bool) (a b : LinkedAda
 -- An access without steps before it happens alone.
 abbrev pub QuietAccessesAreExact : Type 0
 QuietAccessesAreExact =
-    (access : Access) (a b : LinkedAdapter) → a.most_steps ≡ 0 → due_in a ≡ [] → Accessed access a b
+    (access : Access) (a b : LinkedAdapter) → a.ticks ≡ false → a.most_steps ≡ 0 → due_in a ≡ [] → Accessed access a b
     → Occurs (Accesses access) a.machine.world × (b ≡ after_access access (counted a))
 
 -- Rounds.

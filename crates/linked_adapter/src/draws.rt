@@ -1,8 +1,11 @@
 // The steps before an access, which the generator draws.
 
 ghost use Rattle.std.specs.Prelude.{◌≡◌};
+ghost use Rattle.adapter.specs.declared.step.StepKind.TheVariants.{EepromTick, PhyTick};
 ghost use Rattle.served_device.specs.Draws.{drawn_count};
-ghost use Rattle.linked_adapter.specs.LinkedAdapters.{Interleaves, Prepares, counted, drawn_kind};
+ghost use Rattle.linked_adapter.specs.LinkedAdapters.{Interleaves, PlaysTick, Prepares, both_ticks, counted, drawn_kind};
+ghost use Rattle.linked_adapter.specs.LinkedAdapters.{ticks_in};
+ghost use Rattle.linked_adapter.specs.Order.{InOrder};
 
 use crate::linked_adapter::LinkedAdapter;
 use crate::numbers::kind_numbered;
@@ -53,10 +56,42 @@ impl LinkedAdapter {
         }
     }
 
+    /// Plays a step of the EEPROM.
+    fn tick_eeprom(&mut self)
+        ensures { PlaysTick EepromTick self.old self.new }
+    {
+        self.take_step(StepKind::EepromTick);
+    }
+
+    /// Plays a step of the PHY.
+    fn tick_phy(&mut self)
+        ensures { PlaysTick PhyTick self.old self.new }
+    {
+        self.take_step(StepKind::PhyTick);
+    }
+
+    /// Plays a step of the EEPROM and one of the PHY.
+    fn tick_both(&mut self)
+        ensures { InOrder PlaysTick both_ticks self.old self.new }
+    {
+        self.tick_eeprom();
+        self.tick_phy();
+    }
+
+    /// Plays a step of the EEPROM and one of the PHY, if ticks are on.
+    fn tick(&mut self)
+        ensures { InOrder PlaysTick (ticks_in self.old) self.old self.new }
+    {
+        if self.ticks {
+            self.tick_both();
+        }
+    }
+
     /// Plays the steps before an access, and counts the access.
     pub(crate) fn prepare(&mut self)
         ensures { Prepares self.old self.new }
     {
+        self.tick();
         self.play_scheduled();
         self.interleave_steps();
         self.count();

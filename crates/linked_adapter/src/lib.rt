@@ -5,11 +5,13 @@
 #![tactic(auto)]
 
 mod accesses;
+mod copying;
 mod draws;
 mod law;
 mod linked_adapter;
 mod numbers;
 mod peeking;
+mod possible;
 mod scheduling;
 mod settling;
 

@@ -2,6 +2,7 @@
 
 ghost use Rattle.std.specs.Prelude.{◌≡◌, ◌<◌, ◌++◌, length, IfOk, IfSome};
 ghost use Rattle.adapter.specs.Registers.{after_write, new_adapter};
+ghost use Rattle.bus.specs.Digests.{digest_of};
 ghost use Rattle.bus.specs.Machines.{is_asserted};
 ghost use Rattle.bus.specs.Trails.{Occurs};
 ghost use Rattle.eeprom.specs.Image.{image_with};
@@ -49,6 +50,8 @@ pub struct LinkedAdapter {
     pub scheduled: HeapCircularBuffer<ScheduledStep>,
     /// The number of accesses so far, up to the greatest `u64`.
     pub accesses: u64,
+    /// Whether a step of the EEPROM and one of the PHY are played before each access.
+    pub ticks: bool,
 }
 
 /// A new adapter, whose PBA is written once.
@@ -63,7 +66,7 @@ fn adapter_of(alloc: Global, options: &AdapterOptions, link: Link) -> Result<Ada
 }
 
 /// The address of the first byte of memory, if there is one.
-fn address_of(memory: &HostMemory) -> Option<*const u8> {
+pub(crate) fn address_of(memory: &HostMemory) -> Option<*const u8> {
     let Ok(bytes) = memory.view(0, 1) else {
         return None;
     };
@@ -108,6 +111,7 @@ impl LinkedAdapter {
             most_steps: 0,
             scheduled: HeapCircularBuffer::with_capacity(alloc, MOST_SCHEDULED)?,
             accesses: 0,
+            ticks: false,
         })
     }
 
@@ -214,5 +218,26 @@ impl LinkedAdapter {
         ensures { result ≡ self.now.accesses }
     {
         self.accesses
+    }
+
+    /// From now on, this is the number of accesses so far.
+    pub fn recount(&mut self, accesses: u64)
+        ensures { self.new ≡ record self.old { accesses = accesses } }
+    {
+        self.accesses = accesses;
+    }
+
+    /// From now on, a step of the EEPROM and one of the PHY are played before each access, or not.
+    pub fn ticks(&mut self, on: bool)
+        ensures { self.new ≡ record self.old { ticks = on } }
+    {
+        self.ticks = on;
+    }
+
+    /// A digest of the adapter and its memory. It doesn't cover the wire, the steps before accesses, and their number.
+    pub fn digest(&self) -> u64
+        ensures { result ≡ digest_of self.now.machine.world }
+    {
+        self.machine.digest()
     }
 }

@@ -31,4 +31,5 @@ no_adapter = record {
   most_steps = 0;
   scheduled = record { items = []; capacity = 0 };
   accesses = 0;
+  ticks = false;
 }

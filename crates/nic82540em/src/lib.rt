@@ -9,11 +9,12 @@ mod owner;
 
 ghost use Rattle.std.specs.Prelude.{◌≡◌, IfSome, false, length, true};
 ghost use Rattle.adapter.specs.Registers.{answer_at};
+ghost use Rattle.bus.specs.Digests.{digest_of};
 ghost use Rattle.bus.specs.Machines.{is_asserted};
 ghost use Rattle.bus.specs.declared.event.Access.TheVariants.{Reads, Writes};
 ghost use Rattle.linked_adapter.specs.LinkedAdapters.{Accessed, AnswersArrival, AnswersInterleave, AnswersLoad};
 ghost use Rattle.linked_adapter.specs.LinkedAdapters.{AnswersSchedule, AnswersStep, AnswersStore, AnswersTaking};
-ghost use Rattle.linked_adapter.specs.LinkedAdapters.{IsNew, Settles};
+ghost use Rattle.linked_adapter.specs.LinkedAdapters.{IsCopy, IsNew, Settles, TellsPossible};
 
 use crate::owner::Owner;
 use linked_adapter::{AdapterOptions, LinkedAdapter, REFUSED};
@@ -339,15 +340,14 @@ pub extern "C" fn nic82540em_schedule(
 }
 
 /// Stores the value that a read of the register at an offset would return now in `into`. No access happens. Returns
-/// `false`, and changes nothing, if memory is refused.
+/// whether there is an adapter.
 #[unsafe(no_mangle)]
 pub extern "C" fn nic82540em_peek(alloc: Global, nic: &mut Nic, offset: u32, into: &mut u32) -> bool
     requires sound { nic.old.owner.full ≡ nic.old.held }
     ensures sound { nic.new.owner.full ≡ nic.new.held }
     ensures held { nic.new.held ≡ nic.old.held }
     ensures value { nic.old.held ≡ true →
-        result ≡ true → into.new ≡ answer_at offset nic.old.owner.value.machine.world.adapter }
-    ensures refused { nic.old.held ≡ true → result ≡ false → into.new ≡ into.old }
+        (result ≡ true) × (into.new ≡ answer_at offset nic.old.owner.value.machine.world.adapter) }
     ensures same { nic.old.held ≡ true → nic.new.owner.value ≡ nic.old.owner.value }
     ensures none { nic.old.held ≡ false → (result ≡ false) × (into.new ≡ into.old) × (nic.new ≡ nic.old) }
 {
@@ -355,15 +355,113 @@ pub extern "C" fn nic82540em_peek(alloc: Global, nic: &mut Nic, offset: u32, int
         return false;
     }
     let adapter = nic.owner.take(alloc);
-    let answer = adapter.peek(offset);
+    *into = adapter.peek(offset);
     nic.owner.put(adapter);
-    match answer {
-        Some(value) => {
-            *into = value;
-            true
-        }
-        None => false,
+    true
+}
+
+/// The kinds of steps that have something to do: bit `n` is set if and only if a step with number `n` would not have the
+/// outcome with number 0.
+#[unsafe(no_mangle)]
+pub extern "C" fn nic82540em_possible(alloc: Global, nic: &mut Nic) -> u32
+    requires sound { nic.old.owner.full ≡ nic.old.held }
+    ensures sound { nic.new.owner.full ≡ nic.new.held }
+    ensures held { nic.new.held ≡ nic.old.held }
+    ensures mask { nic.old.held ≡ true → TellsPossible result nic.old.owner.value }
+    ensures same { nic.old.held ≡ true → nic.new.owner.value ≡ nic.old.owner.value }
+    ensures none { nic.old.held ≡ false → (result ≡ 0) × (nic.new ≡ nic.old) }
+{
+    if !nic.held {
+        return 0;
     }
+    let adapter = nic.owner.take(alloc);
+    let answer = adapter.possible();
+    nic.owner.put(adapter);
+    answer
+}
+
+/// From now on, a step of the EEPROM and one of the PHY are played before each access, or not.
+#[unsafe(no_mangle)]
+pub extern "C" fn nic82540em_ticks(alloc: Global, nic: &mut Nic, on: bool)
+    requires sound { nic.old.owner.full ≡ nic.old.held }
+    ensures sound { nic.new.owner.full ≡ nic.new.held }
+    ensures held { nic.new.held ≡ nic.old.held }
+    ensures done { nic.old.held ≡ true → nic.new.owner.value ≡ record nic.old.owner.value { ticks = on } }
+    ensures none { nic.old.held ≡ false → nic.new ≡ nic.old }
+{
+    if !nic.held {
+        return;
+    }
+    let mut adapter = nic.owner.take(alloc);
+    adapter.ticks(on);
+    nic.owner.put(adapter);
+}
+
+/// From now on, this is the number of accesses so far.
+#[unsafe(no_mangle)]
+pub extern "C" fn nic82540em_recount(alloc: Global, nic: &mut Nic, accesses: u64)
+    requires sound { nic.old.owner.full ≡ nic.old.held }
+    ensures sound { nic.new.owner.full ≡ nic.new.held }
+    ensures held { nic.new.held ≡ nic.old.held }
+    ensures done { nic.old.held ≡ true → nic.new.owner.value ≡ record nic.old.owner.value { accesses = accesses } }
+    ensures none { nic.old.held ≡ false → nic.new ≡ nic.old }
+{
+    if !nic.held {
+        return;
+    }
+    let mut adapter = nic.owner.take(alloc);
+    adapter.recount(accesses);
+    nic.owner.put(adapter);
+}
+
+/// A digest of the adapter and its host's memory. It doesn't cover the wire, the steps before accesses, and their number.
+#[unsafe(no_mangle)]
+pub extern "C" fn nic82540em_digest(alloc: Global, nic: &mut Nic) -> u64
+    requires sound { nic.old.owner.full ≡ nic.old.held }
+    ensures sound { nic.new.owner.full ≡ nic.new.held }
+    ensures held { nic.new.held ≡ nic.old.held }
+    ensures value { nic.old.held ≡ true → result ≡ digest_of nic.old.owner.value.machine.world }
+    ensures same { nic.old.held ≡ true → nic.new.owner.value ≡ nic.old.owner.value }
+    ensures none { nic.old.held ≡ false → (result ≡ 0) × (nic.new ≡ nic.old) }
+{
+    if !nic.held {
+        return 0;
+    }
+    let adapter = nic.owner.take(alloc);
+    let answer = adapter.digest();
+    nic.owner.put(adapter);
+    answer
+}
+
+/// Makes a copy of the adapter in a handle that holds none. Returns `false`, and changes nothing, if there is no adapter,
+/// if the handle `into` holds one, and if memory is refused.
+#[unsafe(no_mangle)]
+pub extern "C" fn nic82540em_copy(alloc: Global, nic: &mut Nic, into: &mut Nic) -> bool
+    requires sound { nic.old.owner.full ≡ nic.old.held }
+    requires into_sound { into.old.owner.full ≡ into.old.held }
+    ensures sound { nic.new.owner.full ≡ nic.new.held }
+    ensures into_sound { into.new.owner.full ≡ into.new.held }
+    ensures held { nic.new.held ≡ nic.old.held }
+    ensures same { nic.old.held ≡ true → nic.new.owner.value ≡ nic.old.owner.value }
+    ensures copy { result ≡ true → IsCopy nic.old.owner.value into.new.owner.value }
+    ensures made { result ≡ true → (nic.old.held ≡ true) × (into.old.held ≡ false) × (into.new.held ≡ true) }
+    ensures refused { result ≡ false → into.new ≡ into.old }
+{
+    if !nic.held || into.held {
+        return false;
+    }
+    let adapter = nic.owner.take(alloc);
+    let copied = adapter.copy();
+    nic.owner.put(adapter);
+    let Some(copied) = copied else {
+        return false;
+    };
+    let Ok(copied) = Box::new(alloc, copied) else {
+        return false;
+    };
+    into.owner.put(copied);
+    into.held = true;
+    true
 }
 
 /// Stores the address of the first byte of the host's memory in `into`, if memory has a byte. Returns the size of
