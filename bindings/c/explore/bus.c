@@ -1,0 +1,363 @@
+/* A run: the adapter, the calls of the test, and the places at which deviations may be played.
+ *
+ * Before each access and request, the test changes places with the explorer, which plays steps and then goes on.
+ */
+#include "inside.h"
+#include <stdio.h>
+#include <string.h>
+
+#define B xi_book
+#define S xi_state
+
+struct nic82540em_options x_options = NIC82540EM_DEFAULTS;
+static const char *(*the_test)(void *);
+static void *the_argument;
+static const int order[] = { NIC_TXTAKE, NIC_TXPUT, NIC_RXDATA, NIC_RXDONE, NIC_EEPROM, NIC_PHY };
+
+void xi_set_test(const char *(*test)(void *), void *argument)
+{
+    the_test = test, the_argument = argument;
+}
+
+static void at_place(enum event event, uint64_t address)
+{
+    B->event = event, B->address = address;
+    B->history = (B->history + 1 + event + (address << 8)) * 0xD1B54A32D192ED03;
+    xi_to_explorer();
+}
+
+static void run_test(void)
+{
+    S->fault = the_test(the_argument);
+    at_place(ENDED, 0);
+}
+
+static void end(const char *fault)
+{
+    S->fault = fault;
+    for (;;)
+        at_place(ENDED, 0);
+}
+
+/* A run from its start: with a new adapter, or as it was at xi_track. */
+void xi_begin(bool is_new)
+{
+    if (is_new || !xi_saves) {
+        xi_clear();
+        if (!nic82540em_new(&S->nic, &x_options))
+            xi_die("there is no adapter with these options");
+        xi_track();
+    } else
+        xi_to_base();
+    xi_start(run_test);
+}
+
+/* Runs the test to its next place, or to its end. */
+void xi_next_place(void)
+{
+    xi_to_test();
+    if (++B->places > MOST_PLACES && B->event != ENDED)
+        S->fault = "no end after 100,000 accesses", B->event = ENDED;
+    if (B->event >= ARRIVE && B->event != ENDED)
+        B->round++, B->access = 0;
+    else
+        B->access++;
+    B->last = 0, B->stage = B->event < ARRIVE ? 0 : STAGES;
+}
+
+uint64_t xi_answer(uint64_t value)
+{
+    B->history = (B->history ^ value) * 0x9E3779B97F4A7C15, B->history ^= B->history >> 31;
+    return value;
+}
+
+static void answer_bytes(const uint8_t *at, size_t count)
+{
+    uint64_t hash = count, word;
+
+    for (; count >= 8; count -= 8, at += 8) {
+        memcpy(&word, at, 8);
+        hash = (hash ^ word) * 0x9E3779B97F4A7C15u, hash ^= hash >> 29;
+    }
+    while (count--)
+        hash = (hash ^ *at++) * 1099511628211u;
+    xi_answer(hash);
+}
+
+/* Frames */
+
+static void add(struct frames *frames, const void *bytes, size_t count, uint32_t fate)
+{
+    uint32_t at = frames->begin[frames->count];
+
+    if (frames->count == MOST_FRAMES || count > MOST_BYTES - at)
+        xi_die("a run has more than 256 frames, or more than 128 KiB of them");
+    memcpy(frames->bytes + at, bytes, count);
+    frames->fate[frames->count++] = (uint8_t)fate;
+    frames->begin[frames->count] = at + (uint32_t)count;
+}
+
+static size_t take(const struct frames *frames, unsigned number, void *into, size_t room)
+{
+    size_t count;
+
+    if (number >= frames->count)
+        return 0;
+    count = frames->begin[number + 1] - frames->begin[number];
+    memcpy(into, frames->bytes + frames->begin[number], count < room ? count : room);
+    return count;
+}
+
+/* What the adapter does */
+
+unsigned xi_possible(void)
+{
+    return nic82540em_possible(&S->nic);
+}
+
+unsigned xi_play(uint32_t kind)
+{
+    uint32_t outcome = nic82540em_step(&S->nic, kind);
+    uint8_t frame[LONGEST];
+    size_t count;
+
+    while (outcome == NIC_PUT && (count = nic82540em_take_put(&S->nic, frame, sizeof frame)) != 0)
+        add(&S->put, frame, count, 0);
+    return outcome;
+}
+
+static uint32_t deliver(const void *frame, size_t count)
+{
+    uint32_t fate = nic82540em_arrive(&S->nic, frame, count);
+
+    add(&S->arrived, frame, count, fate);
+    return fate;
+}
+
+static void deliver_offered(void)
+{
+    uint8_t frame[LONGEST];
+    size_t count = take(&S->offers, S->offered++, frame, sizeof frame);
+
+    deliver(frame, count);
+}
+
+/* The default steps of a place that are left. */
+void xi_tick(void)
+{
+    unsigned possible = B->stage < STAGES ? xi_possible() : 0;
+
+    for (; B->stage < STAGES; B->stage++)
+        if (possible >> (NIC_EEPROM + B->stage) & 1)
+            xi_play((uint32_t)(NIC_EEPROM + B->stage));
+}
+
+/* Plays a deviation at this place. Returns whether it did something. */
+bool xi_deviate(int action)
+{
+    static const int pair[][2] = { { NIC_TXTAKE, NIC_TXPUT }, { NIC_RXDATA, NIC_RXDONE } };
+    struct deviation *one = &B->path[B->path_count];
+    bool did = true;
+
+    if (B->path_count == MOST_PATH)
+        xi_die("a run has more than 1,024 deviations");
+    *one = (struct deviation){ B->round, B->access, action, B->event, B->address, "" };
+    xi_name(one->before, sizeof one->before, B->event, B->address);
+    if (action == ARRIVAL) {
+        did = S->offered < S->offers.count;
+        if (did)
+            deliver_offered();
+    } else if (action == TX || action == RX) {
+        did = xi_play((uint32_t)pair[action - TX][0]) != NIC_NOTHING;
+        did |= xi_play((uint32_t)pair[action - TX][1]) != NIC_NOTHING;
+    } else if (action < TX)
+        did = xi_play((uint32_t)action) != NIC_NOTHING;
+    B->path_count += did, B->did += did, B->last = 1 + action;
+    return did;
+}
+
+/* The calls of the test */
+
+static void cut_in(void)
+{
+    while (S->handler && !S->takes_none && x_line()) {
+        S->takes_none = true;
+        S->handler();
+        S->takes_none = false;
+    }
+}
+
+/* The rings, for the names of places */
+static void know(uint32_t offset, uint32_t value)
+{
+    static const uint32_t kept[] = { 0xFFFFFFF0, 0xFFFFFFFF, 0x000FFF80 };
+
+    if (offset == NIC_CTRL && value & NIC_CTRL_RST)
+        memset(B->rings, 0, sizeof B->rings);
+    for (int n = 0; n < 3; n++)
+        if (offset == NIC_RDBAL + 4u * n || offset == NIC_TDBAL + 4u * n)
+            B->rings[offset >= NIC_TDBAL][n] = value & kept[n];
+}
+
+uint32_t x_read(uint32_t offset)
+{
+    uint32_t value;
+
+    if (xi_is_piped)
+        return xi_pipe_read(offset);
+    at_place(READ, offset);
+    value = (uint32_t)xi_answer(nic82540em_read(&S->nic, offset));
+    cut_in();
+    return value;
+}
+
+void x_write(uint32_t offset, uint32_t value)
+{
+    if (xi_is_piped) {
+        xi_pipe_write(offset, value);
+        return;
+    }
+    at_place(WRITE, offset);
+    nic82540em_write(&S->nic, offset, value);
+    know(offset, value);
+    cut_in();
+}
+
+void x_load(uint64_t address, void *into, size_t count)
+{
+    if (xi_is_piped) {
+        xi_pipe_load(address, into, count);
+        return;
+    }
+    at_place(LOAD, address);
+    if (!nic82540em_load(&S->nic, address, into, count))
+        end("the driver loads bytes outside of memory");
+    answer_bytes(into, count);
+    cut_in();
+}
+
+void x_store(uint64_t address, const void *bytes, size_t count)
+{
+    if (xi_is_piped) {
+        xi_pipe_store(address, bytes, count);
+        return;
+    }
+    at_place(STORE, address);
+    if (!nic82540em_store(&S->nic, address, bytes, count))
+        end("the driver stores bytes outside of memory");
+    cut_in();
+}
+
+void x_touch(bool is_store, uint64_t address)
+{
+    if (xi_is_piped)
+        xi_die("a driver with pointers has no --pipe");
+    at_place(is_store ? STORE : LOAD, address);
+    cut_in();
+}
+
+uint8_t *x_host(uint64_t *size)
+{
+    void *at = NULL;
+
+    *size = nic82540em_memory(&S->nic, &at);
+    return at;
+}
+
+uint32_t x_arrive(const void *frame, size_t count)
+{
+    uint32_t fate;
+
+    if (xi_is_piped)
+        return xi_pipe_request(ARRIVE, 0, frame, count);
+    at_place(ARRIVE, 0);
+    fate = (uint32_t)xi_answer(deliver(frame, count));
+    cut_in();
+    return fate;
+}
+
+void x_offer(const void *frame, size_t count)
+{
+    if (xi_is_piped) {
+        xi_pipe_request(OFFER, 0, frame, count);
+        return;
+    }
+    at_place(OFFER, 0);
+    if (count > LONGEST)
+        xi_die("x_offer: a frame has more than 1,518 bytes");
+    add(&S->offers, frame, count, 0);
+    cut_in();
+}
+
+uint32_t x_step(uint32_t kind)
+{
+    uint32_t outcome;
+
+    if (xi_is_piped)
+        return xi_pipe_request(STEP, kind, "", 0);
+    at_place(STEP, 0);
+    outcome = (uint32_t)xi_answer(xi_play(kind));
+    cut_in();
+    return outcome;
+}
+
+uint64_t x_settle(void)
+{
+    uint64_t count = 0, before;
+
+    if (xi_is_piped)
+        return xi_pipe_request(SETTLE, 0, "", 0);
+    at_place(SETTLE, 0);
+    while (S->offered < S->offers.count)
+        deliver_offered();
+    do {
+        before = count;
+        for (int n = 0; n < 6; n++) {
+            uint32_t outcome = xi_play((uint32_t)order[n]);
+            count += outcome != NIC_NOTHING && outcome != NIC_WIREFULL;
+        }
+    } while (count != before);
+    xi_answer(count);
+    cut_in();
+    return count;
+}
+
+bool x_line(void)
+{
+    return xi_is_piped ? xi_pipe_line() : xi_answer(nic82540em_line(&S->nic));
+}
+
+unsigned x_put_count(void)
+{
+    return (unsigned)xi_answer(S->put.count);
+}
+
+size_t x_put(unsigned number, void *into, size_t room)
+{
+    return take(&S->put, number, into, room);
+}
+
+unsigned x_arrived_count(void)
+{
+    return (unsigned)xi_answer(S->arrived.count);
+}
+
+size_t x_arrived(unsigned number, uint32_t *fate, void *into, size_t room)
+{
+    *fate = number < S->arrived.count ? S->arrived.fate[number] : NIC_REFUSED;
+    return take(&S->arrived, number, into, room);
+}
+
+void x_handler(void (*handler)(void))
+{
+    S->handler = handler;
+}
+
+bool x_interrupts(bool is_on)
+{
+    bool was_on = !S->takes_none;
+
+    S->takes_none = !is_on;
+    cut_in();
+    return was_on;
+}

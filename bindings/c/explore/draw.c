@@ -1,0 +1,190 @@
+/* Draws schedules, plays given ones, and makes one that fails smaller. */
+#include "inside.h"
+#include <stdio.h>
+#include <string.h>
+
+#define B xi_book
+#define S xi_state
+
+enum { MOST_IN_BURST = 64, ROUND = 8 };
+static struct saved first_round; /* before the request that begins round 1 */
+static uint64_t random_state;
+static const int steps[] = { NIC_TXTAKE, NIC_TXPUT, NIC_RXDATA, NIC_RXDONE, ARRIVAL };
+
+static uint64_t draw(void)
+{
+    uint64_t x = random_state += 0x9E3779B97F4A7C15;
+
+    x = (x ^ x >> 30) * 0xBF58476D1CE4E5B9, x = (x ^ x >> 27) * 0x94D049BB133111EB;
+    return x ^ x >> 31;
+}
+
+/* What would do something here: a bit for each kind of step, and one for ARRIVAL. */
+static unsigned possible_here(void)
+{
+    unsigned engines = xi_possible() & 0xF;
+
+    return engines | (unsigned)(S->offered < S->offers.count) << ARRIVAL;
+}
+
+/* Each step with probability 1/2, in a random order */
+static void uniform(void)
+{
+    int order[5];
+    uint64_t bits = draw();
+    unsigned possible = possible_here();
+
+    if (!possible)
+        return;
+    memcpy(order, steps, sizeof order);
+    for (unsigned n = 4; n > 0; n--) {
+        unsigned m = (unsigned)(draw() % (n + 1));
+        int kept = order[n];
+        order[n] = order[m], order[m] = kept;
+    }
+    for (int n = 0; n < 5; n++)
+        if (bits >> n & 1 && possible >> order[n] & 1) {
+            xi_deviate(order[n]);
+            possible = possible_here();
+        }
+}
+
+/* Some of the actors do all their work: the fetching and the putting of frames, the receive engine, and the wire. */
+static void burst(void)
+{
+    static const int actor[] = { 0, 1, 2, 2, 3 };
+    uint64_t who = draw();
+
+    for (int n = 0; n < MOST_IN_BURST; n++) {
+        unsigned possible = possible_here();
+        int working[5], count = 0;
+        for (int k = 0; k < 5; k++)
+            if (who >> actor[k] & 1 && possible >> steps[k] & 1)
+                working[count++] = steps[k];
+        if (!count)
+            return;
+        xi_deviate(working[draw() % (unsigned)count]);
+    }
+}
+
+static void draw_here(uint64_t seed)
+{
+    uint64_t chance = draw();
+
+    if (B->event >= ARRIVE && chance >> 32 & (ROUND - 1))
+        return;
+    if (seed % 2 == 0)
+        uniform();
+    else if ((chance & 15) == 0)
+        burst();
+}
+
+static void draw_holds(void)
+{
+    for (; B->stage < STAGES; B->stage++)
+        if (xi_possible() >> (NIC_EEPROM + B->stage) & 1) {
+            if (draw() & 1)
+                xi_deviate(HOLD_EEPROM + B->stage);
+            else
+                xi_play((uint32_t)(NIC_EEPROM + B->stage));
+        }
+}
+
+/* To the request that begins round 1, or the end of the run */
+static void to_first_round(bool with_holds)
+{
+    while (xi_next_place(), B->event != ENDED && B->round == 0)
+        if (with_holds)
+            draw_holds();
+        else
+            xi_tick();
+}
+
+/* Plays the run of a seed: by even ones, steps are drawn before each access, and by odd ones, bursts before few. */
+void xi_draw(uint64_t seed, bool with_holds, bool is_new)
+{
+    random_state = seed * 0x2545F4914F6CDD1D;
+    if (!is_new && !with_holds && first_round.bytes)
+        xi_restore(&first_round);
+    else {
+        xi_begin(is_new);
+        to_first_round(with_holds);
+        if (xi_saves && !is_new && !with_holds)
+            xi_save(&first_round);
+    }
+    for (; B->event != ENDED; xi_next_place()) {
+        if (with_holds)
+            draw_holds();
+        xi_tick();
+        draw_here(seed);
+    }
+}
+
+static bool is_hold(const struct deviation *one, int stage)
+{
+    return one->action == HOLD_EEPROM + stage;
+}
+
+/* Plays the deviations of a place. Returns the number of the first one that is later. */
+static unsigned play_here(const struct deviation *path, unsigned at, unsigned count, char *lack, size_t room)
+{
+    char name[24];
+    unsigned end = at;
+
+    while (end < count && path[end].round == B->round && path[end].access == B->access)
+        end++;
+    xi_name(name, sizeof name, B->event, B->address);
+    for (unsigned n = at; n < end; n++)
+        if (lack && !lack[0] && strcmp(name, path[n].before)) {
+            xi_text(lack, room, &path[n]);
+            snprintf(lack + strlen(lack), room - strlen(lack), ": at this place, the test makes another access: %s",
+                     name);
+        }
+    for (; B->stage < STAGES; B->stage++) {
+        bool is_held = false;
+        for (unsigned n = at; n < end; n++)
+            is_held |= is_hold(&path[n], B->stage);
+        if (is_held && xi_possible() >> (NIC_EEPROM + B->stage) & 1)
+            xi_deviate(HOLD_EEPROM + B->stage);
+        else if (xi_possible() >> (NIC_EEPROM + B->stage) & 1)
+            xi_play((uint32_t)(NIC_EEPROM + B->stage));
+    }
+    for (unsigned n = at; n < end; n++)
+        if (!is_hold(&path[n], 0) && !is_hold(&path[n], 1))
+            xi_deviate(path[n].action);
+    return end;
+}
+
+/* Plays a schedule. `lack` gets what doesn't agree with the run, if it isn't NULL. */
+void xi_replay(const struct deviation *path, unsigned count, bool is_new, char *lack, size_t room)
+{
+    unsigned at = 0;
+
+    if (lack)
+        lack[0] = 0;
+    xi_begin(is_new);
+    for (xi_next_place(); B->event != ENDED; xi_next_place())
+        at = play_here(path, at, count, lack, room);
+    if (lack && !lack[0] && at < count) {
+        xi_text(lack, room, &path[at]);
+        snprintf(lack + strlen(lack), room - strlen(lack), ": the run doesn't reach this place");
+    }
+}
+
+/* Leaves out deviations of a schedule that fails, as long as it fails without them. */
+void xi_shrink(struct found *found)
+{
+    static struct deviation less[MOST_PATH];
+
+    for (unsigned part = found->count / 2 ? found->count / 2 : 1; part; part /= 2)
+        for (unsigned at = 0; at < found->count;) {
+            unsigned end = at + part < found->count ? at + part : found->count;
+            memcpy(less, found->path, at * sizeof *less);
+            memcpy(less + at, found->path + end, (found->count - end) * sizeof *less);
+            xi_replay(less, found->count - (end - at), false, NULL, 0);
+            if (S->fault && B->path_count < found->count)
+                xi_keep(found);
+            else
+                at = end;
+        }
+}

@@ -1,0 +1,270 @@
+/* The memory of a run, its copies and its digests.
+ *
+ * All that a run changes is in an arena at a fixed address: what the explorer knows of the run, what the test keeps,
+ * and
+ * the heap of libnic82540em, whose three functions are here. After xi_track, its pages can't be written: the first
+ * write
+ * to one is a fault, whose handler notes the page. So a state is the pages that any run has changed, and the used part
+ * of the stack of the test.
+ */
+#define _GNU_SOURCE
+#include "inside.h"
+#include <signal.h>
+#include <stdio.h>
+#include <stdlib.h>
+#include <string.h>
+#include <sys/mman.h>
+#ifdef __x86_64__
+#include <immintrin.h>
+#endif
+
+#define ARENA ((char *)0x200000000000)
+enum {
+    BOOK_PAGES = (sizeof(struct book) + PAGE - 1) / PAGE, STATE_PAGES = (sizeof(struct state) + PAGE - 1) / PAGE,
+    MEMORY_PAGES = 256, HEAP_PAGES = 8192, PAGES = BOOK_PAGES + STATE_PAGES + MEMORY_PAGES + HEAP_PAGES,
+    MOST_OWN = 4096, BLOCK = 64
+};
+#define MEMORY (ARENA + (BOOK_PAGES + STATE_PAGES) * (size_t)PAGE)
+#define HEAP (MEMORY + MEMORY_PAGES * (size_t)PAGE)
+
+struct book *const xi_book = (struct book *)ARENA;
+struct state *const xi_state = (struct state *)(ARENA + BOOK_PAGES * (size_t)PAGE);
+bool xi_saves;
+static char *base;                  /* the arena when its pages were protected */
+static int own[MOST_OWN], own_count; /* the pages that differ from it in some run */
+static char is_own[PAGES];
+static struct digest base_digest[PAGES];
+static bool is_tracked;
+
+_Noreturn void xi_die(const char *why)
+{
+    fprintf(stderr, "explore: %s\n", why);
+    exit(NOT_RUN);
+}
+
+/* Returns whether this is the first write to a page of the arena. The page can be written from now on. */
+static bool is_first_write(const char *at)
+{
+    size_t page = (size_t)(at - ARENA) / PAGE;
+
+    if (!is_tracked || at < ARENA || page >= PAGES || is_own[page] || own_count == MOST_OWN)
+        return false;
+    is_own[page] = 1, own[own_count++] = (int)page;
+    return mprotect(ARENA + page * PAGE, PAGE, PROT_READ | PROT_WRITE) == 0;
+}
+
+static void on_signal(int number, siginfo_t *info, void *context)
+{
+    (void)context;
+    if (number == SIGSEGV && is_first_write(info->si_addr))
+        return;
+    if (!x_inside()) {
+        signal(number, SIG_DFL);
+        return;
+    }
+    xi_state->fault = number == SIGSEGV ? "ended by SIGSEGV" : "ended by SIGABRT";
+    if (number == SIGFPE)
+        xi_state->fault = "ended by SIGFPE";
+    xi_book->event = ENDED;
+    xi_to_explorer();
+}
+
+void xi_prepare(bool may_save)
+{
+    struct sigaction action = { .sa_sigaction = on_signal, .sa_flags = SA_SIGINFO | SA_NODEFER };
+    int kind = PROT_READ | PROT_WRITE, flags = MAP_PRIVATE | MAP_ANONYMOUS | MAP_NORESERVE | MAP_FIXED_NOREPLACE;
+
+    if (mmap(ARENA, PAGES * (size_t)PAGE, kind, flags, -1, 0) != ARENA)
+        xi_die("the memory at 0x200000000000 isn't free");
+    sigemptyset(&action.sa_mask);
+    sigaction(SIGSEGV, &action, NULL), sigaction(SIGABRT, &action, NULL), sigaction(SIGFPE, &action, NULL);
+    xi_saves = may_save;
+}
+
+/* The arena before a run: zeros */
+void xi_clear(void)
+{
+    memset(xi_book, 0, offsetof(struct book, path));
+    memset(xi_state, 0, sizeof *xi_state);
+    memset(MEMORY, 0, MEMORY_PAGES * (size_t)PAGE);
+}
+
+/* From now on, notes which pages are changed. */
+void xi_track(void)
+{
+    size_t size = PAGES * (size_t)PAGE;
+
+    if (!xi_saves || is_tracked)
+        return;
+    base = mmap(NULL, size, PROT_READ | PROT_WRITE, MAP_PRIVATE | MAP_ANONYMOUS | MAP_NORESERVE, -1, 0);
+    if (base == MAP_FAILED)
+        xi_die("memory is refused");
+    memcpy(base, ARENA, BOOK_PAGES * (size_t)PAGE);
+    memcpy(base + ((char *)xi_state - ARENA), xi_state, STATE_PAGES * (size_t)PAGE);
+    memcpy(base + (HEAP - ARENA), HEAP, (xi_state->heap_used + PAGE - 1) / PAGE * PAGE);
+    is_tracked = true;
+    mprotect(ARENA, size, PROT_READ);
+}
+
+/* Back to the arena as it was at xi_track */
+void xi_to_base(void)
+{
+    for (int n = 0; n < own_count; n++)
+        memcpy(ARENA + own[n] * (size_t)PAGE, base + own[n] * (size_t)PAGE, PAGE);
+}
+
+int xi_pages(void)
+{
+    return own_count;
+}
+
+/* The heap of the library. It only grows, except that the last block can be freed. */
+
+struct tried {
+    bool ok;
+    void *block;
+};
+
+struct tried rattle_alloc(size_t size, size_t align)
+{
+    size_t at = (xi_state->heap_used + align + 15) & ~(size_t)15;
+
+    if (size > HEAP_PAGES * (size_t)PAGE || at + size > HEAP_PAGES * (size_t)PAGE)
+        return (struct tried){ false, HEAP };
+    xi_state->last_block = xi_state->heap_used, xi_state->heap_used = at + size;
+    return (struct tried){ true, HEAP + at };
+}
+
+struct tried rattle_realloc(void *block, size_t kept, size_t size, size_t align)
+{
+    struct tried made = rattle_alloc(size, align);
+
+    if (made.ok)
+        memcpy(made.block, block, kept < size ? kept : size);
+    return made;
+}
+
+void rattle_dealloc(void *block)
+{
+    size_t at = (size_t)((char *)block - HEAP);
+
+    if (at >= xi_state->last_block && at <= xi_state->last_block + 31)
+        xi_state->heap_used = xi_state->last_block;
+}
+
+void *x_memory(size_t size)
+{
+    size_t at = (xi_state->memory_used + 63) & ~(size_t)63;
+
+    if (size > MEMORY_PAGES * (size_t)PAGE - at)
+        xi_die("x_memory: the test has asked for more than 1 MiB");
+    xi_state->memory_used = at + size;
+    return MEMORY + at;
+}
+
+/* Digests */
+
+static struct digest portable(const char *at, size_t blocks, uint64_t seed)
+{
+    uint64_t one = seed ^ 0x9E3779B97F4A7C15, two = seed ^ 0xD1B54A32D192ED03, word[2];
+
+    for (size_t n = 0; n < blocks * (BLOCK / 16); n++, at += 16) {
+        memcpy(word, at, 16);
+        one = (one ^ word[0]) * 0xBF58476D1CE4E5B9, one = (one ^ one >> 29) + word[1];
+        two = (two ^ word[1]) * 0x94D049BB133111EB, two = (two ^ two >> 31) + word[0];
+    }
+    one = (one ^ two >> 32) * 0x9FB21C651E98DF25, two = (two ^ one >> 29) * 0x9E3779B97F4A7C15;
+    return (struct digest){ one ^ one >> 32, two ^ two >> 29 };
+}
+
+#ifdef __x86_64__
+__attribute__((target("aes,sse4.1"))) static struct digest by_aes(const char *at, size_t blocks, uint64_t seed)
+{
+    const __m128i key = _mm_set_epi64x((int64_t)0x9E3779B97F4A7C15, (int64_t)0xD1B54A32D192ED03);
+    __m128i a = _mm_set1_epi64x((int64_t)seed), b = _mm_set1_epi64x((int64_t)(seed ^ 0x5851F42D4C957F2D));
+    __m128i c = _mm_xor_si128(a, key), d = _mm_aesenc_si128(b, key);
+
+    for (; blocks--; at += BLOCK) {
+        a = _mm_aesenc_si128(_mm_xor_si128(a, _mm_loadu_si128((const __m128i *)at)), key);
+        b = _mm_aesenc_si128(_mm_xor_si128(b, _mm_loadu_si128((const __m128i *)(at + 16))), key);
+        c = _mm_aesenc_si128(_mm_xor_si128(c, _mm_loadu_si128((const __m128i *)(at + 32))), key);
+        d = _mm_aesenc_si128(_mm_xor_si128(d, _mm_loadu_si128((const __m128i *)(at + 48))), key);
+    }
+    a = _mm_aesenc_si128(_mm_aesenc_si128(_mm_xor_si128(a, _mm_aesenc_si128(b, key)), key), key);
+    c = _mm_aesenc_si128(_mm_aesenc_si128(_mm_xor_si128(c, _mm_aesenc_si128(d, key)), key), key);
+    a = _mm_aesenc_si128(_mm_aesenc_si128(_mm_xor_si128(a, c), key), key);
+    return (struct digest){ (uint64_t)_mm_extract_epi64(a, 0), (uint64_t)_mm_extract_epi64(a, 1) };
+}
+#endif
+
+/* The digest of blocks of 64 bytes */
+static struct digest digest_of(const char *at, size_t blocks, uint64_t seed)
+{
+#ifdef __x86_64__
+    static int has_aes = -1;
+
+    if (has_aes < 0)
+        has_aes = __builtin_cpu_supports("aes") && __builtin_cpu_supports("sse4.1");
+    if (has_aes)
+        return by_aes(at, blocks, seed);
+#endif
+    return portable(at, blocks, seed);
+}
+
+/* The digest of a page as it was at xi_track */
+static struct digest digest_of_base(int page)
+{
+    if (base_digest[page].one == 0)
+        base_digest[page] = digest_of(base + page * (size_t)PAGE, PAGE / BLOCK, (uint64_t)page);
+    return base_digest[page];
+}
+
+/* The digest of the state: of the stack of the test, and of each page, as its difference from that at xi_track. What is
+ * below the top of the stack in its block is cleared: it isn't used any more. */
+struct digest xi_digest(void)
+{
+    void *top;
+    char *end = xi_stack(&top), *from = (char *)((uintptr_t)top & ~(uintptr_t)(BLOCK - 1));
+    struct digest sum;
+
+    nic82540em_recount(&xi_state->nic, 0);
+    memset(from, 0, (size_t)((char *)top - from));
+    sum = digest_of(from, (size_t)(end - from) / BLOCK, (uintptr_t)top);
+    for (int n = 0; n < own_count; n++)
+        if (own[n] >= BOOK_PAGES) {
+            struct digest now = digest_of(ARENA + own[n] * (size_t)PAGE, PAGE / BLOCK, (uint64_t)own[n]);
+            struct digest before = digest_of_base(own[n]);
+            sum.one += now.one - before.one, sum.two += now.two - before.two;
+        }
+    return sum;
+}
+
+void xi_save(struct saved *saved)
+{
+    void *top;
+    char *end = xi_stack(&top);
+    size_t stack = (size_t)(end - (char *)top), need = own_count * (size_t)PAGE + stack;
+
+    if (saved->room < need) {
+        free(saved->bytes);
+        saved->bytes = malloc(saved->room = need + 8 * (size_t)PAGE);
+        if (!saved->bytes)
+            xi_die("memory is refused");
+    }
+    for (int n = 0; n < own_count; n++)
+        memcpy(saved->bytes + n * (size_t)PAGE, ARENA + own[n] * (size_t)PAGE, PAGE);
+    memcpy(saved->bytes + own_count * (size_t)PAGE, top, stack);
+    saved->pages = own_count, saved->top = top;
+}
+
+void xi_restore(const struct saved *saved)
+{
+    char *end = xi_stack(NULL);
+
+    for (int n = 0; n < own_count; n++) {
+        const char *from = n < saved->pages ? saved->bytes + n * (size_t)PAGE : base + own[n] * (size_t)PAGE;
+        memcpy(ARENA + own[n] * (size_t)PAGE, from, PAGE);
+    }
+    xi_set_stack(saved->top);
+    memcpy(saved->top, saved->bytes + saved->pages * (size_t)PAGE, (size_t)(end - (char *)saved->top));
+}

@@ -1,0 +1,107 @@
+/* The test runs on a stack of its own, and changes places with the explorer.
+ *
+ * On x86-64, the registers that a function keeps are pushed to the stack that is left, so the used part of the stack is
+ * all that must be saved. On other processors, ucontext keeps them elsewhere, and no state is saved.
+ */
+#define _GNU_SOURCE
+#include "inside.h"
+#include <string.h>
+#include <sys/mman.h>
+#include <ucontext.h>
+
+enum { STACK_SIZE = 1 << 20 };
+#define STACK ((char *)0x201000000000)
+
+static bool is_test; /* whether the test runs now */
+static void (*begins_with)(void);
+static void *test_top;
+
+/* The end of the stack of the test, which is made by the first call */
+static char *end_of_stack(void)
+{
+    static char *end;
+
+    if (!end) {
+        int flags = MAP_PRIVATE | MAP_ANONYMOUS | MAP_NORESERVE | MAP_FIXED_NOREPLACE;
+        if (mmap(STACK, STACK_SIZE, PROT_READ | PROT_WRITE, flags, -1, 0) != STACK)
+            xi_die("the memory at 0x201000000000 isn't free");
+        end = STACK + STACK_SIZE;
+    }
+    return end;
+}
+
+bool x_inside(void)
+{
+    return is_test;
+}
+
+char *xi_stack(void **top)
+{
+    if (top)
+        *top = test_top;
+    return end_of_stack();
+}
+
+void xi_set_stack(void *top)
+{
+    test_top = top;
+}
+
+#ifdef __x86_64__
+static void *explorer_top;
+void xi_switch(void **from, void *to);
+__asm__(".text\n.type xi_switch, @function\nxi_switch:\n push %rbp\n push %rbx\n push %r12\n push %r13\n push %r14\n"
+        " push %r15\n mov %rsp,(%rdi)\n mov %rsi,%rsp\n pop %r15\n pop %r14\n pop %r13\n pop %r12\n pop %rbx\n"
+        " pop %rbp\n ret\n.size xi_switch, .-xi_switch\n");
+
+static void first(void)
+{
+    begins_with();
+    __builtin_trap();
+}
+
+void xi_start(void (*function)(void))
+{
+    uint64_t *top = (uint64_t *)(end_of_stack() - 64);
+
+    begins_with = function;
+    memset(top - 8, 0, 64 + 64);
+    top[-2] = (uint64_t)(uintptr_t)first; /* after six registers, xi_switch returns to it */
+    test_top = top - 8;
+}
+
+void xi_to_test(void)
+{
+    is_test = true;
+    xi_switch(&explorer_top, test_top);
+    is_test = false;
+}
+
+void xi_to_explorer(void)
+{
+    xi_switch(&test_top, explorer_top);
+}
+#else
+static ucontext_t explorer_context, test_context;
+
+void xi_start(void (*function)(void))
+{
+    begins_with = function;
+    getcontext(&test_context);
+    test_context.uc_stack.ss_sp = end_of_stack() - STACK_SIZE;
+    test_context.uc_stack.ss_size = STACK_SIZE;
+    makecontext(&test_context, function, 0);
+}
+
+void xi_to_test(void)
+{
+    is_test = true;
+    swapcontext(&explorer_context, &test_context);
+    is_test = false;
+}
+
+void xi_to_explorer(void)
+{
+    swapcontext(&test_context, &explorer_context);
+}
+#endif

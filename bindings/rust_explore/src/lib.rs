@@ -1,0 +1,182 @@
+//! Searches the schedules of a driver's test, in the process of the test. A panic is a failure.
+//!
+//! ```no_run
+//! use nic82540em_explore::{explore, Arena, Bus, Explored};
+//!
+//! #[global_allocator]
+//! static ARENA: Arena = Arena;
+//!
+//! fn main() {
+//!     std::process::exit(explore(|mut bus: Explored| {
+//!         bus.write(0xD0, 0x80);
+//!         bus.settle();
+//!         assert_eq!(bus.read(0xC0), 0);
+//!     }));
+//! }
+//! ```
+//!
+//! The heap of the test is a part of its state, if `Arena` is the global allocator. The test keeps nothing in statics, and
+//! uses no threads, clock or random numbers. Options are the words of the program, or the variables NIC_EXPLORE, NIC_REPLAY
+//! and NIC_OUT: `nic82540em_explore.h` and `--help` describe them.
+
+use std::alloc::{GlobalAlloc, Layout, System};
+use std::ffi::{c_char, c_int, c_void, CString};
+use std::panic::{catch_unwind, set_hook, AssertUnwindSafe};
+
+extern "C" {
+    fn nic82540em_explore(
+        count: c_int,
+        words: *const *const c_char,
+        test: extern "C" fn(*mut c_void) -> *const c_char,
+        argument: *mut c_void,
+    ) -> c_int;
+    fn x_read(offset: u32) -> u32;
+    fn x_write(offset: u32, value: u32);
+    fn x_load(address: u64, into: *mut c_void, count: usize);
+    fn x_store(address: u64, bytes: *const c_void, count: usize);
+    fn x_arrive(frame: *const c_void, count: usize) -> u32;
+    fn x_offer(frame: *const c_void, count: usize);
+    fn x_step(kind: u32) -> u32;
+    fn x_settle() -> u64;
+    fn x_line() -> bool;
+    fn x_put_count() -> u32;
+    fn x_put(number: u32, into: *mut c_void, room: usize) -> usize;
+    fn x_memory(size: usize) -> *mut c_void;
+    fn x_inside() -> bool;
+}
+
+/// What a driver needs of its adapter. Another implementation is the real one.
+pub trait Bus {
+    /// Reads the register at an offset.
+    fn read(&mut self, offset: u32) -> u32;
+    /// Writes the register at an offset.
+    fn write(&mut self, offset: u32, value: u32);
+    /// Loads bytes of the host's memory.
+    fn load(&mut self, address: u64, into: &mut [u8]);
+    /// Stores bytes in the host's memory.
+    fn store(&mut self, address: u64, bytes: &[u8]);
+}
+
+/// The adapter whose schedules are searched, and the requests of the test. Copies are the same adapter.
+#[derive(Clone, Copy)]
+pub struct Explored(());
+
+/// A frame was stored in the packet buffer (`NIC_STORED`).
+pub const STORED: u32 = 4;
+/// Kinds of steps.
+pub const TXTAKE: u32 = 0;
+pub const TXPUT: u32 = 1;
+pub const RXDATA: u32 = 2;
+pub const RXDONE: u32 = 3;
+
+impl Bus for Explored {
+    fn read(&mut self, offset: u32) -> u32 {
+        unsafe { x_read(offset) }
+    }
+
+    fn write(&mut self, offset: u32, value: u32) {
+        unsafe { x_write(offset, value) }
+    }
+
+    fn load(&mut self, address: u64, into: &mut [u8]) {
+        unsafe { x_load(address, into.as_mut_ptr().cast(), into.len()) }
+    }
+
+    fn store(&mut self, address: u64, bytes: &[u8]) {
+        unsafe { x_store(address, bytes.as_ptr().cast(), bytes.len()) }
+    }
+}
+
+impl Explored {
+    /// A frame arrives; returns its fate.
+    pub fn arrive(&mut self, frame: &[u8]) -> u32 {
+        unsafe { x_arrive(frame.as_ptr().cast(), frame.len()) }
+    }
+
+    /// A frame arrives at the next `settle`, or earlier by the schedule.
+    pub fn offer(&mut self, frame: &[u8]) {
+        unsafe { x_offer(frame.as_ptr().cast(), frame.len()) }
+    }
+
+    /// The adapter takes a step of this kind; returns its outcome.
+    pub fn step(&mut self, kind: u32) -> u32 {
+        unsafe { x_step(kind) }
+    }
+
+    /// The adapter takes steps until none does anything; returns how many did something.
+    pub fn settle(&mut self) -> u64 {
+        unsafe { x_settle() }
+    }
+
+    /// Whether the interrupt line is asserted.
+    pub fn line(&self) -> bool {
+        unsafe { x_line() }
+    }
+
+    /// The frames that were put on the wire.
+    pub fn put(&self) -> Vec<Vec<u8>> {
+        let one = |number| {
+            let mut frame = vec![0; 1518];
+            let count = unsafe { x_put(number, frame.as_mut_ptr().cast(), frame.len()) };
+            frame.truncate(count);
+            frame
+        };
+        (0..unsafe { x_put_count() }).map(one).collect()
+    }
+}
+
+/// The allocator: memory of the test's state while the test runs, and the system's memory otherwise.
+pub struct Arena;
+
+/// The addresses of the memory of tests
+const BEGIN: usize = 0x2000_0000_0000;
+const END: usize = 0x2010_0000_0000;
+
+unsafe impl GlobalAlloc for Arena {
+    unsafe fn alloc(&self, layout: Layout) -> *mut u8 {
+        if x_inside() {
+            // a block of x_memory is aligned to 64 bytes
+            x_memory(layout.size().max(1)).cast()
+        } else {
+            System.alloc(layout)
+        }
+    }
+
+    unsafe fn dealloc(&self, block: *mut u8, layout: Layout) {
+        if !(BEGIN..END).contains(&(block as usize)) {
+            System.dealloc(block, layout)
+        }
+    }
+}
+
+extern "C" fn run<T: Fn(Explored)>(test: *mut c_void) -> *const c_char {
+    let test = unsafe { &*(test as *const T) };
+    match catch_unwind(AssertUnwindSafe(|| test(Explored(())))) {
+        Ok(()) => std::ptr::null(),
+        Err(panic) => {
+            let text = panic.downcast_ref::<String>().map(String::as_str);
+            let text = text.or(panic.downcast_ref::<&str>().copied()).unwrap_or("the test panics");
+            let line: String = text.split_whitespace().collect::<Vec<_>>().join(" ").chars().take(100).collect();
+            CString::new(line).map_or(c"the test panics".as_ptr(), |text| text.into_raw().cast_const())
+        }
+    }
+}
+
+/// Searches the schedules of a test, as the words of the program say. Returns the exit status.
+pub fn explore<T: Fn(Explored)>(test: T) -> i32 {
+    let words: Vec<CString> = std::env::args().map(|word| CString::new(word).expect("a word has a null byte")).collect();
+    explore_by(&words, test)
+}
+
+/// The same in a test of `cargo test`: only the variables NIC_EXPLORE, NIC_REPLAY and NIC_OUT say what is searched. Make one
+/// such call in a process: run `cargo test -- --test-threads 1 NAME` for each.
+pub fn explored<T: Fn(Explored)>(test: T) -> bool {
+    explore_by(&[c"cargo test".to_owned()], test) == 0
+}
+
+fn explore_by<T: Fn(Explored)>(words: &[CString], test: T) -> i32 {
+    let pointers: Vec<*const c_char> = words.iter().map(|word| word.as_ptr()).collect();
+    set_hook(Box::new(|_| {}));
+    let test: *const T = &test;
+    unsafe { nic82540em_explore(pointers.len() as c_int, pointers.as_ptr(), run::<T>, test as *mut c_void) }
+}

@@ -1,0 +1,288 @@
+#!/usr/bin/env python3
+"""Checks the explorer of bindings/c/explore with the examples of examples/explore.
+
+usage: tests/explore.py PROGRAM LIBRARY [--every]
+
+PROGRAM is `nicbench`, and LIBRARY is what `tools/library` wrote. With --every, every schedule of the tests `stages` and
+`cuts` is searched, too, which takes minutes. The last line is 'N passed, M failed', and the exit
+status is 1 if anything failed.
+"""
+
+import json
+import os
+import re
+import shutil
+import subprocess
+import sys
+import tempfile
+
+sys.dont_write_bytecode = True
+from bench import Bench  # noqa: E402
+
+TOP = os.path.dirname(os.path.dirname(os.path.abspath(__file__)))
+EXPLORER, EXAMPLES = os.path.join(TOP, "bindings", "c", "explore"), os.path.join(TOP, "examples", "explore")
+LIMIT = 600
+PASSES, FOUND, USAGE, NOT_RUN, NOTHING = range(5)
+ZEROED = ["-O0", "-ftrivial-auto-var-init=zero"]
+WARNINGS = ["-std=gnu11", "-Wall", "-Wextra", "-Werror"]
+# The schedules of just each depth, by tools/races (depths 1 and 2) and by a search that plays each schedule (3 and 4).
+STAGES = 518, 139_447, 25_630_662, 3_583_586_963
+OFFERS, CUTS, HELD = 108, 210, 586
+# Each bug: the test, options, and its smallest schedule, whose place is the earliest one
+BUGS = [("late", "", "4.6 rxdone before read ICR"), ("length", "", "4.8 rxdone before read rx[1]+12"), ("freed", "", "63.4 txtake before read TDH"),
+        ("rdt", "", "58.5 rxdata before write rx[2]"), ("tdt", "", "63.3 txtake before write tx[0]"),
+        ("masks-late", "", "4.7 rxdone before read ICR"), ("eerd", "--holds", "0.5 hold eeprom before read EERD"),
+        ("cuts:cuts", "", "2.1 rxdone before write 0x20000"), ("offers:rxo", "", "39.3 arrive before write ICR")]
+BY_ITSELF = "head", "part"
+RIGHT = "right", "masks", "pool"
+# A test that keeps a count outside of its state, so that its accesses change from run to run
+FORGETS = """
+#include <nic82540em_explore.h>
+static const char *test(void *word)
+{
+    static unsigned calls;
+    (void)word;
+    x_write(NIC_RCTL, 0);
+    x_settle();
+    for (unsigned n = 0; n < 8; n++)
+        if (++calls % 7 == 0)
+            x_read(NIC_STATUS);
+        else
+            x_read(NIC_ICR);
+    return 0;
+}
+int main(int count, char **words) { return nic82540em_explore(count, words, test, 0); }
+"""
+# A test that ends by a signal if a frame was finished before the second read of its status
+ENDS = """
+#include <nic82540em_explore.h>
+#include <stdlib.h>
+static const char *test(void *word)
+{
+    static const uint8_t frame[60] = { 255, 255, 255, 255, 255, 255 };
+    uint64_t descriptor[2] = { 0x800, 0 };
+    uint8_t status[2];
+    (void)word;
+    x_write(NIC_RDLEN, 128);
+    x_store(0, descriptor, 16);
+    x_write(NIC_RDT, 1);
+    x_write(NIC_RCTL, NIC_RCTL_EN | NIC_RCTL_BAM);
+    x_arrive(frame, sizeof frame);
+    for (int n = 0; n < 2; n++)
+        x_load(12, &status[n], 1);
+    if (status[1] & !status[0])
+        END;
+    return 0;
+}
+int main(int count, char **words) { return nic82540em_explore(count, words, test, 0); }
+"""
+EMPTY = """
+#include <nic82540em_explore.h>
+static const char *test(void *word) { return word; }
+int main(int count, char **words) { return nic82540em_explore(count, words, test, 0); }
+"""
+
+
+class Explorer(Bench):
+    """The programs that are built here."""
+
+    def __init__(self, program, library, folder):
+        super().__init__(program, folder)
+        self.library = library
+        self.compiler = shutil.which(os.environ.get("CC", "cc"))
+
+    def build(self, name, *sources, words=(), objects=()):
+        """Compiles a test, and links it with the explorer."""
+        out = os.path.join(self.folder, name)
+        line = [self.compiler, *(words or ZEROED), *WARNINGS, "-I", os.path.join(self.library, "include"), "-o", out, *sources, *objects,
+                os.path.join(self.library, "lib", "libnic82540em_explore.a")]
+        ran = subprocess.run(line, capture_output=True, text=True)
+        self.check(f"{name}: it is compiled without a warning", (ran.returncode, ran.stderr), (0, ""))
+        return out
+
+    def source(self, name, text):
+        path = os.path.join(self.folder, name)
+        with open(path, "w") as file:
+            file.write(text)
+        return path
+
+    def run(self, *words, env=None, data=None):
+        """The exit status of a program, its output and its errors."""
+        env = {**os.environ, **(env or {})}
+        ran = subprocess.run(words, cwd=self.folder, capture_output=True, text=True, timeout=LIMIT, env=env, input=data)
+        return ran.returncode, ran.stdout, ran.stderr
+
+    def none_of(self, *words):
+        """How many schedules a search that passes stands for, or its output."""
+        status, out, errors = self.run(*words)
+        found = re.search(r": none of (\S+) fails\n", out)
+        return int(found[1]) if found and status == PASSES and not errors else (status, out, errors)
+
+
+def counts(bench, stages):
+    """The exact numbers of schedules."""
+    total = 1
+    for depth, count in enumerate(STAGES, 1):
+        total += count
+        bench.check(f"counts: stages, depth {depth}", bench.none_of(stages, "right", "--explore", str(depth)), total)
+    for name, words, count in [("offers", ["offers:right"], OFFERS), ("cuts", ["cuts:right"], CUTS), ("stages with holds", ["right", "--holds"], HELD)]:
+        bench.check(f"counts: {name}", bench.none_of(stages, *words, "--explore", "1"), 1 + count)
+    bench.check("counts: each run from nothing", bench.none_of(stages, "right", "--explore", "1", "--again"), 1 + STAGES[0])
+    fast = bench.build("stages-O2", *sources("stages.c", "driver.c"), words=["-O2"])
+    bench.check("counts: another build", bench.none_of(fast, "right", "--explore", "2"), 1 + sum(STAGES[:2]))
+
+
+def sources(*names):
+    return [os.path.join(EXAMPLES, name) for name in names]
+
+
+def bugs(bench, stages):
+    """Each bug is found, by one deviation; its schedule is stored and played again, and the right driver passes it."""
+    for name, words, deviation in BUGS:
+        found = os.path.join(bench.folder, "found.txt")
+        status, out, errors = bench.run(stages, name, *words.split(), "--out", found)
+        with open(found) as file:
+            lines = file.read().splitlines()
+        bench.check(f"bugs: {name}", (status, lines[2:], errors), (FOUND, [deviation], ""))
+        bench.check(f"bugs: {name}: smallest", "\nsmallest: no schedule with fewer deviations fails\n" in out, True)
+        fault = lines[1].removeprefix("# ")
+        bench.check(f"bugs: {name}: again", bench.run(stages, name, "--replay", found), (FOUND, f"{fault}\n", ""))
+        right = f"{name.partition(':')[0]}:right" if ":" in name else "right"
+        bench.check(f"bugs: {name}: right", bench.run(stages, right, "--replay", found)[1].splitlines()[-1:], ["The test passes."])
+    for name in BY_ITSELF:
+        status, out, _ = bench.run(stages, name)
+        bench.check(f"bugs: {name}", (status, "\nno race: the test fails by itself, without any deviation\n" in out), (FOUND, True))
+
+
+def races(bench, stages):
+    """By --pipe, tools/races plays the same test: it fails with the same schedule, and has a chart."""
+    schedule = bench.source("late.txt", "4.6 rxdone before read ICR\n")
+    finder = [sys.executable, "-S", os.path.join(TOP, "tools", "races"), "--server", bench.program]
+    status, out, errors = bench.run(*finder, "--replay", schedule, "--", stages, "late", "--pipe")
+    bench.check("races: late", (status, out.splitlines()[-1:], errors), (FOUND, ["   exit status 1: frame 1 was never received"], ""))
+    bench.check("races: its chart", "*  " in out and "rx[1] is written back" in out, True)
+    for name in ("right", "cuts:right", "offers:right"):
+        status, out, errors = bench.run(*finder, "--replay", "/dev/null", "--", stages, name, "--pipe")
+        bench.check(f"races: {name}", (status, out.splitlines()[-1:], errors), (PASSES, ["   The test passes."], ""))
+
+
+def drawn(bench, stages):
+    """Drawn runs, from saved states and from nothing, have the same answers. What isn't saved is found."""
+    status, out, errors = bench.run(stages, "right", "--check", "--runs", "100")
+    bench.check("drawn: check", (status, out.splitlines()[-1:], errors), (PASSES, ["each has the answers of a run from nothing"], ""))
+    for name in RIGHT:
+        bench.check(f"drawn: {name}", bench.run(stages, name, "--runs", "300")[::2], (PASSES, ""))
+    forgets = bench.build("forgets", bench.source("forgets.c", FORGETS))
+    status, out, _ = bench.run(forgets, "--check", "--runs", "300")
+    bench.check("drawn: a count that isn't saved", (status, "some of the state of the test isn't saved" in out), (NOT_RUN, True))
+
+
+def ends(bench):
+    """A test that ends by a signal fails; one that makes no access isn't searched; and each run from nothing shows the same."""
+    for name, code in [("SIGABRT", "abort()"), ("SIGSEGV", "*(volatile int *)0 = 0"), ("SIGFPE", "status[1] /= status[0]")]:
+        test = bench.build(name, bench.source(f"{name}.c", ENDS.replace("END", code)), words=["-O0"])
+        for words in ([], ["--again", "--explore", "2"]):
+            status, out, _ = bench.run(test, *words, "--json")
+            result = json.loads(out)
+            got = result["result"], result["fault"], result["schedule"]
+            bench.check(f"ends: {name} {words}", (status, *got), (FOUND, "fails", f"ended by {name}", ["1.2 rx before read rx[0]+12"]))
+    empty = bench.build("empty", bench.source("empty.c", EMPTY))
+    for words in ([], ["--explore", "2"], ["--explore", "every"]):
+        status, out, _ = bench.run(empty, *words)
+        bench.check(f"ends: nothing {words}", (status, out.splitlines()[-1]), (NOTHING, "nothing was searched: in no run did a deviation do anything"))
+
+
+def arguments(bench, stages):
+    """Wrong words and wrong schedules; variables in place of words."""
+    for words, wanted in [(["--fly"], "--fly: there is no such option"), (["--runs"], "--runs: it has no value"),
+                          (["--explore", "x"], "--explore: its value isn't a number, or is too great"),
+                          (["--explore", "17"], "--explore: its value isn't a number, or is too great")]:
+        got = bench.run(stages, "right", *words)
+        bench.check(f"arguments: {words}", got, (USAGE, "", f"explore: {wanted}\nFor more information, try '--help'.\n"))
+    bad = bench.source("bad.txt", "4.6 rz before read ICR\n")
+    bench.check("arguments: a schedule", bench.run(stages, "right", "--replay", bad), (USAGE, "", f"explore: {bad}: line 1: it has no deviation, such as rx\n"))
+    other = bench.source("other.txt", "4.6 rxdone before read RDH\n999.1 rx before read ICR\n")
+    status, out, _ = bench.run(stages, "right", "--replay", other)
+    bench.check("arguments: another access", (status, out.splitlines()[0]), (FOUND, "4.6 rxdone before read RDH: at this place, the test makes another access: read rx[1]+8"))
+    bench.check("arguments: NIC_EXPLORE", bench.run(stages, "late", env={"NIC_EXPLORE": "1"})[0], FOUND)
+    late = bench.source("late.txt", "4.6 rxdone before read ICR\n")
+    bench.check("arguments: NIC_REPLAY", bench.run(stages, "late", env={"NIC_REPLAY": late})[:2], (FOUND, "frame 1 was never received\n"))
+    bench.check("arguments: help", bench.run(stages, "--help")[0::2], (PASSES, ""))
+
+
+def pointers(bench):
+    """A driver with pointers is explored as it is."""
+    driver = os.path.join(bench.folder, "pointers.o")
+    words = [bench.compiler, "-c", "-O1", "-ftrivial-auto-var-init=zero", "-fsanitize=thread", "--param=tsan-distinguish-volatile=1"]
+    ran = subprocess.run([*words, "-o", driver, *sources("pointers.c")], capture_output=True, text=True)
+    bench.check("pointers: the driver is compiled", (ran.returncode, ran.stderr), (0, ""))
+    hooks = os.path.join(EXPLORER, "pointers", "hooks.c")
+    test = bench.build("pointers", *sources("pointers_test.c"), hooks, words=[*ZEROED, "-Wl,--wrap=memcpy"], objects=[driver])
+    status, out, _ = bench.run(test, "right", "--explore", "every")
+    bench.check("pointers: every schedule", (status, out.startswith("every schedule, with any number of deviations, without holds: none of ")), (PASSES, True))
+    result = json.loads(bench.run(test, "late", "--json")[1])
+    bench.check("pointers: late", (result["result"], result["schedule"]), ("fails", ["4.7 rx before read ICR"]))
+
+
+def lab(bench):
+    """The right solution of the lab passes, and each of the ten wrong ones fails: by itself, or by one deviation."""
+    folder = os.path.join(TOP, "examples", "lab")
+    for number in range(11):
+        words = [os.path.join(folder, "grade"), bench.library, os.path.join(folder, "solution.c"), "--explore", "1"]
+        status, out, errors = bench.run(*words, env={"CFLAGS": f"-DWRONG={number} -Wall -Wextra -Werror"})
+        result, grade = json.loads(out.splitlines()[0]), out.splitlines()[1].partition(":")[0]
+        wanted = (PASSES, "passes", "pass", True, "") if number == 0 else (FOUND, "fails", "fail", True, "")
+        got = status, result["result"], grade, len(result["schedule"]) <= 1, errors
+        bench.check(f"lab: {number}", got, wanted)
+
+
+def rust(bench):
+    """The crate of bindings/rust_explore: a test with a heap, whose panics are failures."""
+    if not shutil.which("rustc"):
+        print("rust: there is no rustc, so the crate isn't built")
+        return
+    crate, folder = os.path.join(TOP, "bindings", "rust_explore", "src", "lib.rs"), os.path.join(bench.library, "lib")
+    compiler = ["rustc", "--edition", "2021", "-D", "warnings", "-L", f"native={folder}"]
+    for name, words in [("the crate", ["--crate-type", "rlib", "--crate-name", "nic82540em_explore", "-l", "static=nic82540em_explore", "-o", "libex.rlib", crate]),
+                        ("the test", ["--extern", "nic82540em_explore=libex.rlib", "-o", "receive", *sources("receive.rs")])]:
+        bench.check(f"rust: {name} is compiled", bench.run(*compiler, *words), (0, "", ""))
+    test = os.path.join(bench.folder, "receive")
+    status, out, errors = bench.run(test, "right", "--explore", "every")
+    bench.check("rust: every schedule", (status, ": none of " in out, errors), (PASSES, True, ""))
+    bench.check("rust: check", bench.run(test, "right", "--check", "--runs", "100")[::2], (PASSES, ""))
+    result = json.loads(bench.run(test, "late", "--json")[1])
+    bench.check("rust: late", [result[key] for key in ("result", "fault", "schedule")], ["fails", "frame 1 was never received", ["4.6 rx before read ICR"]])
+
+
+def every(bench, stages):
+    """Every schedule of the drivers without a bug."""
+    for name in (*RIGHT, "cuts:right", "cuts:pool", "offers:right"):
+        status, out, errors = bench.run(stages, name, "--explore", "every")
+        bench.check(f"every: {name}", (status, "none of" in out, errors), (PASSES, True, ""))
+        print(f"{name}: {out}", end="", flush=True)
+
+
+def main():
+    program, given = map(os.path.abspath, sys.argv[1:3])
+    with tempfile.TemporaryDirectory() as folder:
+        library = shutil.copytree(given, os.path.join(folder, "nic"))
+        bench = Explorer(program, library, folder)
+        if not bench.compiler:
+            print("there is no C compiler\n0 passed, 1 failed")
+            return 1
+        ran = subprocess.run([os.path.join(EXPLORER, "build"), library], capture_output=True, text=True)
+        bench.check("the explorer is built", (ran.returncode, ran.stdout, ran.stderr), (0, "", ""))
+        stages = bench.build("stages", *sources("stages.c", "driver.c"))
+        for part in (counts, bugs, races, drawn, arguments):
+            part(bench, stages)
+        ends(bench)
+        pointers(bench)
+        rust(bench)
+        lab(bench)
+        if "--every" in sys.argv[3:]:
+            every(bench, stages)
+        print(f"{bench.passed} passed, {bench.failed} failed")
+        return 1 if bench.failed else 0
+
+
+sys.exit(main())
