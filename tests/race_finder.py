@@ -13,7 +13,8 @@ EXCHANGE = [sys.executable, "-S", "-E", os.path.join(TOP, "examples", "drivers",
 FRAME = "ffffffffffff02000000000908000000".ljust(120, "0")
 # 2 KB have room for one of these.
 LONG_FRAME = FRAME.ljust(3036, "0")
-PASSES, FOUND, USAGE, NOT_RUN = range(4)
+PASSES, FOUND, USAGE, NOT_RUN, UNSEARCHED = range(5)
+UNSEARCHED_TOLD = "nothing was searched: in no run did a deviation do anything"
 # A driver's test in shell: `ask` sends a request, and stores its answer.
 ASK = """ask() {
     echo "$1"
@@ -120,8 +121,8 @@ def replay(server, text, *words, command):
 
 
 def without_reached(text):
-    """The text before the list of what was reached."""
-    return text.partition("reached:\n")[0]
+    """The text before the list of what was reached, and before the line of other searches."""
+    return re.sub("^other searches: .*\n", "", text.partition("reached:\n")[0], flags=re.M)
 
 
 def without_rate(text):
@@ -169,7 +170,7 @@ def page(server):
 
 def right(server):
     """The right driver fails in no run."""
-    status, out, errors = find(server, "--runs", "150", command=EXCHANGE)
+    status, out, errors = find(server, "--first", "0", "--runs", "150", command=EXCHANGE)
     found = re.fullmatch(r"150 runs, \d+ a second, (\d+) different lists of answers\nno run fails\n", without_reached(out))
     server.check("right: no run fails", (status, found is not None, errors), (PASSES, True, ""))
     server.check("right: runs differ", found is not None and int(found[1]) > 100, True)
@@ -204,12 +205,11 @@ def drawn(server):
     log[4:] = [f"# arrive {FRAME}"[:110] + "..", log[5], "# step rxdata -> moved", *log[6:8], "# step rxdone -> done", log[8]]
     wanted = f"\nThe schedule:\n# sh small fails\n# exit status 1: finished too late\n{SMALLEST}\nThe end of the log:\n"
     server.check("drawn: what is printed", out[out.find("\nThe schedule:"):], wanted + lines(log).decode() + "\n" + CHART)
-    once = [without_rate(find(server, "--runs", "40", "--seed", seed, command=["sh", "small"])[1]) for seed in ("1", "1", "2")]
+    once = [without_rate(find(server, "--first", "0", "--runs", "40", "--seed", seed, command=["sh", "small"])[1]) for seed in ("1", "1", "2")]
     server.check("drawn: a seed decides", (once[0] == once[1], once[0].startswith("40 runs, ")), (True, True))
     server.check("drawn: no more than two runs of a test that fails by itself",
                  without_rate(find(server, command=["sh", "-c", "exit 7"])[1]).splitlines()[:4],
-                 ["1 runs, 1 different lists of answers", "seed 1: exit status 7",
-                  "no race: the test fails by itself, without any deviation", ""])
+                 ["depth 0: schedule 1 fails: exit status 7", "no race: the test fails by itself, without any deviation", "", "The schedule:"])
 
 
 def holds(server):
@@ -218,10 +218,10 @@ def holds(server):
     command = ["sh", "hasty"]
     out = find(server, "--runs", "20", command=command)
     server.check("holds: none without the option", (out[0], without_rate(without_reached(out[1]))),
-                 (PASSES, "20 runs, 1 different lists of answers\nno run fails\n"))
-    server.check("holds: none is explored without the option", find(server, "--explore", "2", command=command)[0], PASSES)
+                 (UNSEARCHED, f"20 runs, 1 different lists of answers\nno run fails\n{UNSEARCHED_TOLD}\n"))
+    server.check("holds: none is explored without the option", find(server, "--explore", "2", command=command)[0], UNSEARCHED)
     for name, words in [("drawn", ["--runs", "20"]), ("explored", ["--explore", "1"])]:
-        status, _, errors = find(server, *words, "--holds", "--out", "found", command=command)
+        status, _, errors = find(server, *words, "--first", "0", "--holds", "--out", "found", command=command)
         text = (server.get("found") or b"").decode()
         server.check(f"holds: one is {name}", (status, text.splitlines()[2:], errors), (FOUND, ["0.2 hold eeprom before read EERD"], ""))
         server.remove("found")

@@ -140,7 +140,7 @@ def drivers(server):
     status, out, errors = find(server, "--runs", "30", command=[*STAGED, "arrives", "rxo"])
     server.check("arrivals: by request, no drawn schedule shows it", (status, "\nno run fails\n" in out, errors), (PASSES, True, ""))
     for name in RIGHT:
-        for test, words in [("offers", ["--runs", "30"]), ("arrives", ["--runs", "10"]), ("groups", ["--runs", "3"]),
+        for test, words in [("offers", ["--runs", "30"]), ("arrives", ["--runs", "10"]), ("groups", ["--runs", "20"]),
                             ("misses", ["--runs", "10", "--options", f"--missed {MISSED}"])]:
             status, out, errors = find(server, *words, command=[*STAGED, test, name])
             server.check(f"arrivals: {name} passes {test}", (status, "\nno run fails\n" in out, errors), (PASSES, True, ""))

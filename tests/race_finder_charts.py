@@ -28,10 +28,11 @@ SECTIONS = {
     "rdt": "A slot is used before its descriptor is stored", "tdt": "A frame is taken before it is stored",
     "freed": "The head has passed a frame that isn't sent", "eerd": "A word is read before it is there",
     "cuts": "The handler cuts in on a send", "rxo": "A frame is missed while misses are counted",
+    "clears": "A word of the group table is cleared for a moment",
 }
 # The bugs that are no races have no chart.
 NO_RACES = ["group", "wraps"]
-CHART = re.compile(r"^```\n\$ ([^\n]*examples/drivers/staged_test\.py (?:stages|cuts|offers) (\S+))\n(.*?)^```$", re.M | re.S)
+CHART = re.compile(r"^```\n\$ ([^\n]*examples/drivers/staged_test\.py (?:stages|cuts|offers|groups) (\S+))\n(.*?)^```$", re.M | re.S)
 
 
 def charts_of(page):

@@ -7,7 +7,7 @@ import sys
 import time
 from contextlib import suppress
 
-from race_finder import FINDER, FOUND, FRAME, NOT_RUN, PASSES, SMALL, USAGE, replay
+from race_finder import FINDER, FOUND, FRAME, NOT_RUN, PASSES, SMALL, UNSEARCHED, USAGE, replay
 from race_finder_output import script
 from race_finder_runs import ASKS, BEGIN, PYTHON
 from server import LIMIT
@@ -22,6 +22,8 @@ def wait():
 if len(sys.argv) > 1:
     wait()
 """ + ASKS + "wait()\n"
+# A test that never ends in the run with this number
+SLOW = "echo >>count\n[ $(wc -l <count) = {} ] && {{ sleep 0.5; : >begun; sleep 1000; }}\n"
 LOOP = ["sh", "-c", ": > begun; while :; do sleep 1000; done"]
 # Kinds of runs: a forked one, a host before its first answer, a process of its own, and that of a replay
 RUNS = {"forked": [*PYTHON, "endless.py"], "host": [*PYTHON, "endless.py", "first"], "apart": LOOP, "replay": LOOP}
@@ -130,9 +132,9 @@ def processes(server):
     leaves = "import subprocess\nsubprocess.Popen(['sleep', '1000'], stdout=subprocess.DEVNULL)\n"
     server.put("early.py", f"{leaves}{ASKS}".encode())
     server.put("late.py", f"{ASKS}{leaves}sys.exit(1)\n".encode())
-    for name, command, status in [("passes", ["sh", "-c", "sleep 1000 >/dev/null 2>&1 & exit 0"], PASSES),
+    for name, command, status in [("passes", ["sh", "-c", "sleep 1000 >/dev/null 2>&1 & exit 0"], UNSEARCHED),
                                   ("fails", ["sh", "-c", "sleep 1000 >/dev/null 2>&1 & exit 1"], FOUND),
-                                  ("passes, in Python", [*PYTHON, "early.py"], PASSES), ("fails, in Python", [*PYTHON, "late.py"], FOUND)]:
+                                  ("passes, in Python", [*PYTHON, "early.py"], UNSEARCHED), ("fails, in Python", [*PYTHON, "late.py"], FOUND)]:
         mark = Marked(name)
         got = ran(server, ["--runs", "2"], command, env=mark.env)
         server.check(f"processes: a test that starts one and {name}", (got[0], got[2]), (status, b""))
@@ -235,11 +237,29 @@ def outputs(server):
         shell = ["sh", "-c", f'exec "$@" {closed}', "sh", *FINDER[:-1]]
         server.check(f"outputs: {closed}", ran(server, ["--runs", "2"], ["false"], python=shell)[0], status)
     for name, python, command, wanted in [
-        ("ASCII", [sys.executable, "-S"], ["sh", "-c", "echo caf\u00e9 >&2; exit 1"], b"seed 1: exit status 1: caf\\xe9\n"),
+        ("ASCII", [sys.executable, "-S"], ["sh", "-c", "echo caf\u00e9 >&2; exit 1"], b"depth 0: schedule 1 fails: exit status 1: caf\\xe9\n"),
         ("a byte that isn't UTF-8", FINDER[:-1], ["sh", "-c", "exit 1", b"\xff"], b"\n# sh -c exit 1 \\udcff\n"),
     ]:
         status, out, told = ran(server, ["--runs", "2"], command, python=python, env={"PYTHONIOENCODING": "ascii"})
         server.check(f"outputs: {name}", (status, wanted in out, told), (FOUND, True, b""))
+
+
+def so_far(server):
+    """After Ctrl-C, what the runs so far showed: that none fails, or the smallest schedule that fails."""
+    for name, words, last, wanted in [("none fails", [], 4, [", and none fails\nreached:\n", "ended; so far 3 runs, "]),
+                                      ("one fails", ["fails"], 8, ["\nseed 108: ", "ended; the smallest schedule so far has 2 deviations:\n"])]:
+        for left in ("begun", "count"):
+            server.remove(left)
+        server.put("slow", SLOW.format(last).encode() + SMALL.encode())
+        command = [*FINDER, "--server", server.program, "--first", "0", "--seed", "108" if words else "1", "--jobs", "1", "--", "sh", "slow", *words]
+        finder = subprocess.Popen(command, cwd=server.folder, stdout=subprocess.PIPE, stderr=subprocess.PIPE, start_new_session=True)
+        end = time.monotonic() + LIMIT
+        while not os.path.exists(server.path("begun")) and time.monotonic() < end:
+            time.sleep(0.01)
+        finder.send_signal(signal.SIGINT)
+        out, told = finder.communicate(timeout=LIMIT)
+        shown = [text in out.decode() for text in wanted]
+        server.check(f"so far: {name}", (finder.returncode, shown, told), (128 + signal.SIGINT, [True, True], b""))
 
 
 def errors(server):
@@ -252,5 +272,5 @@ def errors(server):
 
 
 def all_cases(server):
-    for part in [signals, processes, runs, outputs, errors]:
+    for part in [signals, processes, runs, outputs, so_far, errors]:
         part(server)

@@ -7,7 +7,7 @@ import shutil
 import subprocess
 import sys
 
-from race_finder import EXCHANGE, FINDER, FOUND, FRAME, LONG_FRAME, NOT_RUN, PASSES, SMALL, SMALLEST, USAGE, find, replay, without_rate, without_reached
+from race_finder import EXCHANGE, FINDER, FOUND, FRAME, LONG_FRAME, NOT_RUN, PASSES, SMALL, SMALLEST, UNSEARCHED, UNSEARCHED_TOLD, USAGE, find, replay, without_rate, without_reached
 from server import LIMIT, lines
 from server_pages import TOP, follow, read_page
 
@@ -125,8 +125,9 @@ def script(server, text, *arguments):
 def jobs(server):
     """The number of runs at once doesn't change what is found and printed, only the rate."""
     server.put("small", SMALL.encode())
-    for name, words, command, status in [("a bug", ["--seed", "10", "--smaller", "0"], [*EXCHANGE, "late"], FOUND),
-                                         ("a small test", ["--seed", "20", "--runs", "20"], ["sh", "small", "fails"], FOUND),
+    for name, words, command, status in [("a bug", ["--first", "0", "--seed", "10", "--smaller", "0"], [*EXCHANGE, "late"], FOUND),
+                                         ("a small test", ["--first", "0", "--seed", "20", "--runs", "20"], ["sh", "small", "fails"], FOUND),
+                                         ("the first schedules", [], [*EXCHANGE, "late"], FOUND),
                                          ("no bug", ["--runs", "30"], ["sh", "small"], PASSES)]:
         got = [find(server, *words, "--jobs", count, command=command) for count in ("1", "4")]
         one, four = [(code, without_rate(out), errors) for code, out, errors in got]
@@ -136,8 +137,8 @@ def jobs(server):
     wanted = (USAGE, "", "races: --jobs: use a number from 1 to 64\nFor more information, try '--help'.\n")
     for count in ("0", "65"):
         server.check(f"jobs: {count} of them", find(server, "--jobs", count, command=["true"]), wanted)
-    status, out, errors = find(server, "--runs", "0", command=["false"])
-    server.check("jobs: no run", (status, without_reached(out), errors), (PASSES, "no run fails\n", ""))
+    status, out, errors = find(server, "--first", "0", "--runs", "0", command=["false"])
+    server.check("jobs: no run", (status, without_reached(out), errors), (UNSEARCHED, f"no run fails\n{UNSEARCHED_TOLD}\n", ""))
 
 
 def reached_by(server, requests, *words):
@@ -182,9 +183,10 @@ def small_tables():
 def json_found(server):
     """What searches find, as JSON."""
     server.put("small", SMALL.encode())
-    found = re.search(r"seed (\d+): ", find(server, "--runs", "200", "--smaller", "0", command=FAILS)[1])
+    words = ["--first", "0", "--runs", "200", "--smaller", "0"]
+    found = re.search(r"seed (\d+): ", find(server, *words, command=FAILS)[1])
     seed = int(found[1]) if found else 0
-    status, result, got, errors = json_of(find(server, "--json", "--runs", "200", "--smaller", "0", "--jobs", "4", command=FAILS))
+    status, result, got, errors = json_of(find(server, "--json", *words, "--jobs", "4", command=FAILS))
     runs = result.pop("runs")
     server.check("json: what is drawn", (status, result, got, errors), (
         FOUND, {"result": "fails", "seed": seed, "fault": FAULT, "schedule": SMALLEST.splitlines()}, small_tables(), ""))
@@ -192,10 +194,10 @@ def json_found(server):
     server.remove("failed-once")
     once = ["sh", "-c", "test -e failed-once && exit 0; touch failed-once; exit 1"]
     for name, words, command, wanted in [
-        ("nothing is drawn", ["--runs", "3"], ["true"], (PASSES, "passes", None, None, 3)),
-        ("nothing is explored", ["--explore", "2"], ["true"], (PASSES, "passes", None, None, 1)),
+        ("nothing is drawn", ["--runs", "3"], ["true"], (UNSEARCHED, "nothing", None, None, 4)),
+        ("nothing is explored", ["--explore", "2"], ["true"], (UNSEARCHED, "nothing", None, None, 1)),
         ("it fails by itself", ["--explore", "2"], ["false"], (FOUND, "fails", None, "exit status 1", 2)),
-        ("it fails once", ["--jobs", "1"], once, (FOUND, "unrepeatable", 1, "exit status 1", 2)),
+        ("it fails once", ["--jobs", "1"], once, (FOUND, "unrepeatable", None, "exit status 1", 2)),
     ]:
         status, kind, seed, fault, count = wanted
         result = {"result": kind, "seed": seed, "fault": fault, "schedule": [], "runs": count}
@@ -260,16 +262,16 @@ def shards(server):
                  f"none of {9 + count} fails\n"
         server.check(f"shards: {shard} of an exploration", (status, out, errors), (PASSES, wanted, ""))
     for shard, count in [("1/3", 4), ("2/3", 3), ("3/3", 3), ("11/11", 0)]:
-        out = find(server, "--runs", "10", "--json", "--shard", shard, command=["true"])[1]
+        out = find(server, "--first", "0", "--runs", "10", "--json", "--shard", shard, command=["true"])[1]
         server.check(f"shards: {shard} of the runs", json.loads(out)["runs"], count)
-    words, begin, end = ["--json", "--smaller", "0"], 26, 34
+    words, begin, end = ["--json", "--first", "0", "--smaller", "0"], 108, 117
     failing = [seed for seed in range(begin, end) if find(server, *words, "--runs", "1", "--seed", str(seed), command=FAILS)[0] == FOUND]
-    server.check("shards: seeds that fail alone", failing, [26, 27, 29, 33])
-    for first, wanted in [(1, 26), (2, 27), (3, None)]:
+    server.check("shards: seeds that fail alone", failing, [108, 116])
+    for first, wanted in [(1, 108), (2, None), (3, 116)]:
         out = find(server, *words, "--seed", str(begin), "--runs", str(end - begin), f"--shard={first}/3", command=FAILS)[1]
         server.check(f"shards: the seed that {first}/3 finds", json.loads(out)["seed"], wanted)
-    out = find(server, *words, "--seed", str(begin), "--runs", str(end - begin), "--shard=8/8", command=FAILS)[1]
-    server.check("shards: the seed that 8/8 finds", json.loads(out)["seed"], 33)
+    out = find(server, *words, "--seed", str(begin), "--runs", str(end - begin), "--shard=9/9", command=FAILS)[1]
+    server.check("shards: the seed that 9/9 finds", json.loads(out)["seed"], 116)
     for text in ("0/2", "3/2", "1", "1/", "x/2", "1/-2", "1/0"):
         server.check(f"shards: {text!r}", find(server, "--shard", text, command=["true"]), (
             USAGE, "", f"races: --shard: {text!r} isn't K/N with K from 1 to N\nFor more information, try '--help'.\n"))
@@ -298,7 +300,7 @@ def parallel(server):
 def page(server):
     """What the right driver of the examples never reaches is on the page of the finder."""
     wanted = re.search(r"^```\n(never:\n.*?)^```$", read_page("tools", "race_finder", "README.md"), re.M | re.S)[1]
-    status, out, errors = find(server, "--runs", "10", command=EXCHANGE)
+    status, out, errors = find(server, "--first", "0", "--runs", "10", command=EXCHANGE)
     server.check("page: what is never reached", (status, follow(out[out.find("never:\n"):], wanted), errors), (PASSES, True, ""))
 
 

@@ -250,12 +250,12 @@ def saved(server):
     """A server that can't save its state is started for each run, and leads to the same results."""
     server.put("no_save", NO_SAVE.format(server.program).encode())
     os.chmod(server.path("no_save"), 0o755)
-    for name, words, command in [("explored", ["--explore", "1"], [*STAGED, "stages", "late"]), ("drawn", ["--seed", "4", "--runs", "1"], [*EXCHANGE, "length"]),
-                                 ("nothing found", ["--runs", "6", "--jobs", "3"], [*STAGED, "offers"]), ("held", ["--holds", "--runs", "2"], [*STAGED, "stages", "eerd"])]:
+    for name, words, command in [("explored", ["--explore", "1"], [*STAGED, "stages", "late"]), ("drawn", ["--first", "0", "--seed", "4", "--runs", "1"], [*EXCHANGE, "length"]),
+                                 ("nothing found", ["--first", "0", "--runs", "6", "--jobs", "3"], [*STAGED, "offers"]), ("held", ["--holds", "--runs", "2"], [*STAGED, "stages", "eerd"])]:
         got = [find(server, "--json", *words, *more, command=command) for more in ([], ["--server", server.path("no_save")], ["--apart"])]
         server.check(f"saved: {name}", (got[0][0] in (PASSES, FOUND), got[0], got[0]), (True, *got[1:]))
     server.put("saves.py", SAVES.encode())
-    got = [find(server, "--runs", "1", "--smaller", "0", *words, command=[*PYTHON, "saves.py"])[1].splitlines()[1:2] for words in ([], ["--apart"])]
+    got = [find(server, "--first", "0", "--runs", "1", "--smaller", "0", *words, command=[*PYTHON, "saves.py"])[1].splitlines()[1:2] for words in ([], ["--apart"])]
     server.check("saved: a test can't save and restore", got, [["seed 1: exit status 4: early"]] * 2)
 
 

@@ -4,7 +4,7 @@ import json
 import os
 import re
 
-from race_finder import ASK, FOUND, NOT_RUN, PASSES, SMALL, SMALLEST, USAGE, find, replay, without_rate, without_reached
+from race_finder import ASK, FOUND, NOT_RUN, PASSES, SMALL, SMALLEST, UNSEARCHED, UNSEARCHED_TOLD, USAGE, find, replay, without_rate, without_reached
 from race_finder_output import FAILS, FAULT, script
 
 MORE = "\nFor more information, try '--help'.\n"
@@ -101,17 +101,17 @@ END = "depth 3: 0 schedules, so there are none with more deviations"
 def drawn(server):
     """`--all` plays all runs, and prints each seed that fails. The first one is reported as without it."""
     server.put("small", SMALL.encode())
-    words, seeds = ["--seed", "26", "--runs", "8", "--smaller", "0"], [26, 27, 29, 33]
+    words, seeds = ["--first", "0", "--seed", "108", "--runs", "9", "--smaller", "0"], [108, 116]
     one, every = (find(server, *words, *more, command=FAILS) for more in ([], ["--all"]))
-    begin = f"4 of 8 runs fail\n{''.join(f'seed {seed}: {FAULT}{chr(10)}' for seed in seeds)}"
+    begin = f"2 of 9 runs fail\n{''.join(f'seed {seed}: {FAULT}{chr(10)}' for seed in seeds)}"
     first, _, rest = without_rate(every[1]).partition("\n")
-    server.check("drawn: the seeds", (every[0], every[2], first.partition(",")[0], rest.startswith(begin)), (FOUND, "", "8 runs", True))
-    server.check("drawn: the first one", rest.removeprefix(begin), one[1].partition(f"seed 26: {FAULT}\n")[2])
+    server.check("drawn: the seeds", (every[0], every[2], first.partition(",")[0], rest.startswith(begin)), (FOUND, "", "9 runs", True))
+    server.check("drawn: the first one", rest.removeprefix(begin), one[1].partition(f"seed 108: {FAULT}\n")[2])
     result = json.loads(find(server, *words, "--all", "--json", command=FAILS)[1])
     failed = [{"seed": seed, "fault": FAULT} for seed in seeds]
-    server.check("drawn: as JSON", (result["seed"], result["search"]["failed"], result["search"]["complete"]), (26, failed, True))
-    out = find(server, "--seed", "26", "--runs", "1", "--all", "--smaller", "0", command=FAILS)[1]
-    server.check("drawn: one of one", out.splitlines()[1:3], ["1 of 1 runs fails", f"seed 26: {FAULT}"])
+    server.check("drawn: as JSON", (result["seed"], result["search"]["failed"], result["search"]["complete"]), (108, failed, True))
+    out = find(server, "--seed", "108", "--runs", "1", "--all", "--smaller", "0", command=FAILS)[1]
+    server.check("drawn: one of one", out.splitlines()[1:3], ["1 of 1 runs fails", f"seed 108: {FAULT}"])
     status, out, _ = find(server, "--runs", "3", "--all", command=["sh", "small"])
     server.check("drawn: none fails", (status, without_reached(out).splitlines()[1:]), (PASSES, ["no run fails"]))
 
@@ -124,10 +124,11 @@ def explored(server):
     lower = ["depth 0: 1 schedules, none fails, 1 different lists of answers", "depth 1: 8 schedules, none fails, 7 different lists of answers"]
     status, out, errors = find(server, "--explore", "3", "--all", command=FAILS)
     wanted = [*lower, f"{late}: {FAULT}", f"{early}: {FAULT}", "depth 2: 6 schedules, 2 fail, 9 different lists of answers", END,
-              "all schedules of up to 3 deviations, without holds: 2 of 15 fail", f"depth 2: schedule 5 fails: {FAULT}"]
-    server.check("explored: all", (status, out.splitlines()[:8], errors), (FOUND, wanted, ""))
+              "all schedules of up to 3 deviations, without holds: 2 of 15 fail", f"2 of rxdata before read RDH; rxdone before read rx[]+12, such as {late}",
+              f"depth 2: schedule 5 fails: {FAULT}"]
+    server.check("explored: all", (status, out.splitlines()[:9], errors), (FOUND, wanted, ""))
     one = find(server, "--explore", "3", command=FAILS)[1]
-    server.check("explored: the first one", out.splitlines()[7:], one.splitlines()[2:])
+    server.check("explored: the first one", out.splitlines()[8:], one.splitlines()[2:])
     search = json.loads(find(server, "--explore", "3", "--all", "--json", command=FAILS)[1])["search"]
     got, failed = (search[key] for key in ("tried", "complete", "smallest")), [{"schedule": one.split("; "), "fault": FAULT} for one in (late, early)]
     server.check("explored: all as JSON", (search["failed"], *got), (failed, [1, 8, 6, 0], True, True))
@@ -155,7 +156,8 @@ def windows(server):
     ]:
         status, out, errors = find(server, "--explore", "3", *words, command=["sh", "small"])
         got = without_reached(out)
-        server.check(f"windows: {words}", (status, re.findall(COUNTED, got, re.M), got.splitlines()[-1], errors), (PASSES, counts, line, ""))
+        ends = (PASSES, [line]) if counts != ["1", "0"] else (UNSEARCHED, [line, UNSEARCHED_TOLD])
+        server.check(f"windows: {words}", (status, got.splitlines()[-len(ends[1]):], re.findall(COUNTED, got, re.M), errors), (*ends, counts, ""))
     for words, claim in [(["--holds"], " fails"), ([], " fails, apart from holds"), (["--to", "1.4", "--holds"], " from the start to 1.4 fails"),
                          (["--from", "1.2"], " from 1.2 to the end fails, apart from holds")]:
         out, wanted = find(server, "--explore", "2", *words, command=FAILS)[1], [f"smallest: no schedule with fewer deviations{claim}"]
@@ -180,8 +182,8 @@ def empty(server):
     """A search ends at the first depth without schedules."""
     status, out, errors = find(server, "--explore", "999999999", command=["true"])
     wanted = ["depth 0: 1 schedules, none fails, 1 different lists of answers", "depth 1: 0 schedules, so there are none with more deviations",
-              "all schedules of up to 999999999 deviations, without holds: none of 1 fails"]
-    server.check("empty: it ends", (status, without_reached(out).splitlines(), errors), (PASSES, wanted, ""))
+              "all schedules of up to 999999999 deviations, without holds: none of 1 fails", UNSEARCHED_TOLD]
+    server.check("empty: it ends", (status, without_reached(out).splitlines(), errors), (UNSEARCHED, wanted, ""))
 
 
 def same(server):
@@ -193,13 +195,14 @@ def same(server):
 def searched(server):
     """What was searched, as JSON."""
     server.put("small", SMALL.encode())
-    base = {"answers": None, "complete": None, "tried": [], "same": 0, "smallest": None, "holds": False, "shard": "1/1", "from": None, "to": None}
-    part, one = ["--shard", "2/4", "--from", "1.1", "--holds"], ["--runs", "200", "--seed", "26"]
+    base = {"answers": None, "complete": None, "tried": [], "same": 0, "smallest": None, "holds": False, "shard": "1/1", "from": None, "to": None, "first": None}
+    part, one = ["--shard", "2/4", "--from", "1.1", "--holds"], ["--first", "0", "--runs", "200", "--seed", "108"]
     for name, words, command, answers, is_complete, tried, is_smallest, wanted in [
         ("explored", ["--explore", "3"], ["sh", "small"], 9, True, [1, 8, 6, 0], None, {}),
         ("a part", ["--explore", "3", *part], ["sh", "small"], 9, True, [1, 8, 6, 0], None, {"holds": True, "shard": "2/4", "from": "1.1"}),
         ("explored up to one that fails", ["--explore", "3", "--to", "1.4"], FAILS, 8, False, [1, 8, 5], True, {"to": "1.4"}),
-        ("drawn", ["--runs", "3"], ["true"], 1, True, [], None, {}),
+        ("drawn", ["--first", "0", "--runs", "3"], ["true"], 1, True, [], None, {}),
+        ("the first ones, and drawn", ["--runs", "3", "--seed", "3"], ["sh", "small"], 2, True, [1, 8], None, {"first": 13}),
         ("drawn and made small", one, FAILS, 1, False, [1, 8], True, {}),
         ("drawn and not made small", [*one, "--smaller", "2"], FAILS, 1, False, [1, 1], False, {}),
         ("it fails by itself", ["--explore", "2"], ["false"], 1, False, [1], True, {}),
@@ -231,7 +234,7 @@ def arguments(server):
         server.check(f"arguments: {words}", got, (USAGE, "", f"races: {wanted}{MORE}"))
     server.check("arguments: nothing was run", server.get("begun"), None)
     for path in ("new/folder/", "new", "."):
-        server.check(f"arguments: --out {path}", find(server, "--runs", "1", "--out", path, command=["true"])[::2], (PASSES, ""))
+        server.check(f"arguments: --out {path}", find(server, "--runs", "1", "--out", path, command=["true"])[::2], (UNSEARCHED, ""))
     server.check("arguments: nothing is made before something is found", os.path.exists(server.path("new")), False)
 
 

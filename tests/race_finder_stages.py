@@ -15,19 +15,20 @@ from driver import ARRIVAL_BUGS, BUGS, MORE_BUGS, RIGHT  # noqa: E402
 STAGED = [sys.executable, "-S", "-E", os.path.join(TOP, "examples", "drivers", "staged_test.py")]
 HEADING = "| Bug | Test | Options | Seed | Schedule |"
 # Bugs whose schedules the finder finds again here, and how. The others take longer.
-AGAIN = {"late": ["--explore", "1"], "length": ["--explore", "1"], "masks-late": ["--explore", "1"], "cuts": ["--runs", "1"], "rxo": ["--explore", "1"]}
+AGAIN = {"late": ["--explore", "1"], "length": ["--explore", "1"], "masks-late": ["--explore", "1"], "cuts": ["--runs", "1"], "rxo": ["--explore", "1"],
+         "clears": ["--explore", "1"]}
 RIGHT_SEEDS = 20
 # Draws the schedules of the seeds 1 to argv[4] until one fails. Prints this seed, or `none`. Doesn't shrink the schedule.
 DRAW = """
 import sys
 sys.dont_write_bytecode = True
 sys.path.insert(0, sys.argv[1])
-from race_finder.draw import Uniform
+from race_finder.draw import drawing_of
 from race_finder.target import Target
 options = sys.argv[3].removeprefix("--options=").split() if sys.argv[3].startswith("--options=") else []
 target = Target(sys.argv[2], sys.argv[5:], options, seconds=60)
 for seed in range(1, int(sys.argv[4]) + 1):
-    if target.run(draw=Uniform(seed, draws_holds=sys.argv[3] == "--holds")).fault:
+    if target.run(draw=drawing_of(seed, sys.argv[3] == "--holds")).fault:
         print(seed)
         break
 else:
@@ -79,6 +80,10 @@ def right_drivers(server):
     for name in RIGHT:
         for test in ("stages", "cuts"):
             server.check(f"right: {name} passes {test}", first_seed(server, [], RIGHT_SEEDS, [*STAGED, test, name]), ("none", ""))
+    schedule = "".join(f"58.0 {action} before settle\n" for action in ("tx", "tx", "rxdone"))
+    for name in ("right", "pool"):
+        got = replay(server, schedule, command=[*STAGED, "cuts", name])
+        server.check(f"right: {name}: an answer is sent after the last settle", (got[0], got[1].splitlines()[-1:], got[2]), (PASSES, ["   The test passes."], ""))
     server.check("right: right passes stages with holds", first_seed(server, ["--holds"], 2, [*STAGED, "stages", "right"]), ("none", ""))
 
 

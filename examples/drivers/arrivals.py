@@ -3,12 +3,16 @@
 They have the same interface as `exchange` in sweep.py. The README explains what they find.
 """
 
+from functools import partial
+
 from driver import PBA
 from stages import Fault, Traffic
 from traffic import OTHER, SELF, fault_of, frame_of
 
 # Two groups whose bit of MTA is the same, and another one
 GROUPS = bytes.fromhex("01005e001001"), bytes.fromhex("01005e011001"), bytes.fromhex("01005e001002")
+# A group whose bit is in the same word of MTA as that of the last group
+NEIGHBOR = bytes.fromhex("01005e002002")
 ROUNDS_OF_MISSES = 3
 # The receive buffers of a frame, and of another for which 2 KB have no room while the first is in the packet buffer
 LONG, NEXT = 6, 3
@@ -66,30 +70,48 @@ def offers(adapter, driver, is_offered=True):
     return None
 
 
+class GroupFrames(Arrivals):
+    """Frames to groups."""
+
+    def next_to(self, group):
+        """Returns the next frame, which is to this group."""
+        self.number += 1
+        return frame_of(self.number, group, OTHER, 60)
+
+    def check_fate(self, group, fate, wanted):
+        if fate != wanted:
+            raise Fault(f"frame {self.number} to {group.hex(':')} was {fate} instead of {wanted}")
+
+    def arrive_to(self, wanted, *groups):
+        """A frame to each of these groups must have this fate."""
+        for group in groups:
+            self.check_fate(group, self.adapter.arrive(self.next_to(group)), wanted)
+        self.finish()
+
+    def offer_to(self, group, change):
+        """A frame to a joined group arrives at any time during a change of other groups. It must be stored."""
+        self.adapter.offer(self.next_to(group))
+        change()
+        self.finish()
+        self.check_fate(group, self.adapter.arrived[-1][0], "stored")
+
+
 def groups(adapter, driver):
     """Groups are joined and left. Returns the first fault, or None."""
-    run = Arrivals(adapter, driver)
-
-    def arrive(fate, *some):
-        """A frame to each of these groups must have this fate."""
-        for group in some:
-            run.number += 1
-            got = adapter.arrive(frame_of(run.number, group, OTHER, 60))
-            if got != fate:
-                raise Fault(f"frame {run.number} to {group.hex(':')} was {got} instead of {fate}")
-        run.finish()
-
+    run = GroupFrames(adapter, driver)
     first, second, other = GROUPS
     try:
-        arrive("filtered", *GROUPS)
+        run.arrive_to("filtered", *GROUPS)
         for group in GROUPS:
             driver.join(group)
-        arrive("stored", *GROUPS)
+        run.arrive_to("stored", *GROUPS)
         driver.leave(first)
-        arrive("stored", second, other)
+        run.arrive_to("stored", second, other)
         driver.leave(second)
-        arrive("filtered", first, second)
-        arrive("stored", other)
+        run.arrive_to("filtered", first, second)
+        run.arrive_to("stored", other)
+        run.offer_to(other, partial(driver.join, NEIGHBOR))
+        run.offer_to(other, partial(driver.leave, NEIGHBOR))
     except Fault as fault:
         return str(fault)
     return None

@@ -178,9 +178,13 @@ class Answers(Traffic):
             self.answers.append(answer)
 
     def finish(self):
-        """Lets the adapter do all that is left. The frames of the test and the answers may be mixed on the wire."""
+        """Lets the adapter do all that is left. The frames of the test and the answers may be mixed on the wire.
+
+        After a `settle` that did nothing, the handler may cut in and send an answer, which is left then.
+        """
         for _ in range(PATIENCE):
-            if self.adapter.settle() == 0:
+            count = len(self.answers)
+            if self.adapter.settle() == 0 and len(self.answers) == count:
                 break
         on_wire = {True: [], False: []}
         for frame in self.adapter.wire:

@@ -9,7 +9,10 @@ fails is made smaller, and printed with the end of the log and a chart.
   --server PROGRAM     nicbench (default .build/nicbench of this repository)
   --options WORDS      options of `nicbench serve`, such as "--rxa 2 --link 5"
   --runs N             draws N schedules (default 1000)
-  --seed N             the seed of the first one (default 1); the next ones have the next seeds
+  --seed N             the seed of the first one (default 1); the next ones have the next seeds. By odd seeds, some actors
+                       do all their work before few accesses; by even seeds, each step is drawn before each access
+  --first N            before drawing, tries all schedules of one deviation, and those in which the adapter does all its
+                       work before one access, if these are at most N (default 800). --pct and --all begin without them
   --jobs N             N runs at once, at most 64 (default: the number of processors)
   --pct DEPTH          draws by PCT instead: the actor with the highest priority goes first, and DEPTH - 1 times, the
                        one that goes gets the lowest priority. The actors are the driver, the receive engine, the
@@ -35,123 +38,47 @@ fails is made smaller, and printed with the end of the log and a chart.
   --no-digest          --explore plays each run to its end, also from a state that it knows from an earlier run
 
 Exit status: 0 if no run fails, 1 if a run or the replay fails, 2 if an argument or the schedule is invalid, and 3 if COMMAND
-or the server couldn't be run, the output couldn't be written, or the finder itself fails. If a signal ends the search,
-128 and its number: 130 after Ctrl-C, 143 after SIGTERM. If nobody reads the output any more, 141.
+or the server couldn't be run, the output couldn't be written, or the finder itself fails. 4 if nothing was searched: in no
+run did a deviation do anything. If a signal ends the search, 128 and its number: 130 after Ctrl-C, 143 after SIGTERM. If
+nobody reads the output any more, 141.
 """
 
 import json
 import os
-import re
 import signal
 import sys
 import time
 import traceback
 from contextlib import closing
 
+from race_finder.arguments import TEXTS, UsageError, arguments_of, check_out
 from race_finder.chart import chart, end_of
-from race_finder.draw import Pct, Uniform, actors_of, bound_of
+from race_finder.draw import Pct, actors_of, bound_of, drawing_of
 from race_finder.ends import BY_SIGNAL, Ended, Unprinted, check_output, holding, listen, prepare_output, say, tell
-from race_finder.explore import WHOLE, Search, Window, explore, fails
-from race_finder.jobs import MOST_JOBS, in_order, processors
+from race_finder.explore import WHOLE, Search, explore, fails
+from race_finder.jobs import in_order
+from race_finder.kinds import Kinds
 from race_finder.play import Mismatch
-from race_finder.reached import lines_of, tables_of
+from race_finder.reached import has_played, lines_of, tables_of
 from race_finder.requests import kind_of
-from race_finder.schedule import HOLDS, TICKS, ScheduleError, by_name, parse, place_of, text_of
+from race_finder.schedule import HOLDS, TICKS, ScheduleError, by_name, parse, text_of
 from race_finder.server import ServerEnded
 from race_finder.shrink import Shrinker
-from race_finder.store import check, store
+from race_finder.store import store
 from race_finder.target import CannotRun, Target
 
-TOP = os.path.dirname(os.path.dirname(os.path.dirname(os.path.abspath(__file__))))
-PASSES, FOUND, USAGE, NOT_RUN = range(4)
+PASSES, FOUND, USAGE, NOT_RUN, NOTHING = range(5)
 LOG_LINES, LONGEST_LINE = 30, 110
-DEEPEST = 100  # of --pct
-NUMBERS = {"runs": 1000, "seed": 1, "explore": None, "smaller": 1000, "seconds": 10, "jobs": processors(), "pct": None}
-TEXTS = {"server": os.path.join(TOP, ".build", "nicbench"), "options": None, "out": None, "replay": None, "shrink": None,
-         "shard": "1/1", "from": None, "to": None}
-FLAGS = ("holds", "any-access", "by-name", "reached", "json", "apart", "no-digest", "all")
-OF_SEARCH = ("explore", "pct", "all")  # those that a given schedule doesn't go with
 # How a server ends that refuses its options
 REFUSED = "the server has ended with exit status 2"
 
 
-class UsageError(Exception):
-    """The arguments are invalid."""
-
-
-def arguments_of(words):
-    """The values of all options, and the command."""
-    given = {**NUMBERS, **TEXTS, **dict.fromkeys(FLAGS, False)}
-    words = list(words)
-    while words and words[0] != "--":
-        option, separator, value = words.pop(0).partition("=")
-        name = option.removeprefix("--")
-        if not option.startswith("--") or name not in given:
-            raise UsageError(f"unexpected argument {option!r}")
-        if name in FLAGS:
-            if separator:
-                raise UsageError(f"{option} takes no value")
-            given[name] = True
-            continue
-        if not separator:
-            if not words or words[0] == "--":
-                raise UsageError(f"{option} has no value")
-            value = words.pop(0)
-        if not value and name != "options":
-            raise UsageError(f"{option}: the value is empty")
-        if name in NUMBERS and not (value.isascii() and value.isdigit() and len(value) < 10):
-            raise UsageError(f"{option}: {value!r} isn't a number below 1,000,000,000")
-        given[name] = int(value) if name in NUMBERS else value
-    if len(words) < 2:
-        raise UsageError("no COMMAND after '--'")
-    check_values(given)
-    return given, words[1:]
-
-
-def check_values(given):
-    """Checks values, and which options go together. Replaces the texts of the shard and the window."""
-    if not 1 <= given["jobs"] <= MOST_JOBS:
-        raise UsageError(f"--jobs: use a number from 1 to {MOST_JOBS}")
-    if not given["seconds"]:
-        raise UsageError("--seconds: use a number from 1 on")
-    is_alone = given["explore"] is None and not given["holds"]
-    if given["pct"] is not None and not (1 <= given["pct"] <= DEEPEST and is_alone):
-        raise UsageError(f"--pct: use a depth from 1 to {DEEPEST}, without --explore and --holds")
-    if given["replay"] and given["shrink"]:
-        raise UsageError("use either --replay or --shrink")
-    for name in OF_SEARCH if given["replay"] or given["shrink"] else ():
-        if given[name] is not None and given[name] is not False:
-            raise UsageError(f"--{name}: use it without --replay and --shrink")
-    given["shard"] = shard_of(given["shard"])
-    given["window"] = window_of(given["from"], given["to"])
-    if any(given["window"]) and given["explore"] is None:
-        raise UsageError("--from and --to: use them with --explore")
-
-
-def window_of(*texts):
-    """The places from the one with the first text to that with the second one."""
-    places = []
-    for name, text in zip(("from", "to"), texts):
-        try:
-            places.append(text and place_of(text))
-        except ScheduleError as error:
-            raise UsageError(f"--{name}: {error}") from None
-    if all(places) and places[1] < places[0]:
-        raise UsageError(f"--from: {places[0]} is after {places[1]}")
-    return Window(*places)
-
-
-def shard_of(text):
-    """The pair (K, N) of a text K/N."""
-    found = re.fullmatch("([0-9]{1,9})/([0-9]{1,9})", text)
-    shard = (int(found[1]), int(found[2])) if found else (0, 0)
-    if not 1 <= shard[0] <= shard[1]:
-        raise UsageError(f"--shard: {text!r} isn't K/N with K from 1 to N")
-    return shard
-
-
 def deviations(count):
     return f"{count} deviation" + ("" if count == 1 else "s")
+
+
+def schedules(count):
+    return f"{count} schedule" + ("" if count == 1 else "s")
 
 
 def lack_of(run, deviation):
@@ -174,6 +101,8 @@ class Finder:
 
     def __init__(self, given, target):
         self.given, self.target = given, target
+        self.latest = None  # what the runs so far showed, on one line
+        self.shrinker, self.first = Shrinker(target), None
         self.say = (lambda *words, **options: None) if given["json"] else say
         self.is_given = given["replay"] or given["shrink"]  # whether a schedule is given
         self.result = {"result": "passes", "seed": None}  # what --json prints
@@ -190,12 +119,18 @@ class Finder:
         search = {"answers": None, "complete": None, "tried": [], "same": 0, "smallest": None}
         search.update({name: self.given[name] for name in ("holds", "from", "to")})
         search["shard"] = "{}/{}".format(*self.given["shard"])
+        search["first"] = None
         return {**search, "failed": []} if self.given["all"] else search
+
+    def progress(self, line):
+        """Keeps what the runs so far showed, and shows it."""
+        self.latest = line
+        progress(line)
 
     def drawing(self, seed):
         """What draws the schedule of this seed."""
         if self.given["pct"] is None:
-            return Uniform(seed, draws_holds=self.given["holds"])
+            return drawing_of(seed, self.given["holds"])
         return Pct(seed, self.given["pct"], self.events, self.offers_frames)
 
     def measure(self):
@@ -208,11 +143,42 @@ class Finder:
         self.result["pct"] = {"depth": depth, "actors": count, "events": self.events, "bound": 1 / bound}
         return run if run.fault else None
 
+    def try_first(self):
+        """Before drawing: tries the schedules of one deviation, and those in which the adapter does all its work at one
+        place, if they are few. Returns the exit status if one of them fails.
+        """
+        given, whole = self.given, (0, None)
+        search = Search(self.target, given["holds"], progress=self.progress, seen=self.shrinker.seen)
+        search.next_size(1)
+        if not search.found and 0 < search.level.count(True) + len(search.whole) <= given["first"]:
+            search.next_size(1, given["shard"])
+            if not search.found and given["shard"][0] == 1:
+                whole = search.try_whole()
+        failed = search.found or whole[1]
+        self.note_tried(search)
+        self.search.update(answers=len(search.answers), complete=False, first=sum(search.counts) + whole[0])
+        if search.found:
+            self.say(f"depth {len(search.found.met)}: schedule {search.number} fails: {search.found.fault}")
+            return self.report(search.found, is_smallest=True)
+        if len(search.counts) == 2:
+            self.first = search if given["shard"] == WHOLE else None
+            self.say(f"{schedules(search.counts[1])} of one deviation: none fails")
+        if whole[1]:
+            self.say(f"all work before one access: schedule {whole[0]} fails: {whole[1].fault}")
+            return self.report(whole[1])
+        if whole[0]:
+            self.say(f"{schedules(whole[0])} in which the adapter does all its work before one access: none fails")
+        return None
+
     def draw(self):
         """Draws schedules until one fails, or all."""
         failed = self.measure() if self.given["pct"] is not None else None
         if failed:
             return self.report(failed)
+        if self.given["first"] and self.given["pct"] is None and not self.given["all"]:
+            status = self.try_first()
+            if status is not None:
+                return status
         began, answers, line, found = time.monotonic(), set(), "", []
         first, step = self.given["shard"]
         seeds = range(self.given["seed"] + first - 1, self.given["seed"] + self.given["runs"], step)
@@ -222,7 +188,7 @@ class Finder:
                 answers.add(self.target.count(run).answers)
                 rate = number / (time.monotonic() - began)
                 line = f"{number} runs, {rate:.0f} a second, {len(answers)} different lists of answers"
-                progress(line)
+                self.progress(line)
                 if run.fault:
                     failed = failed or run
                     found.append((seed, run.fault))
@@ -234,7 +200,17 @@ class Finder:
             self.list_seeds(found, number)
             return self.report(failed)
         self.say(f"{line}\nno run fails" if line else "no run fails")
+        if has_played(self.target.reached):
+            self.say(self.others())
         return PASSES
+
+    def others(self):
+        """The line that names the searches that weren't made."""
+        given = self.given
+        words = ["--explore 2 (all schedules of up to two deviations)"] if self.first else [
+            "--explore 1 (all schedules of one deviation)"]
+        words += ["--pct 2 (by priorities)"] if given["pct"] is None else ["without --pct (by seeds)"]
+        return f"other searches: {', '.join(words if given['holds'] else [*words, '--holds (a slow EEPROM and PHY)'])}"
 
     def list_seeds(self, found, count):
         """Prints the seeds that fail, each with its fault."""
@@ -247,13 +223,15 @@ class Finder:
 
     def explore(self):
         given = self.given
-        search = explore(self.target, given["explore"], given["holds"], self.say, progress, given["shard"],
-                         given["window"], self.note_failed if given["all"] else None)
+        kinds = Kinds()
+        search = explore(self.target, given["explore"], given["holds"], self.say, self.progress, given["shard"],
+                         given["window"], (lambda run: self.note_failed(run, kinds)) if given["all"] else None)
         self.note_tried(search)
         self.search.update(answers=len(search.answers), complete=not search.is_over())
         if not search.is_over():
             failed = sum(search.failed)
             self.say(f"{self.searched()}: {failed or 'none'} of {sum(search.counts)} {fails(failed)}")
+            self.say(*kinds.lines(), sep="\n", end="\n" if failed else "")
         if search.found is None:
             return PASSES
         self.say(f"depth {len(search.found.met)}: schedule {search.number} fails: {search.found.fault}")
@@ -271,9 +249,10 @@ class Finder:
         holds = "with holds" if self.given["holds"] else "without holds"
         return f"{part}all schedules of up to {deviations(self.given['explore'])}, {places}{holds}"
 
-    def note_failed(self, run):
+    def note_failed(self, run, kinds):
         """Prints a schedule that fails on one line."""
         schedule = self.shown(run)
+        kinds.add(schedule)
         self.say(f"{'; '.join(map(str, schedule)) or 'no deviation'}: {run.fault}")
         if self.given["json"]:
             lines = text_of(schedule, self.target.options).splitlines()
@@ -281,7 +260,7 @@ class Finder:
 
     def report(self, run, is_smallest=False):
         """Makes a schedule smaller, and prints what is left."""
-        shrinker, drawn = Shrinker(self.target), len(run.met)
+        shrinker, drawn = self.shrinker, len(run.met)
         small = shrinker.again(run.met)
         if small is None:
             self.say(f"The schedule of {deviations(drawn)} passes when it is played again."
@@ -323,9 +302,13 @@ class Finder:
 
         Those with one deviation are tried first: this is less than it takes to shrink a long schedule.
         """
-        search = Search(self.target, with_holds, self.given["smaller"], progress, shrinker.seen)
-        search.up_to(1, is_last=False)
-        small = run if search.found else self.shrink(shrinker, run)
+        search, small = self.first, None
+        if search:  # they pass
+            small = self.shrink(shrinker, run)
+        if not search or len(small.met) > len(search.counts):
+            search = Search(self.target, with_holds, self.given["smaller"], self.progress, shrinker.seen)
+            search.up_to(1, is_last=False)
+        small = small or (run if search.found else self.shrink(shrinker, run))
         search.up_to(len(small.met) - 1)
         self.note_tried(search)
         tried = f"{sum(search.counts)} smaller schedules were tried"
@@ -371,9 +354,28 @@ class Finder:
         if self.given["json"]:
             tables = tables_of(reached) if self.target.runs else (None, None)
             say(json.dumps({**self.result, "runs": self.target.runs, **dict(zip(("reached", "never"), tables))}))
-        elif self.target.runs and (self.given["reached"] or status == PASSES and not self.is_given):
+        elif self.target.runs and (self.given["reached"] or status in (PASSES, NOTHING) and not self.is_given):
             say(*lines_of(reached), sep="\n")
         return status
+
+    def searched_status(self, status):
+        """The exit status of a search: another one if it passes, but in no run did a deviation do anything."""
+        if status == PASSES and not has_played(self.target.reached):
+            self.say("nothing was searched: in no run did a deviation do anything")
+            self.result["result"] = "nothing"
+            return NOTHING
+        return status
+
+    def tell_so_far(self):
+        """After a signal: what the runs so far showed."""
+        best = self.shrinker.best
+        self.result["result"] = "ended"
+        if best:
+            self.note("ended", best.fault, self.shown(best))
+            self.say(f"ended; the smallest schedule so far has {deviations(len(best.met))}:\n{self.text_of(best)}", end="")
+        elif self.latest:
+            self.say(f"ended; so far {self.latest}, and none fails")
+        self.end(PASSES)
 
     def play(self, schedule):
         """Plays a schedule, and prints what did nothing and what the run didn't reach. Returns the run.
@@ -418,15 +420,6 @@ class Finder:
         return FOUND if self.result["result"] != "passes" else PASSES
 
 
-def check_out(path):
-    """Before a search: checks that its result can be stored."""
-    try:
-        if path:
-            check(path)
-    except OSError as error:
-        raise UsageError(f"--out: {error.filename}: {error.strerror}") from None
-
-
 def call(words):
     given, command = arguments_of(words)
     check_out(given["out"])
@@ -445,8 +438,13 @@ def call(words):
         raise CannotRun(f"{server}: No such file or directory; run ./nicbench --build to build it")
     target = Target(server, command, options or (), given["seconds"], given["jobs"], is_forked, not given["no-digest"])
     with closing(target), holding():
+        finder = Finder(given, target)
         try:
-            return run(Finder(given, target), schedule)
+            return run(finder, schedule)
+        except Ended:
+            if target.runs and not finder.is_given:
+                finder.tell_so_far()
+            raise
         except ServerEnded as error:
             if options and str(error) == REFUSED:
                 raise UsageError(f"the server refuses these options: {' '.join(options)}") from None
@@ -460,7 +458,7 @@ def run(finder, schedule):
         return finder.end(finder.replay(schedule))
     if given["shrink"]:
         return finder.end(finder.shrink_given(schedule))
-    return finder.end(finder.draw() if given["explore"] is None else finder.explore())
+    return finder.end(finder.searched_status(finder.draw() if given["explore"] is None else finder.explore()))
 
 
 def answer(words):

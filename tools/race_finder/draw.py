@@ -23,6 +23,7 @@ PATIENCE = 4  # reads of one register in a row
 # less work is left for the accesses after the request.
 ROUND = 1 / 8
 OTHER = 1 << 64  # from a seed to that of the generator for these requests
+MOST_IN_BURST = 64  # steps and arrivals before one access
 
 
 def actors_of(offers_frames):
@@ -80,6 +81,44 @@ class Uniform:
         return self.draws_holds and self.random() < 0.5
 
 
+class Bursts:
+    """Before few accesses, some of the actors do all their work, in a random order. The seed decides.
+
+    So the adapter is often idle for long, and may finish several frames between two accesses. Before a request that
+    begins a round, the probability is lower.
+    """
+
+    def __init__(self, seed, chance=1 / 16, draws_holds=False):
+        self.seed, self.chance, self.draws_holds = seed, chance, draws_holds
+
+    @cached_property
+    def random(self):
+        return Random(self.seed).random
+
+    def words(self):
+        """This drawing as a built-in value, for `with_words`."""
+        return "bursts", self.seed, self.chance, self.draws_holds
+
+    def actions(self, name, enabled, has_frames):
+        if self.random() >= (self.chance * ROUND if name in ROUNDS else self.chance):
+            return
+        working = [step for steps in actors_of(has_frames).values() if steps and self.random() < 0.5 for step in steps]
+        for _ in range(MOST_IN_BURST):
+            possible = [step for step in enabled() if step in working]
+            if not possible:
+                return
+            yield possible[int(self.random() * len(possible))]
+
+    def holds(self):
+        """Whether a default step of the EEPROM or the PHY is left out."""
+        return self.draws_holds and self.random() < 0.5
+
+
+def drawing_of(seed, draws_holds=False):
+    """What draws the schedule of this seed by default: bursts for odd seeds."""
+    return (Bursts if seed % 2 else Uniform)(seed, draws_holds=draws_holds)
+
+
 class Pct:
     """Probabilistic concurrency testing: the actor with the highest priority goes first. The seed decides.
 
@@ -135,7 +174,7 @@ class Pct:
 
 def with_words(kind, *words):
     """The drawing whose `words` are these."""
-    return {"uniform": Uniform, "pct": Pct}[kind](*words)
+    return {"uniform": Uniform, "bursts": Bursts, "pct": Pct}[kind](*words)
 
 
 def bound_of(depth, events, offers_frames=False):

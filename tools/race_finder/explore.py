@@ -7,7 +7,7 @@ from itertools import islice
 from typing import NamedTuple, Optional
 
 from race_finder.jobs import in_order
-from race_finder.schedule import HOLDS, PAIRS, Deviation, Place, keys_of
+from race_finder.schedule import ALL, ENGINES, HOLDS, PAIRS, Deviation, Place, keys_of
 
 # Before one access, deviations of different actors can be exchanged; so they are tried in this order of actors.
 ACTORS = {"hold eeprom": 0, "hold phy": 1, "txtake": 2, "txput": 2, "tx": 2, "rxdata": 3, "rxdone": 3, "rx": 3,
@@ -52,6 +52,12 @@ def actions_at(met, with_holds):
     """What can be played at a place."""
     pairs = (pair for pair, steps in PAIRS.items() if steps[0] in met.enabled)
     return [*met.enabled, *pairs, *(hold for hold in met.holds if with_holds and hold in HOLDS)]
+
+
+def whole_works(run, window=EVERYWHERE):
+    """For each place at which a step would do something: the schedule in which the adapter does all its work there."""
+    return [[Deviation(met.place, ALL, met.name)] for met in run.places
+            if window.has(met.place) and any(step in ENGINES for step in met.enabled)]
 
 
 def same_as_next(places, at, with_holds, window):
@@ -136,6 +142,7 @@ class Search:
         self.counts, self.answers, self.level = [], set(), Root()
         self.same = 0  # of the last size: how many aren't tried, as each is the same as another one
         self.failed = []  # for each size, the number of those that failed
+        self.whole = []  # the schedules in which the adapter does all its work at one place
         self.found = self.number = None  # the run of the first schedule that fails, and its number in its size
         self.is_complete = True  # whether all schedules of the sizes in `counts` were tried, up to the one that fails
 
@@ -168,9 +175,26 @@ class Search:
             self.keep(schedule, run)
             if not (is_last or self.is_over()) and len(run.met) == len(schedule):
                 following.add(tuple(run.met), children(run, self.with_holds, self.window))
+                if not schedule:
+                    self.whole = whole_works(run, self.window)
                 if not schedule and following.count(following.is_last) >= MANY:
                     self.target.prepare(run)
         self.level = following
+
+    def try_whole(self):
+        """Tries the schedules in which the adapter does all its work at one place, up to one that fails.
+
+        Returns their number, and the run of the one that fails, or None.
+        """
+        count = 0
+        with closing(self.played(self.whole, has_places=False)) as runs:
+            for _, run in runs:
+                count += 1
+                self.progress(f"all work at one place: {count} of {len(self.whole)} schedules")
+                self.answers.add(run.answers)
+                if run.fault:
+                    return count, run
+        return count, None
 
     def keep(self, schedule, run):
         """Keeps what is needed of a run."""

@@ -9,7 +9,7 @@ from race_finder.kept import REQUESTS, Kept
 from race_finder.names import DEFAULT_REGISTERS, access_of, number_of, words_of
 from race_finder.reached import PACE, bit_made, bit_played
 from race_finder.requests import LONGEST, Known, Met, Row, begins_round, is_interleave, kind_of, settles, text_of
-from race_finder.schedule import ARRIVE, HOLDS, ROUNDS, Deviation, Place, steps_of
+from race_finder.schedule import ALL, ARRIVE, HOLDS, PAIRS, ROUNDS, Deviation, Place, steps_of
 from race_finder.shadow import Shadow
 from race_finder.talk import DEFAULT, DEVIATION, IDLE, NOTHING, OUTCOMES, STEP, TEST, TOLD, Talk
 
@@ -20,6 +20,8 @@ OURS = ["save"], ["restore"]
 LOG, EVENTS = (["log", "on"], ["log", "off"]), (["events", "on"], ["events", "off"])
 WIRE = ["wire", "full"], ["wire", "free"]
 MADE = {name: bit_made(name) for name in ROUNDS}
+# The pairs that begin with a step
+WITH_PARTNERS = {steps[0]: pair for pair, steps in PAIRS.items()}
 MOST_KNOWN = 65536  # requests whose accesses are kept
 
 
@@ -240,7 +242,6 @@ class Play(Talk):
         self.set_log(has_log)
         self.flush()
 
-
     def before_round(self, name):
         """Plays what is due before the request with this name, which begins a round. No default step is played."""
         self.flush()
@@ -354,6 +355,7 @@ class Play(Talk):
             elif hold in held or self.draw and self.draw.holds():
                 self.flush()
                 self.met.append(Deviation(Place(self.round, self.access_number), hold, name))
+                self.reached |= bit_played(name)
                 if self.has_rows:
                     self.rows.append(Row(f"# {hold}", DEVIATION))
             else:
@@ -373,6 +375,9 @@ class Play(Talk):
     def play(self, deviation, name):
         """Plays the steps of a deviation before an access with this name, or an arrival. Records what did something."""
         self.flush()
+        if deviation.action == ALL:
+            self.play_all(deviation.place, name)
+            return
         steps = steps_of(deviation.action)
         if deviation.action == ARRIVE and self.offered:
             steps = (ARRIVE,)
@@ -387,6 +392,13 @@ class Play(Talk):
             self.reached |= bit_played(name)
         else:
             self.idle.append(deviation)
+
+    def play_all(self, place, name):
+        """Plays steps of the engines until none would do something: each step, or pair, is recorded as a deviation."""
+        count = None
+        while self.shadow.enabled() and len(self.met) != count:
+            step, count = self.shadow.enabled()[-1], len(self.met)
+            self.play(Deviation(place, WITH_PARTNERS.get(step, step), name), name)
 
     def unreached(self):
         """The deviations whose accesses the run didn't reach."""

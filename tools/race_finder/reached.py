@@ -69,6 +69,11 @@ def bit_played(name):
     return BITS["played", target_of(name)]
 
 
+def has_played(reached):
+    """Whether a deviation did something in a run."""
+    return any(reached & bit for (key, _), bit in BITS.items() if key == "played")
+
+
 def bits_of_causes(names):
     """The bits of causes that were read from ICR."""
     return sum(BITS["causes", name] for name in names)

@@ -13,6 +13,8 @@ ENGINES = ("txtake", "txput", "rxdata", "rxdone")
 PAIRS = {"tx": ("txtake", "txput"), "rx": ("rxdata", "rxdone")}
 # The oldest frame that the test has offered arrives.
 ARRIVE = "arrive"
+# The engines take steps until none would do something. A run has these steps as its deviations, so a text never has this.
+ALL = "all"
 # The default step of an actor is left out.
 HOLDS = {"hold eeprom": "eeprom", "hold phy": "phy"}
 # One step more of such an actor, after its default step. These aren't drawn and not explored.

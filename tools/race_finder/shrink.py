@@ -11,6 +11,7 @@ class Shrinker:
 
     def __init__(self, target):
         self.target, self.seen = target, {}
+        self.best = None  # the run that fails with the fewest deviations so far
 
     def fails(self, schedule):
         """The run of a schedule if it fails, or None."""
@@ -23,10 +24,17 @@ class Shrinker:
         new = {key: schedule for key, schedule in zip(keys[:known], schedules) if key not in self.seen}
         for key, (_, run) in zip(new, first_to_fail(self.target, new.values(), ahead=1, has_rows=True)):
             self.seen[key] = run if run.fault else None
+            if run.fault and (self.best is None or len(run.met) < len(self.best.met)):
+                self.best = run
         return next((self.seen[key] for key in keys if self.seen.get(key)), None)
 
     def again(self, schedule):
-        """The run of the empty schedule if it fails; or else that of the given one, or None if it passes."""
+        """The run of the empty schedule if it fails; or else that of the given one, or None if it passes.
+
+        Both are played, also if they were played before: a test may not be the same twice.
+        """
+        for known in (), schedule:
+            self.seen.pop(keys_of(known), None)
         return self.fails(()) or self.fails(schedule)
 
     def shrink(self, run):
@@ -36,7 +44,9 @@ class Shrinker:
             before = run.met
             run = self.later(self.one_by_one(run))
             if run.met == before:
-                return self.join(run)
+                run = self.join(run)
+            if run.met == before:
+                return run
 
     # In each run, `met` is the schedule without the deviations that did nothing. It leads to the same run.
 
@@ -83,17 +93,23 @@ class Shrinker:
         return moved if moved and len(moved.met) == len(run.met) else None
 
     def join(self, run):
-        """Joins two steps before one access to a pair, if no other deviation is needed between them."""
+        """Joins two steps to a pair, before the access of the first one or else of the second one, if this fails, too."""
         at = 0
         while at < len(run.met):
-            for pair, (first, second) in PAIRS.items():
-                place = run.met[at].place
-                other = next((n for n in range(at + 1, len(run.met)) if run.met[n].key() == (place, second)), None)
-                if run.met[at].action != first or other is None:
-                    continue
-                rest = [deviation for n, deviation in enumerate(run.met) if n > at and n != other]
-                joined = self.fails([*run.met[:at], Deviation(place, pair, run.met[at].before), *rest])
-                run = joined or run
-                break
+            run = self.joined(run, at) or run
             at += 1
         return run
+
+    def joined(self, run, at):
+        """The run in which a step and the next one that completes a pair are joined, or None."""
+        first = run.met[at]
+        for pair, steps in PAIRS.items():
+            other = next((n for n in range(at + 1, len(run.met)) if run.met[n].action == steps[1]), None)
+            if first.action != steps[0] or other is None:
+                continue
+            before, between, after = run.met[:at], run.met[at + 1:other], run.met[other + 1:]
+            last = run.met[other]
+            early = [*before, Deviation(first.place, pair, first.before), *between, *after]
+            late = [*before, *between, Deviation(last.place, pair, last.before), *after]
+            return self.fails(early) or (self.fails(late) if first.place != last.place else None)
+        return None
