@@ -46,7 +46,7 @@ void rattle_dealloc(void *block)
 
 int main(void)
 {
-    struct nic82540em nic = NIC82540EM_NONE;
+    struct nic82540em nic = NIC82540EM_NONE, copy = NIC82540EM_NONE;
     const struct nic82540em_options options = { 4096, 1, 48, { 2, 0, 0, 0, 0, 1 } };
     uint32_t value = 7;
     long refused;
@@ -64,15 +64,18 @@ int main(void)
         long before = live;
 
         left = refused;
-        if (nic82540em_peek(&nic, NIC_VET, &value))
+        if (nic82540em_copy(&nic, &copy))
             break;
-        CHECK(live == before && value == 7);
+        CHECK(live == before && !copy.held);
     }
-    CHECK(refused > 0 && value == 0x1234);
-    printf("peek: refused at each of %ld allocations\n", refused);
+    CHECK(refused > 0);
+    printf("copy: refused at each of %ld allocations\n", refused);
     left = 0;
+    CHECK(nic82540em_peek(&copy, NIC_VET, &value) && value == 0x1234);
     CHECK(nic82540em_read(&nic, NIC_VET) == 0x1234 && nic82540em_settle(&nic) == 0);
+    CHECK(nic82540em_possible(&nic) == 0 && nic82540em_digest(&nic) == nic82540em_digest(&copy));
     nic82540em_free(&nic);
+    nic82540em_free(&copy);
     CHECK(live == 0);
     puts("no block is left");
     return 0;

@@ -17,7 +17,7 @@ fn the_code_of_the_readme_of_access_names(rt: HostRuntime) -> Result<(), Fail> {
     // A receive ring of eight descriptors at address 0x100.
     machine.write(RDBAL, 0x100);
     machine.write(RDLEN, 128);
-    let target = memory_target(&mut machine, 0x118);
+    let target = memory_target(&machine, 0x118);
     let status = Target::Descriptor {
         ring: Engine::Receive,
         index: 1,

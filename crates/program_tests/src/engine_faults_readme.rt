@@ -27,6 +27,6 @@ fn the_code_of_the_readme_of_engine_faults(rt: HostRuntime) -> Result<(), Fail> 
         index: 0,
         reason: Reason::Eop,
     };
-    assert_eq!(rt; fault_of(&mut machine, StepKind::TxTake), Some(fault));
+    assert_eq!(rt; fault_of(&machine, StepKind::TxTake), Some(fault));
     Ok(())
 }
