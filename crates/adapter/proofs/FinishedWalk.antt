@@ -15,7 +15,8 @@ use Rattle.adapter.specs.JoinedPieces.{AreShort, alone}
 use Rattle.adapter.specs.FinishedSlots.{NamesMemory, done_from, pieces_from}
 use Rattle.adapter.proofs.PiecesInTurn.{begun-append, first-short, frames-append, later-short}
 
-pub is-done-status : (memory : List ℕ) (descriptor : ℕ) → is_set (status_bits (descriptor_at memory descriptor).status) dd ≡ is_done memory descriptor
+pub is-done-status : (memory : List ℕ) (descriptor : ℕ)
+    → is_set (status_bits (descriptor_at memory descriptor).status) dd ≡ is_done memory descriptor
 unfolding rx_desc_of
 is-done-status memory descriptor = refl
 
@@ -49,7 +50,8 @@ pub record Walks (memory : List ℕ) (ring : Ring) (place left : ℕ) (begun : L
   pub later : AreShort (begun_from begun (piece ∷ [])) (pieces_from memory ring (next_of ring place) (left - 1))
   pub rest : begun_from (begun_from begun (piece ∷ [])) (pieces_from memory ring (next_of ring place) (left - 1))
       ≡ begun_from begun (pieces_from memory ring place left)
-  pub frames : frames_from begun (piece ∷ []) ++ frames_from (begun_from begun (piece ∷ [])) (pieces_from memory ring (next_of ring place) (left - 1))
+  pub frames : frames_from begun (piece ∷ [])
+      ++ frames_from (begun_from begun (piece ∷ [])) (pieces_from memory ring (next_of ring place) (left - 1))
       ≡ frames_from begun (pieces_from memory ring place left)
 
 pub walks : (memory : List ℕ) (ring : Ring) (place left : ℕ) (begun : List ℕ) → 0 < left

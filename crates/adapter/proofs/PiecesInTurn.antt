@@ -21,7 +21,9 @@ first-short begun (Part bytes) later short = record {
   rest = begun-short (begun ++ bytes) later (record { frames = short.frames; rest = short.rest });
 }
 first-short begun (Last bytes) later short = record {
-  frames = λ k d below. let first : 0 ≡ k = omega (arith, below) in subst (λ (i : ℕ). length (slice_index_or ((begun ++ bytes) ∷ []) i d) ≤ 1518) first (short.frames 0 d (omega arith));
+  frames = λ k d below.
+      let first : 0 ≡ k = omega (arith, below) in
+      subst (λ (i : ℕ). length (slice_index_or ((begun ++ bytes) ∷ []) i d) ≤ 1518) first (short.frames 0 d (omega arith));
   rest = omega arith;
 }
 
@@ -34,7 +36,8 @@ later-short begun (Last bytes) later short = record {
 }
 
 -- the frames and the rest of two lists
-pub frames-append : (begun : List ℕ) (a b : List Piece) → frames_from begun (a ++ b) ≡ frames_from begun a ++ frames_from (begun_from begun a) b
+pub frames-append : (begun : List ℕ) (a b : List Piece)
+    → frames_from begun (a ++ b) ≡ frames_from begun a ++ frames_from (begun_from begun a) b
 frames-append begun [] b = refl
 frames-append begun (Part bytes ∷ later) b = frames-append (begun ++ bytes) later b
 frames-append begun (Last bytes ∷ later) b = ap (λ (l : List (List ℕ)). (begun ++ bytes) ∷ l) (frames-append [] later b)

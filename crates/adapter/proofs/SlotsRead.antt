@@ -87,7 +87,8 @@ with-work oldest world ring begun later bytes work old before after reads is has
     ∙ append_assoc old finished rest
     ∙ ap (λ (frames : List (List ℕ)). old ++ frames) (sym (all-in-slots oldest world))
 
-pub work-room : (oldest : ℕ) (world : World) (ring : Ring) (begun later bytes : List ℕ) (work : Work) (old before : List (List ℕ)) (most : ℕ)
+pub work-room : (oldest : ℕ) (world : World) (ring : Ring) (begun later bytes : List ℕ) (work : Work) (old before : List (List ℕ))
+    (most : ℕ)
     → ReadsSlots world ring begun → later ≡ begun_from begun (finished_in world.memory ring oldest)
     → world.adapter.receiver.work ≡ Some work → bytes ≡ bytes_of_work world.memory work
     → before ≡ old ++ frames_from begun (finished_in world.memory ring oldest) → work.ends ≡ true

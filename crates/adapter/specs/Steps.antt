@@ -55,7 +55,8 @@ Answers PhyTick wire_free memory state answer = answer ≡ ticked (mdi.has_work 
 -- Whether a step of this kind has something to do: if and only if not, it answers `Nothing`, whatever is in memory and on the wire.
 abbrev pub TellsWork : StepKind → Bool → AdapterState → Type 0
 TellsWork kind works state =
-    (wire_free : Bool) (memory : List ℕ) (answer : FrameOutcome) → Answers kind wire_free memory state answer → IsTrue works ↔ (answer ≢ Nothing)
+    (wire_free : Bool) (memory : List ℕ) (answer : FrameOutcome) → Answers kind wire_free memory state answer
+    → IsTrue works ↔ (answer ≢ Nothing)
 
 -- the adapter after a step with this answer on this memory
 abbrev pub after_step : StepKind → FrameOutcome → List ℕ → AdapterState → AdapterState

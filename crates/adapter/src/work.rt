@@ -12,7 +12,7 @@ use tx_engine::is_idle;
 
 impl Adapter {
     /// Whether a step of this kind has something to do: if and only if not, its outcome is `Nothing`. This depends
-    /// neither on the memory nor on the wire: a step [`TxPut`](StepKind::TxPut) has something to do on a full wire, too.
+    /// neither on the memory nor on the wire: [`TxPut`](StepKind::TxPut) has something to do on a full wire, too.
     pub fn has_work(&self, kind: StepKind) -> bool
         ensures work { TellsWork kind result self.now }
     {

@@ -1,6 +1,8 @@
 // An adapter and its host's memory.
 
-ghost use Rattle.std.specs.Prelude.{◌≡◌, ◌≤◌, ◌↔◌, [], length, not, IfNone, IfSome, IsNone};
+ghost use Rattle.std.specs.Prelude.{◌≡◌, ◌≤◌, ◌↔◌, ◌+◌, ◌++◌, [], length, not, IfNone, IfSome, IsNone, vec_capacity};
+ghost use Rattle.adapter.specs.HostFrames.{frames_held, frames_to_send};
+ghost use Rattle.adapter.specs.Pending.{CanReadHeld, CanReadSending};
 ghost use Rattle.adapter.specs.Outcomes.{framed, oldest};
 ghost use Rattle.adapter.specs.Registers.{answer_at};
 ghost use Rattle.adapter.specs.State.{IsAdapter};
@@ -16,6 +18,7 @@ ghost use Rattle.descriptors.specs.Frames.{longest_frame};
 ghost use Rattle.dma_memory.specs.HostMemory.{bytes_at, LiesIn};
 
 use adapter::{Adapter, Fate, FrameCounts, Outcome, StepKind, WaitingFrames};
+use descriptors::Frame;
 use dma_memory::HostMemory;
 use std::hash::{DefaultHasher, Hasher};
 use std::marker::Model;
@@ -197,6 +200,28 @@ impl Machine {
         ensures transmit { result.transmit ≡ length self.now.world.adapter.transmitter.buffer }
     {
         self.adapter.waiting()
+    }
+
+    /// The adapter.
+    pub fn adapter(&self) -> &Adapter
+        ensures { result.now ≡ self.now.world.adapter }
+    {
+        &self.adapter
+    }
+
+    /// Appends the frames that are to be sent to `sending`, and those that are held to `holding`. See
+    /// [`Adapter::pending`].
+    pub fn pending(&self, oldest: u16, sending: &mut Vec<Frame>, holding: &mut Vec<Frame>)
+        requires sending { CanReadSending self.now.world }
+        requires holding { CanReadHeld oldest self.now.world }
+        requires sending_room { length sending.old.items + length (frames_to_send self.now.world)
+            ≤ vec_capacity sending.old }
+        requires holding_room { length holding.old.items + length (frames_held oldest self.now.world)
+            ≤ vec_capacity holding.old }
+        ensures sending { sending.new.items ≡ sending.old.items ++ frames_to_send self.now.world }
+        ensures holding { holding.new.items ≡ holding.old.items ++ frames_held oldest self.now.world }
+    {
+        self.adapter.pending(&self.memory, oldest, sending, holding);
     }
 
     /// A digest of the adapter and its memory, by SipHash-1-3. Machines that agree in both have equal digests, and

@@ -32,8 +32,11 @@ impl Model for Stations {
 }
 
 impl Stations {
-    ghost use Rattle.std.specs.Prelude.{◌≡◌, ◌≢◌, ◌<◌, ◌↔◌, ◌∷◌, ◌++◌, ◌≤◌, [], length, true, IfOk, IsTrue, OnErr};
+    ghost use Rattle.std.specs.Prelude.{◌≡◌, ◌≢◌, ◌<◌, ◌↔◌, ◌∷◌, ◌++◌, ◌+◌, ◌≤◌, [], length, true};
+    ghost use Rattle.std.specs.Prelude.{IfOk, IsTrue, OnErr, vec_capacity};
+    ghost use Rattle.adapter.specs.HostFrames.{frames_held, frames_to_send};
     ghost use Rattle.adapter.specs.Outcomes.{framed};
+    ghost use Rattle.adapter.specs.Pending.{CanReadHeld, CanReadSending};
     ghost use Rattle.adapter.specs.Registers.{answer_at};
     ghost use Rattle.adapter.specs.State.{IsAdapter};
     ghost use Rattle.adapter.specs.declared.step.StepKind.TheVariants.{TxPut};
@@ -103,6 +106,28 @@ impl Stations {
         ensures transmitted { result.transmitted ≡ (world_at self.now host).adapter.transmitted_packets }
     {
         self.machine(host).counts()
+    }
+
+    /// Appends the frames that a host has to send to `sending`, and those that it holds to `holding`. See
+    /// [`Adapter::pending`](adapter::Adapter::pending).
+    pub fn pending(
+        &self,
+        host: usize,
+        oldest: u16,
+        sending: &mut Vec<Frame>,
+        holding: &mut Vec<Frame>,
+    )
+        requires there { host < length self.now }
+        requires sending { CanReadSending (world_at self.now host) }
+        requires holding { CanReadHeld oldest (world_at self.now host) }
+        requires sending_room { length sending.old.items + length (frames_to_send (world_at self.now host))
+            ≤ vec_capacity sending.old }
+        requires holding_room { length holding.old.items + length (frames_held oldest (world_at self.now host))
+            ≤ vec_capacity holding.old }
+        ensures sending { sending.new.items ≡ sending.old.items ++ frames_to_send (world_at self.now host) }
+        ensures holding { holding.new.items ≡ holding.old.items ++ frames_held oldest (world_at self.now host) }
+    {
+        self.machine(host).pending(oldest, sending, holding);
     }
 
     /// A host's adapter takes a step by itself. No other station and no wire changes. The step isn't TxPut, so it

@@ -125,7 +125,9 @@ loop-left-preserved c =
           (subst (λ (list : List ℕ). AreShort list later) (sym rest) w.later);
       begun = ap (λ (n : ℕ). begun_from c.append_piece.new.begun.items (pieces_from memory ring n left)) next
           ∙ ap (λ (list : List ℕ). begun_from list later) rest ∙ w.rest ∙ i.begun;
-      frames = ap (λ (n : ℕ). c.append_piece.new.frames.items ++ frames_from c.append_piece.new.begun.items (pieces_from memory ring n left)) next
+      frames =
+          ap (λ (n : ℕ). c.append_piece.new.frames.items ++ frames_from c.append_piece.new.begun.items (pieces_from memory ring n left))
+          next
           ∙ ap (λ (list : List ℕ). c.append_piece.new.frames.items ++ frames_from list later) rest
           ∙ ap (λ (list : List (List ℕ)). list ++ frames_from (begun_from begun (piece ∷ [])) later) more
           ∙ append_assoc l.frames.items (frames_from begun (piece ∷ [])) (frames_from (begun_from begun (piece ∷ [])) later)

@@ -22,7 +22,9 @@ loop-left-init c =
     record {
       place = omega (arith, c.if-from-count.false, c.from.ensures, c.count-count.ensures);
       lie = subst (All (λ slot. CanBeCopied memory (address_of ring slot))) (sym slots) c.requires.lie;
-      frames = ap (λ (list : List ℕ). c.args.frames.now.items ++ map (λ (slot : ℕ). frame_at c.args.pad memory (address_of ring slot)) list) slots;
+      frames =
+          ap (λ (list : List ℕ). c.args.frames.now.items ++ map (λ (slot : ℕ). frame_at c.args.pad memory (address_of ring slot)) list)
+          slots;
       room = omega (arith, count, long, c.requires.room);
       capacity = omega arith;
     }
@@ -47,7 +49,8 @@ loop-left-preserved c =
     let split = places-next ring l.place l.left c.loop-left-test.true in
     let all = subst (All (λ slot. CanBeCopied memory (address_of ring slot))) split i.lie in
     let frame = frame_at c.args.pad memory (address_of ring l.place) in
-    let later = map (λ (slot : ℕ). frame_at c.args.pad memory (address_of ring slot)) (slots_from (count_of ring) (next_of ring l.place) left) in
+    let later =
+    map (λ (slot : ℕ). frame_at c.args.pad memory (address_of ring slot)) (slots_from (count_of ring) (next_of ring l.place) left) in
     let more : c.append_padded.new.frames.items ≡ l.frames.items ++ frame ∷ [] =
     c.append_padded.ensures.frames
     ∙ ap (λ (bytes : List ℕ). l.frames.items ++ as_sent c.args.pad bytes ∷ []) c.in-Some.ensures.bytes in
@@ -57,7 +60,9 @@ loop-left-preserved c =
       place = subst (λ (n : ℕ). n < count_of ring) (sym next) (next-below (count_of ring) l.place i.place);
       lie = subst (λ (n : ℕ). All (λ slot. CanBeCopied memory (address_of ring slot)) (slots_from (count_of ring) n left)) (sym next)
           (λ k d below. all (suc k) d (omega (arith, below)));
-      frames = ap (λ (n : ℕ). c.append_padded.new.frames.items ++ map (λ (slot : ℕ). frame_at c.args.pad memory (address_of ring slot)) (slots_from (count_of ring) n left)) next
+      frames =
+          ap (λ (n : ℕ). c.append_padded.new.frames.items
+          ++ map (λ (slot : ℕ). frame_at c.args.pad memory (address_of ring slot)) (slots_from (count_of ring) n left)) next
           ∙ ap (λ (list : List (List ℕ)). list ++ later) more
           ∙ append_assoc l.frames.items (frame ∷ []) later
           ∙ ap (λ (list : List ℕ). l.frames.items ++ map (λ (slot : ℕ). frame_at c.args.pad memory (address_of ring slot)) list) (sym split)

@@ -8,7 +8,8 @@ abbrev pub invariant-loop-left : goal.invariant-loop-left
 invariant-loop-left l = record {
   place : l.place < count_of l.ring;
   lie : All (λ slot. CanBeCopied l.memory (address_of l.ring slot)) (slots_from (count_of l.ring) l.place l.left);
-  frames : l.frames.items ++ map (λ (slot : ℕ). frame_at l.pad l.memory (address_of l.ring slot)) (slots_from (count_of l.ring) l.place l.left)
+  frames : l.frames.items
+      ++ map (λ (slot : ℕ). frame_at l.pad l.memory (address_of l.ring slot)) (slots_from (count_of l.ring) l.place l.left)
       ≡ l.fn.frames.items ++ queued_in l.pad l.memory l.ring;
   room : length l.frames.items + l.left ≤ vec_capacity l.frames;
   capacity : vec_capacity l.fn.frames ≤ vec_capacity l.frames;
