@@ -12,7 +12,6 @@ use Rattle.bring_up.specs.FilterSetting.{SetsFilter}
 use Rattle.bring_up.specs.RingRegisters.{receive_control, receive_writes, ring_writes, transmit_writes}
 use Rattle.bring_up.specs.SettingSteps.{Asks, IsNotOfCauses, RecordsNone, RecordsNoCause, Sets}
 use Rattle.bring_up.specs.WrittenRegisters.{allocation_writes, link_writes, mask_writes, reset_writes, write_at}
-use Rattle.bring_up.specs.declared.config.Config.{Config}
 use Rattle.bring_up.proofs.WritesOf.{filter-of, of-both, of-one, ring-of}
 
 -- Two intervals.
@@ -56,9 +55,9 @@ pub link-causes : All RecordsNone link_writes
 unfolding register_at array_register_at
 link-causes = of-one IsNotOfCauses 0x0000 0x60 tt
 
-pub filter-causes : {B : Type 0} (bus : Ghosts B) (config : Config) (address : List ℕ) (old new : B)
-    → (filter : SetsFilter bus config address old new) → RecordsNoCause filter.sets.past
-filter-causes bus config address old new filter =
+pub filter-causes : {B : Type 0} (bus : Ghosts B) (named : List (List ℕ)) (named_vlans address : List ℕ) (old new : B)
+    → (filter : SetsFilter bus named named_vlans address old new) → RecordsNoCause filter.sets.past
+filter-causes bus named named_vlans address old new filter =
     sets-causes bus old new _ filter.sets
     (filter-of IsNotOfCauses (λ n. tt) (λ n. tt) (λ n. tt) (λ n. tt) filter.groups filter.vlans address
     filter.has_groups.words filter.has_vlans.words)

@@ -8,10 +8,9 @@ use Rattle.rx_engine.specs.Registers.{FilterRegisters}
 use Rattle.adapter.specs.Registers.{adapter_at_reset}
 use Rattle.adapter.specs.State.{AdapterState}
 use Rattle.adapter.specs.Table.{address_high_at_reset, address_low_at_reset}
-use Rattle.bus.specs.Settings.{Settings, settings_after_all, settings_of}
+use Rattle.bus.specs.Settings.{Settings, Write, settings_after_all, settings_of}
 use Rattle.bring_up.specs.Configuration.{CanBeHad}
 use Rattle.bring_up.specs.ConfiguredAdapters.{AreWords, IsConfigured, WritesConfigure, all_writes, names_vlans, writes_before_rings}
-use Rattle.bring_up.specs.ConfiguredAdapters.{writes_from_rings}
 use Rattle.bring_up.specs.FilterTables.{address_writes, table_writes}
 use Rattle.bring_up.specs.RingRegisters.{receive_control, receive_writes, ring_writes, transmit_writes}
 use Rattle.bring_up.specs.WrittenRegisters.{allocation_writes, link_writes, mask_writes, reset_writes, write_at}
@@ -75,68 +74,92 @@ before-rings config address groups vlans size settings had is groups_whole vlans
     groups-join reset_writes (allocation_writes config.rxa ++ (link_writes ++ tables)) settings (settings_of start) (settings_of end)
     (reset-sets settings) rest
 
+-- the writes from those of the rings on, if this many receive slots are offered
+abbrev pub writes_offering : Config → (slots : ℕ) → List Write
+writes_offering config slots =
+    ring_writes 0x2800 0 (16 * config.rx)
+    ++ (write_at 0x2818 slots ∷ []
+    ++ (receive_writes config.promiscuous (names_vlans config.vlans)
+    ++ (ring_writes 0x3800 (16 * config.rx) (16 * config.tx)
+    ++ (transmit_writes
+    ++ mask_writes))))
+
 -- an adapter when all is written
-abbrev adapter_configured : Config → (address groups vlans image : List ℕ) → Link → AdapterState
-adapter_configured config address groups vlans image link =
+abbrev pub adapter_configured : Config → (address groups vlans image : List ℕ) → Link → (slots : ℕ) → AdapterState
+adapter_configured config address groups vlans image link slots =
     let before = adapter_before_rings config address groups vlans image link in
     record before {
       causes = record { recorded = 0; mask = 0xD1 };
       filter = record before.filter { rctl = receive_control config.promiscuous (names_vlans config.vlans) };
       transmit_control = 0x000400FA;
-      receive_ring = record (ring_at 0 (16 * config.rx)) { tail = config.rx - 1 };
+      receive_ring = record (ring_at 0 (16 * config.rx)) { tail = slots };
       transmit_ring = ring_at (16 * config.rx) (16 * config.tx);
     }
 
-from-rings : (config : Config) (address groups vlans image : List ℕ) (link : Link) (size : ℕ) → CanBeHad config size
-    → SetTo (writes_from_rings config) (adapter_before_rings config address groups vlans image link)
-    (adapter_configured config address groups vlans image link)
-from-rings config address groups vlans image link size had =
+from-rings : (config : Config) (address groups vlans image : List ℕ) (link : Link) (size slots : ℕ) → CanBeHad config size
+    → slots < 65536
+    → SetTo (writes_offering config slots) (adapter_before_rings config address groups vlans image link)
+    (adapter_configured config address groups vlans image link slots)
+from-rings config address groups vlans image link size slots had tail_fits =
     let counts = had.counts in
     let rx_most = counts.rx.most in
     let near : config.rx < 2 ^ 32 = omega arith in
-    let tail_fits : config.rx - 1 < 65536 = omega arith in
     let tagged = names_vlans config.vlans in
     let receive_part = ring_writes 0x2800 0 (16 * config.rx) in
     let transmit_part = ring_writes 0x3800 (16 * config.rx) (16 * config.tx) in
-    let tail_part = write_at 0x2818 (config.rx - 1) ∷ [] in
+    let tail_part = write_at 0x2818 slots ∷ [] in
     let passing = receive_writes config.promiscuous tagged in
     let sending = transmit_part ++ (transmit_writes ++ mask_writes) in
     let start : AdapterState = adapter_before_rings config address groups vlans image link in
     let ringed : AdapterState = record start { receive_ring = ring_at 0 (16 * config.rx) } in
-    let tailed : AdapterState = record ringed { receive_ring = record ringed.receive_ring { tail = config.rx - 1 } } in
+    let tailed : AdapterState = record ringed { receive_ring = record ringed.receive_ring { tail = slots } } in
     let passes : AdapterState = record tailed { filter = record tailed.filter { rctl = receive_control config.promiscuous tagged } } in
     let both : AdapterState = record passes { transmit_ring = ring_at (16 * config.rx) (16 * config.tx) } in
     let sends : AdapterState = record both { transmit_control = 0x000400FA } in
-    let end : AdapterState = adapter_configured config address groups vlans image link in
+    let end : AdapterState = adapter_configured config address groups vlans image link slots in
     let receive_fits = ring-fits 0 config.rx (omega arith) counts.rx in
     let transmit_fits = ring-fits config.rx config.tx near counts.tx in
     set-join receive_part (tail_part ++ (passing ++ sending)) start ringed end
     (receive-ring-sets 0 (16 * config.rx) start receive_fits)
-    (set-join tail_part (passing ++ sending) ringed tailed end (receive-tail-sets (config.rx - 1) ringed tail_fits)
+    (set-join tail_part (passing ++ sending) ringed tailed end (receive-tail-sets slots ringed tail_fits)
     (set-join passing sending tailed passes end (receive-sets config.promiscuous tagged tailed)
     (set-join transmit_part (transmit_writes ++ mask_writes) passes both end
     (transmit-ring-sets (16 * config.rx) (16 * config.tx) passes transmit_fits)
     (set-join transmit_writes mask_writes both sends end (transmit-sets both) (mask-sets sends refl)))))
 
+pub all-set : (config : Config) (address groups vlans : List ℕ) (size slots : ℕ) (settings : Settings)
+    → CanBeHad config size → slots < 65536 → IsAddress address → length groups ≡ 128 → length vlans ≡ 128 → AreWords groups → AreWords vlans
+    → settings_after_all (writes_before_rings config address groups vlans ++ writes_offering config slots) settings
+    ≡ settings_of (adapter_configured config address groups vlans settings.image settings.link slots)
+all-set config address groups vlans size slots settings had fits is groups_whole vlans_whole groups_are vlans_are =
+    groups-join (writes_before_rings config address groups vlans) (writes_offering config slots) settings
+    (settings_of (adapter_before_rings config address groups vlans settings.image settings.link))
+    (settings_of (adapter_configured config address groups vlans settings.image settings.link slots))
+    (before-rings config address groups vlans size settings had is groups_whole vlans_whole groups_are vlans_are)
+    (from-rings config address groups vlans settings.image settings.link size slots had fits)
+
 pub writes-configure : WritesConfigure
 writes-configure config address groups vlans size settings had is groups_are vlans_are has_groups has_vlans =
     let counts = had.counts in
-    let middle = settings_of (adapter_before_rings config address groups vlans settings.image settings.link) in
-    let after = settings_of (adapter_configured config address groups vlans settings.image settings.link) in
-    let all : settings_after_all (all_writes config address groups vlans) settings ≡ after =
-    groups-join (writes_before_rings config address groups vlans) (writes_from_rings config) settings middle after
-    (before-rings config address groups vlans size settings had is has_groups.words has_vlans.words groups_are vlans_are)
-    (from-rings config address groups vlans settings.image settings.link size had) in
+    let most = counts.rx.most in
+    let all : settings_after_all (all_writes config address groups vlans) settings
+    ≡ settings_of (adapter_configured config address groups vlans settings.image settings.link (config.rx - 1)) =
+    all-set config address groups vlans size (config.rx - 1) settings had (omega arith) is has_groups.words has_vlans.words groups_are
+    vlans_are in
     subst (λ (s : Settings). IsConfigured config address s × (s.image ≡ settings.image)) (sym all) (
       record {
         device_control = refl;
         filter = record {
-          receive_control_is = refl;
+          setup = record {
+            receive_control_is = refl;
+            vlans = has_vlans;
+            words = vlans_are;
+            address_low = refl;
+            address_high = refl;
+            vlan_type = refl;
+          };
           groups = has_groups;
-          vlans = has_vlans;
-          address_low = refl;
-          address_high = refl;
-          vlan_type = refl;
+          group_words = groups_are;
         };
         transmit_control = refl;
         allocation = refl;

@@ -184,7 +184,7 @@ held-none world rest first =
     ∙ ap (held world.memory []) rest.receiver
 
 pub drivers_begin_at_rest : DriversBeginAtRest
-drivers_begin_at_rest counts groups pool world allowed owner lies has =
+drivers_begin_at_rest counts setup groups pool world allowed owner lies has =
     let rest = has.rest in
     let idle = rest_is_idle world rest in
     let behind = begins counts in
@@ -193,7 +193,7 @@ drivers_begin_at_rest counts groups pool world allowed owner lies has =
     let transmits = has.transmits in
     let off : ¬ (HasBit world.adapter.filter.rctl rctl_en) = subst (λ (control : ℕ). ¬ (HasBit control 1)) (sym rest.control)
     (HasBit-zero 1) in
-    let begun : HasBegun false counts groups pool world = record {
+    let begun : HasBegun false counts setup groups pool world = record {
       driver_is = record {
         oldest_slot = omega (arith, allowed.rx.least);
         room = omega (arith, allowed.rx.least);
@@ -216,7 +216,7 @@ drivers_begin_at_rest counts groups pool world allowed owner lies has =
     } in
     record {
       begun = begun;
-      ready = drivers_begin false counts groups pool world begun;
+      ready = drivers_begin false counts setup groups pool world begun;
       quiet = record {
         off = off;
         none_held = held-none world rest has.knows.last;
@@ -229,7 +229,7 @@ pub drivers_begin_again : DriversBeginAgain
 drivers_begin_again driver pool world allowed rests has =
     let counts = driver.layout in
     let again = reset_driver pool driver in
-    let new = drivers_begin_at_rest counts driver.groups (owners again) world allowed rests.one_owner rests.lies has in
+    let new = drivers_begin_at_rest counts driver.setup driver.groups (owners again) world allowed rests.one_owner rests.lies has in
     let base = new.ready in (
       record {
         driver_is = record {

@@ -10,6 +10,8 @@ use Rattle.rx_engine.specs.NumberTables.{HasNumbers, numbers_of_groups}
 use Rattle.rx_engine.specs.Registers.{FilterRegisters}
 use Rattle.adapter.specs.declared.ring.RingRegisters.{RingRegisters}
 use Rattle.adapter.specs.Rings.{ring_of}
+use Rattle.adapter.specs.State.{AdapterState}
+use Rattle.driver_law.specs.DriverState.{DriverSetup}
 use Rattle.descriptors.specs.Ring.{count_of}
 use Rattle.bus.specs.Link.{LeavesPhy}
 use Rattle.bus.specs.Settings.{Settings, Write, settings_after_all}
@@ -27,6 +29,16 @@ use Rattle.rx_engine.specs.declared.filter.TheConstants.{EXACT_ADDRESSES, TABLE_
 abbrev pub names_vlans : Option (ArrayVec ℕ MOST_VLANS (Unit {0})) → Bool
 names_vlans None = false
 names_vlans (Some vlans) = true
+
+-- what a driver keeps of a configuration, with its adapter's address
+abbrev pub setup_of : Config → (address : List ℕ) → DriverSetup
+setup_of config address = record {
+  rxa = config.rxa;
+  promiscuous = config.promiscuous;
+  by_vlan = names_vlans config.vlans;
+  vlans = vlans_of config.vlans;
+  address = address;
+}
 
 -- each is a word of 32 bits
 abbrev pub AreWords : List ℕ → Type 0
@@ -60,17 +72,30 @@ all_writes config address groups vlans = writes_before_rings config address grou
 
 -- The values of the registers after initialization.
 
--- RCTL, the tables and the exact addresses of the receive filter
-pub record FilterIsConfigured (config : Config) (address : List ℕ) (filter : FilterRegisters) : Type 0 where
-  pub receive_control_is : filter.rctl ≡ receive_control config.promiscuous (names_vlans config.vlans)
-  -- MTA and VFTA have the configured groups and VLANs.
-  pub groups : HasNumbers filter.mta (numbers_of_groups config.groups.items)
-  pub vlans : HasNumbers filter.vfta (vlans_of config.vlans)
+-- RCTL, VFTA and the exact addresses of the receive filter, which don't change after initialization
+pub record FilterHasSetup (setup : DriverSetup) (filter : FilterRegisters) : Type 0 where
+  pub receive_control_is : filter.rctl ≡ receive_control setup.promiscuous setup.by_vlan
+  -- VFTA has the VLANs.
+  pub vlans : HasNumbers filter.vfta setup.vlans
+  pub words : AreWords filter.vfta
   -- The first exact address is this one, and valid; the other 15 entries are 0.
-  pub address_low : filter.ral ≡ low_word address ∷ replicate (EXACT_ADDRESSES - 1) 0
-  pub address_high : filter.rah ≡ (high_word address + alone rah_av) ∷ replicate (EXACT_ADDRESSES - 1) 0
+  pub address_low : filter.ral ≡ low_word setup.address ∷ replicate (EXACT_ADDRESSES - 1) 0
+  pub address_high : filter.rah ≡ (high_word setup.address + alone rah_av) ∷ replicate (EXACT_ADDRESSES - 1) 0
   -- VET
   pub vlan_type : filter.vet ≡ VLAN_TYPE
+
+-- An adapter has what its driver keeps of a configuration. Of the filter, this leaves MTA alone open.
+pub record HasSetup (setup : DriverSetup) (adapter : AdapterState) : Type 0 where
+  pub filter : FilterHasSetup setup adapter.filter
+  -- PBA.RXA
+  pub allocation : adapter.receive_kilobytes ≡ setup.rxa
+
+-- the receive filter
+pub record FilterIsConfigured (config : Config) (address : List ℕ) (filter : FilterRegisters) : Type 0 where
+  pub setup : FilterHasSetup (setup_of config address) filter
+  -- MTA has the configured groups.
+  pub groups : HasNumbers filter.mta (numbers_of_groups config.groups.items)
+  pub group_words : AreWords filter.mta
 
 -- the registers of a ring
 pub record RingIsConfigured (base count tail : ℕ) (registers : RingRegisters) : Type 0 where
@@ -102,6 +127,12 @@ WritesConfigure =
     → HasNumbers groups (numbers_of_groups config.groups.items) → HasNumbers vlans (vlans_of config.vlans)
     → IsConfigured config address (settings_after_all (all_writes config address groups vlans) settings)
     × ((settings_after_all (all_writes config address groups vlans) settings).image ≡ settings.image)
+
+-- Two adapters with the same setup differ in no register of the filter but MTA.
+abbrev pub SetupsAgree : Type 0
+SetupsAgree =
+    (setup : DriverSetup) (a b : AdapterState) → HasSetup setup a → HasSetup setup b
+    → (b.filter ≡ record a.filter { mta = b.filter.mta }) × (b.receive_kilobytes ≡ a.receive_kilobytes)
 
 -- If the tables have 128 words, no write before those of the rings is of RCTL or of a ring's register.
 abbrev pub RingsComeLast : Type 0

@@ -1,25 +1,23 @@
--- The receive filter of a configuration is set up.
+-- The receive filter is set up.
 use Rattle.std.specs.Prelude.{◌≡◌, ◌++◌, ℕ, List}
 use Rattle.adapter.specs.declared.offsets.TheConstants.{MTA, VFTA}
 use Rattle.rx_engine.specs.Addresses.{IsAddress}
 use Rattle.rx_engine.specs.NumberTables.{HasNumbers, numbers_of_groups}
 use Rattle.bus.specs.declared.bus.Bus.{Ghosts}
-use Rattle.bring_up.specs.Configuration.{vlans_of}
 use Rattle.bring_up.specs.ConfiguredAdapters.{AreWords}
 use Rattle.bring_up.specs.DriverSteps.{accesses_of}
 use Rattle.bring_up.specs.FilterTables.{address_writes, table_writes}
 use Rattle.bring_up.specs.SettingSteps.{Sets}
-use Rattle.bring_up.specs.declared.config.Config.{Config}
 
--- The tables are written with the bits of the configured groups and VLANs, and then the addresses. There is no other access.
-pub record SetsFilter {B : Type 0} (bus : Ghosts B) (config : Config) (address : List ℕ) (old new : B) : Type 0 where
+-- The tables are written with the bits of these groups and VLANs, and then the addresses. There is no other access.
+pub record SetsFilter {B : Type 0} (bus : Ghosts B) (named : List (List ℕ)) (named_vlans address : List ℕ) (old new : B) : Type 0 where
   -- the words of both tables
   pub groups : List ℕ
   pub vlans : List ℕ
   pub sets : Sets bus (table_writes MTA groups ++ (table_writes VFTA vlans ++ address_writes address)) old new
   pub only : sets.past.accesses ≡ accesses_of (table_writes MTA groups ++ (table_writes VFTA vlans ++ address_writes address))
-  pub has_groups : HasNumbers groups (numbers_of_groups config.groups.items)
-  pub has_vlans : HasNumbers vlans (vlans_of config.vlans)
+  pub has_groups : HasNumbers groups (numbers_of_groups named)
+  pub has_vlans : HasNumbers vlans named_vlans
   pub groups_are : AreWords groups
   pub vlans_are : AreWords vlans
   pub address_is : IsAddress address

@@ -9,7 +9,7 @@ use Rattle.bus.specs.AdaptersAtRest.{IsAtRest, NoFrame}
 use Rattle.bus.specs.Settings.{Write}
 use Rattle.bus.specs.declared.bus.Bus.{Ghosts}
 use Rattle.driver_law.specs.Beginnings.{HasBegun, new_driver}
-use Rattle.driver_law.specs.DriverState.{DriverState}
+use Rattle.driver_law.specs.DriverState.{DriverSetup, DriverState}
 use Rattle.driver_law.specs.ReadyDrivers.{ReadyWith}
 use Rattle.driver_law.specs.Resets.{RestsWith, reset_driver}
 use Rattle.bring_up.specs.DriverSteps.{accesses_of}
@@ -39,17 +39,17 @@ pub record SetsAtRest {B : Type 0} (bus : Ghosts B) (writes : List Write) (befor
   pub memory : before (bus.world old) → (bus.world new).memory ≡ (bus.world old).memory
 
 -- A driver that has offered nothing is ready in this world, and no frame is held or to be sent.
-pub record BeginsAtRest (counts : Counts) (groups : List (List ℕ)) (pool : List ℕ) (world : World) : Type 0 where
-  pub begun : HasBegun false counts groups pool world
-  pub ready : ReadyWith false (new_driver counts groups pool) world
-  pub quiet : HasNoFrames (new_driver counts groups pool) world
+pub record BeginsAtRest (counts : Counts) (setup : DriverSetup) (groups : List (List ℕ)) (pool : List ℕ) (world : World) : Type 0 where
+  pub begun : HasBegun false counts setup groups pool world
+  pub ready : ReadyWith false (new_driver counts setup groups pool) world
+  pub quiet : HasNoFrames (new_driver counts setup groups pool) world
 
 -- This holds if the receive ring is set up at rest, the counts are valid, and each buffer has one owner.
 abbrev pub DriversBeginAtRest : Type 0
 DriversBeginAtRest =
-    (counts : Counts) (groups : List (List ℕ)) (pool : List ℕ) (world : World) → IsAllowed counts → HasOneOwner counts.buffers pool
-    → size_of counts ≤ length world.memory
-    → HasReceiveRing counts.rx world → BeginsAtRest counts groups pool world
+    (counts : Counts) (setup : DriverSetup) (groups : List (List ℕ)) (pool : List ℕ) (world : World)
+    → IsAllowed counts → HasOneOwner counts.buffers pool → size_of counts ≤ length world.memory
+    → HasReceiveRing counts.rx world → BeginsAtRest counts setup groups pool world
 
 -- A driver whose adapter was reset is ready again when its receive ring is set up at rest, with no slot offered: the same buffers are free,
 -- the pieces of frames that others hold are in their buffers, and no frame is held or to be sent.

@@ -27,7 +27,7 @@ pub use controls::{
 pub use descriptors_clearing::{clear_descriptor, clear_descriptors};
 pub use device::find_device;
 pub use eeprom_reading::read_image;
-pub use filter_setting::set_filter;
+pub use filter_setting::{named_vlans, set_filter};
 pub use filter_tables::{group_table, vlan_table, write_addresses, write_groups, write_vlans};
 pub use init_error::InitError;
 pub use link::{await_link, negotiate};

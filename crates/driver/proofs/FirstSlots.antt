@@ -18,7 +18,7 @@ use Rattle.driver_law.proofs.Accesses.{ran_by-join, ran_by-same}
 use Rattle.driver_law.proofs.Owners.{owners-count}
 use Rattle.driver_law.specs.Calls.{IsReady, Ran, at, only, tail_write}
 use Rattle.driver_law.specs.Beginnings.{new_driver}
-use Rattle.driver_law.specs.DriverState.{DriverState, holding, next_receive, owners, receive_slot, with_owners}
+use Rattle.driver_law.specs.DriverState.{DriverSetup, DriverState, holding, next_receive, owners, receive_slot, with_owners}
 use Rattle.driver_law.specs.ReadyDrivers.{Ready}
 use Rattle.bring_up.proofs.Steps.{StretchesJoin}
 use Rattle.bring_up.specs.ClearedDescriptors.{clears}
@@ -78,28 +78,28 @@ all-staged n buffers pool numbers left owner enough same room full =
     full
 
 -- with these slots staged, or offered
-abbrev staging : Counts → (groups : List (List ℕ)) → (pool numbers left : List ℕ) → DriverState
-staging counts groups pool numbers left = with_owners (new_driver counts groups pool) [] numbers left []
+abbrev staging : Counts → DriverSetup → (groups : List (List ℕ)) → (pool numbers left : List ℕ) → DriverState
+staging counts setup groups pool numbers left = with_owners (new_driver counts setup groups pool) [] numbers left []
 
-abbrev pub offering : Counts → (groups : List (List ℕ)) → (pool numbers left : List ℕ) → DriverState
-offering counts groups pool numbers left = with_owners (new_driver counts groups pool) numbers [] left []
+abbrev pub offering : Counts → DriverSetup → (groups : List (List ℕ)) → (pool numbers left : List ℕ) → DriverState
+offering counts setup groups pool numbers left = with_owners (new_driver counts setup groups pool) numbers [] left []
 
 pub offers-first : {B : Type 0} (bus : Ghosts B) → StretchesJoin bus
-    → (b0 b1 b2 b3 : B) (counts : Counts) (groups : List (List ℕ)) (pool numbers : List ℕ) (d2 d3 : DriverState)
+    → (b0 b1 b2 b3 : B) (counts : Counts) (setup : DriverSetup) (groups : List (List ℕ)) (pool numbers : List ℕ) (d2 d3 : DriverState)
     → HasOneOwner counts.buffers pool → counts.rx ≤ counts.buffers → 1 < counts.rx
-    → Stages bus numbers (at b0 (new_driver counts groups pool)) (at b1 d2)
+    → Stages bus numbers (at b0 (new_driver counts setup groups pool)) (at b1 d2)
     → length d2.buffers + length d2.staged < d2.layout.rx → (d2.pool ≡ []) ⊎ (length d2.buffers + length d2.staged + 1 ≡ d2.layout.rx)
     → d3 ≡ with_owners d2 (d2.buffers ++ d2.staged) [] d2.pool [] → Keeps bus b0 b1 → Keeps bus b1 b2
     → ((d : DriverState) → IsReady bus false (at b1 d) → d.oldest_receive ≡ 0 → counts.rx ≡ d.layout.rx
     → Ran bus false (only (clears (receive_slot (counts.rx - 1)) ∷ [])) (at b1 d) (at b2 d))
     → (IsReady bus false (at b2 (holding [] d2))
     → Ran bus false (only (tail_write (next_receive d2) d2.staged)) (at b2 (holding [] d2)) (at b3 (holding [] d3)))
-    → OffersFirst bus (at b0 (new_driver counts groups pool)) (at b3 d3)
-offers-first bus joins b0 b1 b2 b3 counts groups pool numbers d2 d3 owner enough some stages room full behind keeps1 keeps2 clearing
+    → OffersFirst bus (at b0 (new_driver counts setup groups pool)) (at b3 d3)
+offers-first bus joins b0 b1 b2 b3 counts setup groups pool numbers d2 d3 owner enough some stages room full behind keeps1 keeps2 clearing
     offers =
     let n = counts.rx in
-    let staged : d2 ≡ staging counts groups pool numbers d2.pool = stages.others in
-    let done : d3 ≡ offering counts groups pool numbers d2.pool = behind
+    let staged : d2 ≡ staging counts setup groups pool numbers d2.pool = stages.others in
+    let done : d3 ≡ offering counts setup groups pool numbers d2.pool = behind
     ∙ ap (λ (d : DriverState). with_owners d (d.buffers ++ d.staged) [] d.pool []) staged in
     let few : 0 + length numbers < n = subst (λ (d : DriverState). length d.buffers + length d.staged < d.layout.rx) staged room in
     let count : length numbers + 1 ≡ n =
@@ -115,7 +115,7 @@ offers-first bus joins b0 b1 b2 b3 counts groups pool numbers d2 d3 owner enough
     record {
       numbers = numbers;
       count = count;
-      others = done ∙ ap (offering counts groups pool numbers) (sym left);
+      others = done ∙ ap (offering counts setup groups pool numbers) (sym left);
       pool = λ k. stages.pool k ∙ ap (λ (rest : List ℕ). copies k (numbers ++ rest)) (sym left);
       ran = λ is.
           let first = stages.ran false [] is in
@@ -124,7 +124,7 @@ offers-first bus joins b0 b1 b2 b3 counts groups pool numbers d2 d3 owner enough
           let second = clearing (holding [] d2) is1 (ap (λ (d : DriverState). d.oldest_receive) staged)
           (sym (ap (λ (d : DriverState). d.layout.rx) staged)) in
           let third = offers (record { honest = keeps2.honest is1.honest; ready = second.goes.flows.ready }) in
-          let d1 = new_driver counts groups pool in
+          let d1 = new_driver counts setup groups pool in
           let later = ran_by-join bus joins _ _ b1 b2 b3 (holding [] d2) (holding [] d2) (holding [] d3) [] [] [] []
           second
           (ran_by-same bus _ _ b2 b3 (holding [] d2) (holding [] d3) (holding [] d3) [] [] [] tail refl refl third) in
@@ -133,9 +133,10 @@ offers-first bus joins b0 b1 b2 b3 counts groups pool numbers d2 d3 owner enough
     }
 
 -- Each buffer has one owner then.
-pub owners-offered : (buffers : ℕ) (counts : Counts) (groups : List (List ℕ)) (pool numbers left : List ℕ) → HasOneOwner buffers pool
+pub owners-offered : (buffers : ℕ) (counts : Counts) (setup : DriverSetup) (groups : List (List ℕ)) (pool numbers left : List ℕ)
+    → HasOneOwner buffers pool
     → HaveSameNumbers pool (numbers ++ left)
-    → HasOneOwner buffers (owners (offering counts groups pool numbers left))
-owners-offered buffers counts groups pool numbers left owner same k =
-    let d = offering counts groups pool numbers left in
+    → HasOneOwner buffers (owners (offering counts setup groups pool numbers left))
+owners-offered buffers counts setup groups pool numbers left owner same k =
+    let d = offering counts setup groups pool numbers left in
     omega (arith, owner k, same k, copies-append k numbers left, owners-count k d)

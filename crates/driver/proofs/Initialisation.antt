@@ -33,11 +33,11 @@ use Rattle.bus.proofs.WaitingRings.{holds-none}
 use Rattle.driver_law.proofs.Accesses.{ran_by-join}
 use Rattle.driver_law.specs.Calls.{GoesTo, Ran, at, driver_did, driver_in, only, stores_from}
 use Rattle.driver_law.specs.Beginnings.{new_driver}
-use Rattle.driver_law.specs.DriverState.{DriverState, transmit_tail}
+use Rattle.driver_law.specs.DriverState.{DriverSetup, DriverState, transmit_tail}
 use Rattle.driver_law.specs.ReadyDrivers.{ReadyWith}
 use Rattle.bring_up.specs.ClearedDescriptors.{clears_from}
-use Rattle.bring_up.specs.Configuration.{CanBeHad, configured_counts}
-use Rattle.bring_up.specs.ConfiguredAdapters.{IsConfigured, all_writes, names_vlans, writes_before_rings}
+use Rattle.bring_up.specs.Configuration.{CanBeHad, configured_counts, vlans_of}
+use Rattle.bring_up.specs.ConfiguredAdapters.{HasSetup, IsConfigured, names_vlans, setup_of, writes_before_rings}
 use Rattle.bring_up.specs.DriverSteps.{LeavesDriver, LetsFramesIn, SetsTransmitRing, EnablesCauses, accesses_of}
 use Rattle.bring_up.specs.NoFrames.{IsNotTransmitRing, HasNoFrames, LeavesTransmitRing}
 use Rattle.bring_up.specs.Device.{IsFound}
@@ -47,7 +47,7 @@ use Rattle.bring_up.specs.RestingRings.{HasNewRings, HasReceiveRing, SetsAtRest}
 use Rattle.bring_up.specs.SettingSteps.{IsAside, RecordsNone, RecordsNoCause}
 use Rattle.bring_up.proofs.CausesLeft.{joined-causes, mask-causes, receive-causes, tail-causes, transmit-causes}
 use Rattle.bring_up.proofs.WritesOf.{link-first, rings-last}
-use Rattle.bring_up.proofs.ConfiguredSettings.{before-rings, writes-configure}
+use Rattle.bring_up.proofs.ConfiguredSettings.{before-rings, writes-configure, writes_offering}
 use Rattle.bring_up.specs.RingRegisters.{receive_control, receive_writes, ring_writes, transmit_writes}
 use Rattle.bring_up.specs.WrittenRegisters.{allocation_writes, link_writes, mask_writes, reset_writes, write_at}
 use Rattle.bring_up.specs.declared.config.Config.{Config}
@@ -127,7 +127,7 @@ sets-transmitter bus joins b0 b1 b2 b3 d counts is oldest none some new clearing
 
 -- The device is found, and its receive ring set up.
 
-new-whole : (ring : RingRegisters) → record ring { head = 0 } ≡ new_ring → ring.head ≡ ring.tail → ring ≡ new_ring
+pub new-whole : (ring : RingRegisters) → record ring { head = 0 } ≡ new_ring → ring.head ≡ ring.tail → ring ≡ new_ring
 new-whole ring start idle =
     let tail : ring.tail ≡ 0 = ap (λ (registers : RingRegisters). registers.tail) start in
     ap (λ (registers : RingRegisters). let moved : RingRegisters = record registers { head = ring.head } in moved) start
@@ -154,9 +154,9 @@ behind-receive config =
 
 pub finds-ring : {B : Type 0} (bus : Ghosts B) (b0 b1 b2 b3 : B)
     (config : Config) (size : ℕ) (image : List ℕ) → CanBeHad config size → 16 * config.rx ≤ length (bus.world b2).memory
-    → IsFound bus config.rxa b0 b1 image → SetsFilter bus config (address_bytes image) b1 b2
+    → IsFound bus config.rxa b0 b1 image → SetsFilter bus config.groups.items (vlans_of config.vlans) (address_bytes image) b1 b2
     → SetsAtRest bus (ring_writes 0x2800 0 (16 * config.rx)) (HasNewRings config.rx) (HasReceiveRing config.rx) b2 b3
-    → HasFoundRing bus config b0 b3
+    → HasFoundRing bus config (address_bytes image) b0 b3
 finds-ring bus b0 b1 b2 b3 config size image had room found filter ring =
     let old = settings_of (bus.world b0).adapter in
     let groups = filter.groups in
@@ -188,6 +188,7 @@ finds-ring bus b0 b1 b2 b3 config size image had room found filter ring =
     record {
       sum = subst HasRightSum found.image_is found.sum_is_right;
       address = subst IsAddress same filter.address_is;
+      found_is = same;
       ring = ring.after_is rings;
       up = ring.sets.link (all-left LeavesPhy receive (behind-receive config) phy.1) (filter.sets.link phy.0 found.up);
       groups = groups;
@@ -207,17 +208,17 @@ finds-ring bus b0 b1 b2 b3 config size image had room found filter ring =
 -- The whole.
 
 -- The mask is written after the transmit side is set up.
-settings-all : (config : Config) (address groups vlans : List ℕ) (s0 s1 s2 s3 s4 s5 : Settings)
+pub settings-all : (config : Config) (slots : ℕ) (address groups vlans : List ℕ) (s0 s1 s2 s3 s4 s5 : Settings)
     → s1 ≡ settings_after_all (writes_before_rings config address groups vlans ++ ring_writes 0x2800 0 (16 * config.rx)) s0
-    → s2 ≡ settings_after_all (write_at 0x2818 (config.rx - 1) ∷ []) s1
+    → s2 ≡ settings_after_all (write_at 0x2818 slots ∷ []) s1
     → s3 ≡ settings_after_all (receive_writes config.promiscuous (names_vlans config.vlans)) s2
     → s4 ≡ settings_after_all (ring_writes 0x3800 (16 * config.rx) (16 * config.tx) ++ transmit_writes) s3
     → s5 ≡ settings_after_all mask_writes s4
-    → s5 ≡ settings_after_all (all_writes config address groups vlans) s0
-settings-all config address groups vlans s0 s1 s2 s3 s4 s5 one two three four five =
+    → s5 ≡ settings_after_all (writes_before_rings config address groups vlans ++ writes_offering config slots) s0
+settings-all config slots address groups vlans s0 s1 s2 s3 s4 s5 one two three four five =
     let before = writes_before_rings config address groups vlans in
     let receive = ring_writes 0x2800 0 (16 * config.rx) in
-    let tail = write_at 0x2818 (config.rx - 1) ∷ [] in
+    let tail = write_at 0x2818 slots ∷ [] in
     let passing = receive_writes config.promiscuous (names_vlans config.vlans) in
     let ring = ring_writes 0x3800 (16 * config.rx) (16 * config.tx) in
     let after : List Write → Settings → Settings = settings_after_all in
@@ -318,17 +319,17 @@ link-up config address groups vlans groups_whole vlans_whole w1 w2 w3 w4 w5 p2 p
     (keeps2 (subst (All LeavesPhy) (sym two) (all-left LeavesPhy tail (receives ++ (ring ++ masked)) from2)) up)))
 
 pub initialises : {B : Type 0} (bus : Ghosts B) → StretchesJoin bus
-    → (b0 b1 b2 b3 b4 b5 : B) (config : Config) (size : ℕ) (groups : List (List ℕ)) (pool numbers : List ℕ) (d : DriverState) (past : Past)
-    → CanBeHad config size
-    → bus.happened b0 b1 past → HasFoundRing bus config b0 b1 → RecordsNoCause past → length numbers + 1 ≡ config.rx
-    → d ≡ offering (configured_counts config) groups pool numbers d.pool → AreNamedOnce config.groups.items groups
+    → (b0 b1 b2 b3 b4 b5 : B) (config : Config) (size : ℕ) (address : List ℕ) (groups : List (List ℕ)) (pool numbers : List ℕ)
+    (d : DriverState) (past : Past) → CanBeHad config size
+    → bus.happened b0 b1 past → HasFoundRing bus config address b0 b1 → RecordsNoCause past → length numbers + 1 ≡ config.rx
+    → d ≡ offering (configured_counts config) (setup_of config address) groups pool numbers d.pool → AreNamedOnce config.groups.items groups
     → (first : Ran bus false (only (first_accesses (configured_counts config) numbers)) (at b1 (new_driver
-    (configured_counts config) groups pool)) (at b2 d))
+    (configured_counts config) (setup_of config address) groups pool)) (at b2 d))
     → HasNoFrames d (bus.world b2) → NoFrame first.past
     → LetsFramesIn bus (receive_writes config.promiscuous (names_vlans config.vlans)) d b2 b3
     → Ran bus true (only (transmit_accesses (configured_counts config))) (at b3 d) (at b4 d) → EnablesCauses bus 0xD1 d b4 b5
     → Initialises bus config b0 b5 d
-initialises bus joins b0 b1 b2 b3 b4 b5 config size groups pool numbers d past had told found no_cause count is named first quiet no_frame
+initialises bus joins b0 b1 b2 b3 b4 b5 config size address groups pool numbers d past had told found no_cause count is named first quiet no_frame
     lets sends masks =
     let counts = configured_counts config in
     let device = bus.world b0 in
@@ -352,7 +353,7 @@ initialises bus joins b0 b1 b2 b3 b4 b5 config size groups pool numbers d past h
     let held : frames_held d.oldest_receive (bus.world b5) ≡ later.stored = masks.enabled.frames.held ∙ from.held in
     let exact : IsTrue d.exact = ap (λ (s : DriverState). s.exact) is in
     let all =
-    settings-all config words found.groups found.vlans (settings_of device.adapter) (settings_of (bus.world b1).adapter)
+    settings-all config (config.rx - 1) words found.groups found.vlans (settings_of device.adapter) (settings_of (bus.world b1).adapter)
     (settings_of (bus.world b2).adapter)
     (settings_of (bus.world b3).adapter) (settings_of (bus.world b4).adapter) (settings_of (bus.world b5).adapter) found.settings
     (first.follows.set ∙ ap (λ (writes : List Write). settings_after_all writes (settings_of (bus.world b1).adapter))
@@ -368,6 +369,7 @@ initialises bus joins b0 b1 b2 b3 b4 b5 config size groups pool numbers d past h
     tables.vlans_are tables.has_groups tables.has_vlans in
     let configured = subst (IsConfigured config words) (sym all) set.0 in
     let start = joined past (joined first.past lets.ran.past) in
+    let setup : d.setup ≡ setup_of config words = ap (λ (s : DriverState). s.setup) is ∙ ap (setup_of config) found.found_is in
     record {
       middle = b3;
       first = start;
@@ -426,8 +428,14 @@ initialises bus joins b0 b1 b2 b3 b4 b5 config size groups pool numbers d past h
             (ap writes_in sends.only ∙ transmit-writes counts) (ap writes_in masks.accessed.only)
             first.follows.link lets.ran.follows.link sends.follows.link masks.accessed.follows.link found.up;
       };
-      table = same-numbers (bus.world b5).adapter.filter.mta config.groups.items d.groups
-          (subst (AreNamedOnce config.groups.items) (sym (ap (λ (s : DriverState). s.groups) is)) named) configured.filter.groups;
+      setup = setup;
+      set_up = subst (λ (s : DriverSetup). HasSetup s (bus.world b5).adapter) (sym setup)
+          (record { filter = configured.filter.setup; allocation = configured.allocation });
+      table = record {
+        numbers = same-numbers (bus.world b5).adapter.filter.mta config.groups.items d.groups
+            (subst (AreNamedOnce config.groups.items) (sym (ap (λ (s : DriverState). s.groups) is)) named) configured.filter.groups;
+        words = configured.filter.group_words;
+      };
     }
 
 -- Whether VLANs are named.

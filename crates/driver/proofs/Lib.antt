@@ -3,6 +3,7 @@ pub mod SentFrames
 pub mod BufferQueue
 pub mod PlacesOfParts
 pub mod PartsGiven
+pub mod BuffersGiven
 pub mod SeenSlots
 pub mod ReadFrames
 pub mod RefillSteps
@@ -13,3 +14,7 @@ pub mod TakenFrames
 pub mod HandlerSteps
 pub mod FirstSlots
 pub mod Initialisation
+pub mod FreeSlots
+pub mod SummedMisses
+pub mod Resetting
+pub mod ResetOwners

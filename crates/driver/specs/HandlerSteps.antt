@@ -374,11 +374,12 @@ pub record Handles {B R : Type 0} (bus : Ghosts B) (receivers : OfReceiver R) (r
 
 -- Over any bus.
 
--- The numbers of slots and buffers (`layout`), the outstanding transmit slots, and the groups joined don't change.
+-- The numbers of slots and buffers (`layout`), the outstanding transmit slots, the setup and the groups joined don't change.
 pub record OnlyReceives (d d' : DriverState) : Type 0 where
   pub layout : d'.layout ≡ d.layout
   pub oldest : d'.oldest_transmit ≡ d.oldest_transmit
   pub sending : d'.sending ≡ d.sending
+  pub setup : d'.setup ≡ d.setup
   pub groups : d'.groups ≡ d.groups
 
 -- These runs left the ring, the oldest first, each with one to six slots. Then slots were offered after the others: those that were staged,

@@ -19,7 +19,8 @@ use Rattle.bus.specs.declared.event.Access.{Access}
 use Rattle.bus.specs.declared.event.Access.TheVariants.{Writes}
 use Rattle.bring_up.specs.ClearedDescriptors.{clears, clears_from}
 use Rattle.bring_up.specs.Configuration.{configured_counts, vlans_of}
-use Rattle.bring_up.specs.ConfiguredAdapters.{AreWords, IsConfigured, names_vlans, writes_before_rings}
+use Rattle.bring_up.specs.ConfiguredAdapters.{AreWords, HasSetup, IsConfigured, names_vlans, setup_of}
+use Rattle.bring_up.specs.ConfiguredAdapters.{writes_before_rings}
 use Rattle.bring_up.specs.Device.{IsErrorOf, IsErrorOfLively}
 use Rattle.bring_up.specs.DriverSteps.{accesses_of}
 use Rattle.bring_up.specs.RestingRings.{HasReceiveRing}
@@ -53,32 +54,33 @@ pub record Refuses {B : Type 0} (bus : Ghosts B) (old new : B) (error : InitErro
 
 -- Its steps.
 
--- The tables of the filter: words that have the configuration's groups and VLANs.
-pub record AreFilterTables (config : Config) (groups vlans : List ℕ) : Type 0 where
-  pub has_groups : HasNumbers groups (numbers_of_groups config.groups.items)
-  pub has_vlans : HasNumbers vlans (vlans_of config.vlans)
+-- The tables of the filter: words that have these groups and VLANs.
+pub record AreFilterTables (named : List (List ℕ)) (named_vlans groups vlans : List ℕ) : Type 0 where
+  pub has_groups : HasNumbers groups (numbers_of_groups named)
+  pub has_vlans : HasNumbers vlans named_vlans
   pub groups_are : AreWords groups
   pub vlans_are : AreWords vlans
 
--- The device is found, its filter set up, and its receive ring with no slot offered.
-pub record HasFoundRing {B : Type 0} (bus : Ghosts B) (config : Config) (old new : B) : Type 0 where
+-- The device with this address is found, its filter set up, and its receive ring with no slot offered.
+pub record HasFoundRing {B : Type 0} (bus : Ghosts B) (config : Config) (found : List ℕ) (old new : B) : Type 0 where
   pub sum : HasRightSum (bus.world old).adapter.image
   pub address : IsAddress (address_bytes (bus.world old).adapter.image)
+  pub found_is : found ≡ address_bytes (bus.world old).adapter.image
   pub ring : HasReceiveRing config.rx (bus.world new)
   pub up : HasLink (bus.world new)
   pub groups : List ℕ
   pub vlans : List ℕ
-  pub tables : AreFilterTables config groups vlans
+  pub tables : AreFilterTables config.groups.items (vlans_of config.vlans) groups vlans
   pub settings : settings_of (bus.world new).adapter ≡ settings_after_all
       (writes_before_rings config (address_bytes (bus.world old).adapter.image) groups vlans
       ++ ring_writes RDBAL 0 (descriptor_bytes * config.rx))
       (settings_of (bus.world old).adapter)
 
-pub record FindsRing {B : Type 0} (bus : Ghosts B) (config : Config) (result : Result (Unit {0}) InitError) (old new : B) : Type 0 where
+pub record FindsRing {B : Type 0} (bus : Ghosts B) (config : Config) (result : Result (List ℕ) InitError) (old new : B) : Type 0 where
   pub past : Past
   pub reports : bus.happened old new past
-  pub found : IfOk result (λ done. HasFoundRing bus config old new)
-  pub no_cause : IfOk result (λ done. RecordsNoCause past)
+  pub found : IfOk result (λ address. HasFoundRing bus config address old new)
+  pub no_cause : IfOk result (λ address. RecordsNoCause past)
   pub why : IfErr result (λ error. IsErrorOf error (bus.world old).adapter.image (length past.accesses))
   pub why_lively : bus.lively old → IfErr result (λ error. IsErrorOfLively error (bus.world old))
 
@@ -155,13 +157,17 @@ pub record Initialises {B : Type 0} (bus : Ghosts B) (config : Config) (old new 
   pub no_cause : RecordsNoCause (joined first later)
   pub started : IsStarted d (bus.world new) later
   pub adapter : IsSetUp config (bus.world old) (bus.world new)
+  -- The driver keeps the configuration and the address, and the adapter has them.
+  pub setup : d.setup ≡ setup_of config (address_bytes (bus.world old).adapter.image)
+  pub set_up : HasSetup d.setup (bus.world new).adapter
   -- The group table has exactly the numbers of the groups joined.
   pub table : HasTable d.groups (bus.world new)
 
 -- The driver of an adapter that was initialized, over any bus.
 pub record IsFresh (config : Config) (driver : DriverState) : Type 0 where
   pub layout : driver.layout ≡ configured_counts config
-  pub new : driver ≡ with_owners (new_driver (configured_counts config) driver.groups []) driver.buffers [] driver.pool []
+  pub new : driver ≡ with_owners (new_driver (configured_counts config) driver.setup driver.groups []) driver.buffers [] driver.pool []
+  pub setup : driver.setup ≡ setup_of config driver.setup.address
   -- It has joined the groups of the configuration.
   pub joined : AreNamedOnce config.groups.items driver.groups
   pub one_owner : HasOneOwner driver.layout.buffers (owners driver)

@@ -2,13 +2,15 @@
 -- last slots are kept, too.
 use Rattle.std.specs.Prelude.{◌≡◌, ◌≤◌, ◌<◌, ◌-◌, ◌++◌, ℕ, IsTrue, [], length, take, drop}
 use Rattle.registers.specs.Counting.{greatest_count}
-use Rattle.dma_memory.specs.Layout.{Counts}
+use Rattle.dma_memory.specs.Layout.{Counts, IsAllowed}
 use Rattle.dma_memory.specs.Numbers.{Numbers}
 use Rattle.dma_memory.specs.Owners.{HasNoSecondOwner}
 use Rattle.circular_buffer.specs.Buffer.{Buffer}
 use Rattle.descriptors.specs.RingLaws.{place}
 use Rattle.driver_law.specs.DriverState.{DriverState}
+use Rattle.driver.specs.InsideSetup.{IsRightSetup, setup_in}
 use Rattle.driver.specs.declared.driver.Driver.TheInside.{Inside}
+use Rattle.driver.specs.declared.setup.Setup.{Setup}
 
 -- the number of buffers of the queue whose slots are outstanding
 abbrev pub offered_count : Inside → ℕ
@@ -28,6 +30,7 @@ state_of driver = record {
   exact = driver.exact;
   bad = driver.bad;
   groups = driver.groups;
+  setup = setup_in driver.setup;
 }
 
 -- The receive side.
@@ -47,8 +50,14 @@ pub record IsSending (counts : Counts) (oldest next sending : ℕ) : Type 0 wher
   pub room : sending < counts.tx
   pub next_slot : next ≡ place counts.tx oldest sending
 
+-- What a reset needs is valid.
+pub record CanReset (counts : Counts) (setup : Setup) : Type 0 where
+  pub allowed : IsAllowed counts
+  pub right : IsRightSetup setup
+
 pub record IsConsistentDriver (driver : Inside) : Type 0 where
   pub receives : IsReceiving driver.layout driver.oldest_receive driver.next_receive driver.staged driver.buffers driver.pool
   pub sends : IsSending driver.layout driver.oldest_transmit driver.next_transmit driver.sending
+  pub resets : CanReset driver.layout driver.setup
   -- the sum of misses is exact if it is below the greatest value of MPC
   pub sums : driver.missed < greatest_count → IsTrue driver.exact

@@ -5,4 +5,6 @@ pub mod Parts
 pub mod Answers
 pub mod Looks
 pub mod HandlerSteps
+pub mod InsideSetup
 pub mod Initialisation
+pub mod Resetting

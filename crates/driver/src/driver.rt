@@ -5,6 +5,7 @@ ghost use Rattle.registers.specs.Counting.{greatest_count};
 ghost use Rattle.dma_memory.specs.Owners.{HasNoSecondOwner};
 ghost use Rattle.driver_law.specs.DriverState.{owners};
 
+use crate::setup::Setup;
 use circular_buffer::HeapCircularBuffer;
 use dma_memory::{BufId, Layout, Pool};
 use joined_groups::Groups;
@@ -40,6 +41,7 @@ pub struct Driver {
     pub(crate) bad: u64,
     /// The multicast groups that it has joined.
     pub(crate) groups: Groups,
+    pub(crate) setup: Setup,
 }
 
 impl Model for Driver {

@@ -11,14 +11,17 @@ ghost use Rattle.bus.specs.Keeping.{Keeps};
 ghost use Rattle.driver_law.specs.Beginnings.{new_driver};
 ghost use Rattle.driver_law.specs.Calls.{IsReady, Ran, at, only};
 ghost use Rattle.driver_law.specs.DriverState.{DriverState};
+ghost use Rattle.driver.specs.InsideDriver.{CanReset};
+ghost use Rattle.driver.specs.InsideSetup.{setup_in};
 ghost use Rattle.driver.specs.Initialisation.{FindsRing, Initialises, IsFresh, OffersFirst, Refuses};
 ghost use Rattle.driver.specs.Initialisation.{transmit_accesses};
 
 use crate::Driver;
 use crate::refill::receive_slot;
+use crate::setup::Setup;
 use bring_up::{
     Config, InitError, RingPlace, clear_descriptor, clear_descriptors, enable_interrupts,
-    enable_receiver, enable_transmitter, find_device, set_filter, set_receive_ring,
+    enable_receiver, enable_transmitter, find_device, named_vlans, set_filter, set_receive_ring,
     set_transmit_ring,
 };
 use bus::Bus;
@@ -27,12 +30,12 @@ use dma_memory::{DESCRIPTOR_BYTES, Layout, Pool};
 use joined_groups::Groups;
 use std::alloc::{AllocError, Global};
 
-/// Finds the device, and sets up its receive filter and its receive ring, with no slot offered.
+/// Finds the device, and sets up its receive filter and its receive ring, with no slot offered. Returns its address.
 ///
 /// # Errors
 ///
 /// Those of [`find_device`].
-fn find_ring<B: Bus>(bus: &mut B, config: &Config, layout: Layout) -> Result<(), InitError>
+fn find_ring<B: Bus>(bus: &mut B, config: &Config, layout: Layout) -> Result<[u8; 6], InitError>
     requires counts { layout ≡ configured_counts config.now }
     requires had { CanBeHad config.now (B.extent bus.old) }
     ensures keeps { Keeps B.Bus bus.old bus.new }
@@ -40,13 +43,19 @@ fn find_ring<B: Bus>(bus: &mut B, config: &Config, layout: Layout) -> Result<(),
     ensures finds { B.honest bus.old → FindsRing B.Bus config.now result bus.old bus.new }
 {
     let image = find_device(bus, config.rxa)?;
-    set_filter(bus, config, &image.address());
+    let address = image.address();
+    set_filter(
+        bus,
+        config.groups.as_slice(),
+        named_vlans(&config.vlans),
+        &address,
+    );
     set_receive_ring(bus, place_of(layout.receive_ring(), layout.rx()));
-    Ok(())
+    Ok(address)
 }
 
 /// The place of a ring of `slots` slots that begins at `base`.
-fn place_of(base: u64, slots: u16) -> RingPlace
+pub(crate) fn place_of(base: u64, slots: u16) -> RingPlace
     ensures { result ≡ record { base = base; bytes = descriptor_bytes * slots } }
 {
     RingPlace {
@@ -56,7 +65,7 @@ fn place_of(base: u64, slots: u16) -> RingPlace
 }
 
 /// Clears the descriptors of the transmit ring, sets it up with no slot offered, and enables the transmitter.
-fn set_up_transmitter<B: Bus>(bus: &mut B, layout: Layout)
+pub(crate) fn set_up_transmitter<B: Bus>(bus: &mut B, layout: Layout)
     requires allowed { IsAllowed layout }
     requires memory { size_of layout ≤ B.extent bus.old }
     ensures keeps { Keeps B.Bus bus.old bus.new }
@@ -72,8 +81,14 @@ fn set_up_transmitter<B: Bus>(bus: &mut B, layout: Layout)
 
 impl Driver {
     /// A driver that has offered nothing, with all buffers in its pool. It has joined these groups.
-    fn new(alloc: Global, layout: Layout, groups: Groups) -> Result<Driver, AllocError>
-        ensures new { IfOk result (λ driver. driver ≡ new_driver layout groups driver.pool) }
+    fn new(
+        alloc: Global,
+        layout: Layout,
+        groups: Groups,
+        setup: Setup,
+    ) -> Result<Driver, AllocError>
+        requires { CanReset layout setup }
+        ensures new { IfOk result (λ driver. driver ≡ new_driver layout (setup_in setup) groups driver.pool) }
         ensures one_owner { IfOk result (λ driver. HasOneOwner layout.buffers driver.pool) }
     {
         Ok(Driver {
@@ -90,13 +105,21 @@ impl Driver {
             exact: true,
             bad: 0,
             groups,
+            setup,
         })
+    }
+
+    /// Keeps the adapter's address.
+    fn set_address(&mut self, address: [u8; 6])
+        ensures { self.new ≡ record self.old { setup = record self.old.setup { address = address } } }
+    {
+        self.setup.address = address;
     }
 
     /// Offers all receive slots but the last, whose descriptor it clears.
     fn offer_first<B: Bus>(&mut self, bus: &mut B)
         requires memory { size_of self.old.layout ≤ B.extent bus.old }
-        requires new { self.old ≡ new_driver self.old.layout self.old.groups self.old.pool }
+        requires new { self.old ≡ new_driver self.old.layout self.old.setup self.old.groups self.old.pool }
         requires one_owner { HasOneOwner self.old.layout.buffers self.old.pool }
         requires enough { self.old.layout.rx ≤ self.old.layout.buffers }
         ensures keeps { Keeps B.Bus bus.old bus.new }
@@ -131,8 +154,10 @@ impl Driver {
         ensures refuses { B.honest bus.old → IfErr result (Refuses B.Bus bus.old bus.new) }
     {
         let layout = config.layout(bus.size())?;
-        let mut driver = Driver::new(alloc, layout, Groups::of(config.groups.as_slice()))?;
-        find_ring(bus, config, layout)?;
+        let groups = Groups::of(config.groups.as_slice());
+        let mut driver = Driver::new(alloc, layout, groups, Setup::of(config))?;
+        let address = find_ring(bus, config, layout)?;
+        driver.set_address(address);
         driver.offer_first(bus);
         enable_receiver(bus, config.promiscuous, config.vlans.is_some());
         set_up_transmitter(bus, layout);

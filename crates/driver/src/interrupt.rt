@@ -45,9 +45,11 @@ fn adds_exactly(missed: u64, value: u32) -> bool
 
 impl Driver {
     /// Reads MPC, adds its value to the sum of missed frames, and returns it.
-    fn count_missed<B: Bus>(&mut self, bus: &mut B) -> u32
+    pub(crate) fn count_missed<B: Bus>(&mut self, bus: &mut B) -> u32
         ensures keeps { Keeps B.Bus bus.old bus.new }
         ensures others { self.new ≡ with_missed result self.old }
+        ensures cleared { B.honest bus.old → (B.world bus.new).adapter.missed_packets ≡ 0 }
+        ensures settings { B.honest bus.old → (B.world bus.new).adapter.filter.rctl ≡ (B.world bus.old).adapter.filter.rctl }
         ensures ran { Runs B.Bus (only (Reads MPC result ∷ [])) (at bus.old self.old) (at bus.new self.new) }
     {
         let value = bus.read(MPC);

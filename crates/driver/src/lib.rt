@@ -14,6 +14,8 @@ mod read;
 mod receive;
 mod receiver;
 mod refill;
+mod reset;
+mod setup;
 mod transmit;
 
 pub use driver::Driver;

@@ -34,7 +34,7 @@ begun-fits size world sized none idle = record {
 }
 
 pub drivers_begin : DriversBegin
-drivers_begin up counts groups pool world begun =
+drivers_begin up counts setup groups pool world begun =
     let first : world.adapter.receive_ring.tail ≡ 0 = begun.receive.last in
     let last : world.adapter.transmit_ring.tail ≡ 0 = tail-known up counts world begun.transmit in
     let own : Sound 0 world.adapter.transmit_ring.tail world = subst

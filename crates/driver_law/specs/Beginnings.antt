@@ -18,16 +18,16 @@ use Rattle.bus.specs.RegisterSetting.{with_receive_control, with_transmit_contro
 use Rattle.bus.specs.Law.{Happens}
 use Rattle.bus.specs.PastOfStretch.{Past, nothing}
 use Rattle.adapter.specs.KnownRing.{KnowsRing}
-use Rattle.driver_law.specs.DriverState.{DriverState, next_receive, receive_slot, transmit_tail}
+use Rattle.driver_law.specs.DriverState.{DriverSetup, DriverState, next_receive, receive_slot, transmit_tail}
 use Rattle.driver_law.specs.Calls.{Goes, GoesTo, HasNoForgottenWork, driver_did, driver_in, frames_ended}
 use Rattle.driver_law.specs.ReadyDrivers.{IsDriver, ReadyWith, TransmitIs, transmit_side}
 use Rattle.registers.specs.Places.{rctl_bsex, rctl_en, rxt0, tctl_psp}
 
 -- The beginning.
 
--- a driver that has offered nothing yet, and all of whose buffers are free; it has joined these groups
-abbrev pub new_driver : Counts → (groups : List (List ℕ)) → (pool : List ℕ) → DriverState
-new_driver counts groups pool = record {
+-- a driver with this setup that has offered nothing yet, and all of whose buffers are free; it has joined these groups
+abbrev pub new_driver : Counts → DriverSetup → (groups : List (List ℕ)) → (pool : List ℕ) → DriverState
+new_driver counts setup groups pool = record {
   layout = counts;
   oldest_receive = 0;
   buffers = [];
@@ -40,24 +40,26 @@ new_driver counts groups pool = record {
   exact = true;
   bad = 0;
   groups = groups;
+  setup = setup;
 }
 
 -- The receive ring is set up, the transmit ring is set up or off, and neither offers a slot.
-pub record HasBegun (up : Bool) (counts : Counts) (groups : List (List ℕ)) (pool : List ℕ) (world : World) : Type 0 where
-  pub driver_is : IsDriver (new_driver counts groups pool)
-  pub idle : IsIdle world
-  pub runs : CanRun world
-  pub lies : size_of counts ≤ length world.memory
-  -- RCTL.BSIZE names the size of the layout's receive buffers while RCTL.EN is set.
-  pub sized : HasBit world.adapter.filter.rctl rctl_en → buffer_size world ≡ receive_buffer_bytes
-  pub receive : KnowsRing (receive_ring world) 0 counts.rx 0
-  pub transmit : TransmitIs up counts 0 0 (transmit_side world)
+pub record HasBegun (up : Bool) (counts : Counts) (setup : DriverSetup) (groups : List (List ℕ)) (pool : List ℕ) (world : World) : Type 0
+  where
+    pub driver_is : IsDriver (new_driver counts setup groups pool)
+    pub idle : IsIdle world
+    pub runs : CanRun world
+    pub lies : size_of counts ≤ length world.memory
+    -- RCTL.BSIZE names the size of the layout's receive buffers while RCTL.EN is set.
+    pub sized : HasBit world.adapter.filter.rctl rctl_en → buffer_size world ≡ receive_buffer_bytes
+    pub receive : KnowsRing (receive_ring world) 0 counts.rx 0
+    pub transmit : TransmitIs up counts 0 0 (transmit_side world)
 
 -- A driver that begins in such a world is ready.
 abbrev pub DriversBegin : Type 0
 DriversBegin =
-    (up : Bool) (counts : Counts) (groups : List (List ℕ)) (pool : List ℕ) (world : World)
-    → HasBegun up counts groups pool world → ReadyWith up (new_driver counts groups pool) world
+    (up : Bool) (counts : Counts) (setup : DriverSetup) (groups : List (List ℕ)) (pool : List ℕ) (world : World)
+    → HasBegun up counts setup groups pool world → ReadyWith up (new_driver counts setup groups pool) world
 
 -- Writes of registers other than RDT, which offers staged slots. Functions of the bus law give the world after them.
 

@@ -16,6 +16,19 @@ frame_of pieces = concat (map (λ (one : HandedOut). one.bytes) pieces)
 abbrev pub numbers_of : List HandedOut → List ℕ
 numbers_of handed_out = map (λ (one : HandedOut). one.number) handed_out
 
+-- What the driver keeps to set its adapter up again after a reset. Nothing changes it.
+pub record DriverSetup : Type 0 where
+  -- the size in kilobytes of the packet buffer for received frames (PBA.RXA)
+  pub rxa : ℕ
+  -- whether every frame passes the filter, whatever its destination (RCTL.UPE and RCTL.MPE)
+  pub promiscuous : Bool
+  -- whether VLANs are named (RCTL.VFE); tagged frames of other VLANs don't pass then
+  pub by_vlan : Bool
+  -- the VLANs that are named
+  pub vlans : List ℕ
+  -- the Ethernet address
+  pub address : List ℕ
+
 pub record DriverState : Type 0 where
   pub layout : Counts
   -- the place of the oldest outstanding receive slot, and the numbers of the buffers of all that are outstanding, the oldest first
@@ -38,6 +51,7 @@ pub record DriverState : Type 0 where
   pub bad : ℕ
   -- the multicast groups that it has joined
   pub groups : List (List ℕ)
+  pub setup : DriverSetup
 
 -- the same driver with other owners of buffers
 abbrev pub with_owners : DriverState → (buffers staged pool : List ℕ) → List HandedOut → DriverState

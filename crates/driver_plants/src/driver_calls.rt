@@ -16,6 +16,7 @@ ghost use Rattle.driver.specs.HandlerSteps.{WhereReadyIn, scene};
 ghost use Rattle.driver.specs.Initialisation.{Initialises, IsFresh, Refuses};
 ghost use Rattle.driver.specs.Parts.{IsWholeFrame, buffers_in, part_loads};
 ghost use Rattle.driver.specs.RefillSteps.{OffersAfter, Refills, WhereHeld};
+ghost use Rattle.driver.specs.Resetting.{Resets};
 ghost use Rattle.driver.specs.SendSteps.{HasWrongLength, Transmits, with_transmit_slots};
 ghost use Rattle.driver.specs.declared.transmit.SendError.TheVariants as SendError;
 
@@ -115,6 +116,19 @@ pub fn give<B: Bus>(driver: &mut Driver, bus: &mut B, parts: Parts)
     ensures gives { WhereHeld B.Bus parts (at bus.old driver.old) (at bus.new driver.new) (Refills B.Bus) }
 {
     driver.give(bus, parts);
+}
+
+/// A twin of [`Driver::reset`].
+pub fn reset<B: Bus>(driver: &mut Driver, bus: &mut B)
+    requires memory { size_of driver.old.layout ≤ B.extent bus.old }
+    ensures keeps { Keeps B.Bus bus.old bus.new }
+    ensures layout { driver.new.layout ≡ driver.old.layout }
+    ensures setup { driver.new.setup ≡ driver.old.setup }
+    ensures groups { driver.new.groups ≡ driver.old.groups }
+    ensures owners { HaveSameNumbers (owners driver.old) (owners driver.new) }
+    ensures resets { WhereReady B.Bus (at bus.old driver.old) (at bus.new driver.new) (Resets B.Bus) }
+{
+    driver.reset(bus);
 }
 
 /// A twin of [`Driver::missed`].

@@ -13,7 +13,7 @@ use solo_bus::SoloBus;
 use std::alloc::{AllocError, Global};
 
 /// The bytes that rings of 8 slots and 16 receive buffers need.
-pub(crate) const NEEDED: u64 = 22_528;
+const NEEDED: u64 = 22_528;
 
 /// The adapter's Ethernet address.
 pub(crate) const ADDRESS: [u8; 6] = [0x02, 0, 0, 0, 0, 0x01];
@@ -31,21 +31,11 @@ pub(crate) fn config() -> Config {
     }
 }
 
-/// A lively bus with so many bytes of memory and a new adapter, which has this image and this link.
-pub(crate) fn bus_with(
-    alloc: Global,
-    image: &Image,
-    link: Link,
-    bytes: u64,
-) -> Result<SoloBus, AllocError> {
-    let adapter = Adapter::new(alloc, image, link)?;
-    let memory = HostMemory::new(alloc, bytes)?;
-    SoloBus::new(alloc, adapter, memory, true)
-}
-
-/// The same with as many bytes as rings and buffers need.
+/// A lively bus with as many bytes as rings and buffers need and a new adapter, which has this image and this link.
 pub(crate) fn lively_bus(alloc: Global, image: &Image, link: Link) -> Result<SoloBus, AllocError> {
-    bus_with(alloc, image, link, NEEDED)
+    let adapter = Adapter::new(alloc, image, link)?;
+    let memory = HostMemory::new(alloc, NEEDED)?;
+    SoloBus::new(alloc, adapter, memory, true)
 }
 
 /// A lively bus on which an adapter can be brought up.

@@ -8,8 +8,6 @@ mod buses;
 #[cfg(test)]
 mod calls;
 #[cfg(test)]
-mod groups;
-#[cfg(test)]
 mod init_tests;
 #[cfg(test)]
 mod no_memory;
@@ -17,3 +15,5 @@ mod no_memory;
 mod packet_socket_readme;
 #[cfg(test)]
 mod readme;
+#[cfg(test)]
+mod reset_rows;

@@ -3,6 +3,7 @@ use Rattle.std.proofs.Common.{◌≡◌, ◌↔◌, ◌<◌, ◌+◌, ◌*◌, �
 use Rattle.std.proofs.Common.{ap, subst, ◌∙◌, arith}
 use Rattle.std.specs.Prelude.{slice_set}
 use Rattle.std.specs.List.{Contains}
+use Rattle.std.proofs.lemmas.List.Elements.{All-set}
 use Rattle.rx_engine.specs.NumberTables.{HasNumbers, numbers_of_groups}
 use Rattle.rx_engine.specs.Registers.{FilterRegisters}
 use Rattle.adapter.specs.Registers.{left_by_write, write_of}
@@ -22,9 +23,11 @@ use Rattle.driver_law.specs.ReadyDrivers.{ReadyWith}
 use Rattle.driver_law.proofs.Accesses.{ran_by-stays, write-sets}
 use Rattle.driver_law.proofs.AlikeWorlds.{SameParts, ready-left}
 use Rattle.driver_law.proofs.StepsWithoutFrames.{goes-rests}
+use Rattle.bring_up.specs.ConfiguredAdapters.{AreWords}
 use Rattle.bring_up.proofs.DriverAccesses.{WriteActs, ran_by-begins}
 use Rattle.bring_up.proofs.TableSettings.{word-kept}
-use Rattle.joined_groups.specs.Groups.{ChangesJoined, HasNumber, HasTable, RewritesWord, with_groups, word_of}
+use Rattle.bring_up.proofs.Setups.{same-table}
+use Rattle.joined_groups.specs.Groups.{ChangesJoined, HasNumber, HasTable, RewritesWord, TablesAgree, with_groups, word_of}
 use Rattle.joined_groups.proofs.Numbers.{word-written, word_below}
 
 pub written-word : (word value : ℕ) (a : World) → word < 128
@@ -159,7 +162,15 @@ changes-written bus b c d kept groups groups' group apart same wrote = record {
   sets = inr (apart, record { value = wrote.value; bits = wrote.bits; is = refl });
   ran = regrouped bus (Writes (0x5200 + 4 * word_of group) wrote.value ∷ []) b c d groups groups' wrote.ran;
   table = λ had.
-      subst (λ (mta : List ℕ). HasNumbers mta (numbers_of_groups groups')) (sym wrote.table)
-      (word-written (bus.world b).adapter.filter.mta (numbers_of_groups groups) (numbers_of_groups groups') (word_of group) wrote.value
-      (word_below group) had wrote.bits same);
+      record {
+        numbers = subst (λ (mta : List ℕ). HasNumbers mta (numbers_of_groups groups')) (sym wrote.table)
+            (word-written (bus.world b).adapter.filter.mta (numbers_of_groups groups) (numbers_of_groups groups') (word_of group)
+            wrote.value (word_below group) had.numbers wrote.bits same);
+        words = subst AreWords (sym wrote.table)
+            (All-set (λ word. word < 2 ^ 32) (bus.world b).adapter.filter.mta (word_of group) wrote.value wrote.fits had.words);
+      };
 }
+
+pub tables-agree : TablesAgree
+tables-agree groups a b one two =
+    same-table b.adapter.filter.mta a.adapter.filter.mta (numbers_of_groups groups) two.words one.words two.numbers one.numbers

@@ -9,6 +9,8 @@ use Rattle.rx_engine.specs.Addresses.{IsGroup, group_number}
 use Rattle.rx_engine.specs.NumberTables.{HasNumbers, numbers_of_groups}
 use Rattle.adapter.specs.World.{World}
 use Rattle.adapter.specs.declared.offsets.TheConstants.{MTA, REGISTER_BYTES}
+use Rattle.bring_up.specs.ConfiguredAdapters.{AreWords}
+use Rattle.bring_up.specs.WrittenRegisters.{register_limit}
 use Rattle.bring_up.specs.declared.config.TheConstants.{MOST_GROUPS}
 use Rattle.bus.specs.declared.bus.Bus.{Ghosts}
 use Rattle.bus.specs.declared.event.Access.{Access}
@@ -43,8 +45,14 @@ abbrev pub HasNumber : List (List ℕ) → List ℕ → Type 0
 HasNumber groups group = Contains (numbers_of_groups groups) (number_of group)
 
 -- The group table of an adapter has exactly the numbers of these groups.
-abbrev pub HasTable : List (List ℕ) → World → Type 0
-HasTable groups world = HasNumbers world.adapter.filter.mta (numbers_of_groups groups)
+pub record HasTable (groups : List (List ℕ)) (world : World) : Type 0 where
+  pub numbers : HasNumbers world.adapter.filter.mta (numbers_of_groups groups)
+  pub words : AreWords world.adapter.filter.mta
+
+-- So the groups determine the table.
+abbrev pub TablesAgree : Type 0
+TablesAgree =
+    (groups : List (List ℕ)) (a b : World) → HasTable groups a → HasTable groups b → b.adapter.filter.mta ≡ a.adapter.filter.mta
 
 -- A word of the group table has exactly the bits of these numbers.
 abbrev pub IsWord : (word : ℕ) → (numbers : List ℕ) → (value : ℕ) → Type 0
@@ -86,5 +94,6 @@ pub record RewritesWord {B : Type 0} (bus : Ghosts B) (up : Bool) (group : List 
     : Type 0 where
   pub value : ℕ
   pub bits : IsWord (word_of group) (numbers_of_groups groups) value
+  pub fits : value < register_limit
   pub table : (bus.world new).adapter.filter.mta ≡ slice_set (bus.world old).adapter.filter.mta (word_of group) value
   pub ran : Ran bus up (only (Writes (MTA + REGISTER_BYTES * word_of group) value ∷ [])) (at old d) (at new d)

@@ -7,6 +7,7 @@ ghost use Rattle.std.specs.List.{Contains};
 ghost use Rattle.rx_engine.specs.Addresses.{IsGroup};
 ghost use Rattle.rx_engine.specs.GroupLists.{Removes};
 ghost use Rattle.bus.specs.Keeping.{Keeps};
+ghost use Rattle.bring_up.specs.WrittenRegisters.{register_limit};
 ghost use Rattle.bus.specs.declared.event.Access.TheVariants.{Writes};
 ghost use Rattle.driver_law.specs.Calls.{IsReady, Ran, at, only};
 ghost use Rattle.driver_law.specs.DriverState.{DriverState};
@@ -74,6 +75,13 @@ impl Groups {
             }
         }
         groups
+    }
+
+    /// The groups, in order.
+    pub fn as_slice(&self) -> &[[u8; 6]]
+        ensures { result.now ≡ self.now }
+    {
+        self.list.as_slice()
     }
 
     /// Whether a group is joined.
@@ -210,6 +218,7 @@ fn set_word<B: Bus>(bus: &mut B, word: u8, value: u32)
     ensures keeps { Keeps B.Bus bus.old bus.new }
     ensures table { B.honest bus.old
         → (B.world bus.new).adapter.filter.mta ≡ slice_set (B.world bus.old).adapter.filter.mta word value }
+    ensures fits { value < register_limit }
     ensures runs { (up : Bool) (d : DriverState) → IsReady B.Bus up (at bus.old d)
         → Ran B.Bus up (only (Writes (MTA + REGISTER_BYTES * word) value ∷ [])) (at bus.old d) (at bus.new d) }
 {

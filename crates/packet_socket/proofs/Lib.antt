@@ -13,3 +13,4 @@ pub mod DriversAccesses
 pub mod ChangedGroups
 pub mod Effects
 pub mod SentFrames
+pub mod ResetHosts

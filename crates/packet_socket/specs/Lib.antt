@@ -10,3 +10,4 @@ pub mod QueueLaws
 pub mod SortingLaws
 pub mod InsideSockets
 pub mod InsideHost
+pub mod HostResets

@@ -7,6 +7,7 @@ mod host;
 mod interrupt;
 mod law;
 mod receive;
+mod reset;
 mod socket_kind;
 mod sockets;
 

@@ -1,5 +1,3 @@
-use Rattle.std.proofs.Common.{List, ℕ, subst}
-use Rattle.rx_engine.specs.NumberTables.{HasNumbers, numbers_of_groups}
 use Rattle.bring_up.specs.FilterTables.{address_writes, table_writes}
 use Rattle.bring_up.proofs.Steps.{only-join}
 use Rattle.bring_up.proofs.filter_setting.set_filter.Goals as goal
@@ -21,9 +19,8 @@ returns-clause-sets g c honest =
       vlans = vlans;
       sets = all.sets;
       only = all.only;
-      has_groups = subst (λ (list : List (List ℕ)). HasNumbers groups (numbers_of_groups list)) c.as_slice.ensures.value
-          c.group_table-groups.ensures;
-      has_vlans = subst (HasNumbers vlans) c.named_vlans.ensures c.vlan_table-vlans.ensures;
+      has_groups = c.group_table-groups.ensures;
+      has_vlans = c.vlan_table-vlans.ensures;
       groups_are = c.write_groups.ensures.words;
       vlans_are = c.write_vlans.ensures.words;
       address_is = c.write_addresses.ensures.address;

@@ -1,13 +1,15 @@
-use Rattle.std.proofs.Common.{◌≡◌, ◌≤◌, ◌*◌, ℕ, List, length, ap, subst, ◌∙◌, arith}
+use Rattle.std.proofs.Common.{◌≡◌, ◌≤◌, ◌*◌, ℕ, List, length, ap, subst, ◌∙◌, sym, arith}
 use Rattle.dma_memory.specs.Layout.{Counts, ReceiveRing}
 use Rattle.dma_memory.specs.LayoutLaws.{place-below_size}
 use Rattle.bus.specs.PastOfStretch.{joined}
-use Rattle.bring_up.specs.Configuration.{configured_counts}
+use Rattle.bring_up.specs.Configuration.{configured_counts, vlans_of}
+use Rattle.eeprom.specs.Image.{address_bytes}
 use Rattle.bring_up.specs.RestingRings.{HasNewRings, HasReceiveRing, SetsAtRest}
 use Rattle.bring_up.specs.RingRegisters.{ring_writes}
 use Rattle.bring_up.specs.declared.ring_registers.RingPlace.{RingPlace}
 use Rattle.bring_up.specs.FilterSetting.{SetsFilter}
 use Rattle.bring_up.proofs.CausesLeft.{filter-causes, joined-causes, receive_ring-causes, sets-causes}
+use Rattle.driver.specs.Initialisation.{HasFoundRing}
 use Rattle.driver.proofs.Initialisation.{finds-ring}
 use Rattle.driver.proofs.init.find_ring.Goals as goal
 
@@ -20,9 +22,10 @@ returns-clause-finds g c honest =
     let b3 = c.set_receive_ring.new.bus in
     let finds = c.in_ok-image.ensures.finds honest in
     let h1 = c.in_ok-image.ensures.keeps.honest honest in
-    let filter = c.set_filter.ensures.sets h1 in
-    let h2 = c.set_filter.ensures.keeps.honest h1 in
     let config = c.args.config.now in
+    let filter : SetsFilter g.B.Bus config.groups.items (vlans_of config.vlans) (address_bytes c.in_ok-image.image) b1 b2 =
+    rw (← c.as_slice.ensures.value, ← c.named_vlans.ensures, ← c.address-address.ensures) (c.set_filter.ensures.sets h1) in
+    let h2 = c.set_filter.ensures.keeps.honest h1 in
     let base : c.place_of.result.base ≡ 0 = ap (λ (ring : RingPlace). ring.base) c.place_of.ensures ∙ c.receive_ring.ensures in
     let slots : c.rx.result ≡ config.rx = c.rx.ensures.count ∙ ap (λ (s : Counts). s.rx) c.requires.counts in
     let bytes : c.place_of.result.bytes ≡ 16 * config.rx =
@@ -48,10 +51,10 @@ returns-clause-finds g c honest =
       past = joined one (joined two three);
       reports = joins b0 b1 b3 one (joined two three) finds.reports (joins b1 b2 b3 two three filter.sets.reports ring.sets.reports);
       found =
-          finds-ring g.B.Bus b0 b1 b2 b3 config (g.B.Bus.extent b0) c.in_ok-image.image c.requires.had room finds.found
-          (subst (λ (address : List ℕ). SetsFilter g.B.Bus config address b1 b2) c.address.ensures filter) ring;
+          subst (λ (address : List ℕ). HasFoundRing g.B.Bus config address b0 b3) (sym c.address-address.ensures)
+          (finds-ring g.B.Bus b0 b1 b2 b3 config (g.B.Bus.extent b0) c.in_ok-image.image c.requires.had room finds.found filter ring);
       no_cause = joined-causes one (joined two three) finds.no_cause
-          (joined-causes two three (filter-causes g.B.Bus config _ b1 b2 filter)
+          (joined-causes two three (filter-causes g.B.Bus config.groups.items (vlans_of config.vlans) _ b1 b2 filter)
           (sets-causes g.B.Bus b2 b3 (ring_writes 0x2800 0 (16 * config.rx)) ring.sets (receive_ring-causes 0 (16 * config.rx))));
       why = tt;
       why_lively = λ lively. tt;

@@ -14,6 +14,7 @@ returns-clause-rewrites g c up d is_ready =
       value = slice_index c.group_table-table.result w;
       bits = word-of-table c.group_table-table.result (numbers_of_groups c.args.groups.now) w (word_below group)
           c.group_table-table.ensures;
+      fits = rw (c.from.ensures, is) at c.set_word.ensures.fits;
       table = rw (c.from.ensures, is) at (c.set_word.ensures.table is_ready.honest);
       ran = rw (c.from.ensures, is) at (c.set_word.ensures.runs up d is_ready);
     }

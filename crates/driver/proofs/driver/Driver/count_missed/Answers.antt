@@ -1,4 +1,4 @@
-use Rattle.std.proofs.Common.{Bool, ◌&&◌, ◌≡◌, ◌<◌, ◌-◌, ◌+◌, ◌^◌, ◌∷◌, [], ℕ, min, sym, ap, subst, ◌∙◌, arith}
+use Rattle.std.proofs.Common.{refl, Bool, ◌&&◌, ◌≡◌, ◌<◌, ◌-◌, ◌+◌, ◌^◌, ◌∷◌, [], ℕ, min, sym, ap, subst, ◌∙◌, arith}
 use Rattle.bus.specs.declared.event.Access.TheVariants.{Reads}
 use Rattle.driver_law.proofs.RegisterAccesses.{ran_by-misses}
 use Rattle.driver_law.specs.DriverState.{DriverState, holding}
@@ -6,6 +6,9 @@ use Rattle.driver.specs.InsideDriver.{state_of}
 use Rattle.driver.proofs.driver.Driver.count_missed.Given.{Over}
 use Rattle.driver.proofs.driver.Driver.count_missed.Goals as goal
 use Rattle.driver.proofs.driver.Driver.count_missed.Goals.{then-self, else-self}
+use Rattle.adapter.specs.Table.{register_at}
+use Rattle.adapter.specs.World.{World, world_after_read}
+use Rattle.rx_engine.specs.Registers.{FilterRegisters}
 use Rattle.driver_law.specs.Calls.{Ran, adds_exactly, at, only, with_missed}
 
 is_exact : (g : Over) (c : goal.After-self-2-1 g)
@@ -41,3 +44,23 @@ returns-clause-ran g c = rw (← c.self.view_is) (λ up held is.
     (at new (holding held s))) (sym (left g c))
     (ran_by-misses g.B.Bus c.args.bus.now new d c.read-value.result below
     (c.read-value.ensures.acts is.honest) is.ready))
+
+-- A read of MPC clears it, and leaves RCTL.
+read-clears : (world : World) → (world_after_read 0x4010 world).adapter.missed_packets ≡ 0
+unfolding register_at
+read-clears world = refl
+
+read-leaves : (world : World) → (world_after_read 0x4010 world).adapter.filter.rctl ≡ world.adapter.filter.rctl
+unfolding register_at
+read-leaves world = refl
+
+pub returns-clause-cleared : goal.returns-clause-cleared
+returns-clause-cleared g c honest =
+    let acts = c.read-value.ensures.acts honest in
+    ap (λ (w : World). w.adapter.missed_packets) acts.effect_is.1 ∙ read-clears acts.middle
+
+pub returns-clause-settings : goal.returns-clause-settings
+returns-clause-settings g c honest =
+    let acts = c.read-value.ensures.acts honest in
+    ap (λ (w : World). w.adapter.filter.rctl) acts.effect_is.1 ∙ read-leaves acts.middle
+    ∙ ap (λ (f : FilterRegisters). f.rctl) acts.before.steady.registers.filter

@@ -35,6 +35,7 @@ invariant_of-self g c =
     let s = c.self.inside in
     record {
       receives = c.self.invariant.receives;
+      resets = c.self.invariant.resets;
       sums = c.self.invariant.sums;
       sends =
           subst (λ (n : ℕ). IsSending s.layout ((s.oldest_transmit + 1) % n) s.next_transmit (s.sending - 1)) (sym c.tx.ensures.count)

@@ -3,18 +3,20 @@ use Rattle.std.proofs.lemmas.Result.{err_from_is_err_and}
 use Rattle.dma_memory.specs.Layout.{Counts, size_of}
 use Rattle.dma_memory.specs.Owners.{HasOneOwner}
 use Rattle.bring_up.specs.Configuration.{CanBeHad, configured_counts}
-use Rattle.bring_up.specs.ConfiguredAdapters.{names_vlans}
+use Rattle.bring_up.specs.ConfiguredAdapters.{names_vlans, setup_of}
 use Rattle.bring_up.specs.DriverSteps.{LetsFramesIn}
 use Rattle.bring_up.specs.RingRegisters.{receive_writes}
 use Rattle.bring_up.specs.declared.init_error.InitError.TheVariants.{Memory}
 use Rattle.bring_up.specs.declared.init_error.InitError.TheVariants as errors
 use Rattle.bring_up.proofs.RestingRings.{drivers_begin_at_rest}
 use Rattle.driver_law.specs.Beginnings.{new_driver}
-use Rattle.driver_law.specs.DriverState.{DriverState, owners}
+use Rattle.driver_law.specs.DriverState.{DriverSetup, DriverState, owners}
 use Rattle.driver_law.specs.Calls.{Ran, at, only}
+use Rattle.bus.proofs.Keeping.{keeps-on}
 use Rattle.bus.specs.PastOfStretch.{nothing}
 use Rattle.joined_groups.specs.Groups.{AreNamedOnce}
 use Rattle.driver.specs.Initialisation.{OffersFirst, Refuses, transmit_accesses}
+use Rattle.driver.specs.InsideSetup.{setup_in}
 use Rattle.driver.proofs.Initialisation.{initialises, new-still, stays-quiet, vlans-named}
 use Rattle.driver.proofs.FirstSlots.{offering, owners-offered}
 use Rattle.driver.proofs.driver.Driver.init.Given.{Over}
@@ -34,22 +36,32 @@ returns-in_err-driver-clause-refuses g c honest =
     subst (λ result. IfErr result (Refuses g.B.Bus c.args.bus.now c.args.bus.now)) (sym is)
     (record { past = nothing; reports = g.met.B.Bus.composes.stays c.args.bus.now; why = refl; why_lively = λ lively. tt })
 
--- The driver that is made.
+-- The driver that is made, with the adapter's address.
+abbrev kept : (g : Over) (c : goal.After-enable_interrupts g) → DriverSetup
+kept g c = setup_of c.args.config.now c.in_ok-address.address
+
 made : (g : Over) (c : goal.After-enable_interrupts g)
-    → c.in_ok-driver.driver ≡ new_driver (configured_counts c.args.config.now) c.of.result c.in_ok-driver.driver.pool
-made g c = c.in_ok-driver.ensures.new
-    ∙ ap (λ (layout : Counts). new_driver layout c.of.result c.in_ok-driver.driver.pool) c.in_ok-layout.ensures.counts
+    → c.set_address.new.self ≡ new_driver (configured_counts c.args.config.now) (kept g c) c.of-groups.result c.in_ok-driver.driver.pool
+made g c =
+    let counts = configured_counts c.args.config.now in
+    let pool = c.in_ok-driver.driver.pool in
+    let groups = c.of-groups.result in
+    c.set_address.ensures
+    ∙ ap (λ (d : DriverState). let known : DriverState = record d { setup = record d.setup { address = c.in_ok-address.address } } in known)
+    (c.in_ok-driver.ensures.new
+    ∙ ap (λ (layout : Counts). new_driver layout (setup_in c.of.result) groups pool) c.in_ok-layout.ensures.counts
+    ∙ ap (λ (setup : DriverSetup). new_driver counts setup groups pool) c.of.ensures.is)
 
 offered : (g : Over) (c : goal.After-enable_interrupts g)
-    → OffersFirst g.B.Bus (at c.find_ring.new.bus (new_driver (configured_counts c.args.config.now) c.of.result c.in_ok-driver.driver.pool))
-    (at c.offer_first.new.bus c.offer_first.new.self)
+    → OffersFirst g.B.Bus (at c.find_ring.new.bus (new_driver (configured_counts c.args.config.now) (kept g c) c.of-groups.result
+    c.in_ok-driver.driver.pool)) (at c.offer_first.new.bus c.offer_first.new.self)
 offered g c =
     subst (λ (d : DriverState). OffersFirst g.B.Bus (at c.find_ring.new.bus d) (at c.offer_first.new.bus c.offer_first.new.self))
     (made g c) c.offer_first.ensures.offers
 
 -- It has joined the groups of the configuration.
-named : (g : Over) (c : goal.After-enable_interrupts g) → AreNamedOnce c.args.config.now.groups.items c.of.result
-named g c = subst (λ (groups : List (List ℕ)). AreNamedOnce groups c.of.result) c.as_slice.ensures.value c.of.ensures
+named : (g : Over) (c : goal.After-enable_interrupts g) → AreNamedOnce c.args.config.now.groups.items c.of-groups.result
+named g c = subst (λ (groups : List (List ℕ)). AreNamedOnce groups c.of-groups.result) c.as_slice.ensures.value c.of-groups.ensures
 
 owner : (g : Over) (c : goal.After-enable_interrupts g) → HasOneOwner c.args.config.now.buffers c.in_ok-driver.driver.pool
 owner g c = subst (λ (layout : Counts). HasOneOwner layout.buffers c.in_ok-driver.driver.pool) c.in_ok-layout.ensures.counts
@@ -63,16 +75,30 @@ returns-clause-fresh g c =
     record {
       layout = ap (λ (s : DriverState). s.layout) o.others;
       new = o.others
-          ∙ ap (λ (numbers : List ℕ). offering counts c.of.result [] numbers d.pool) (sym (ap (λ (s : DriverState). s.buffers) o.others))
-          ∙ ap (λ (groups : List (List ℕ)). offering counts groups [] d.buffers d.pool) (sym (ap (λ (s : DriverState). s.groups) o.others));
+          ∙ ap (λ (numbers : List ℕ). offering counts (kept g c) c.of-groups.result [] numbers d.pool)
+          (sym (ap (λ (s : DriverState). s.buffers) o.others))
+          ∙ ap (λ (groups : List (List ℕ)). offering counts (kept g c) groups [] d.buffers d.pool)
+          (sym (ap (λ (s : DriverState). s.groups) o.others))
+          ∙ ap (λ (setup : DriverSetup). offering counts setup d.groups [] d.buffers d.pool)
+          (sym (ap (λ (s : DriverState). s.setup) o.others));
+      setup = let same = ap (λ (s : DriverState). s.setup) o.others in
+          same ∙ ap (λ (s : DriverSetup). setup_of c.args.config.now s.address) (sym same);
       joined = subst (AreNamedOnce c.args.config.now.groups.items) (sym (ap (λ (s : DriverState). s.groups) o.others)) (named g c);
       one_owner = subst (λ (d : DriverState). HasOneOwner d.layout.buffers (owners d)) (sym o.others)
-          (owners-offered counts.buffers counts c.of.result c.in_ok-driver.driver.pool o.numbers d.pool (owner g c) o.pool);
+          (owners-offered counts.buffers counts (kept g c) c.of-groups.result c.in_ok-driver.driver.pool o.numbers d.pool (owner g c) o.pool);
       none_out = ap (λ (s : DriverState). s.handed_out) o.others;
       refilled = let size = ap (λ (s : DriverState). length s.buffers) o.others in
           let rx = ap (λ (s : DriverState). s.layout.rx) o.others in
           inr (omega (arith, o.count, size, rx));
     }
+
+pub returns-clause-keeps : goal.returns-clause-keeps
+returns-clause-keeps g c =
+    let on = keeps-on g.B.Bus g.met.B.Bus.composes.lent_stays_on c.args.bus.now in
+    let k2 = on c.find_ring.new.bus c.offer_first.new.bus c.find_ring.ensures.keeps c.offer_first.ensures.keeps in
+    let k3 = on c.offer_first.new.bus c.enable_receiver.new.bus k2 c.enable_receiver.ensures.keeps in
+    let k4 = on c.enable_receiver.new.bus c.set_up_transmitter.new.bus k3 c.set_up_transmitter.ensures.keeps in
+    on c.set_up_transmitter.new.bus c.enable_interrupts.new.bus k4 c.enable_interrupts.ensures.keeps
 
 pub returns-clause-initialises : goal.returns-clause-initialises
 returns-clause-initialises g c honest =
@@ -89,16 +115,16 @@ returns-clause-initialises g c honest =
     let o = offered g c in
     let size : c.size.result ≡ g.B.Bus.extent b0 = c.size.ensures in
     let had : CanBeHad config (g.B.Bus.extent b0) = subst (CanBeHad config) size (c.in_ok-layout.ensures.ok.0 refl) in
-    let finds = c.in_ok-find_ring.ensures.finds honest in
-    let h1 = c.in_ok-find_ring.ensures.keeps.honest honest in
+    let finds = c.in_ok-address.ensures.finds honest in
+    let h1 = c.in_ok-address.ensures.keeps.honest honest in
     let h2 = c.offer_first.ensures.keeps.honest h1 in
     let h3 = c.enable_receiver.ensures.keeps.honest h2 in
     let h4 = c.set_up_transmitter.ensures.keeps.honest h3 in
     let lies : size_of counts ≤ length (world b1).memory = omega
-    (arith, had.room, g.met.B.Bus.sized b1 h1, c.in_ok-find_ring.ensures.keeps.extent) in
-    let begins = drivers_begin_at_rest counts c.of.result pool (world b1) had.counts (owner g c) lies finds.found.ring in
+    (arith, had.room, g.met.B.Bus.sized b1 h1, c.in_ok-address.ensures.keeps.extent) in
+    let begins = drivers_begin_at_rest counts (kept g c) c.of-groups.result pool (world b1) had.counts (owner g c) lies finds.found.ring in
     let first = o.ran (record { honest = h1; ready = begins.ready }) in
-    let still = stays-quiet counts o.numbers (new_driver counts c.of.result pool) d (world b1) (world b2) first.past first.only first.goes
+    let still = stays-quiet counts o.numbers (new_driver counts (kept g c) c.of-groups.result pool) d (world b1) (world b2) first.past first.only first.goes
     first.follows.set first.follows.off begins.quiet finds.found.ring.transmits in
     let tagged : c.is_some.result ≡ names_vlans config.vlans = c.is_some.ensures ∙ vlans-named config.vlans in
     let lets : LetsFramesIn g.B.Bus (receive_writes config.promiscuous (names_vlans config.vlans)) d b2 b3 =
@@ -112,7 +138,7 @@ returns-clause-initialises g c honest =
     (c.set_up_transmitter.ensures.ran d (record { honest = h3; ready = lets.ran.goes.flows.ready })
     (same ∙ sym c.in_ok-layout.ensures.counts)
     (ap (λ (s : DriverState). s.oldest_transmit) o.others) (ap (λ (s : DriverState). s.sending) o.others) new) in
-    initialises g.B.Bus g.met.B.Bus.composes.joins b0 b1 b2 b3 b4 c.enable_interrupts.new.bus config (g.B.Bus.extent b0) c.of.result
-    pool o.numbers d
+    initialises g.B.Bus g.met.B.Bus.composes.joins b0 b1 b2 b3 b4 c.enable_interrupts.new.bus config (g.B.Bus.extent b0)
+    c.in_ok-address.address c.of-groups.result pool o.numbers d
     finds.past had finds.reports finds.found finds.no_cause o.count o.others (named g c)
     first still.0 still.1.1 lets sends (c.enable_interrupts.ensures.enables d (record { honest = h4; ready = sends.goes.flows.ready }))

@@ -24,7 +24,7 @@ returns-clause-offers g c =
     subst (Clears s) slot (c.clear_descriptor.ensures.received false s is first (slot ∙ ap (λ (n : ℕ). 16 * (n - 1)) same)) in
     subst (λ (s : DriverState). OffersFirst g.B.Bus (at c.args.bus.now s) (at c.offer.new.bus c.offer.new.self)) (sym c.requires.new)
     (offers-first g.B.Bus g.met.B.Bus.composes.joins c.args.bus.now c.stage_all.new.bus c.clear_descriptor.new.bus c.offer.new.bus
-    d.layout d.groups d.pool staged.numbers c.stage_all.new.self c.offer.new.self c.requires.one_owner c.requires.enough some
+    d.layout d.setup d.groups d.pool staged.numbers c.stage_all.new.self c.offer.new.self c.requires.one_owner c.requires.enough some
     (subst (λ (s : DriverState). Stages g.B.Bus staged.numbers (at c.args.bus.now s) (at c.stage_all.new.bus c.stage_all.new.self))
     c.requires.new staged.stages)
     c.stage_all.ensures.room c.stage_all.ensures.full c.offer.ensures.others c.stage_all.ensures.keeps

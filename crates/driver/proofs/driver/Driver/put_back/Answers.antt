@@ -15,6 +15,7 @@ invariant_of-self c =
       receives = parts-inside c.self.inside (buffers_in c.args.parts) c.give_all.new.pool c.self.invariant.receives once
           c.give_all.ensures.given c.give_all.ensures.buffers;
       sends = c.self.invariant.sends;
+      resets = c.self.invariant.resets;
       sums = c.self.invariant.sums;
     }
 

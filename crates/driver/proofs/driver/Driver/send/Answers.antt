@@ -23,6 +23,7 @@ invariant_of-self g c =
     let sending = ap (λ (d : DriverState). d.sending) c.self.view_is in
     record {
       receives = c.self.invariant.receives;
+      resets = c.self.invariant.resets;
       sums = c.self.invariant.sums;
       sends =
           subst (λ (n : ℕ). IsSending s.layout s.oldest_transmit ((s.next_transmit + 1) % n) (s.sending + 1)) (sym c.tx.ensures.count)

@@ -36,6 +36,7 @@ invariant_of-self-2 g c =
       receives = (staged-inside d _ c.in-Some.buffer c.push_back.new.self c.take.new.self receives room moved c.push_back.ensures.items
           c.take.ensures.buffers c.in-Some.ensures.taken).receives;
       sends = c.self.invariant.sends;
+      resets = c.self.invariant.resets;
       sums = c.self.invariant.sums;
     }
 

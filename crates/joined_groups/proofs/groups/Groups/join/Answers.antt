@@ -58,6 +58,9 @@ returns-clause-changes g c up d is_ready =
           let shared : HasNumber old group = c.has_number-shares.ensures.0 w.if-not-shares.false in
           subst (λ x. ChangesJoined bus up old group (at b (with_groups old d)) (at x (with_groups new d))) (sym w.bus-is)
           (changes-shared bus g.met.B.Bus.composes.stays b d old old new group is_ready.ready shared
-          (λ had. shared-more (bus.world b).adapter.filter.mta (numbers_of_groups old) (numbers_of_groups new) (number_of group) more
-          shared had))
+          (λ had. record {
+            numbers = shared-more (bus.world b).adapter.filter.mta (numbers_of_groups old) (numbers_of_groups new) (number_of group) more
+                shared had.numbers;
+            words = had.words;
+          }))
     ])

@@ -58,6 +58,9 @@ returns-clause-changes g c up d is_ready =
           let shared : HasNumber new group = c.has_number.ensures.0 w.if-not-has_number.false in
           subst (λ x. ChangesJoined bus up new group (at b (with_groups old d)) (at x (with_groups new d))) (sym w.bus-is)
           (changes-shared bus g.met.B.Bus.composes.stays b d new old new group is_ready.ready shared
-          (λ had. shared-fewer (bus.world b).adapter.filter.mta (numbers_of_groups new) (numbers_of_groups old) (number_of group) more
-          shared had))
+          (λ had. record {
+            numbers = shared-fewer (bus.world b).adapter.filter.mta (numbers_of_groups new) (numbers_of_groups old) (number_of group) more
+                shared had.numbers;
+            words = had.words;
+          }))
     ]

@@ -1,0 +1,22 @@
+use Rattle.std.proofs.Common.{◌∷◌, [], sym, subst, ◌∙◌}
+use Rattle.bus.specs.declared.event.Access.TheVariants.{Writes}
+use Rattle.driver_law.proofs.ReceiveAccesses.{ran_by-offers}
+use Rattle.driver_law.specs.Calls.{Ran, at, only}
+use Rattle.driver_law.specs.DriverState.{DriverState, holding, next_receive}
+use Rattle.driver.specs.InsideDriver.{state_of}
+use Rattle.driver.proofs.BufferQueue.{offered-inside, queue-split}
+use Rattle.driver.proofs.driver.Driver.offer_all.Goals as goal
+
+pub returns-clause-ran : goal.returns-clause-ran
+returns-clause-ran g c =
+    let d = c.self.inside in
+    let old = c.args.bus.now in
+    let new = c.write.new.self in
+    let receives = c.self.invariant.receives in
+    let split = queue-split d receives in
+    let last = next_receive (state_of d) in
+    rw (← c.self.view_is) (λ up held is.
+    subst (λ (s : DriverState). Ran g.B.Bus up (only (Writes 0x2818 last ∷ [])) (at old (holding held (state_of d)))
+    (at new (holding held s))) (sym (offered-inside d receives))
+    (ran_by-offers g.B.Bus old new (holding held (state_of d)) c.from.result (c.from.ensures
+    ∙ split.next) (c.write.ensures.acts is.honest) is.ready))

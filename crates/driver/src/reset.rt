@@ -1,0 +1,122 @@
+// A driver resets its adapter in a run.
+
+ghost use Rattle.std.specs.Prelude.{◌≡◌, ◌≤◌, ◌<◌, ◌+◌, ◌++◌, ◌∷◌, [], length};
+ghost use Rattle.dma_memory.specs.Layout.{size_of};
+ghost use Rattle.dma_memory.specs.Owners.{HasNoSecondOwner, HaveSameNumbers};
+ghost use Rattle.bus.specs.Keeping.{Keeps};
+ghost use Rattle.bus.specs.declared.event.Access.TheVariants.{Writes};
+ghost use Rattle.driver_law.specs.Calls.{Runs, WhereReady, at, only};
+ghost use Rattle.driver_law.specs.DriverState.{next_receive, owners, with_owners};
+ghost use Rattle.driver_law.specs.Resets.{reset_driver};
+ghost use Rattle.driver.specs.Resetting.{OffersFree, Resets};
+
+use crate::Driver;
+use crate::init::{place_of, set_up_transmitter};
+use crate::refill::receive_slot;
+use adapter::offsets::RDT;
+use bring_up::{
+    allocate_packet_buffer, clear_descriptors, disable_receiver, enable_interrupts,
+    enable_receiver, named_vlans, reset_device, set_filter, set_link_up, set_receive_ring,
+};
+use bus::Bus;
+use circular_buffer::HeapCircularBuffer;
+use dma_memory::{BufId, Pool};
+
+/// Puts buffers that are out back into the pool.
+fn give_buffers(pool: &mut Pool, buffers: &mut HeapCircularBuffer<BufId>)
+    requires { HasNoSecondOwner pool.old.buffers (pool.old.free ++ buffers.old.items) }
+    ensures none { buffers.new.items ≡ [] }
+    ensures capacity { buffers.new.capacity ≡ buffers.old.capacity }
+    ensures given { HaveSameNumbers (pool.old.free ++ buffers.old.items) pool.new.free }
+    ensures buffers { pool.new.buffers ≡ pool.old.buffers }
+{
+    while let Some(buffer) = buffers.pop_front() {
+        pool.give(buffer);
+    }
+}
+
+impl Driver {
+    /// The place of the oldest outstanding receive slot.
+    pub fn oldest(&self) -> u16
+        ensures { result ≡ self.now.oldest_receive }
+    {
+        self.oldest_receive
+    }
+
+    /// Forgets all slots, as the adapter does at a reset. Their buffers are free then.
+    fn forget_slots(&mut self)
+        ensures others { self.new ≡ reset_driver self.new.pool self.old }
+        ensures pool { HaveSameNumbers (self.old.pool ++ (self.old.buffers ++ self.old.staged)) self.new.pool }
+    {
+        give_buffers(&mut self.pool, &mut self.buffers);
+        self.oldest_receive = 0;
+        self.next_receive = 0;
+        self.staged = 0;
+        self.oldest_transmit = 0;
+        self.next_transmit = 0;
+        self.sending = 0;
+    }
+
+    /// Offers all staged slots by one write of RDT, even if there are none.
+    fn offer_all<B: Bus>(&mut self, bus: &mut B)
+        ensures keeps { Keeps B.Bus bus.old bus.new }
+        ensures others { self.new ≡ with_owners self.old (self.old.buffers ++ self.old.staged) [] self.old.pool [] }
+        ensures ran { Runs B.Bus (only (Writes RDT (next_receive self.old) ∷ []))
+            (at bus.old self.old) (at bus.new self.new) }
+    {
+        bus.write(RDT, u32::from(self.next_receive));
+        self.staged = 0;
+    }
+
+    /// The number of staged slots.
+    fn staged_count(&self) -> u16
+        ensures count { result ≡ length self.now.staged }
+        ensures room { length self.now.buffers + length self.now.staged < self.now.layout.rx }
+    {
+        self.staged
+    }
+
+    /// Offers as many receive slots as the pool and the ring allow, and clears the descriptors of the others.
+    fn offer_free<B: Bus>(&mut self, bus: &mut B)
+        requires memory { size_of self.old.layout ≤ B.extent bus.old }
+        requires first { self.old.oldest_receive ≡ 0 }
+        requires none_out { self.old.buffers ≡ [] }
+        requires none_staged { self.old.staged ≡ [] }
+        ensures keeps { Keeps B.Bus bus.old bus.new }
+        ensures offers { OffersFree B.Bus (at bus.old self.old) (at bus.new self.new) }
+    {
+        self.stage_all(bus);
+        let staged = self.staged_count();
+        clear_descriptors(bus, receive_slot(staged), self.layout.rx() - staged);
+        self.offer_all(bus);
+    }
+
+    /// Resets the adapter and sets it up again as [`init`](Driver::init) did, with the groups joined now; the link
+    /// stays up. Frames that are to be sent, and frames that the driver hasn't taken, are given up, and their buffers
+    /// are offered again. Frames that a receiver kept are still in their buffers. It takes no memory, and always ends
+    /// well.
+    pub fn reset<B: Bus>(&mut self, bus: &mut B)
+        requires memory { size_of self.old.layout ≤ B.extent bus.old }
+        ensures keeps { Keeps B.Bus bus.old bus.new }
+        ensures layout { self.new.layout ≡ self.old.layout }
+        ensures setup { self.new.setup ≡ self.old.setup }
+        ensures groups { self.new.groups ≡ self.old.groups }
+        ensures owners { HaveSameNumbers (owners self.old) (owners self.new) }
+        ensures resets { WhereReady B.Bus (at bus.old self.old) (at bus.new self.new) (Resets B.Bus) }
+    {
+        disable_receiver(bus);
+        self.count_missed(bus);
+        reset_device(bus);
+        self.forget_slots();
+        allocate_packet_buffer(bus, self.setup.rxa);
+        set_link_up(bus);
+        let vlans = named_vlans(&self.setup.vlans);
+        set_filter(bus, self.groups.as_slice(), vlans, &self.setup.address);
+        let layout = self.layout;
+        set_receive_ring(bus, place_of(layout.receive_ring(), layout.rx()));
+        self.offer_free(bus);
+        enable_receiver(bus, self.setup.promiscuous, self.setup.vlans.is_some());
+        set_up_transmitter(bus, layout);
+        enable_interrupts(bus);
+    }
+}

@@ -1,0 +1,53 @@
+// What a driver keeps to set its adapter up again.
+
+ghost use Rattle.std.specs.Prelude.{◌≡◌, replicate};
+ghost use Rattle.bring_up.specs.Configuration.{HasRightNumbers};
+ghost use Rattle.bring_up.specs.ConfiguredAdapters.{setup_of};
+ghost use Rattle.driver.specs.InsideSetup.{IsRightSetup, setup_in};
+
+use arrayvec::ArrayVec;
+use bring_up::{Config, MOST_VLANS};
+
+/// What a driver keeps of its configuration, and its adapter's address. A reset needs them.
+#[derive(Drop)]
+pub(crate) struct Setup {
+    pub(crate) rxa: u8,
+    pub(crate) promiscuous: bool,
+    pub(crate) vlans: Option<ArrayVec<u16, MOST_VLANS>>,
+    pub(crate) address: [u8; 6],
+}
+
+impl Setup {
+    /// That of a configuration, before the address is known.
+    pub(crate) fn of(config: &Config) -> Setup
+        requires { HasRightNumbers config.now }
+        ensures is { setup_in result ≡ setup_of config.now (replicate 6 0) }
+        ensures right { IsRightSetup result }
+    {
+        Setup {
+            rxa: config.rxa,
+            promiscuous: config.promiscuous,
+            vlans: copied(&config.vlans),
+            address: [0; 6],
+        }
+    }
+}
+
+/// The same list, if there is one.
+fn copied(vlans: &Option<ArrayVec<u16, MOST_VLANS>>) -> Option<ArrayVec<u16, MOST_VLANS>>
+    ensures { result ≡ vlans.now }
+{
+    match vlans {
+        Some(list) => Some(copy_of(list)),
+        None => None,
+    }
+}
+
+/// The same list.
+fn copy_of(list: &ArrayVec<u16, MOST_VLANS>) -> ArrayVec<u16, MOST_VLANS>
+    ensures { result ≡ list.now }
+{
+    let mut copy = ArrayVec::new();
+    let _fits = copy.try_extend_from_slice(list.as_slice());
+    copy
+}
