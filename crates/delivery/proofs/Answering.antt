@@ -1,5 +1,5 @@
 -- What a step answers, by what is counted of the adapter.
-use Rattle.std.proofs.Common.{◌≡◌, ◌≢◌, ◌==◌, ◌||◌, ◌⊎◌, ◌-◌, [], ◌∷◌}
+use Rattle.std.proofs.Common.{◌≡◌, ◌≢◌, ◌==◌, ◌&&◌, ◌||◌, ◌⊎◌, ◌-◌, [], ◌∷◌}
 use Rattle.std.proofs.Common.{ℕ, suc, Bool, true, false, not, Option, Some, None, List, length}
 use Rattle.std.proofs.Common.{if◌then◌else◌, inl}
 use Rattle.std.proofs.Common.{inr, refl}
@@ -13,18 +13,17 @@ use Rattle.mdic_phy.specs.declared.phy.Negotiation.{Negotiation}
 use Rattle.mdic_phy.specs.declared.phy.Negotiation.TheVariants.{NotStarted, Running, Complete}
 use Rattle.mdic_phy.specs.Mdic.{has_work}
 use Rattle.mdic_phy.specs.Phy.{PhyState, is_running}
+use Rattle.registers.specs.Bits.{HasBit, is_set}
+use Rattle.registers.specs.Places.{rctl_en, tctl_en}
 use Rattle.rx_engine.specs.Receiver.{oldest}
 use Rattle.adapter.specs.Receiving.{DataAnswers, DoneAnswers, HasFrameAndDescriptor}
-use Rattle.adapter.specs.Rings.{ring_of}
 use Rattle.adapter.specs.State.{AdapterState}
 use Rattle.adapter.specs.Steps.{ticked}
 use Rattle.adapter.specs.Transmitting.{HasNothingToTake, TakeAnswers}
 use Rattle.adapter.specs.Outcomes.{FrameOutcome}
 use Rattle.adapter.specs.declared.outcome.Outcome.TheVariants.{Done, Fault, Moved, Nothing, Part, Ticked, Took}
-use Rattle.delivery.proofs.Rings.{none-offered, some-offered}
-use Rattle.delivery.specs.Counts.{bytes_left, counts_of, negotiation_ticks, ticks_left}
-use Rattle.delivery.specs.CountedHosts.{CanAnswer}
-use Rattle.delivery.specs.StepAnswers.{has_nothing_to_move, has_nothing_to_take, left_of_oldest, moved_or_part, nothing_if}
+use Rattle.delivery.specs.Counts.{bytes_left, counts_of, negotiation_ticks, phy_counts}
+use Rattle.delivery.specs.StepAnswers.{has_idle_phy, has_nothing_to_move, has_nothing_to_take, left_of_oldest, moved_or_part, nothing_if}
 
 -- it is Nothing where the test holds, and the other where it doesn't
 idles : (test : Bool) (other : FrameOutcome) → test ≡ true → Nothing ≡ nothing_if test other
@@ -35,50 +34,59 @@ acts : (test : Bool) (other : FrameOutcome) → test ≡ false → other ≡ not
 acts false other is = refl
 acts true other is = absurd (cc)
 
--- Taking.
-
--- a test of two numbers, where one of them holds, and where neither does
-either : (n m k : ℕ) → (n ≡ k) ⊎ (m ≡ 0) → (n == k || m == 0) ≡ true
-either n m k one = elim (eqb_tells n k) [
+-- two tests, where one of them holds, and where neither does
+one : (n m k l : ℕ) → (n ≡ k) ⊎ (m ≡ l) → (n == k || m == l) ≡ true
+one n m k l holds = elim (eqb_tells n k) [
   | inl same ↦ rw same.0 refl
-  | inr other ↦ rw other.0 (elim (eqb_tells m 0) [
-    | inl none ↦ none.0
-    | inr some ↦ elim one [ inl is ↦ absurd (other.1 is) | inr is ↦ absurd (some.1 is) ]
+  | inr other ↦ rw other.0 (elim (eqb_tells m l) [
+    | inl same ↦ same.0
+    | inr apart ↦ elim holds [ inl is ↦ absurd (other.1 is) | inr is ↦ absurd (apart.1 is) ]
   ])
 ]
 
-neither : (n m k : ℕ) → n ≢ k → m ≢ 0 → (n == k || m == 0) ≡ false
-neither n m k more some = elim (eqb_tells n k) [
+none : (n m k l : ℕ) → n ≢ k → m ≢ l → (n == k || m == l) ≡ false
+none n m k l more some = elim (eqb_tells n k) [
   | inl same ↦ absurd (more same.1)
-  | inr other ↦ rw other.0 (elim (eqb_tells m 0) [ inl none ↦ absurd (some none.1) | inr is ↦ is.0 ])
+  | inr other ↦ rw other.0 (elim (eqb_tells m l) [ inl same ↦ absurd (some same.1) | inr is ↦ is.0 ])
 ]
 
 stands-runs : (stopped : Bool) → stopped ≡ true → stopped ≡ false → ⊥
 stands-runs true stands runs = absurd (cc)
 stands-runs false stands runs = absurd (cc)
 
-idle-test : (a : AdapterState) → CanAnswer a → a.transmitter.stopped ≡ false → HasNothingToTake a
-    → has_nothing_to_take (counts_of a).transmit ≡ true
-idle-test a can runs (inl off) = absurd (off can.transmits)
-idle-test a can runs (inr (inl stopped)) = absurd (stands-runs a.transmitter.stopped stopped runs)
-idle-test a can runs (inr (inr (inl full))) = either _ _ 4 (inl full)
-idle-test a can runs (inr (inr (inr same))) = either _ _ 4 (inr (none-offered (ring_of a.transmit_ring) can.transmit same))
+-- a bit is 1 or isn't
+bit-tells : (value place : ℕ) → (is_set value place ≡ true × HasBit value place) ⊎ (is_set value place ≡ false × (¬ (HasBit value place)))
+bit-tells value place = eqb_tells _ _
 
-pub take-answer : (memory : List ℕ) (a : AdapterState) (answer : FrameOutcome) → CanAnswer a → a.transmitter.stopped ≡ false
-    → answer ≢ Fault → TakeAnswers memory a answer
-    → answer ≡ nothing_if (has_nothing_to_take (counts_of a).transmit) Took
-take-answer memory a Nothing can runs well answers =
-    idles (has_nothing_to_take (counts_of a).transmit) Took (idle-test a can runs answers)
-take-answer memory a Took can runs well answers =
-    acts (has_nothing_to_take (counts_of a).transmit) Took
-    (neither _ _ 4 (λ full. answers.0 (inr (inr (inl full))))
-    (some-offered (ring_of a.transmit_ring) can.transmit (λ same. answers.0 (inr (inr (inr same))))))
-take-answer memory a Fault can runs well answers = absurd (well refl)
-take-answer memory a _ can runs well answers = absurd answers
+idle-test : (a : AdapterState) → a.transmitter.stopped ≡ false → HasNothingToTake a → has_nothing_to_take (counts_of a).transmit ≡ true
+idle-test a runs idle = elim (bit-tells a.transmit_control tctl_en) [
+  | inr off ↦ ap (λ (b : Bool). not b || (length a.transmitter.buffer == 4 || a.transmit_ring.head == a.transmit_ring.tail)) off.0
+  | inl on ↦ ap (λ (b : Bool). not b || (length a.transmitter.buffer == 4 || a.transmit_ring.head == a.transmit_ring.tail)) on.0
+      ∙ full on.1 idle
+]
+  where
+    full : HasBit a.transmit_control tctl_en → HasNothingToTake a
+        → (length a.transmitter.buffer == 4 || a.transmit_ring.head == a.transmit_ring.tail) ≡ true
+    full on (inl off) = absurd (off on)
+    full on (inr (inl stopped)) = absurd (stands-runs a.transmitter.stopped stopped runs)
+    full on (inr (inr (inl four))) = one _ _ 4 _ (inl four)
+    full on (inr (inr (inr same))) = one _ _ 4 _ (inr same)
+
+pub take-answer : (memory : List ℕ) (a : AdapterState) (answer : FrameOutcome) → a.transmitter.stopped ≡ false → answer ≢ Fault
+    → TakeAnswers memory a answer → answer ≡ nothing_if (has_nothing_to_take (counts_of a).transmit) Took
+take-answer memory a Nothing runs well answers = idles (has_nothing_to_take (counts_of a).transmit) Took (idle-test a runs answers)
+take-answer memory a Took runs well answers =
+    acts (has_nothing_to_take (counts_of a).transmit) Took (elim (bit-tells a.transmit_control tctl_en) [
+      | inr off ↦ absurd (answers.0 (inl off.1))
+      | inl on ↦ ap (λ (b : Bool). not b || (length a.transmitter.buffer == 4 || a.transmit_ring.head == a.transmit_ring.tail)) on.0
+          ∙ none _ _ 4 _ (λ four. answers.0 (inr (inr (inl four)))) (λ same. answers.0 (inr (inr (inr same))))
+    ])
+take-answer memory a Fault runs well answers = absurd (well refl)
+take-answer memory a _ runs well answers = absurd answers
 
 -- Moving.
 
-pub count-left : (moved : ℕ) (frames : List (List ℕ)) → length (bytes_left moved frames) ≡ length frames
+count-left : (moved : ℕ) (frames : List (List ℕ)) → length (bytes_left moved frames) ≡ length frames
 count-left moved [] = refl
 count-left moved (frame ∷ frames) = ap suc (length-map frames length)
 
@@ -91,56 +99,67 @@ last-or-part : (moved size : ℕ) (frames : List (List ℕ)) (last : Bool) → n
     → nat_le (left_of_oldest (bytes_left moved frames)) size ≡ last
 last-or-part moved size frames last is = ap (λ (n : ℕ). nat_le n size) (first-left moved frames) ∙ is
 
-barred : {X : Type 0} (work : Option X) (frames : List (List ℕ)) (offered : ℕ) → (work ≡ None → frames ≢ [] → offered ≢ 0 → ⊥)
-    → (is_some work || (length frames == 0 || offered == 0)) ≡ true
-barred (Some x) frames offered isnt = refl
-barred None frames offered isnt = elim (eqb_tells (length frames) 0) [
-  | inl none ↦ rw none.0 refl
-  | inr some ↦ rw some.0 (elim (eqb_tells offered 0) [
-    | inl none ↦ none.0
-    | inr slots ↦ absurd (isnt refl (λ none. some.1 (ap length none)) slots.1)
-  ])
-]
-
 empty : (frames : List (List ℕ)) → length frames ≡ 0 → frames ≡ []
 empty [] none = refl
 empty (frame ∷ frames) none = absurd (omega (arith, none))
 
-free : {X : Type 0} (work : Option X) (frames : List (List ℕ)) (offered : ℕ) → work ≡ None → frames ≢ [] → offered ≢ 0
-    → (is_some work || (length frames == 0 || offered == 0)) ≡ false
-free (Some x) frames offered none some slots = absurd (cc)
-free None frames offered none some slots = neither (length frames) offered 0 (λ zero. some (empty frames zero)) slots
+barred : {X : Type 0} (work : Option X) (frames : List (List ℕ)) (head tail : ℕ) → (work ≡ None → frames ≢ [] → head ≢ tail → ⊥)
+    → (is_some work || (length frames == 0 || head == tail)) ≡ true
+barred (Some x) frames head tail isnt = refl
+barred None frames head tail isnt = elim (eqb_tells (length frames) 0) [
+  | inl zero ↦ rw zero.0 refl
+  | inr some ↦ rw some.0 (elim (eqb_tells head tail) [
+    | inl same ↦ same.0
+    | inr apart ↦ absurd (isnt refl (λ zero. some.1 (ap length zero)) apart.1)
+  ])
+]
 
-to_move : (a : AdapterState) → has_nothing_to_move (counts_of a).receive
-    ≡ (is_some a.receiver.work || (length a.receiver.buffer == 0 || (counts_of a).receive.ring.offered == 0))
-to_move a = ap (λ (n : ℕ). is_some a.receiver.work || (n == 0 || (counts_of a).receive.ring.offered == 0))
-    (count-left a.receiver.moved a.receiver.buffer)
+free : {X : Type 0} (work : Option X) (frames : List (List ℕ)) (head tail : ℕ) → work ≡ None → frames ≢ [] → head ≢ tail
+    → (is_some work || (length frames == 0 || head == tail)) ≡ false
+free (Some x) frames head tail ready some apart = absurd (cc)
+free None frames head tail ready some apart = none (length frames) head 0 tail (λ zero. some (empty frames zero)) apart
 
-has-to-move : (a : AdapterState) → CanAnswer a → HasFrameAndDescriptor a → has_nothing_to_move (counts_of a).receive ≡ false
-has-to-move a can has =
-    to_move a ∙ free a.receiver.work a.receiver.buffer _ has.ready.free has.ready.frames
-    (some-offered (ring_of a.receive_ring) can.receive has.offered)
+-- the test, where the side is enabled or not, and so many frames are in the packet buffer
+abbrev barred-when : AdapterState → Bool → ℕ → Bool
+barred-when a on frames = not on || (is_some a.receiver.work || (frames == 0 || a.receive_ring.head == a.receive_ring.tail))
 
-pub data-answer : (memory : List ℕ) (a : AdapterState) (answer : FrameOutcome) → CanAnswer a → a.receiver.stopped ≡ false
-    → answer ≢ Fault → DataAnswers memory a answer
-    → answer ≡ nothing_if (has_nothing_to_move (counts_of a).receive) (moved_or_part (counts_of a).receive)
-data-answer memory a Nothing can runs well answers =
+to_move : (a : AdapterState)
+    → has_nothing_to_move (counts_of a).receive ≡ barred-when a (is_set a.filter.rctl rctl_en) (length a.receiver.buffer)
+to_move a = ap (barred-when a (is_set a.filter.rctl rctl_en)) (count-left a.receiver.moved a.receiver.buffer)
+
+abbrev when : (a : AdapterState) → Bool → Bool
+when a on = barred-when a on (length a.receiver.buffer)
+
+has-to-move : (a : AdapterState) → HasFrameAndDescriptor a → has_nothing_to_move (counts_of a).receive ≡ false
+has-to-move a has = to_move a ∙ elim (bit-tells a.filter.rctl rctl_en) [
+  | inr off ↦ absurd (off.1 has.enabled)
+  | inl on ↦ ap (when a) on.0 ∙ free a.receiver.work a.receiver.buffer _ _ has.ready.free has.ready.frames has.offered
+]
+
+nothing-to-move : (a : AdapterState) → a.receiver.stopped ≡ false → ¬ (HasFrameAndDescriptor a)
+    → has_nothing_to_move (counts_of a).receive ≡ true
+nothing-to-move a runs without = to_move a ∙ elim (bit-tells a.filter.rctl rctl_en) [
+  | inr off ↦ ap (when a) off.0
+  | inl on ↦ ap (when a) on.0 ∙ barred a.receiver.work a.receiver.buffer _ _ (λ ready some apart. without (record {
+    enabled = on.1;
+    ready = record { running = runs; free = ready; frames = some };
+    offered = apart;
+  }))
+]
+
+pub data-answer : (memory : List ℕ) (a : AdapterState) (answer : FrameOutcome) → a.receiver.stopped ≡ false → answer ≢ Fault
+    → DataAnswers memory a answer → answer ≡ nothing_if (has_nothing_to_move (counts_of a).receive) (moved_or_part (counts_of a).receive)
+data-answer memory a Nothing runs well answers =
     idles (has_nothing_to_move (counts_of a).receive) (moved_or_part (counts_of a).receive)
-    (to_move a ∙ barred a.receiver.work a.receiver.buffer _ (λ none some slots. answers (record {
-      enabled = can.receives;
-      ready = record { running = runs; free = none; frames = some };
-      offered = λ same. slots (none-offered (ring_of a.receive_ring) can.receive same);
-    })))
-data-answer memory a Moved can runs well answers =
+    (nothing-to-move a runs answers)
+data-answer memory a Moved runs well answers =
     ap (λ (last : Bool). if last then Moved else Part) (sym (last-or-part a.receiver.moved _ a.receiver.buffer true answers.2))
-    ∙ acts (has_nothing_to_move (counts_of a).receive) (moved_or_part (counts_of a).receive)
-    (has-to-move a can answers.0)
-data-answer memory a Part can runs well answers =
+    ∙ acts (has_nothing_to_move (counts_of a).receive) (moved_or_part (counts_of a).receive) (has-to-move a answers.0)
+data-answer memory a Part runs well answers =
     ap (λ (last : Bool). if last then Moved else Part) (sym (last-or-part a.receiver.moved _ a.receiver.buffer false answers.2))
-    ∙ acts (has_nothing_to_move (counts_of a).receive) (moved_or_part (counts_of a).receive)
-    (has-to-move a can answers.0)
-data-answer memory a Fault can runs well answers = absurd (well refl)
-data-answer memory a _ can runs well answers = absurd answers
+    ∙ acts (has_nothing_to_move (counts_of a).receive) (moved_or_part (counts_of a).receive) (has-to-move a answers.0)
+data-answer memory a Fault runs well answers = absurd (well refl)
+data-answer memory a _ runs well answers = absurd answers
 
 pub done-answer : (a : AdapterState) (answer : FrameOutcome) → DoneAnswers a answer
     → answer ≡ nothing_if (not (counts_of a).receive.is_working) Done
@@ -162,29 +181,31 @@ pub eeprom-answer : (a : AdapterState) (answer : FrameOutcome) → answer ≡ ti
     → answer ≡ nothing_if (not (counts_of a).is_reading) Ticked
 eeprom-answer a answer is = is ∙ tick-answer (is_pending a.eerd)
 
--- there is work exactly where ticks are left
-left-works : (value : ℕ) (pending : Option Operation) (phy : PhyState)
-    → not (has_work (record { value = value; pending = pending }) phy) ≡ (ticks_left (record { value = value; pending = pending }) phy == 0)
-left-works value (Some operation) phy = by_case (is_running phy.negotiation) ∙ sym (one-at-least _)
+-- there is work where the countdown runs or a command is pending
+idle-phy : (value : ℕ) (pending : Option Operation) (phy : PhyState)
+    → not (has_work (record { value = value; pending = pending }) phy)
+    ≡ has_idle_phy (phy_counts (record { value = value; pending = pending }) phy)
+idle-phy value (Some operation) phy = by_case (is_running phy.negotiation) ∙ sym (and-false _)
   where
     by_case : (runs : Bool) → not (runs || true) ≡ false
     by_case true = refl
     by_case false = refl
 
-    one-at-least : (n : ℕ) → (suc n == 0) ≡ false
-    one-at-least n = elim (eqb_tells (suc n) 0) [ inl none ↦ absurd (omega (arith, none.1)) | inr some ↦ some.0 ]
-left-works value None phy = by_case phy.negotiation
+    and-false : (b : Bool) → (b && false) ≡ false
+    and-false true = refl
+    and-false false = refl
+idle-phy value None phy = by_case phy.negotiation
   where
-    by_case : (negotiation : Negotiation) → not (is_running negotiation || false) ≡ (negotiation_ticks negotiation == 0)
+    by_case : (negotiation : Negotiation) → not (is_running negotiation || false) ≡ ((negotiation_ticks negotiation == 0) && true)
     by_case NotStarted = refl
     by_case Complete = refl
     by_case (Running left) = elim (eqb_tells (negotiation_ticks (Running left)) 0) [
       | inl none ↦ absurd (omega (arith, none.1))
-      | inr some ↦ sym some.0
+      | inr some ↦ sym (ap (λ (b : Bool). b && true) some.0)
     ]
 
 pub phy-answer : (a : AdapterState) (answer : FrameOutcome) → answer ≡ ticked (has_work a.mdic a.phy)
-    → answer ≡ nothing_if ((counts_of a).phy_ticks == 0) Ticked
+    → answer ≡ nothing_if (has_idle_phy (counts_of a).phy) Ticked
 phy-answer a answer is =
     is ∙ tick-answer (has_work a.mdic a.phy)
-    ∙ ap (λ (idle : Bool). nothing_if idle Ticked) (left-works a.mdic.value a.mdic.pending a.phy)
+    ∙ ap (λ (idle : Bool). nothing_if idle Ticked) (idle-phy a.mdic.value a.mdic.pending a.phy)

@@ -24,6 +24,7 @@ use Rattle.stations.specs.AtomicSteps.{At, AtomicStep, Idles, after, outcome_of_
 use Rattle.stations.specs.Stations.{StationState, world_at}
 use Rattle.stations.proofs.HostTrails.{trail-of}
 use Rattle.stations.specs.AtomicRuns.{LeadsTo, events_at, past_at}
+use Rattle.delivery.specs.Lists.{holding_in_one, sending_in_one}
 use Rattle.delivery.specs.Fates.{Came, Mark, Went, mark_by, marks}
 use Rattle.delivery.specs.Happenings.{Happening, Moved, Put, Reached, accepted, accepted_in_one, given, given_in_one, happened_in}
 use Rattle.delivery.specs.Happenings.{missed, missed_of, of_host, put, put_by, reached, reached_by, stored, stored_by, told_of}
@@ -290,3 +291,23 @@ accepted-none k steps = none-happens (accepted_in_one k) steps (accepts-none k)
 
 pub given-none : (k socket : ℕ) (steps : List AtomicStep) → given k socket (happened_in steps) ≡ []
 given-none k socket steps = none-happens (given_in_one k socket) steps (gives-none k socket)
+
+-- Nothing was given up.
+
+drops-no_sending : (k host : ℕ) (outcome : FrameOutcome) → flat_map (sending_in_one k) (told_of host outcome) ≡ []
+drops-no_sending k host (outcome.Put frame) = refl
+drops-no_sending k host (outcome.Delivered frame fate) = refl
+drops-no_sending k host outcome.Moved = refl
+drops-no_sending k host _ = refl
+
+drops-no_holding : (k host : ℕ) (outcome : FrameOutcome) → flat_map (holding_in_one k) (told_of host outcome) ≡ []
+drops-no_holding k host (outcome.Put frame) = refl
+drops-no_holding k host (outcome.Delivered frame fate) = refl
+drops-no_holding k host outcome.Moved = refl
+drops-no_holding k host _ = refl
+
+pub sending-none : (k : ℕ) (steps : List AtomicStep) → flat_map (sending_in_one k) (happened_in steps) ≡ []
+sending-none k steps = none-happens (sending_in_one k) steps (drops-no_sending k)
+
+pub holding-none : (k : ℕ) (steps : List AtomicStep) → flat_map (holding_in_one k) (happened_in steps) ≡ []
+holding-none k steps = none-happens (holding_in_one k) steps (drops-no_holding k)

@@ -1,22 +1,15 @@
 -- What happens first and then, host by host.
-use Rattle.std.proofs.Common.{◌≡◌, ◌≢◌, ◌+◌, ◌++◌, ◌∷◌, [], ◌==◌, ◌&&◌, not, ℕ, Option, List, drop, if◌then◌else◌, refl, ap, subst, ◌∙◌}
-use Rattle.std.proofs.Common.{append_assoc, arith, sym}
+use Rattle.std.proofs.Common.{◌≡◌, ◌+◌, ◌++◌, ◌∷◌, [], ◌==◌, ◌&&◌, not, ℕ, true, false, Option, List, drop, if◌then◌else◌, refl, ap, subst}
+use Rattle.std.proofs.Common.{append_assoc, sym, ◌∙◌}
 use Rattle.std.proofs.lemmas.Grind.{flat_map-append}
-use Rattle.std.proofs.lemmas.List.{append-nil, drop-drop}
 use Rattle.std.proofs.lemmas.List.Sums.{sum_by-append}
 use Rattle.rx_engine.specs.Arriving.{kept}
 use Rattle.rx_engine.specs.Registers.{FilterRegisters}
-use Rattle.delivery.specs.Fates.{AreGroupsAfter, AreRightByList, AreRightFates, Came, Joins, Mark, Quits, Reception, Went, buffered_after}
-use Rattle.delivery.specs.Fates.{left_in, mark_by, marks, reception, stored_in}
+use Rattle.delivery.specs.Fates.{AreGroupsAfter, AreRightByList, AreRightFates, Came, Emptied, Joins, Mark, Quits, Reception, SwitchedOff}
+use Rattle.delivery.specs.Fates.{SwitchedOn, Went, buffered_after, enabled_after, mark_by, marks}
 use Rattle.delivery.specs.Happenings.{
-  Accepted,
-  Given,
   Happening,
-  Joined,
-  Left,
-  Moved,
   Put,
-  Reached,
   accepted,
   accepted_in_one,
   given,
@@ -55,15 +48,10 @@ marks-append k first later = flat_map-append (mark_by k) first later
 
 by-same : (wires others : ℕ → Option ℕ) (k : ℕ) (one : Happening) → ((host : ℕ) → wires host ≡ others host)
     → toward_by wires k one ≡ toward_by others k one
-by-same wires others k (Accepted host frame) same = refl
 by-same wires others k (Put host frame) same =
     ap (λ (wire : Option ℕ). if not (k == host) && share_wire wire (wires host) then frame ∷ [] else []) (same k)
     ∙ ap (λ (wire : Option ℕ). if not (k == host) && share_wire (others k) wire then frame ∷ [] else []) (same host)
-by-same wires others k (Reached host frame fate) same = refl
-by-same wires others k (Moved host) same = refl
-by-same wires others k (Given host socket frame) same = refl
-by-same wires others k (Joined host group) same = refl
-by-same wires others k (Left host group) same = refl
+by-same wires others k _ same = refl
 
 pub toward-same : (wires others : ℕ → Option ℕ) (k : ℕ) (happened : List Happening) → ((host : ℕ) → wires host ≡ others host)
     → toward wires k happened ≡ toward others k happened
@@ -97,62 +85,59 @@ fates-append registers room n m l [] later one two = subst (λ (now : Reception)
 fates-append registers room n m l (Came frame fate ∷ first) later one two =
     (one.0, fates-append registers room (record n { buffered = n.buffered ++ kept fate frame }) m l first later one.1 two)
 fates-append registers room n m l (Went ∷ first) later one two =
-    (one.0, fates-append registers room (record n { buffered = drop 1 n.buffered }) m l first later one.1 two)
+    (one.0, one.1, fates-append registers room (record n { buffered = drop 1 n.buffered }) m l first later one.2 two)
 fates-append registers room n m l (Joins group ∷ first) later one two =
     fates-append registers room (record n { groups = n.groups ++ group ∷ [] }) m l first later one two
 fates-append registers room n m l (Quits group ∷ first) later one two =
     (one.0, one.1, fates-append registers room (record n { groups = one.0 }) m l first later one.2 two)
-
--- Whether the oldest leaves before the others come, or with those that leave after.
-drop-more : (frames more : List (List ℕ)) (k : ℕ) → frames ≢ [] → drop k (drop 1 frames ++ more) ≡ drop (k + 1) (frames ++ more)
-drop-more [] more k some = absurd (some refl)
-drop-more (frame ∷ frames) more k some =
-    let order : 1 + k ≡ k + 1 = omega arith in
-    drop-drop k 1 (frame ∷ frames ++ more) ∙ ap (λ (n : ℕ). drop n (frame ∷ frames ++ more)) order
+fates-append registers room n m l (SwitchedOff ∷ first) later one two =
+    fates-append registers room (record n { enabled = false }) m l first later one two
+fates-append registers room n m l (SwitchedOn ∷ first) later one two =
+    fates-append registers room (record n { enabled = true }) m l first later one two
+fates-append registers room n m l (Emptied ∷ first) later one two =
+    fates-append registers room (record n { buffered = [] }) m l first later one two
 
 -- Right fates are right from any mark on.
 record After (registers : FilterRegisters) (room : ℕ) (start : Reception) (first later : List Mark) (final : Reception) : Type 0 where
   groups : List (List ℕ)
   are : AreGroupsAfter start.groups first groups
-  fates : AreRightFates registers room (reception groups (buffered_after start.buffered first)) later final
-
-on-frames : (registers : FilterRegisters) (room : ℕ) (start next : Reception) (first all later : List Mark) (final : Reception)
-    → buffered_after next.buffered first ≡ buffered_after start.buffered all
-    → ((groups : List (List ℕ)) → AreGroupsAfter next.groups first groups → AreGroupsAfter start.groups all groups)
-    → After registers room next first later final → After registers room start all later final
-on-frames registers room start next first all later final frames groups after = record {
-  groups = after.groups;
-  are = groups after.groups after.are;
-  fates = subst (λ (list : List (List ℕ)). AreRightFates registers room (reception after.groups list) later final) frames after.fates;
-}
+  fates : AreRightFates registers room (record {
+    groups = groups;
+    buffered = buffered_after start.buffered first;
+    enabled = enabled_after start.enabled first;
+  }) later final
 
 fates-after : (registers : FilterRegisters) (room : ℕ) (start final : Reception) (first later : List Mark)
     → AreRightFates registers room start (first ++ later) final → After registers room start first later final
-fates-after registers room start final [] later are = record {
-  groups = start.groups;
-  are = refl;
-  fates =
-      subst (λ (list : List (List ℕ)). AreRightFates registers room (reception start.groups list) later final)
-      (sym (append-nil start.buffered)) are;
-}
+fates-after registers room start final [] later are = record { groups = start.groups; are = refl; fates = are }
 fates-after registers room start final (Came frame fate ∷ first) later are =
     let next : Reception = record start { buffered = start.buffered ++ kept fate frame } in
-    on-frames registers room start next first (Came frame fate ∷ first) later final
-    (ap (drop (left_in first)) (append_assoc start.buffered (kept fate frame) (stored_in first)))
-    (λ groups same. same) (fates-after registers room next final first later are.1)
+    let after = fates-after registers room next final first later are.1 in
+    record { groups = after.groups; are = after.are; fates = after.fates }
 fates-after registers room start final (Went ∷ first) later are =
     let next : Reception = record start { buffered = drop 1 start.buffered } in
-    on-frames registers room start next first (Went ∷ first) later final
-    (drop-more start.buffered (stored_in first) (left_in first) are.0)
-    (λ groups same. same) (fates-after registers room next final first later are.1)
+    let after = fates-after registers room next final first later are.2 in
+    record { groups = after.groups; are = after.are; fates = after.fates }
 fates-after registers room start final (Joins group ∷ first) later are =
     let next : Reception = record start { groups = start.groups ++ group ∷ [] } in
-    on-frames registers room start next first (Joins group ∷ first) later final refl
-    (λ groups same. same) (fates-after registers room next final first later are)
+    let after = fates-after registers room next final first later are in
+    record { groups = after.groups; are = after.are; fates = after.fates }
 fates-after registers room start final (Quits group ∷ first) later are =
     let next : Reception = record start { groups = are.0 } in
-    on-frames registers room start next first (Quits group ∷ first) later final refl
-    (λ groups rest. (are.0, are.1, rest)) (fates-after registers room next final first later are.2)
+    let after = fates-after registers room next final first later are.2 in
+    record { groups = after.groups; are = (are.0, are.1, after.are); fates = after.fates }
+fates-after registers room start final (SwitchedOff ∷ first) later are =
+    let next : Reception = record start { enabled = false } in
+    let after = fates-after registers room next final first later are in
+    record { groups = after.groups; are = after.are; fates = after.fates }
+fates-after registers room start final (SwitchedOn ∷ first) later are =
+    let next : Reception = record start { enabled = true } in
+    let after = fates-after registers room next final first later are in
+    record { groups = after.groups; are = after.are; fates = after.fates }
+fates-after registers room start final (Emptied ∷ first) later are =
+    let next : Reception = record start { buffered = [] } in
+    let after = fates-after registers room next final first later are in
+    record { groups = after.groups; are = after.are; fates = after.fates }
 
 pub fates-by_list : (registers : FilterRegisters) (room : ℕ) (start final : Reception) (all : List Mark)
     → AreRightFates registers room start all final → AreRightByList registers room start all

@@ -25,8 +25,9 @@ use Rattle.adapter.specs.TableLaws.{register_at-mta}
 use Rattle.adapter.specs.World.{World, world_after_write}
 use Rattle.adapter.specs.declared.offsets.TheConstants.{RDT, TDT}
 use Rattle.adapter.specs.declared.register.Register.{Register}
-use Rattle.adapter.specs.declared.register.Register.TheVariants.{Icr, Mpc, Gprc, Gptc, Mta, Rnbc, Receive, Transmit}
-use Rattle.adapter.specs.declared.register.RingRegister.TheVariants.{Tail}
+use Rattle.adapter.specs.declared.register.Register.TheVariants.{Icr, Ims, Mpc, Gprc, Gptc, Mta, Rnbc, Receive, Tctl, Transmit}
+use Rattle.adapter.specs.declared.register.RingRegister.{RingRegister}
+use Rattle.adapter.specs.declared.register.RingRegister.TheVariants.{BaseHigh, BaseLow, Head, Length, Tail}
 use Rattle.adapter.specs.declared.step.StepKind.{StepKind}
 use Rattle.adapter.specs.declared.step.StepKind.TheVariants.{EepromTick, PhyTick, RxData, RxDone, TxPut, TxTake}
 use Rattle.adapter.specs.Outcomes.{FrameOutcome}
@@ -44,10 +45,10 @@ use Rattle.stations.proofs.HostTrails.{trail-of}
 use Rattle.stations.specs.AtomicRuns.{events_at}
 use Rattle.delivery.proofs.HostLists.{marks-told, marks_in, marks_of_answer}
 use Rattle.delivery.proofs.Joining.{fates-append}
-use Rattle.delivery.specs.DeliveryLaws.{ChangesGroups, FatesAreRight, GroupsChangeAlone, KeepsReceiving, WritesChangeGroups}
-use Rattle.delivery.specs.Fates.{AreRightFates, Came, IsRightFate, Joins, KeepsGroups, Mark, Quits, Reception, Went, in_force}
-use Rattle.delivery.specs.Fates.{reception}
-use Rattle.delivery.specs.Reception.{IsTail, LeavesReception, ReceivesRightly, SameButGroups}
+use Rattle.delivery.specs.DeliveryLaws.{ChangesGroups, FatesAreRight, FilterStays, GroupsChangeAlone, KeepsReceiving, WritesChangeGroups}
+use Rattle.delivery.specs.Fates.{AreRightFates, Came, Emptied, IsRightFate, Joins, KeepsGroups, Mark, Quits, Reception, SwitchedOff}
+use Rattle.delivery.specs.Fates.{SwitchedOn, Went, in_force, reception}
+use Rattle.delivery.specs.Reception.{IsNotOfReception, LeavesReception, ReceivesRightly, SameButGroups}
 
 -- Receptions join.
 
@@ -61,16 +62,22 @@ judged-alike : (a b : FilterRegisters) (room : ℕ) (now final : Reception) (all
 unfolding filter_of
 judged-alike a b room now final [] same are = are
 judged-alike a b room now final (Came frame fate ∷ later) same are = (
-  subst (λ (filter : ReceiveFilter). IsRightFate filter room now.buffered frame fate)
+  subst (λ (filter : ReceiveFilter). IsRightFate filter room now.enabled now.buffered frame fate)
       (ap (λ (registers : FilterRegisters). in_force registers now.groups) same) are.0,
   judged-alike a b room (record now { buffered = now.buffered ++ kept fate frame }) final later same are.1,
 )
 judged-alike a b room now final (Went ∷ later) same are =
-    (are.0, judged-alike a b room (record now { buffered = drop 1 now.buffered }) final later same are.1)
+    (are.0, are.1, judged-alike a b room (record now { buffered = drop 1 now.buffered }) final later same are.2)
 judged-alike a b room now final (Joins group ∷ later) same are =
     judged-alike a b room (record now { groups = now.groups ++ group ∷ [] }) final later same are
 judged-alike a b room now final (Quits group ∷ later) same are =
     (are.0, are.1, judged-alike a b room (record now { groups = are.0 }) final later same are.2)
+judged-alike a b room now final (SwitchedOff ∷ later) same are =
+    judged-alike a b room (record now { enabled = false }) final later same are
+judged-alike a b room now final (SwitchedOn ∷ later) same are =
+    judged-alike a b room (record now { enabled = true }) final later same are
+judged-alike a b room now final (Emptied ∷ later) same are =
+    judged-alike a b room (record now { buffered = [] }) final later same are
 
 others-join : (a b c : FilterRegisters) → SameButGroups a b → SameButGroups b c → SameButGroups a c
 others-join a b c one two = two ∙ ap (λ (r : FilterRegisters). let f : FilterRegisters = record r { mta = c.mta } in f) one
@@ -82,6 +89,9 @@ keeps-first : (first later : List Mark) → KeepsGroups (first ++ later) → Kee
 keeps-first [] later keeps = tt
 keeps-first (Came frame fate ∷ first) later keeps = keeps-first first later keeps
 keeps-first (Went ∷ first) later keeps = keeps-first first later keeps
+keeps-first (SwitchedOff ∷ first) later keeps = keeps-first first later keeps
+keeps-first (SwitchedOn ∷ first) later keeps = keeps-first first later keeps
+keeps-first (Emptied ∷ first) later keeps = keeps-first first later keeps
 keeps-first (Joins group ∷ first) later keeps = keeps
 keeps-first (Quits group ∷ first) later keeps = keeps
 
@@ -89,6 +99,9 @@ keeps-later : (first later : List Mark) → KeepsGroups (first ++ later) → Kee
 keeps-later [] later keeps = keeps
 keeps-later (Came frame fate ∷ first) later keeps = keeps-later first later keeps
 keeps-later (Went ∷ first) later keeps = keeps-later first later keeps
+keeps-later (SwitchedOff ∷ first) later keeps = keeps-later first later keeps
+keeps-later (SwitchedOn ∷ first) later keeps = keeps-later first later keeps
+keeps-later (Emptied ∷ first) later keeps = keeps-later first later keeps
 keeps-later (Joins group ∷ first) later keeps = absurd keeps
 keeps-later (Quits group ∷ first) later keeps = absurd keeps
 
@@ -130,7 +143,7 @@ never-moved : (works : Bool) → outcome.Moved ≡ ticked works → ⊥
 never-moved true is = absurd (cc)
 never-moved false is = absurd (cc)
 
-step-receives : (groups : List (List ℕ)) (kind : StepKind) (wire_free : Bool) (answer : FrameOutcome) (w : World)
+pub step-receives : (groups : List (List ℕ)) (kind : StepKind) (wire_free : Bool) (answer : FrameOutcome) (w : World)
     → Answers kind wire_free w.memory w.adapter answer
     → ReceivesRightly groups w.adapter (marks_of_answer answer) groups (world_after_step kind answer w).adapter
 step-receives groups TxTake wire_free outcome.Moved w answers = absurd answers
@@ -144,7 +157,7 @@ step-receives groups RxData wire_free outcome.Moved w answers = record {
   filter = refl;
   unchanged = λ keeps. refl;
   kilobytes = refl;
-  fates = (answers.0.ready.frames, refl);
+  fates = (answers.0.ready.frames, refl, refl);
 }
 step-receives groups RxData wire_free outcome.Part w answers = same groups w.adapter _ refl refl refl
 step-receives groups RxData wire_free outcome.Fault w answers = same groups w.adapter _ refl refl refl
@@ -184,12 +197,19 @@ passes-out groups a frame has =
     (SameSets-sym (filter_of a.filter) (in_force a.filter groups) (same-sets groups a has))
 
 right-fate : (groups : List (List ℕ)) (fate : Fate) (frame : List ℕ) (a : AdapterState) → Has groups a → HasBit a.filter.rctl rctl_en
-    → IsFate a frame fate → IsRightFate (in_force a.filter groups) (room a) a.receiver.buffer frame fate
+    → IsFate a frame fate → IsRightFate (in_force a.filter groups) (room a) true a.receiver.buffer frame fate
 right-fate groups Off frame a has enabled is = is enabled
 right-fate groups Illegal frame a has enabled is = is.1
 right-fate groups Filtered frame a has enabled is = (is.1, λ passes. is.2 (passes-out groups a frame has passes))
 right-fate groups Missed frame a has enabled is = (is.0.legal, passes-in groups a frame has is.0.passes, is.1)
 right-fate groups Stored frame a has enabled is = (is.0.legal, passes-in groups a frame has is.0.passes, is.1)
+
+pub arrival-filter : (fate : Fate) (frame : List ℕ) (a : AdapterState) → (after_arrive fate frame a).filter ≡ a.filter
+arrival-filter Off frame a = refl
+arrival-filter Illegal frame a = refl
+arrival-filter Filtered frame a = refl
+arrival-filter Missed frame a = refl
+arrival-filter Stored frame a = refl
 
 arrival-receives : (groups : List (List ℕ)) (fate : Fate) (frame : List ℕ) (a : AdapterState) → Has groups a
     → HasBit a.filter.rctl rctl_en → IsFate a frame fate
@@ -231,18 +251,28 @@ read-receives groups Gptc a = same groups a _ refl refl refl
 read-receives groups Rnbc a = same groups a _ refl refl refl
 read-receives groups _ a = receives-none groups a
 
-found-read : (groups : List (List ℕ)) (found : Option Register) (a : AdapterState)
+pub found-read : (groups : List (List ℕ)) (found : Option Register) (a : AdapterState)
     → ReceivesRightly groups a [] groups (left_by_read found a)
 found-read groups None a = receives-none groups a
 found-read groups (Some register) a = read-receives groups register a
 
-write-receives : (groups : List (List ℕ)) (register : Register) (value : ℕ) (a : AdapterState) → IsTail register
+ring-receives : (groups : List (List ℕ)) (part : RingRegister) (value : ℕ) (a : AdapterState)
+    → ReceivesRightly groups a [] groups (write_of (Transmit part) value a)
+ring-receives groups BaseLow value a = same groups a _ refl refl refl
+ring-receives groups BaseHigh value a = same groups a _ refl refl refl
+ring-receives groups Length value a = same groups a _ refl refl refl
+ring-receives groups Head value a = same groups a _ refl refl refl
+ring-receives groups Tail value a = same groups a _ refl refl refl
+
+write-receives : (groups : List (List ℕ)) (register : Register) (value : ℕ) (a : AdapterState) → IsNotOfReception register
     → ReceivesRightly groups a [] groups (write_of register value a)
 write-receives groups (Receive Tail) value a is = same groups a _ refl refl refl
-write-receives groups (Transmit Tail) value a is = same groups a _ refl refl refl
+write-receives groups (Transmit part) value a is = ring-receives groups part value a
+write-receives groups Tctl value a is = same groups a _ refl refl refl
+write-receives groups Ims value a is = same groups a _ refl refl refl
 write-receives groups _ value a is = absurd is
 
-found-write : (groups : List (List ℕ)) (found : Option Register) (value : ℕ) (a : AdapterState) → IfSome found IsTail
+found-write : (groups : List (List ℕ)) (found : Option Register) (value : ℕ) (a : AdapterState) → IfSome found IsNotOfReception
     → ReceivesRightly groups a [] groups (left_by_write found value a)
 found-write groups None value a is = receives-none groups a
 found-write groups (Some register) value a is = write-receives groups register value a is
@@ -257,8 +287,8 @@ access-receives groups (Stores address bytes) w leaves = receives-none groups w.
 -- a write of RDT or TDT is such an access
 pub tails-leave_reception : (offset value : ℕ) → (offset ≡ RDT) ⊎ (offset ≡ TDT) → LeavesReception (Writes offset value)
 tails-leave_reception offset value is = elim is [
-  | inl receive ↦ subst (λ (o : ℕ). IfSome (register_at o) IsTail) (sym receive) (at_offset IsTail (Receive Tail) tt tt)
-  | inr transmit ↦ subst (λ (o : ℕ). IfSome (register_at o) IsTail) (sym transmit) (at_offset IsTail (Transmit Tail) tt tt)
+  | inl receive ↦ subst (λ (o : ℕ). IfSome (register_at o) IsNotOfReception) (sym receive) (at_offset IsNotOfReception (Receive Tail) tt tt)
+  | inr transmit ↦ subst (λ (o : ℕ). IfSome (register_at o) IsNotOfReception) (sym transmit) (at_offset IsNotOfReception (Transmit Tail) tt tt)
 ]
 
 -- Trails.
@@ -281,6 +311,27 @@ event-keeps : (event : Event) → KeepsGroups (marks_in event)
 event-keeps (Steps kind wire_free answer) = answer-keeps answer
 event-keeps (Arrives frame fate) = tt
 event-keeps (Accesses access) = tt
+
+-- The filter doesn't change, whatever arrives.
+event-filter : (event : Event) (w : World) → All LeavesReception (past_of_event event).accesses → Occurs event w
+    → (world_after event w).adapter.filter ≡ w.adapter.filter
+event-filter (Steps kind wire_free answer) w leave occurs =
+    (step-receives [] kind wire_free answer w occurs.1).unchanged (answer-keeps answer)
+event-filter (Arrives frame fate) w leave occurs = arrival-filter fate frame w.adapter
+event-filter (Accesses access) w leave occurs = (access-receives [] access w (all-head LeavesReception access [] leave)).unchanged tt
+
+pub trail-filter : (events : List Event) (a b : World) → All LeavesReception (past_of events).accesses → Trail events a b
+    → b.adapter.filter ≡ a.adapter.filter
+trail-filter [] a b leave trail = ap (λ (w : World). w.adapter.filter) trail
+trail-filter (event ∷ later) a b leave trail =
+    let accesses = (past_of_event event).accesses in
+    let behind = (past_of later).accesses in
+    trail-filter later (world_after event a) b (all-right LeavesReception accesses behind leave) trail.1
+    ∙ event-filter event a (all-left LeavesReception accesses behind leave) trail.0
+
+pub filter-stays : FilterStays
+filter-stays caller k steps a b leads leave =
+    trail-filter (events_at k steps) (world_at a k) (world_at b k) leave (trail-of caller k steps a b leads)
 
 pub trail-receives : (groups : List (List ℕ)) (events : List Event) (a b : World) → Has groups a.adapter
     → All LeavesReception (past_of events).accesses → HasBit a.adapter.filter.rctl rctl_en → Trail events a b
@@ -313,8 +364,6 @@ fates-right caller k steps a b groups leads leave enabled has =
 changes-receives : (mark : Mark) (groups groups' : List (List ℕ)) (a b : AdapterState) → ChangesGroups mark groups groups'
     → SameButGroups a.filter b.filter → b.receive_kilobytes ≡ a.receive_kilobytes → b.receiver.buffer ≡ a.receiver.buffer
     → ReceivesRightly groups a (mark ∷ []) groups' b
-changes-receives (Came frame fate) groups groups' a b changes filter kilobytes buffer = absurd changes
-changes-receives Went groups groups' a b changes filter kilobytes buffer = absurd changes
 changes-receives (Joins group) groups groups' a b changes filter kilobytes buffer = record {
   filter = filter;
   unchanged = λ keeps. absurd keeps;
@@ -327,6 +376,7 @@ changes-receives (Quits group) groups groups' a b changes filter kilobytes buffe
   kilobytes = kilobytes;
   fates = (groups', changes, ap (reception groups') buffer);
 }
+changes-receives _ groups groups' a b changes filter kilobytes buffer = absurd changes
 
 pub changes-alone : GroupsChangeAlone
 changes-alone mark groups groups' a changes = changes-receives mark groups groups' a a changes refl refl refl

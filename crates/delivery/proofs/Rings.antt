@@ -1,23 +1,11 @@
 -- Slots of a ring, counted.
-use Rattle.std.proofs.Common.{◌≡◌, ◌<◌, ◌≤◌, ◌+◌, ◌-◌, ◌%◌, ℕ, refl, sym, ap, ◌∙◌, arith, ⊎_elim}
+use Rattle.std.proofs.Common.{◌≡◌, ◌<◌, ◌≤◌, ◌+◌, ◌-◌, ◌%◌, ℕ, sym, ap, ◌∙◌, arith, ⊎_elim}
 use Rattle.std.proofs.lemmas.Bool.{cases_lt}
+use Rattle.std.proofs.lemmas.Nat.{mod_below}
 use Rattle.std.proofs.Math.Nat.{mod-eq_of_lt, add-mod_left}
-use Rattle.descriptors.specs.declared.ring.Ring.{Ring}
-use Rattle.descriptors.specs.Ring.{HasValidIndices, count_of, distance_of, next_of}
 use Rattle.descriptors.specs.RingLaws.{distance-around, distance-forward, distance-step}
-use Rattle.delivery.specs.Counts.{RingCounts, one_fewer, ring_counts, counts_with_tail}
-use Rattle.delivery.specs.AnswersLaws.{TailsOfferSlots}
-
-with-offered : (slots tail n n' : ℕ) → n ≡ n' → (let c : RingCounts = record { slots = slots; tail = tail; offered = n } in c)
-    ≡ record { slots = slots; tail = tail; offered = n' }
-with-offered slots tail n n' same = rw same refl
-
--- Where the head moves on, one slot less is offered.
-pub moved-counts : (ring : Ring) → HasValidIndices ring → ¬ (ring.head ≡ ring.tail)
-    → ring_counts (record ring { head = next_of ring ring.head }) ≡ one_fewer (ring_counts ring)
-moved-counts ring valid apart =
-    let step = distance-step (count_of ring) ring.head ring.tail valid.head valid.tail apart in
-    with-offered (count_of ring) ring.tail _ _ (omega (arith, step))
+use Rattle.delivery.specs.Counts.{offered_in}
+use Rattle.delivery.specs.AnswersLaws.{NoneIsOffered, OneIsTaken, TailsOfferSlots}
 
 -- To a third slot by way of a second.
 distance-joins : (n h t v : ℕ) → h < n → t < n → v < n
@@ -41,20 +29,26 @@ distance-joins n h t v slot_h slot_t slot_v = ⊎_elim
     less : (x y : ℕ) → x < n → y ≡ x → x ≡ y % n
     less x y below same = sym (ap (λ (k : ℕ). k % n) same ∙ mod-eq_of_lt below)
 
--- Where the tail is moved, so many more are.
-pub tail-counts : (ring : Ring) (tail : ℕ) → HasValidIndices ring → tail < count_of ring
-    → ring_counts (record ring { tail = tail }) ≡ counts_with_tail tail (ring_counts ring)
-tail-counts ring tail valid slot =
-    with-offered (count_of ring) tail _ _ (distance-joins (count_of ring) ring.head ring.tail tail valid.head valid.tail slot)
-
 -- None is offered exactly where head equals tail.
-pub none-offered : (ring : Ring) → HasValidIndices ring → ring.head ≡ ring.tail → distance_of ring ring.head ring.tail ≡ 0
-none-offered ring valid same = distance-forward (count_of ring) ring.head ring.tail valid.tail (omega arith) ∙ omega arith
+pub none-offered : NoneIsOffered
+none-offered ring has = (
+  λ none. ⊎_elim
+      (λ (far : ring.tail < ring.head). absurd
+      (let around = distance-around ring.slots ring.head ring.tail has.head far in omega (arith, around, none, has.head)))
+      (λ (near : ring.head ≤ ring.tail).
+      let forward = distance-forward ring.slots ring.head ring.tail has.tail near in
+      omega (arith, forward, none, near))
+      (cases_lt ring.tail ring.head),
+  λ same. distance-forward ring.slots ring.head ring.tail has.tail (omega (arith, same)) ∙ omega (arith, same),
+)
 
-pub some-offered : (ring : Ring) → HasValidIndices ring → ¬ (ring.head ≡ ring.tail) → distance_of ring ring.head ring.tail ≡ 0 → ⊥
-some-offered ring valid apart none =
-    let step = distance-step (count_of ring) ring.head ring.tail valid.head valid.tail apart in
-    omega (arith, step, none)
+-- Where the head moves on, one slot less is.
+pub one-taken : OneIsTaken
+one-taken ring has apart =
+    let step = distance-step ring.slots ring.head ring.tail has.head has.tail apart in (
+      record { head = mod_below (ring.head + 1) ring.slots (omega (arith, has.head)); tail = has.tail },
+      omega (arith, step),
+    )
 
 -- So many places on from a slot it is so far.
 places-on : (n t d : ℕ) → t < n → d < n → ((t + d) % n + n - t) % n ≡ d
@@ -69,6 +63,9 @@ places-on n t d slot few = ⊎_elim
     again x y below same = ap (λ (k : ℕ). k % n) same ∙ add-mod_left n y ∙ mod-eq_of_lt below
 
 pub tails-offer : TailsOfferSlots
-tails-offer ring places slot fits =
-    ap (λ (k : ℕ). (ring.offered + k) % ring.slots) (places-on ring.slots ring.tail places slot (omega arith))
+tails-offer ring places has fits =
+    let few : places < ring.slots = omega (arith, fits) in
+    let slot : (ring.tail + places) % ring.slots < ring.slots = mod_below (ring.tail + places) ring.slots (omega (arith, fits)) in
+    distance-joins ring.slots ring.head ring.tail ((ring.tail + places) % ring.slots) has.head has.tail slot
+    ∙ ap (λ (k : ℕ). (offered_in ring + k) % ring.slots) (places-on ring.slots ring.tail places has.tail few)
     ∙ mod-eq_of_lt fits

@@ -1,30 +1,24 @@
 -- The laws: each tick is answered by what was counted at the start.
 use Rattle.std.proofs.Common.{◌≡◌, ◌≢◌, ◌==◌, ◌++◌, ℕ, Bool, true, false, Option, Some, None, List, [], ◌∷◌, length, slice_get, inl, inr}
 use Rattle.std.proofs.Common.{refl}
-use Rattle.std.proofs.Common.{sym, ap, subst, ◌∙◌, arith, if◌then◌else◌}
-use Rattle.std.specs.Prelude.{IfSome, MatchBool}
+use Rattle.std.proofs.Common.{sym, ap, subst, ◌∙◌, append_assoc, arith, if◌then◌else◌}
+use Rattle.std.specs.Prelude.{MatchBool}
 use Rattle.std.specs.List.{All}
 use Rattle.std.proofs.lemmas.Bool.Decides.{eqb_tells}
-use Rattle.descriptors.specs.Ring.{count_of}
 use Rattle.rx_engine.specs.declared.arrival.Fate.{Fate}
 use Rattle.tx_engine.specs.Transmitter.{Queued}
-use Rattle.adapter.specs.Rings.{ring_of}
 use Rattle.adapter.specs.State.{AdapterState}
-use Rattle.adapter.specs.Table.{register_at}
 use Rattle.adapter.specs.Transmitting.{IsOldest, PutAnswers}
-use Rattle.adapter.specs.declared.register.Register.{Register}
-use Rattle.adapter.specs.declared.register.Register.TheVariants.{Ctrl}
 use Rattle.adapter.specs.declared.step.StepKind.{StepKind}
 use Rattle.adapter.specs.declared.step.StepKind.TheVariants.{TxTake, TxPut, RxData, RxDone, EepromTick, PhyTick}
 use Rattle.adapter.specs.Outcomes.{FrameOutcome}
 use Rattle.adapter.specs.declared.outcome.Outcome.TheVariants.{Delivered, Fault, Nothing, Put, WireFull}
-use Rattle.bus.proofs.Lists.{all-head, all-left, all-right, all-weaker}
+use Rattle.bus.proofs.Lists.{all-head, all-left, all-right}
 use Rattle.bus.proofs.TrailFaults.{faults_stay, running_engines_met_no_fault}
-use Rattle.bus.specs.Accesses.{IsNoReset, ResetsNothing}
+use Rattle.bus.specs.Accesses.{IsNoReset}
 use Rattle.bus.specs.PastOfStretch.{Past}
 use Rattle.bus.specs.TrailFaults.{EnginesRun, IsNoFault, StaysStopped}
 use Rattle.bus.specs.declared.event.Access.{Access}
-use Rattle.bus.specs.declared.event.Access.TheVariants.{Loads, Reads, Stores, Writes}
 use Rattle.bus.specs.declared.event.Event.{Event}
 use Rattle.bus.specs.declared.event.Event.TheVariants.{Accesses, Arrives, Steps}
 use Rattle.stations.specs.AtomicSteps.{At, AtomicStep, CanHappen, Idles, OccursAt, after, outcome_of, tick_of}
@@ -35,12 +29,13 @@ use Rattle.stations.specs.AtomicRunLaws.{past_join}
 use Rattle.stations.specs.AtomicRuns.{LeadsTo, events_at, past_at}
 use Rattle.delivery.proofs.Answering.{data-answer, done-answer, eeprom-answer, phy-answer, take-answer}
 use Rattle.delivery.proofs.HostSteps.{trail-goes}
+use Rattle.delivery.proofs.RunningEngines.{NoFaultAt, none-fault, trail-runs}
 use Rattle.delivery.proofs.WaitingFrames.{full-by-counting, room-by-counting, run-waiting, run-wires}
-use Rattle.delivery.specs.CountedHosts.{CanAnswer, IsCounted, IsCountedWrite}
+use Rattle.delivery.specs.CountedHosts.{IsCounted}
 use Rattle.delivery.specs.Counts.{HostCounts, counts_of}
-use Rattle.delivery.specs.AnswersLaws.{AbsentHostsAnswerNothing, CountsGoByOutcomes, FaultNeverComes, GoAnswersNothing}
-use Rattle.delivery.specs.AnswersLaws.{TicksAreAnsweredByCounting, WaitingFramesGoByOutcomes}
-use Rattle.delivery.specs.StepAnswers.{IsTickAnswer, IsDelivery, IsStepAnswer, IsTickOf, counts_at, stations_behind}
+use Rattle.delivery.specs.AnswersLaws.{AbsentHostsAnswerNothing, CountsGoByOutcomes, FaultNeverComes, FaultNeverComesAroundReset}
+use Rattle.delivery.specs.AnswersLaws.{GoAnswersNothing, MeetsNoFault, TicksAreAnsweredByCounting, WaitingFramesGoByOutcomes}
+use Rattle.delivery.specs.StepAnswers.{IsTickAnswer, IsDelivery, IsStepAnswer, IsTickOf, OfEachTick, counts_at, stations_behind}
 use Rattle.delivery.specs.WaitingFrames.{waiting_at}
 
 -- A run up to a step of it, the step, and the rest.
@@ -72,9 +67,7 @@ accesses-of host steps before later same =
 
 pub counts-go : CountsGoByOutcomes
 counts-go caller host steps a b leads counted =
-    let goes = trail-goes (events_at host steps) (world_at a host) (world_at b host) _ _ refl refl counted.accesses
-    (trail-of caller host steps a b leads) counted.can in
-    goes.is
+    trail-goes (events_at host steps) (world_at a host) (world_at b host) counted (trail-of caller host steps a b leads)
 
 pub waiting-goes : WaitingFramesGoByOutcomes
 waiting-goes caller host steps a b leads = run-waiting caller host steps a b leads
@@ -137,10 +130,49 @@ step-no-fault caller host (At other (Accesses access)) later a b leads none run 
 step-no-fault caller host (Idles tick) later a b leads none run of_host = λ is. absurd (cc)
 
 pub fault-never-comes : FaultNeverComes
-fault-never-comes caller host steps a b leads none run before later step same of_host =
-    let at = parts-of caller steps before later step a b same leads in
-    step-no-fault caller host step later (stations_behind before a) b at.rest (rest-resets host steps before (step ∷ later) same none) run
-    of_host
+fault-never-comes caller host steps a b leads none run = record {
+  run = run-before caller host steps a b leads none run;
+  none = λ before later step same of_host.
+      let at = parts-of caller steps before later step a b same leads in
+      step-no-fault caller host step later (stations_behind before a) b at.rest (rest-resets host steps before (step ∷ later) same none)
+      run of_host;
+}
+
+-- A fact of each tick, over steps and then over others.
+
+each-before : (host : ℕ) (first : AtomicStep) (later : List AtomicStep) → OfEachTick host (first ∷ later) NoFaultAt
+    → OfEachTick host later NoFaultAt
+each-before host first later each before rest step same of_host =
+    each (first ∷ before) rest step (ap (λ (list : List AtomicStep). first ∷ list) same) of_host
+
+each-joins : (host : ℕ) (first later : List AtomicStep) → OfEachTick host first NoFaultAt → OfEachTick host later NoFaultAt
+    → OfEachTick host (first ++ later) NoFaultAt
+each-joins host [] later each rest before behind step same of_host = rest before behind step same of_host
+each-joins host (one ∷ first) later each rest [] behind step same of_host =
+    let is : step ≡ one = cc in
+    subst (λ (s : AtomicStep). outcome_of s ≢ Fault) (sym is)
+    (each [] first one refl (subst (λ (s : AtomicStep). IsTickOf host (tick_of s)) is of_host))
+each-joins host (one ∷ first) later each rest (two ∷ before) behind step same of_host =
+    let tails : first ++ later ≡ before ++ step ∷ behind = cc in
+    each-joins host first later (each-before host one first each) rest before behind step tails of_host
+
+-- an access is no tick of its host
+access-first : (host : ℕ) (access : Access) → OfEachTick host (At host (Accesses access) ∷ []) NoFaultAt
+access-first host access [] behind step same of_host =
+    let is : At host (Accesses access) ≡ step = cc in
+    absurd (subst (λ (s : AtomicStep). IsTickOf host (tick_of s)) (sym is) of_host)
+access-first host access (one ∷ []) behind step same of_host = absurd (cc)
+access-first host access (one ∷ two ∷ before) behind step same of_host = absurd (cc)
+
+pub faultless-around-reset : FaultNeverComesAroundReset
+faultless-around-reset caller host first later access a before after b leads none run leads_later none_later run_later =
+    let earlier = fault-never-comes caller host first a before leads none run in
+    let rest = fault-never-comes caller host later after b leads_later none_later run_later in
+    record {
+      run = earlier.run;
+      none = each-joins host first (At host (Accesses access) ∷ later) earlier.none
+          (each-joins host (At host (Accesses access) ∷ []) later (access-first host access) rest.none);
+    }
 
 -- Ticks that find nothing.
 
@@ -169,9 +201,8 @@ absent-nothing caller host steps a b leads absent before later step same of_host
 
 -- Answers.
 
--- what is known of a set up host where a step of it comes
+-- what is known of a host where a step of it comes
 record Known (host : ℕ) (before : List AtomicStep) (a : List StationState) : Type 0 where
-  can : CanAnswer (world_at (stations_behind before a) host).adapter
   counts : counts_of (world_at (stations_behind before a) host).adapter ≡ counts_at a before host
   run : EnginesRun (world_at (stations_behind before a) host).adapter
 
@@ -215,12 +246,12 @@ step-answer : (caller host : ℕ) (before : List AtomicStep) (a : List StationSt
     → Known host before a → answer ≢ Fault
     → IsStepAnswer a before host (counts_of (world_at (stations_behind before a) host).adapter) kind answer
 step-answer caller host before a TxTake wire_free answer leads occurs known well =
-    take-answer (world_at (stations_behind before a) host).memory (world_at (stations_behind before a) host).adapter answer known.can
+    take-answer (world_at (stations_behind before a) host).memory (world_at (stations_behind before a) host).adapter answer
     known.run.transmitter well occurs.occurs.1
 step-answer caller host before a TxPut wire_free answer leads occurs known well =
     put-answer caller host before a wire_free answer leads occurs occurs.occurs.1
 step-answer caller host before a RxData wire_free answer leads occurs known well =
-    data-answer (world_at (stations_behind before a) host).memory (world_at (stations_behind before a) host).adapter answer known.can
+    data-answer (world_at (stations_behind before a) host).memory (world_at (stations_behind before a) host).adapter answer
     known.run.receiver well occurs.occurs.1
 step-answer caller host before a RxDone wire_free answer leads occurs known well =
     done-answer (world_at (stations_behind before a) host).adapter answer occurs.occurs.1
@@ -240,65 +271,66 @@ no-delivery : (waiting : List (List ℕ)) → waiting ≡ [] → IsDelivery wait
 no-delivery [] none = refl
 no-delivery (first ∷ later) none = absurd (cc)
 
--- a host that isn't there isn't set up
-cannot-answer : (found : Option StationState) → found ≡ None → CanAnswer (world_of found).adapter → ⊥
-cannot-answer None none can = let on = can.receives in absurd (cc)
-cannot-answer (Some s) none can = absurd (cc)
+-- a host that isn't there has nothing to do
+idle-step : (start : List StationState) (before : List AtomicStep) (host : ℕ) (kind : StepKind) (found : Option StationState) → found ≡ None
+    → IsStepAnswer start before host (counts_of (world_of found).adapter) kind Nothing
+idle-step start before host TxTake None none = refl
+idle-step start before host TxPut None none = refl
+idle-step start before host RxData None none = refl
+idle-step start before host RxDone None none = refl
+idle-step start before host EepromTick None none = refl
+idle-step start before host PhyTick None none = refl
+idle-step start before host kind (Some s) none = absurd (cc)
 
--- A tick of a set up host, in the state that the steps before it leave.
-tick-answer : (caller host : ℕ) (before later : List AtomicStep) (step : AtomicStep) (a b : List StationState)
-    → LeadsTo caller before a (stations_behind before a) → LeadsTo caller (step ∷ later) (stations_behind before a) b
-    → Known host before a → ResetNothing host (step ∷ later) → EnginesRun (world_at b host).adapter → IsTickOf host (tick_of step)
+-- A tick of a host without a fault, in the state that the steps before it leave.
+tick-answer : (caller host : ℕ) (before : List AtomicStep) (step : AtomicStep) (a : List StationState)
+    → LeadsTo caller before a (stations_behind before a) → CanHappen step (stations_behind before a)
+    → Known host before a → IsTickOf host (tick_of step) → outcome_of step ≢ Fault
     → IsTickAnswer a before (tick_of step) (outcome_of step)
-tick-answer caller host before later (At other (Steps kind wire_free answer)) a b leads rest known none run of_host =
-    let mid = stations_behind before a in
-    let step = λ (k : ℕ). At k (Steps kind wire_free answer) in
-    let own = subst (λ (k : ℕ). LeadsTo caller (step k ∷ later) mid b) of_host rest in
-    let resets = subst (λ (k : ℕ). ResetNothing host (step k ∷ later)) of_host none in
-    let well = no-fault caller host (Steps kind wire_free answer) later mid b own resets run in
-    let answered = step-answer caller host before a kind wire_free answer leads own.0 known well in
+tick-answer caller host before (At other (Steps kind wire_free answer)) a leads happens known of_host well =
+    let occurs = subst (λ (k : ℕ). OccursAt k (Steps kind wire_free answer) (stations_behind before a)) of_host happens in
+    let answered = step-answer caller host before a kind wire_free answer leads occurs known well in
     subst (λ (k : ℕ). IsTickAnswer a before (Step k kind) answer) (sym of_host)
     (subst (λ (counts : HostCounts). IsStepAnswer a before host counts kind answer) known.counts answered)
-tick-answer caller host before later (At other (Arrives frame fate)) a b leads rest known none run of_host =
+tick-answer caller host before (At other (Arrives frame fate)) a leads happens known of_host well =
     is-delivery (waiting_at a before other) frame fate
     (ap (λ (frames : List (List ℕ)). slice_get frames 0) (sym (run-waiting caller other before a (stations_behind before a) leads))
-    ∙ rest.0.suits_wire)
-tick-answer caller host before later (At other (Accesses access)) a b leads rest known none run of_host = absurd of_host
-tick-answer caller host before later (Idles Go) a b leads rest known none run of_host = absurd of_host
-tick-answer caller host before later (Idles (Step other kind)) a b leads rest known none run of_host =
-    absurd (cannot-answer (slice_get (stations_behind before a) host) (ap (slice_get (stations_behind before a)) (sym of_host) ∙ rest.0)
-    known.can)
-tick-answer caller host before later (Idles (Deliver other)) a b leads rest known none run of_host =
-    no-delivery (waiting_at a before other) (sym (run-waiting caller other before a (stations_behind before a) leads) ∙ rest.0)
+    ∙ happens.suits_wire)
+tick-answer caller host before (At other (Accesses access)) a leads happens known of_host well = absurd of_host
+tick-answer caller host before (Idles Go) a leads happens known of_host well = absurd of_host
+tick-answer caller host before (Idles (Step other kind)) a leads happens known of_host well =
+    let mid = stations_behind before a in
+    let none : slice_get mid host ≡ None = ap (slice_get mid) (sym of_host) ∙ happens in
+    subst (λ (k : ℕ). IsTickAnswer a before (Step k kind) Nothing) (sym of_host)
+    (subst (λ (counts : HostCounts). IsStepAnswer a before host counts kind Nothing) known.counts
+    (idle-step a before host kind (slice_get mid host) none))
+tick-answer caller host before (Idles (Deliver other)) a leads happens known of_host well =
+    no-delivery (waiting_at a before other) (sym (run-waiting caller other before a (stations_behind before a) leads) ∙ happens)
 
--- what can be counted is no reset
-no-reset-write : (r t value : ℕ) (register : Register) → IsCountedWrite r t value register → ResetsNothing value register
-no-reset-write r t value Ctrl is = absurd is
-no-reset-write r t value _ is = refl
+-- of steps without a fault the first ones are without a fault
+each-first : (host : ℕ) (first rest : List AtomicStep) → OfEachTick host (first ++ rest) NoFaultAt → OfEachTick host first NoFaultAt
+each-first host first rest each before behind step same of_host =
+    each before (behind ++ rest) step
+    (ap (λ (list : List AtomicStep). list ++ rest) same ∙ append_assoc before (step ∷ behind) rest) of_host
 
-found-no-reset : (r t value : ℕ) (found : Option Register) → IfSome found (IsCountedWrite r t value) → IfSome found (ResetsNothing value)
-found-no-reset r t value None is = tt
-found-no-reset r t value (Some register) is = no-reset-write r t value register is
-
-no-reset : (r t : ℕ) (access : Access) → IsCounted r t access → IsNoReset access
-no-reset r t (Reads offset value) is = tt
-no-reset r t (Writes offset value) is = found-no-reset r t value (register_at offset) is
-no-reset r t (Loads address size) is = tt
-no-reset r t (Stores address bytes) is = tt
+run-behind : (caller host : ℕ) (steps before later : List AtomicStep) (step : AtomicStep) (a : List StationState)
+    → LeadsTo caller before a (stations_behind before a) → steps ≡ before ++ step ∷ later → MeetsNoFault host steps a
+    → EnginesRun (world_at (stations_behind before a) host).adapter
+run-behind caller host steps before later step a leads same faultless =
+    let whole = subst (λ (list : List AtomicStep). OfEachTick host list NoFaultAt) same faultless.none in
+    trail-runs (events_at host before) (world_at a host) (world_at (stations_behind before a) host)
+    (none-fault host before (each-first host before (step ∷ later) whole)) (trail-of caller host before a (stations_behind before a) leads)
+    faultless.run
 
 pub ticks-answered : TicksAreAnsweredByCounting
-ticks-answered caller host steps a b leads counted run before later step same of_host =
+ticks-answered caller host steps a b leads counted faultless before later step same of_host =
     let at = parts-of caller steps before later step a b same leads in
     let mid = stations_behind before a in
-    let r = count_of (ring_of (world_at a host).adapter.receive_ring) in
-    let t = count_of (ring_of (world_at a host).adapter.transmit_ring) in
-    let accesses : All (IsCounted r t) ((past_at host before).accesses ++ (past_at host (step ∷ later)).accesses) =
-    subst (λ (list : List Access). All (IsCounted r t) list) (accesses-of host steps before (step ∷ later) same) counted.accesses in
-    let goes = trail-goes (events_at host before) (world_at a host) (world_at mid host) r t refl refl
-    (all-left (IsCounted r t) (past_at host before).accesses (past_at host (step ∷ later)).accesses accesses)
-    (trail-of caller host before a mid at.leads) counted.can in
-    let none : ResetNothing host (step ∷ later) =
-    all-weaker (IsCounted r t) IsNoReset (past_at host (step ∷ later)).accesses (no-reset r t)
-    (all-right (IsCounted r t) (past_at host before).accesses (past_at host (step ∷ later)).accesses accesses) in
-    tick-answer caller host before later step a b at.leads at.rest
-    (record { can = goes.can; counts = goes.is; run = run-before caller host (step ∷ later) mid b at.rest none run }) none run of_host
+    let accesses : All IsCounted ((past_at host before).accesses ++ (past_at host (step ∷ later)).accesses) =
+    subst (λ (list : List Access). All IsCounted list) (accesses-of host steps before (step ∷ later) same) counted in
+    let counts = trail-goes (events_at host before) (world_at a host) (world_at mid host)
+    (all-left IsCounted (past_at host before).accesses (past_at host (step ∷ later)).accesses accesses)
+    (trail-of caller host before a mid at.leads) in
+    tick-answer caller host before step a at.leads at.happens
+    (record { counts = counts; run = run-behind caller host steps before later step a at.leads same faultless })
+    of_host (faultless.none before later step same of_host)

@@ -1,9 +1,12 @@
--- What is counted of a host's adapter, and what outcomes and accesses leave of it (our choice).
-use Rattle.std.specs.Prelude.{◌+◌, ◌-◌, ◌%◌, ◌++◌, ℕ, suc, Bool, true, false, Option, Some, List, [], ◌∷◌, bit_and, drop, is_some}
-use Rattle.std.specs.Prelude.{length, map, max, if◌then◌else◌}
+-- What is counted of a host's adapter, exactly, and what outcomes and accesses leave of it: a reset, too (our choice).
+use Rattle.std.specs.Prelude.{◌<◌, ◌+◌, ◌-◌, ◌/◌, ◌%◌, ◌++◌, ℕ, Bool, true, false, Option, Some, None, List, [], ◌∷◌, bit_and, drop}
+use Rattle.std.specs.Prelude.{is_some, length, map, max, min, if◌then◌else◌}
+use Rattle.registers.specs.Bits.{is_set}
+use Rattle.registers.specs.Kept.{receive_control_mask, transmit_control_mask}
+use Rattle.registers.specs.Places.{ctrl_rst, rctl_en, tctl_en}
 use Rattle.descriptors.specs.declared.ring.Ring.{Ring}
-use Rattle.descriptors.specs.Ring.{count_of, distance_of}
-use Rattle.eeprom.specs.Eerd.{is_pending}
+use Rattle.descriptors.specs.Ring.{count_of}
+use Rattle.eeprom.specs.Eerd.{has_start, is_pending}
 use Rattle.mdic_phy.specs.declared.phy.Negotiation.{Negotiation}
 use Rattle.mdic_phy.specs.declared.phy.Negotiation.TheVariants.{NotStarted, Running, Complete}
 use Rattle.mdic_phy.specs.Mdic.{MdicState, phy_after_tick}
@@ -11,8 +14,9 @@ use Rattle.mdic_phy.specs.Phy.{PhyState}
 use Rattle.rx_engine.specs.Arriving.{kept}
 use Rattle.rx_engine.specs.Moving.{buffer_bytes}
 use Rattle.adapter.specs.declared.register.Register.{Register}
-use Rattle.adapter.specs.declared.register.Register.TheVariants.{Receive, Transmit}
-use Rattle.adapter.specs.declared.register.RingRegister.TheVariants.{Tail}
+use Rattle.adapter.specs.declared.register.Register.TheVariants.{Ctrl, Eerd, Rctl, Tctl, Receive, Transmit}
+use Rattle.adapter.specs.declared.register.RingRegister.{RingRegister}
+use Rattle.adapter.specs.declared.register.RingRegister.TheVariants.{BaseLow, BaseHigh, Length, Head, Tail}
 use Rattle.adapter.specs.declared.step.StepKind.{StepKind}
 use Rattle.adapter.specs.declared.step.StepKind.TheVariants.{EepromTick, PhyTick}
 use Rattle.adapter.specs.Rings.{ring_kept, ring_of}
@@ -31,15 +35,17 @@ use Rattle.adapter.specs.declared.outcome.Outcome.TheVariants.{Done, Moved, Part
 pub record RingCounts : Type 0 where
   -- how many descriptors it has
   pub slots : ℕ
+  -- which of them stands at its head, RDH or TDH
+  pub head : ℕ
   -- which of them stands at its tail, RDT or TDT
   pub tail : ℕ
-  -- how many are the adapter's: those from its head, RDH or TDH, up to its tail
-  pub offered : ℕ
 
 -- of the side that receives
 pub record ReceiveCounts : Type 0 where
   -- the numbers of the receive ring
   pub ring : RingCounts
+  -- whether it is enabled, by RCTL.EN
+  pub is_enabled : Bool
   -- the size of a receive buffer in bytes, by RCTL.BSIZE
   pub buffer_size : ℕ
   -- of each frame in the packet buffer, oldest first, how many bytes are still to be moved
@@ -51,8 +57,17 @@ pub record ReceiveCounts : Type 0 where
 pub record TransmitCounts : Type 0 where
   -- the numbers of the transmit ring
   pub ring : RingCounts
+  -- whether it is enabled, by TCTL.EN
+  pub is_enabled : Bool
   -- the frames in the packet buffer
   pub buffered : ℕ
+
+-- of the PHY
+pub record PhyCounts : Type 0 where
+  -- for how many ticks on the countdown of a negotiation runs
+  pub countdown : ℕ
+  -- if a command of MDIC is pending, the countdown that its end leaves
+  pub command : Option ℕ
 
 -- The numbers of frames and descriptors of a host that determine the outcomes of its steps.
 pub record HostCounts : Type 0 where
@@ -62,12 +77,21 @@ pub record HostCounts : Type 0 where
   pub transmit : TransmitCounts
   -- whether a read of EERD is pending
   pub is_reading : Bool
-  -- for how many ticks on MDIC and the PHY have something to do
-  pub phy_ticks : ℕ
+  -- the numbers of the PHY
+  pub phy : PhyCounts
 
 -- The numbers of a ring.
 abbrev pub ring_counts : Ring → RingCounts
-ring_counts ring = record { slots = count_of ring; tail = ring.tail; offered = distance_of ring ring.head ring.tail }
+ring_counts ring = record { slots = count_of ring; head = ring.head; tail = ring.tail }
+
+-- its head and its tail are slots
+pub record HasSlots (ring : RingCounts) : Type 0 where
+  pub head : ring.head < ring.slots
+  pub tail : ring.tail < ring.slots
+
+-- how many descriptors are the adapter's: those from the head up to the tail, round the ring
+abbrev pub offered_in : RingCounts → ℕ
+offered_in ring = (ring.tail + ring.slots - ring.head) % ring.slots
 
 -- the ticks that a negotiation takes
 abbrev pub negotiation_ticks : Negotiation → ℕ
@@ -75,10 +99,12 @@ negotiation_ticks NotStarted = 0
 negotiation_ticks (Running left) = max left 1
 negotiation_ticks Complete = 0
 
--- a pending command takes one, and may start a negotiation
-abbrev pub ticks_left : MdicState → PhyState → ℕ
-ticks_left mdic phy = if is_some mdic.pending then suc (negotiation_ticks (phy_after_tick mdic phy).negotiation)
-    else negotiation_ticks phy.negotiation
+-- a pending command ends at the next tick, and may start a negotiation
+abbrev pub phy_counts : MdicState → PhyState → PhyCounts
+phy_counts mdic phy = record {
+  countdown = negotiation_ticks phy.negotiation;
+  command = if is_some mdic.pending then Some (negotiation_ticks (phy_after_tick mdic phy).negotiation) else None;
+}
 
 -- The number of bytes to be moved of each frame, if so many of the oldest frame's bytes have been moved.
 abbrev pub bytes_left : (moved : ℕ) → List (List ℕ) → List ℕ
@@ -90,28 +116,25 @@ abbrev pub counts_of : AdapterState → HostCounts
 counts_of state = record {
   receive = record {
     ring = ring_counts (ring_of state.receive_ring);
+    is_enabled = is_set state.filter.rctl rctl_en;
     buffer_size = buffer_bytes state.filter.rctl;
     left = bytes_left state.receiver.moved state.receiver.buffer;
     is_working = is_some state.receiver.work;
   };
-  transmit = record { ring = ring_counts (ring_of state.transmit_ring); buffered = length state.transmitter.buffer };
+  transmit = record {
+    ring = ring_counts (ring_of state.transmit_ring);
+    is_enabled = is_set state.transmit_control tctl_en;
+    buffered = length state.transmitter.buffer;
+  };
   is_reading = is_pending state.eerd;
-  phy_ticks = ticks_left state.mdic state.phy;
+  phy = phy_counts state.mdic state.phy;
 }
 
--- What an event leaves of them.
+-- What a tick leaves of them.
 
--- the adapter took a slot
-abbrev pub one_fewer : RingCounts → RingCounts
-one_fewer ring = record ring { offered = ring.offered - 1 }
-
--- by how many places a tail moves on to a slot, round the ring
-abbrev pub moved_on_by : RingCounts → ℕ → ℕ
-moved_on_by ring tail = (tail + ring.slots - ring.tail) % ring.slots
-
--- the driver moved the tail on to a slot: so many more are offered, round the ring
-abbrev pub counts_with_tail : ℕ → RingCounts → RingCounts
-counts_with_tail tail ring = record ring { tail = tail; offered = (ring.offered + moved_on_by ring tail) % ring.slots }
+-- the adapter took the slot at the head
+abbrev pub one_taken : RingCounts → RingCounts
+one_taken ring = record ring { head = (ring.head + 1) % ring.slots }
 
 -- of the oldest frame so many bytes were moved
 abbrev pub after_piece : (size : ℕ) → List ℕ → List ℕ
@@ -120,18 +143,24 @@ after_piece size (oldest ∷ later) = (oldest - size) ∷ later
 
 -- the adapter took a receive slot for a piece, and these bytes are left
 abbrev pub with_piece : (left : List ℕ) → ReceiveCounts → ReceiveCounts
-with_piece left counts = record counts { ring = one_fewer counts.ring; left = left; is_working = true }
+with_piece left counts = record counts { ring = one_taken counts.ring; left = left; is_working = true }
+
+-- the countdown that the end of a pending command leaves, or else a tick of the one that runs
+abbrev pub countdown_after : (command : Option ℕ) → (countdown : ℕ) → ℕ
+countdown_after None countdown = countdown - 1
+countdown_after (Some left) countdown = left
 
 -- The numbers after a tick of the EEPROM or of the PHY that did something.
 abbrev pub after_tick : StepKind → HostCounts → HostCounts
 after_tick EepromTick counts = record counts { is_reading = false }
-after_tick PhyTick counts = record counts { phy_ticks = counts.phy_ticks - 1 }
+after_tick PhyTick counts =
+    record counts { phy = record { countdown = countdown_after counts.phy.command counts.phy.countdown; command = None } }
 after_tick _ counts = counts
 
 -- what the outcome of a step of this kind leaves
 abbrev pub after_outcome : StepKind → FrameOutcome → HostCounts → HostCounts
 after_outcome kind Took counts =
-    record counts { transmit = record { ring = one_fewer counts.transmit.ring; buffered = counts.transmit.buffered + 1 } }
+    record counts { transmit = record counts.transmit { ring = one_taken counts.transmit.ring; buffered = counts.transmit.buffered + 1 } }
 after_outcome kind (Put frame) counts =
     record counts { transmit = record counts.transmit { buffered = counts.transmit.buffered - 1 } }
 after_outcome kind Part counts =
@@ -141,19 +170,51 @@ after_outcome kind Done counts = record counts { receive = record counts.receive
 after_outcome kind Ticked counts = after_tick kind counts
 after_outcome kind _ counts = counts
 
--- the slot that a word names, written to RDT or TDT
-abbrev pub tail_of : ℕ → ℕ
-tail_of value = bit_and value (ring_kept Tail)
+-- What a write leaves of them.
 
--- what a write leaves: RDT and TDT move their tails
+-- of a ring: the number in its register
+abbrev pub with_ring : RingRegister → ℕ → RingCounts → RingCounts
+with_ring BaseLow number ring = ring
+with_ring BaseHigh number ring = ring
+with_ring Length number ring = record ring { slots = min (number / 16) 65536 }
+with_ring Head number ring = record ring { head = number }
+with_ring Tail number ring = record ring { tail = number }
+
+abbrev pub ring_written : RingRegister → (value : ℕ) → RingCounts → RingCounts
+ring_written part value ring = with_ring part (bit_and value (ring_kept part)) ring
+
+-- a ring without slots
+abbrev pub no_ring : RingCounts
+no_ring = record { slots = 0; head = 0; tail = 0 }
+
+-- A reset empties rings, packet buffers and work, and disables both sides. It ends what is pending. The countdown runs on.
+abbrev pub emptied : HostCounts → HostCounts
+emptied counts = record {
+  receive = record { ring = no_ring; is_enabled = false; buffer_size = buffer_bytes 0; left = []; is_working = false };
+  transmit = record { ring = no_ring; is_enabled = false; buffered = 0 };
+  is_reading = false;
+  phy = record { countdown = counts.phy.countdown; command = None };
+}
+
+-- RCTL has this number
+abbrev pub with_receive_control : ℕ → ReceiveCounts → ReceiveCounts
+with_receive_control number counts = record counts { is_enabled = is_set number rctl_en; buffer_size = buffer_bytes number }
+
+-- What a write of a word leaves. For MDIC the numbers don't tell it, so its writes aren't counted (`IsCounted` of CountedHosts).
 abbrev pub after_write : Option Register → ℕ → HostCounts → HostCounts
-after_write (Some (Receive Tail)) value counts =
-    record counts { receive = record counts.receive { ring = counts_with_tail (tail_of value) counts.receive.ring } }
-after_write (Some (Transmit Tail)) value counts =
-    record counts { transmit = record counts.transmit { ring = counts_with_tail (tail_of value) counts.transmit.ring } }
+after_write (Some Ctrl) value counts = if is_set value ctrl_rst then emptied counts else counts
+after_write (Some Rctl) value counts =
+    record counts { receive = with_receive_control (bit_and value receive_control_mask) counts.receive }
+after_write (Some Tctl) value counts =
+    record counts { transmit = record counts.transmit { is_enabled = is_set (bit_and value transmit_control_mask) tctl_en } }
+after_write (Some (Receive part)) value counts =
+    record counts { receive = record counts.receive { ring = ring_written part value counts.receive.ring } }
+after_write (Some (Transmit part)) value counts =
+    record counts { transmit = record counts.transmit { ring = ring_written part value counts.transmit.ring } }
+after_write (Some Eerd) value counts = record counts { is_reading = if has_start value then true else counts.is_reading }
 after_write _ value counts = counts
 
--- The numbers after an access: only a write of RDT or TDT changes them.
+-- The numbers after an access: only writes change them.
 abbrev pub after_access : Access → HostCounts → HostCounts
 after_access (Reads offset value) counts = counts
 after_access (Writes offset value) counts = after_write (register_at offset) value counts

@@ -1,5 +1,6 @@
 -- What outcomes tell, what atomic steps do to frames, and how happenings join.
-use Rattle.std.specs.Prelude.{◌≡◌, ◌⊎◌, ◌<◌, ◌+◌, ◌*◌, ◌++◌, ◌∷◌, [], ℕ, false, Option, List, All, length, map}
+use Rattle.std.specs.Prelude.{◌≡◌, ◌⊎◌, ◌<◌, ◌+◌, ◌*◌, ◌++◌, ◌∷◌, [], ℕ, Bool, false, Option, List, All, length, map}
+use Rattle.std.specs.Prelude.{if◌then◌else◌}
 use Rattle.registers.specs.Bits.{HasBit}
 use Rattle.registers.specs.Places.{rctl_en}
 use Rattle.rx_engine.specs.GroupLists.{Removes}
@@ -11,6 +12,7 @@ use Rattle.adapter.specs.World.{World, world_after_write}
 use Rattle.adapter.specs.declared.offsets.TheConstants.{MTA, RDT, REGISTER_BYTES, TDT}
 use Rattle.bus.specs.TickGroups.{played_in, waiting_after, without_go}
 use Rattle.bus.specs.PastOfStretch.{Past}
+use Rattle.bus.specs.Settings.{IsOff, LeavesReceiver, writes_in}
 use Rattle.bus.specs.declared.event.Access.{Access}
 use Rattle.bus.specs.declared.event.Access.TheVariants.{Writes}
 use Rattle.bus.specs.declared.event.Event.TheVariants.{Accesses}
@@ -19,14 +21,14 @@ use Rattle.stations.specs.Stations.{StationState, backlog_at, wire_at, world_at}
 use Rattle.adapter.specs.Outcomes.{FrameOutcome}
 use Rattle.stations.specs.declared.tick.Tick.{Tick}
 use Rattle.stations.specs.declared.tick.Tick.TheVariants.{Go}
-use Rattle.stations.specs.AtomicRuns.{IsTick, LeadsTo, counted_of, is_go, noted_of, past_at, steps_told}
+use Rattle.stations.specs.AtomicRuns.{IsTick, LeadsTo, counted_by, counted_of, is_go, noted_of, past_at, steps_told}
 use Rattle.stations.specs.Retelling.{Finished, Retells}
 use Rattle.stations.specs.declared.lent_bus.LentBus.{LentBus}
 use Rattle.stations.specs.declared.observer.Observer.{Ghosts as OfObserver}
 use Rattle.stations.specs.declared.outcomes.Numbered.{Numbered}
-use Rattle.delivery.specs.Fates.{AreRightByList, AreRightFates, Came, Joins, Mark, Quits, Reception, Went, marks}
-use Rattle.delivery.specs.Happenings.{Happening, accepted, given, happened_in, missed, put, reached, stored, told, told_alone}
-use Rattle.delivery.specs.Happenings.{told_around, toward}
+use Rattle.delivery.specs.Fates.{AreRightByList, AreRightFates, Joins, Mark, Quits, Reception, marks}
+use Rattle.delivery.specs.Happenings.{Happening, accepted, given, happened_by, happened_in, missed, put, reached, stored, told, told_alone}
+use Rattle.delivery.specs.Happenings.{told_around, told_where, toward}
 use Rattle.delivery.specs.Reception.{LeavesReception, ReceivesRightly}
 use Rattle.delivery.specs.TickNumbers.{numbers, noted_numbers}
 
@@ -107,6 +109,19 @@ NoAccessIsToldAtTheEnd =
     → without_go is_go (map tick_of steps) ≡ without_go is_go ticks
     → told_around middle ticks (noted_of 0 steps) ≡ happened_in steps ++ middle
 
+-- What happened in those steps alone before which the number of accesses is such. There were n before the first step.
+abbrev pub happened_where : (is_such : ℕ → Bool) → (n : ℕ) → List AtomicStep → List Happening
+happened_where is_such n [] = []
+happened_where is_such n (step ∷ later) =
+    (if is_such n then happened_by step else []) ++ happened_where is_such (counted_by n step) later
+
+-- The outcomes with such numbers tell what happened in these steps.
+abbrev pub OutcomesTellByNumber : Type 0
+OutcomesTellByNumber =
+    (is_such : ℕ → Bool) (caller : ℕ) (ticks : List Tick) (steps : List AtomicStep) (a b : List StationState) → LeadsTo caller steps a b
+    → without_go is_go (map tick_of steps) ≡ without_go is_go ticks
+    → told_where is_such ticks (noted_of 0 steps) ≡ happened_where is_such 0 steps
+
 -- The outcome of a tick by itself tells what its step did, too.
 abbrev pub OneOutcomeTellsItsStep : Type 0
 OneOutcomeTellsItsStep =
@@ -155,12 +170,33 @@ FatesAreRight =
     → HasNumbers (world_at a k).adapter.filter.mta (numbers_of_groups groups)
     → KeepsReceiving groups (world_at a k).adapter (marks k (happened_in steps)) (world_at b k).adapter
 
+-- What the marks of a host are while its receive side is disabled: each frame that reaches it is dropped, and none leaves its packet
+-- buffer. The receive side stays disabled.
+pub record StaysTurnedOff (a : World) (all : List Mark) (b : World) : Type 0 where
+  pub fates : (registers : FilterRegisters) (room : ℕ) (groups buffered : List (List ℕ))
+      → (let off : Reception = record { groups = groups; buffered = buffered; enabled = false } in AreRightFates registers room off all off)
+  pub off : IsOff b
+  -- An empty buffer stays empty.
+  pub empty : a.adapter.receiver.buffer ≡ [] → b.adapter.receiver.buffer ≡ []
+
+-- This holds while RCTL.EN is 0 and RCTL isn't written, whatever else the driver writes: also a reset.
+abbrev pub FatesAreOff : Type 0
+FatesAreOff =
+    (caller k : ℕ) (steps : List AtomicStep) (a b : List StationState) → LeadsTo caller steps a b
+    → All LeavesReceiver (writes_in (past_at k steps).accesses) → IsOff (world_at a k)
+    → StaysTurnedOff (world_at a k) (marks k (happened_in steps)) (world_at b k)
+
+-- While each access of a host leaves reception alone, the filter doesn't change.
+abbrev pub FilterStays : Type 0
+FilterStays =
+    (caller k : ℕ) (steps : List AtomicStep) (a b : List StationState) → LeadsTo caller steps a b
+    → All LeavesReception (past_at k steps).accesses → (world_at b k).adapter.filter ≡ (world_at a k).adapter.filter
+
 -- The groups joined after a mark, if `groups` were joined before it.
 abbrev pub ChangesGroups : Mark → (groups groups' : List (List ℕ)) → Type 0
-ChangesGroups (Came frame fate) groups groups' = ⊥
-ChangesGroups Went groups groups' = ⊥
 ChangesGroups (Joins group) groups groups' = groups' ≡ groups ++ group ∷ []
 ChangesGroups (Quits group) groups groups' = Removes group groups groups'
+ChangesGroups other groups groups' = ⊥
 
 -- A group may be joined or left by a write of a word of MTA,
 abbrev pub WritesChangeGroups : Type 0
@@ -220,7 +256,8 @@ ReceptionsJoin =
     (g1 g2 g3 : List (List ℕ)) (a b c : AdapterState) (first later : List Mark) → ReceivesRightly g1 a first g2 b
     → ReceivesRightly g2 b later g3 c → ReceivesRightly g1 a (first ++ later) g3 c
 
--- Right fates are right one by one, by the groups in force and the frames that are in the buffer when a frame comes.
+-- Right fates are right one by one, by the groups in force, the frames in the buffer, and whether the receive side is enabled, when a frame
+-- comes.
 abbrev pub FatesAreJudgedByTheBuffer : Type 0
 FatesAreJudgedByTheBuffer =
     (registers : FilterRegisters) (room : ℕ) (start final : Reception) (all : List Mark)

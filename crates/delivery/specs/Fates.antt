@@ -1,6 +1,6 @@
--- Which fate a frame meets, by the groups in force and the frames in the receive packet buffer (our choice; the filter: "3.2.1 Packet
--- Address Filtering").
-use Rattle.std.specs.Prelude.{⊤, ◌≡◌, ◌≢◌, ◌+◌, ◌++◌, ℕ, List, [], ◌∷◌, drop}
+-- Which fate a frame meets, by the groups in force, the frames in the receive packet buffer, and whether the receive side is enabled (our
+-- choice; the filter: "3.2.1 Packet Address Filtering"; RCTL.EN: "13.4.22 Receive Control").
+use Rattle.std.specs.Prelude.{⊤, ◌≡◌, ◌≢◌, ◌++◌, ℕ, Bool, true, false, IsTrue, List, [], ◌∷◌, drop}
 use Rattle.std.specs.List.{Contains, flat_map}
 use Rattle.descriptors.specs.Frames.{IsLegal}
 use Rattle.rx_engine.specs.Arriving.{kept}
@@ -11,9 +11,9 @@ use Rattle.rx_engine.specs.declared.arrival.Fate.TheVariants.{Off, Illegal, Filt
 use Rattle.rx_engine.specs.Passing.{Passes, ReceiveFilter}
 use Rattle.rx_engine.specs.Registers.{FilterRegisters, filter_of}
 use Rattle.rx_engine.specs.Room.{HasRoomFor, LacksRoomFor}
-use Rattle.delivery.specs.Happenings.{Accepted, Given, Happening, Joined, Left, Moved, Put, Reached, of_host}
+use Rattle.delivery.specs.Happenings.{Disabled, Enabled, GivenUp, Happening, Joined, Left, Moved, Reached, of_host}
 
--- What arrives at a receive packet buffer and leaves it, and which groups its host joins and leaves.
+-- What arrives at a receive packet buffer and leaves it, which groups its host joins and leaves, and what a reset does to the receive side.
 pub data Mark : Type 0 where
   -- a frame arrived, and met this fate
   Came : (frame : List ℕ) (fate : Fate) → Mark
@@ -23,99 +23,109 @@ pub data Mark : Type 0 where
   Joins : (group : List ℕ) → Mark
   -- a group was left
   Quits : (group : List ℕ) → Mark
+  -- the receive side was disabled
+  SwitchedOff : Mark
+  -- the receive side was enabled
+  SwitchedOn : Mark
+  -- a reset gave up all frames in the buffer
+  Emptied : Mark
 
 -- The mark of a happening, if it is at host k.
 abbrev pub mark_by : ℕ → Happening → List Mark
-mark_by k (Accepted host frame) = []
-mark_by k (Put host frame) = []
 mark_by k (Reached host frame fate) = of_host k host (Came frame fate ∷ [])
 mark_by k (Moved host) = of_host k host (Went ∷ [])
-mark_by k (Given host socket frame) = []
 mark_by k (Joined host group) = of_host k host (Joins group ∷ [])
 mark_by k (Left host group) = of_host k host (Quits group ∷ [])
+mark_by k (Disabled host) = of_host k host (SwitchedOff ∷ [])
+mark_by k (Enabled host) = of_host k host (SwitchedOn ∷ [])
+mark_by k (GivenUp host sending holding) = of_host k host (Emptied ∷ [])
+mark_by k other = []
 
 -- those of a host, in order
 abbrev pub marks : ℕ → List Happening → List Mark
 marks k happened = flat_map (mark_by k) happened
 
--- What a host's fates depend on, beside registers: the groups that it has joined, and the frames in its receive packet buffer.
+-- What a host's fates depend on, beside registers: the groups that it has joined, the frames in its receive packet buffer, and whether
+-- its receive side is enabled (RCTL.EN).
 pub record Reception : Type 0 where
   pub groups : List (List ℕ)
   pub buffered : List (List ℕ)
+  pub enabled : Bool
 
+-- the receive side is enabled
 abbrev pub reception : (groups buffered : List (List ℕ)) → Reception
-reception groups buffered = record { groups = groups; buffered = buffered }
+reception groups buffered = record { groups = groups; buffered = buffered; enabled = true }
 
 -- The filter in force: that of the registers, but its group numbers are those of the groups joined.
 abbrev pub in_force : FilterRegisters → (groups : List (List ℕ)) → ReceiveFilter
 in_force registers groups = record (filter_of registers) { groups = λ number. Contains (numbers_of_groups groups) number }
 
--- The first fate that applies, with this filter in force, if the buffer of `room` bytes contains these frames. Off is never right.
-abbrev pub IsRightFate : ReceiveFilter → (room : ℕ) → (buffered : List (List ℕ)) → List ℕ → Fate → Type 0
-IsRightFate filter room buffered frame Off = ⊥
-IsRightFate filter room buffered frame Illegal = ¬ (IsLegal frame)
-IsRightFate filter room buffered frame Filtered = IsLegal frame × (¬ (Passes filter frame))
-IsRightFate filter room buffered frame Missed = IsLegal frame × Passes filter frame × LacksRoomFor room buffered frame
-IsRightFate filter room buffered frame Stored = IsLegal frame × Passes filter frame × HasRoomFor room buffered frame
+-- The first fate that applies, with this filter in force, if the buffer of `room` bytes contains these frames. While the receive side is
+-- disabled each frame has the fate Off, and while it is enabled none has.
+abbrev pub IsRightFate : ReceiveFilter → (room : ℕ) → (enabled : Bool) → (buffered : List (List ℕ)) → List ℕ → Fate → Type 0
+IsRightFate filter room false buffered frame fate = fate ≡ Off
+IsRightFate filter room true buffered frame Off = ⊥
+IsRightFate filter room true buffered frame Illegal = ¬ (IsLegal frame)
+IsRightFate filter room true buffered frame Filtered = IsLegal frame × (¬ (Passes filter frame))
+IsRightFate filter room true buffered frame Missed = IsLegal frame × Passes filter frame × LacksRoomFor room buffered frame
+IsRightFate filter room true buffered frame Stored = IsLegal frame × Passes filter frame × HasRoomFor room buffered frame
 
--- Each fate is right, by the groups joined and the frames buffered at its point. `now` is the start, and `final` the end. The oldest frame
--- can leave only if there is one, and only a group that is joined can be left.
+-- Each fate is right, by the reception at its point. `now` is the start, and `final` the end. The oldest frame can leave only if there is
+-- one and the receive side is enabled, and only a group that is joined can be left.
 abbrev pub AreRightFates : FilterRegisters → (room : ℕ) → (now : Reception) → List Mark → (final : Reception) → Type 0
 AreRightFates registers room now [] final = final ≡ now
 AreRightFates registers room now (Came frame fate ∷ later) final =
-    IsRightFate (in_force registers now.groups) room now.buffered frame fate
+    IsRightFate (in_force registers now.groups) room now.enabled now.buffered frame fate
     × AreRightFates registers room (record now { buffered = now.buffered ++ kept fate frame }) later final
 AreRightFates registers room now (Went ∷ later) final =
-    (now.buffered ≢ []) × AreRightFates registers room (record now { buffered = drop 1 now.buffered }) later final
+    (now.buffered ≢ []) × IsTrue now.enabled × AreRightFates registers room (record now { buffered = drop 1 now.buffered }) later final
 AreRightFates registers room now (Joins group ∷ later) final =
     AreRightFates registers room (record now { groups = now.groups ++ group ∷ [] }) later final
 AreRightFates registers room now (Quits group ∷ later) final =
     (fewer : List (List ℕ)) × Removes group now.groups fewer × AreRightFates registers room (record now { groups = fewer }) later final
+AreRightFates registers room now (SwitchedOff ∷ later) final = AreRightFates registers room (record now { enabled = false }) later final
+AreRightFates registers room now (SwitchedOn ∷ later) final = AreRightFates registers room (record now { enabled = true }) later final
+AreRightFates registers room now (Emptied ∷ later) final = AreRightFates registers room (record now { buffered = [] }) later final
 
 -- The same, fate by fate.
 
--- how many frames left
-abbrev pub left_in : List Mark → ℕ
-left_in [] = 0
-left_in (Came frame fate ∷ later) = left_in later
-left_in (Went ∷ later) = left_in later + 1
-left_in (Joins group ∷ later) = left_in later
-left_in (Quits group ∷ later) = left_in later
-
--- the frames that were stored, in order
-abbrev pub stored_in : List Mark → List (List ℕ)
-stored_in [] = []
-stored_in (Came frame fate ∷ later) = kept fate frame ++ stored_in later
-stored_in (Went ∷ later) = stored_in later
-stored_in (Joins group ∷ later) = stored_in later
-stored_in (Quits group ∷ later) = stored_in later
-
--- the frames of the start, then those stored since, without those that left
+-- The frames in the buffer after these marks: those of the start, then those stored since, without those that left or were given up.
 abbrev pub buffered_after : (buffered : List (List ℕ)) → List Mark → List (List ℕ)
-buffered_after buffered before = drop (left_in before) (buffered ++ stored_in before)
+buffered_after buffered [] = buffered
+buffered_after buffered (Came frame fate ∷ later) = buffered_after (buffered ++ kept fate frame) later
+buffered_after buffered (Went ∷ later) = buffered_after (drop 1 buffered) later
+buffered_after buffered (Emptied ∷ later) = buffered_after [] later
+buffered_after buffered (other ∷ later) = buffered_after buffered later
+
+-- Whether the receive side is enabled after these marks: as the last of them says that switched it, or as at the start.
+abbrev pub enabled_after : (enabled : Bool) → List Mark → Bool
+enabled_after enabled [] = enabled
+enabled_after enabled (SwitchedOff ∷ later) = enabled_after false later
+enabled_after enabled (SwitchedOn ∷ later) = enabled_after true later
+enabled_after enabled (other ∷ later) = enabled_after enabled later
 
 -- The groups in force after these marks are `now`: those of the start, with each that was joined added, and each that was left removed.
 abbrev pub AreGroupsAfter : (groups : List (List ℕ)) → List Mark → (now : List (List ℕ)) → Type 0
 AreGroupsAfter groups [] now = now ≡ groups
-AreGroupsAfter groups (Came frame fate ∷ later) now = AreGroupsAfter groups later now
-AreGroupsAfter groups (Went ∷ later) now = AreGroupsAfter groups later now
 AreGroupsAfter groups (Joins group ∷ later) now = AreGroupsAfter (groups ++ group ∷ []) later now
 AreGroupsAfter groups (Quits group ∷ later) now = (fewer : List (List ℕ)) × Removes group groups fewer × AreGroupsAfter fewer later now
+AreGroupsAfter groups (other ∷ later) now = AreGroupsAfter groups later now
 
 -- No group is joined or left.
 abbrev pub KeepsGroups : List Mark → Type 0
 KeepsGroups [] = ⊤
-KeepsGroups (Came frame fate ∷ later) = KeepsGroups later
-KeepsGroups (Went ∷ later) = KeepsGroups later
 KeepsGroups (Joins group ∷ later) = ⊥
 KeepsGroups (Quits group ∷ later) = ⊥
+KeepsGroups (other ∷ later) = KeepsGroups later
 
--- A frame's fate is right by the groups in force when it comes, and by the frames that the buffer contains then.
+-- A frame's fate is right by the groups in force when it comes, by the frames that the buffer contains then, and by whether the receive
+-- side is enabled then.
 pub record IsRightThere (registers : FilterRegisters) (room : ℕ) (start : Reception) (before : List Mark) (frame : List ℕ) (fate : Fate)
     : Type 0 where
   pub groups : List (List ℕ)
   pub are : AreGroupsAfter start.groups before groups
-  pub right : IsRightFate (in_force registers groups) room (buffered_after start.buffered before) frame fate
+  pub right : IsRightFate (in_force registers groups) room (enabled_after start.enabled before) (buffered_after start.buffered before)
+      frame fate
 
 -- So is each frame's.
 abbrev pub AreRightByList : FilterRegisters → (room : ℕ) → (start : Reception) → List Mark → Type 0

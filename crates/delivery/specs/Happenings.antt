@@ -11,7 +11,7 @@ use Rattle.adapter.specs.declared.outcome.Outcome.TheVariants as outcome
 use Rattle.stations.specs.declared.tick.Tick.{Tick}
 use Rattle.stations.specs.declared.tick.Tick.TheVariants.{Deliver, Go, Step}
 
--- What happened at a host: to a frame, or to the groups that it has joined.
+-- What happened at a host: to a frame, to the groups that it has joined, or to its receive side.
 pub data Happening : Type 0 where
   -- a host was given a frame to send, and accepted it
   Accepted : (host : ℕ) (frame : List ℕ) → Happening
@@ -27,6 +27,12 @@ pub data Happening : Type 0 where
   Joined : (host : ℕ) (group : List ℕ) → Happening
   -- it left a multicast group
   Left : (host : ℕ) (group : List ℕ) → Happening
+  -- a reset of it wrote 0 to RCTL, so its adapter's receive side is disabled
+  Disabled : (host : ℕ) → Happening
+  -- the reset wrote RCTL again, so the receive side is enabled
+  Enabled : (host : ℕ) → Happening
+  -- in between, the reset wrote CTRL.RST: it gave up these frames, which were still to be sent, and these, which were held
+  GivenUp : (host : ℕ) (sending holding : List (List ℕ)) → Happening
 
 -- What ticks and their outcomes tell.
 
@@ -52,7 +58,18 @@ told (Step host kind ∷ ticks) (one ∷ outcomes) = told_of host one.outcome ++
 told (Deliver host ∷ ticks) [] = []
 told (Deliver host ∷ ticks) (one ∷ outcomes) = told_of host one.outcome ++ told ticks outcomes
 
--- The same, with what the call itself did (`middle`) after the outcomes with number 0 and before the first other outcome.
+-- The same, of those outcomes alone whose numbers are such.
+abbrev pub told_where : (is_such : ℕ → Bool) → List Tick → List Numbered → List Happening
+told_where is_such [] outcomes = []
+told_where is_such (Go ∷ ticks) outcomes = told_where is_such ticks outcomes
+told_where is_such (Step host kind ∷ ticks) [] = []
+told_where is_such (Step host kind ∷ ticks) (one ∷ outcomes) =
+    (if is_such one.accesses then told_of host one.outcome else []) ++ told_where is_such ticks outcomes
+told_where is_such (Deliver host ∷ ticks) [] = []
+told_where is_such (Deliver host ∷ ticks) (one ∷ outcomes) =
+    (if is_such one.accesses then told_of host one.outcome else []) ++ told_where is_such ticks outcomes
+
+-- All outcomes, with what the call itself did (`middle`) after the outcomes with number 0 and before the first other outcome.
 abbrev pub told_around : (middle : List Happening) → List Tick → List Numbered → List Happening
 told_around middle [] outcomes = middle
 told_around middle (Go ∷ ticks) outcomes = told_around middle ticks outcomes
@@ -90,62 +107,32 @@ of_host k host some = if k == host then some else []
 -- The frame that host k accepted in this happening, if any, as a list.
 abbrev pub accepted_in_one : ℕ → Happening → List (List ℕ)
 accepted_in_one k (Accepted host frame) = of_host k host (frame ∷ [])
-accepted_in_one k (Put host frame) = []
-accepted_in_one k (Reached host frame fate) = []
-accepted_in_one k (Moved host) = []
-accepted_in_one k (Given host socket frame) = []
-accepted_in_one k (Joined host group) = []
-accepted_in_one k (Left host group) = []
+accepted_in_one k other = []
 
 -- The frame that host k put on its wire in this happening, if any, as a list.
 abbrev pub put_by : ℕ → Happening → List (List ℕ)
-put_by k (Accepted host frame) = []
 put_by k (Put host frame) = of_host k host (frame ∷ [])
-put_by k (Reached host frame fate) = []
-put_by k (Moved host) = []
-put_by k (Given host socket frame) = []
-put_by k (Joined host group) = []
-put_by k (Left host group) = []
+put_by k other = []
 
 -- The frame that reached host k in this happening, if any, as a list.
 abbrev pub reached_by : ℕ → Happening → List (List ℕ)
-reached_by k (Accepted host frame) = []
-reached_by k (Put host frame) = []
 reached_by k (Reached host frame fate) = of_host k host (frame ∷ [])
-reached_by k (Moved host) = []
-reached_by k (Given host socket frame) = []
-reached_by k (Joined host group) = []
-reached_by k (Left host group) = []
+reached_by k other = []
 
 -- the frame, where it was stored
 abbrev pub stored_by : ℕ → Happening → List (List ℕ)
-stored_by k (Accepted host frame) = []
-stored_by k (Put host frame) = []
 stored_by k (Reached host frame fate) = of_host k host (kept fate frame)
-stored_by k (Moved host) = []
-stored_by k (Given host socket frame) = []
-stored_by k (Joined host group) = []
-stored_by k (Left host group) = []
+stored_by k other = []
 
 -- The frame that a socket of host k returned in this happening, if any, as a list.
 abbrev pub given_in_one : (k socket : ℕ) → Happening → List (List ℕ)
-given_in_one k s (Accepted host frame) = []
-given_in_one k s (Put host frame) = []
-given_in_one k s (Reached host frame fate) = []
-given_in_one k s (Moved host) = []
 given_in_one k s (Given host socket frame) = if (k == host) && (s == socket) then frame ∷ [] else []
-given_in_one k s (Joined host group) = []
-given_in_one k s (Left host group) = []
+given_in_one k s other = []
 
 -- 1 where a frame was missed
 abbrev pub missed_of : ℕ → Happening → ℕ
-missed_of k (Accepted host frame) = 0
-missed_of k (Put host frame) = 0
 missed_of k (Reached host frame fate) = if k == host then missed_by fate else 0
-missed_of k (Moved host) = 0
-missed_of k (Given host socket frame) = 0
-missed_of k (Joined host group) = 0
-missed_of k (Left host group) = 0
+missed_of k other = 0
 
 -- both are there, and on one wire
 abbrev pub share_wire : Option ℕ → Option ℕ → Bool
@@ -155,13 +142,8 @@ share_wire (Some wire) (Some other) = wire == other
 
 -- a frame that another host put on this host's wire
 abbrev pub toward_by : (wires : ℕ → Option ℕ) → (k : ℕ) → Happening → List (List ℕ)
-toward_by wires k (Accepted host frame) = []
 toward_by wires k (Put host frame) = if not (k == host) && share_wire (wires k) (wires host) then frame ∷ [] else []
-toward_by wires k (Reached host frame fate) = []
-toward_by wires k (Moved host) = []
-toward_by wires k (Given host socket frame) = []
-toward_by wires k (Joined host group) = []
-toward_by wires k (Left host group) = []
+toward_by wires k other = []
 
 -- The frames that host k accepted, in order.
 abbrev pub accepted : ℕ → List Happening → List (List ℕ)

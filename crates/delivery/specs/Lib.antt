@@ -1,5 +1,6 @@
 pub mod Happenings
 pub mod TickNumbers
+pub mod Lists
 pub mod Fates
 pub mod Reception
 pub mod DeliveryLaws

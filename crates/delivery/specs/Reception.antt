@@ -5,23 +5,25 @@ use Rattle.adapter.specs.Receiving.{room}
 use Rattle.adapter.specs.State.{AdapterState}
 use Rattle.adapter.specs.Table.{register_at}
 use Rattle.adapter.specs.declared.register.Register.{Register}
-use Rattle.adapter.specs.declared.register.Register.TheVariants.{Receive, Transmit}
+use Rattle.adapter.specs.declared.register.Register.TheVariants.{Ims, Receive, Tctl, Transmit}
 use Rattle.adapter.specs.declared.register.RingRegister.TheVariants.{Tail}
 use Rattle.bus.specs.declared.event.Access.{Access}
 use Rattle.bus.specs.declared.event.Access.TheVariants.{Loads, Reads, Stores, Writes}
 use Rattle.delivery.specs.Fates.{AreRightFates, KeepsGroups, Mark, reception}
 
--- RDT or TDT
-abbrev pub IsTail : Register → Type 0
-IsTail (Receive Tail) = ⊤
-IsTail (Transmit Tail) = ⊤
-IsTail register = ⊥
+-- RDT, a register of the transmit ring, TCTL or IMS
+abbrev pub IsNotOfReception : Register → Type 0
+IsNotOfReception (Receive Tail) = ⊤
+IsNotOfReception (Transmit part) = ⊤
+IsNotOfReception Tctl = ⊤
+IsNotOfReception Ims = ⊤
+IsNotOfReception register = ⊥
 
--- a load, a store, a read of any register, and of the writes those of a ring's tail and those where no register is: none moves the filter,
--- or the receive packet buffer and its room
+-- a load, a store, a read of any register, and of the writes those of such a register and those where no register is: none changes the
+-- filter, or the receive packet buffer and its room
 abbrev pub LeavesReception : Access → Type 0
 LeavesReception (Reads offset value) = ⊤
-LeavesReception (Writes offset value) = IfSome (register_at offset) IsTail
+LeavesReception (Writes offset value) = IfSome (register_at offset) IsNotOfReception
 LeavesReception (Loads address size) = ⊤
 LeavesReception (Stores address bytes) = ⊤
 
@@ -33,11 +35,11 @@ SameButGroups a b = b ≡ record a { mta = b.mta }
 -- groups stays, and so does the room. The fates of what came are right.
 pub record ReceivesRightly (groups : List (List ℕ)) (a : AdapterState) (all : List Mark) (groups' : List (List ℕ)) (b : AdapterState)
     : Type 0 where
-  -- The registers of the receive filter, RCTL among them, don't change, except for MTA.
+  -- The registers of the receive filter, RCTL among them, are the same at the end, except for MTA.
   pub filter : SameButGroups a.filter b.filter
-  -- MTA doesn't change either, if no group is joined or left.
+  -- MTA is the same, too, if no group is joined or left.
   pub unchanged : KeepsGroups all → b.filter ≡ a.filter
-  -- RXA of PBA doesn't change.
+  -- RXA of PBA is the same at the end.
   pub kilobytes : b.receive_kilobytes ≡ a.receive_kilobytes
   -- Each frame that came met the right fate, by the groups in force and the frames in the packet buffer when it came.
   pub fates : AreRightFates a.filter (room a) (reception groups a.receiver.buffer) all (reception groups' b.receiver.buffer)

@@ -1,5 +1,6 @@
 -- What each tick answers, judged by counting (our choice).
-use Rattle.std.specs.Prelude.{◌≡◌, ◌==◌, ◌||◌, ◌++◌, not, ℕ, Bool, List, [], ◌∷◌, MatchBool, length, nat_le, if◌then◌else◌}
+use Rattle.std.specs.Prelude.{◌≡◌, ◌==◌, ◌&&◌, ◌||◌, ◌++◌, not, ℕ, Bool, List, [], ◌∷◌, MatchBool, is_some, length, nat_le}
+use Rattle.std.specs.Prelude.{if◌then◌else◌}
 use Rattle.rx_engine.specs.declared.arrival.Fate.{Fate}
 use Rattle.adapter.specs.declared.step.StepKind.{StepKind}
 use Rattle.adapter.specs.declared.step.StepKind.TheVariants.{TxTake, TxPut, RxData, RxDone, EepromTick, PhyTick}
@@ -11,7 +12,7 @@ use Rattle.adapter.specs.declared.outcome.Outcome.TheVariants.{Delivered, Done, 
 use Rattle.stations.specs.declared.tick.Tick.{Tick}
 use Rattle.stations.specs.declared.tick.Tick.TheVariants.{Deliver, Go, Step}
 use Rattle.stations.specs.AtomicRuns.{events_at}
-use Rattle.delivery.specs.Counts.{HostCounts, ReceiveCounts, TransmitCounts, counts_behind, counts_of}
+use Rattle.delivery.specs.Counts.{HostCounts, PhyCounts, ReceiveCounts, RingCounts, TransmitCounts, counts_behind, counts_of}
 use Rattle.delivery.specs.WaitingFrames.{WireIsFull, waiting_at}
 
 -- for so many frames there is room in the transmit packet buffer
@@ -22,18 +23,26 @@ transmit_room = 4
 abbrev pub nothing_if : Bool → FrameOutcome → FrameOutcome
 nothing_if is_idle outcome = if is_idle then Nothing else outcome
 
--- the transmit packet buffer is full, or no descriptor is to be taken: TDH equals TDT
-abbrev pub has_nothing_to_take : TransmitCounts → Bool
-has_nothing_to_take counts = counts.buffered == transmit_room || counts.ring.offered == 0
+-- of a ring no slot is the adapter's: its head is its tail
+abbrev pub offers_none : RingCounts → Bool
+offers_none ring = ring.head == ring.tail
 
--- a piece is in progress, the receive packet buffer is empty, or no slot is offered
+-- TCTL.EN is 0, the transmit packet buffer is full, or no descriptor is to be taken
+abbrev pub has_nothing_to_take : TransmitCounts → Bool
+has_nothing_to_take counts = not counts.is_enabled || (counts.buffered == transmit_room || offers_none counts.ring)
+
+-- RCTL.EN is 0, a piece is in progress, the receive packet buffer is empty, or no slot is offered
 abbrev pub has_nothing_to_move : ReceiveCounts → Bool
-has_nothing_to_move counts = counts.is_working || (length counts.left == 0 || counts.ring.offered == 0)
+has_nothing_to_move counts = not counts.is_enabled || (counts.is_working || (length counts.left == 0 || offers_none counts.ring))
 
 -- how many bytes of the oldest frame are still to be moved
 abbrev pub left_of_oldest : List ℕ → ℕ
 left_of_oldest [] = 0
 left_of_oldest (oldest ∷ later) = oldest
+
+-- no countdown runs, and no command of MDIC is pending
+abbrev pub has_idle_phy : PhyCounts → Bool
+has_idle_phy counts = counts.countdown == 0 && not (is_some counts.command)
 
 -- If there is a frame to move: Moved for its last piece, else Part.
 abbrev pub moved_or_part : ReceiveCounts → FrameOutcome
@@ -60,7 +69,7 @@ IsStepAnswer start before host counts RxData outcome =
     outcome ≡ nothing_if (has_nothing_to_move counts.receive) (moved_or_part counts.receive)
 IsStepAnswer start before host counts RxDone outcome = outcome ≡ nothing_if (not counts.receive.is_working) Done
 IsStepAnswer start before host counts EepromTick outcome = outcome ≡ nothing_if (not counts.is_reading) Ticked
-IsStepAnswer start before host counts PhyTick outcome = outcome ≡ nothing_if (counts.phy_ticks == 0) Ticked
+IsStepAnswer start before host counts PhyTick outcome = outcome ≡ nothing_if (has_idle_phy counts.phy) Ticked
 
 -- the outcome of a delivery, by the frames that wait
 abbrev pub IsDelivery : List (List ℕ) → FrameOutcome → Type 0

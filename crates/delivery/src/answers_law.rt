@@ -1,20 +1,24 @@
 //! Laws of what ticks answer.
 
 ghost use Rattle.delivery.specs.AnswersLaws.{AbsentHostsAnswerNothing, CountsGoByOutcomes, FaultNeverComes};
-ghost use Rattle.delivery.specs.AnswersLaws.{GoAnswersNothing, ReceiveTailWritesAreCounted, TailsOfferSlots};
+ghost use Rattle.delivery.specs.AnswersLaws.{FaultNeverComesAroundReset, GoAnswersNothing, NoneIsOffered, OneIsTaken};
+ghost use Rattle.delivery.specs.AnswersLaws.{ReceiveTailWritesAreCounted, SidesStayEnabled, TailsOfferSlots};
 ghost use Rattle.delivery.specs.AnswersLaws.{TicksAreAnsweredByCounting, TransmitTailWritesAreCounted};
 ghost use Rattle.delivery.specs.AnswersLaws.{WaitingFramesGoByOutcomes};
 
-/// Each tick of a host that is set up is answered by what was counted at the start.
-/// - `answers`: by those counts, with the outcomes of the steps before it applied.
-/// - `counts`: behind all steps the counts of the host are those, with all outcomes applied.
+/// Each tick of a host is answered by what was counted at the start, if no fault comes and its driver doesn't write
+/// MDIC. It may write any other register: it may reset its adapter.
+/// - `answers`: by those counts, with the outcomes and the accesses of the steps before it applied.
+/// - `counts`: behind all steps the counts of the host are those, with all outcomes and accesses applied.
 /// - `waiting`: so are the frames that wait at the end of any host.
-/// - `faultless`: Fault never comes.
+/// - `faultless`: no fault comes, if the adapter isn't reset and its engines run at the end.
+/// - `around_reset`: nor if it may be reset by one access, and its engines run right before it and at the end.
 pub fn ticks_are_answered_by_counting()
     ensures answers { TicksAreAnsweredByCounting }
     ensures counts { CountsGoByOutcomes }
     ensures waiting { WaitingFramesGoByOutcomes }
     ensures faultless { FaultNeverComes }
+    ensures around_reset { FaultNeverComesAroundReset }
 {}
 
 /// Ticks that find nothing, by what they are.
@@ -25,12 +29,18 @@ pub fn idle_ticks_answer_nothing()
     ensures go { GoAnswersNothing }
 {}
 
-/// What a driver offers by its accesses.
-/// - `receive`: a write of RDT of a slot of its ring can be counted, and moves the tail there.
-/// - `transmit`: so does one of TDT.
+/// What a driver offers by its accesses: of a ring, the slots from its head up to its tail.
+/// - `none`: none is offered exactly where head equals tail.
+/// - `taken`: a step that takes a slot takes one of those offered.
 /// - `places`: a tail that moves on by so many places offers so many slots more.
+/// - `receive`: a write of RDT of a slot of its ring moves the tail there.
+/// - `transmit`: so does one of TDT.
+/// - `enabled`: without a write of CTRL, RCTL and TCTL both sides stay enabled or disabled.
 pub fn tails_offer_slots()
+    ensures none { NoneIsOffered }
+    ensures taken { OneIsTaken }
+    ensures places { TailsOfferSlots }
     ensures receive { ReceiveTailWritesAreCounted }
     ensures transmit { TransmitTailWritesAreCounted }
-    ensures places { TailsOfferSlots }
+    ensures enabled { SidesStayEnabled }
 {}

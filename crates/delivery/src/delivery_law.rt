@@ -1,12 +1,13 @@
 // Laws of what happens to frames.
 
 ghost use Rattle.delivery.specs.DeliveryLaws.{CallsAreToldBetweenTicks, DeliveriesJoin, FatesAreJudgedByTheBuffer};
-ghost use Rattle.delivery.specs.DeliveryLaws.{FatesAreRight};
+ghost use Rattle.delivery.specs.DeliveryLaws.{FatesAreOff, FatesAreRight, FilterStays, OutcomesTellByNumber};
 ghost use Rattle.delivery.specs.DeliveryLaws.{GroupsChangeAlone, LentCallsAreTold, NoAccessIsToldAtTheEnd};
 ghost use Rattle.delivery.specs.DeliveryLaws.{OneAccessIsToldAtItsPlace, OneOutcomeTellsItsStep, OneTickLeads};
 ghost use Rattle.delivery.specs.DeliveryLaws.{OnlyTicksAreTold, OutcomesTellSteps, ReceptionsJoin, RightFatesJoin};
 ghost use Rattle.delivery.specs.DeliveryLaws.{StepsMoveFrames, TailWritesLeaveReception, WaitsJoin};
 ghost use Rattle.delivery.specs.DeliveryLaws.{WiresDecideToward, WritesChangeGroups};
+ghost use Rattle.delivery.specs.Lists.{AcceptedArePadded, GoesBehind, GoesJoin, GoesToOneEnd, GoesWithoutDrops};
 
 use stations::Observer;
 
@@ -32,11 +33,13 @@ pub fn lent_calls_are_told<O: Observer>()
 /// - `nothing`: if the call itself did nothing, the happenings are those of its ticks.
 /// - `access`: if the call made one access, what it did is between the ticks before this access and the ticks after it.
 /// - `none`: if the call made no access, what it did is after all its ticks.
+/// - `numbers`: the outcomes with some numbers tell what happened behind so many accesses.
 pub fn calls_say_at_their_access()
     ensures between { CallsAreToldBetweenTicks }
     ensures nothing { OnlyTicksAreTold }
     ensures access { OneAccessIsToldAtItsPlace }
     ensures none { NoAccessIsToldAtTheEnd }
+    ensures numbers { OutcomesTellByNumber }
 {}
 
 /// What atomic steps do to the frames of each host. Those that it put, stored and missed are those of
@@ -47,15 +50,20 @@ pub fn steps_move_frames()
     ensures { StepsMoveFrames }
 {}
 
-/// Fates are right while RCTL.EN is 1 and a host loads, stores, reads registers, and writes none but RDT
-/// and TDT.
-/// - `fates`: each frame that reaches it meets the first fate that applies, by the filter and by the frames in
-///   the packet buffer, if MTA has exactly the bits of the numbers of the groups in force. The filter, these groups
+/// Which fates are right.
+/// - `fates`: while RCTL.EN is 1 and a host loads, stores, reads registers, and writes none but RDT, TCTL, IMS and those
+///   of the transmit ring, each frame that reaches it meets the first fate that applies, by the filter and by the frames
+///   in the packet buffer, if MTA has exactly the bits of the numbers of the groups in force. The filter, these groups
 ///   and the buffer's room don't change.
 /// - `tails`: writes of RDT and TDT are among these accesses.
+/// - `off`: while RCTL.EN is 0 and RCTL isn't written, each frame that reaches a host is dropped, and none leaves
+///   its packet buffer.
+/// - `filter`: while none but the registers of `fates` are written, the filter doesn't change.
 pub fn fates_are_right()
     ensures fates { FatesAreRight }
     ensures tails { TailWritesLeaveReception }
+    ensures off { FatesAreOff }
+    ensures filter { FilterStays }
 {}
 
 /// A host joins or leaves a group. The filter, except for its groups, and the frames in the packet buffer don't change.
@@ -81,9 +89,24 @@ pub fn deliveries_join()
     ensures receptions { ReceptionsJoin }
 {}
 
-/// Fates that are right are right one by one, by the groups in force and the frames in the packet buffer when a frame
-/// comes. The groups are those of the start, with each joined since added and each left since removed. The frames are
-/// those of the start, then the frames stored since, without those that left since.
+/// Fates that are right are right one by one, by the groups in force, the frames in the packet buffer, and whether the
+/// receive side is enabled, when a frame comes. The groups are those of the start, with each joined since added and each
+/// left since removed. The frames are those of the start, then the frames stored since, without those that left or were
+/// given up since.
 pub fn fates_are_judged_by_the_buffer()
     ensures { FatesAreJudgedByTheBuffer }
+{}
+
+/// Lists of frames that grow at their end, and from whose end a reset takes what it gives up.
+/// - `join`: over happenings and later ones, such a list goes to its middle, and from there to its end.
+/// - `behind`: what stands before the beginning stands before the end.
+/// - `one_end`: there is at most one end.
+/// - `without`: if nothing is given up, the end is the beginning, then all that was added.
+/// - `padded`: what is added to the frames that are due is the accepted frames, padded.
+pub fn lists_grow_and_shrink()
+    ensures join { GoesJoin }
+    ensures behind { GoesBehind }
+    ensures one_end { GoesToOneEnd }
+    ensures without { GoesWithoutDrops }
+    ensures padded { AcceptedArePadded }
 {}

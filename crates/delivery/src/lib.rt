@@ -10,5 +10,6 @@ pub use answers_law::{
 };
 pub use delivery_law::{
     calls_say_at_their_access, deliveries_join, fates_are_judged_by_the_buffer, fates_are_right,
-    groups_change, lent_calls_are_told, outcomes_tell_steps, steps_move_frames,
+    groups_change, lent_calls_are_told, lists_grow_and_shrink, outcomes_tell_steps,
+    steps_move_frames,
 };

@@ -32,6 +32,7 @@ pub stay-alone : (k : ℕ) (steps : List AtomicStep) (old new : ConnectedHost) �
     → GroupsStay k steps old new
 stay-alone k steps old new same none = record {
   groups = ap (λ (h : HostState). h.driver.groups) same;
+  setup = ap (λ (h : HostState). h.driver.setup) same;
   accesses = subst (λ (list : List Access). All (IsOfDriver old.host.driver.layout) list) (sym none)
       (all-none (IsOfDriver old.host.driver.layout));
 }
@@ -41,6 +42,7 @@ pub stay-join : (k : ℕ) (first later : List AtomicStep) (a b c : ConnectedHost
     → GroupsStay k first a b → GroupsStay k later b c → GroupsStay k (first ++ later) a c
 stay-join k first later a b c counts one two = record {
   groups = two.groups ∙ one.groups;
+  setup = two.setup ∙ one.setup;
   accesses =
       subst (λ (past : Past). All (IsOfDriver a.host.driver.layout) past.accesses) (sym (past_join k first later))
       (All-append (IsOfDriver a.host.driver.layout) (past_at k first).accesses (past_at k later).accesses one.accesses
@@ -51,31 +53,52 @@ stay-join k first later a b c counts one two = record {
 
 pub none-stay : (k : ℕ) (given : List Given) (steps : List AtomicStep) (old new : ConnectedHost)
     → MakesNoAccess old.host new.host (InSteps k given steps old new) → GroupsStay k steps old new
-none-stay k given steps old new it = record { groups = ap (λ (h : HostState). h.driver.groups) it.stays; accesses = it.runs.own }
+none-stay k given steps old new it =
+    record {
+      groups = ap (λ (h : HostState). h.driver.groups) it.stays;
+      setup = ap (λ (h : HostState). h.driver.setup) it.stays;
+      accesses = it.runs.own;
+    }
 
 pub send-stay : (frame : List ℕ) (result : SendAnswer) (k : ℕ) (given : List Given) (steps : List AtomicStep) (old new : ConnectedHost)
     (world : World) → SendEffect frame result old.host new.host (InSteps k given steps old new) world → GroupsStay k steps old new
 send-stay frame (Ok u) k given steps old new world it =
-    record { groups = ap (λ (h : HostState). h.driver.groups) it.others; accesses = it.runs.own }
+    record {
+      groups = ap (λ (h : HostState). h.driver.groups) it.others;
+      setup = ap (λ (h : HostState). h.driver.setup) it.others;
+      accesses = it.runs.own;
+    }
 send-stay frame (Err TooShort) k given steps old new world it = none-stay k given steps old new it.1
 send-stay frame (Err TooLong) k given steps old new world it = none-stay k given steps old new it.1
 send-stay frame (Err RingFull) k given steps old new world it =
-    record { groups = ap (λ (h : HostState). h.driver.groups) it.stays; accesses = it.runs.own }
+    record {
+      groups = ap (λ (h : HostState). h.driver.groups) it.stays;
+      setup = ap (λ (h : HostState). h.driver.setup) it.stays;
+      accesses = it.runs.own;
+    }
 
 pub recv-stay : (socket : ℕ) (result : Result (List ℕ) RecvError) (k : ℕ) (given : List Given) (steps : List AtomicStep)
     (old new : ConnectedHost) (world : World) → RecvEffect socket result old.host new.host (InSteps k given steps old new) world
     → GroupsStay k steps old new
 recv-stay socket (Ok frame) k given steps old new world it =
-    record { groups = ap (λ (h : HostState). h.driver.groups) it.others; accesses = it.runs.own }
+    record {
+      groups = ap (λ (h : HostState). h.driver.groups) it.others;
+      setup = ap (λ (h : HostState). h.driver.setup) it.others;
+      accesses = it.runs.own;
+    }
 recv-stay socket (Err NoSocket) k given steps old new world it = none-stay k given steps old new it.1
 recv-stay socket (Err Empty) k given steps old new world it = none-stay k given steps old new it.2
 
 pub interrupt-stay : (result : Handled) (k : ℕ) (given : List Given) (steps : List AtomicStep) (old new : ConnectedHost) (world : World)
     → InterruptEffect result old.host new.host (InSteps k given steps old new) world → GroupsStay k steps old new
 interrupt-stay NotMine k given steps old new world it =
-    record { groups = ap (λ (h : HostState). h.driver.groups) it.stays; accesses = it.runs.own }
+    record {
+      groups = ap (λ (h : HostState). h.driver.groups) it.stays;
+      setup = ap (λ (h : HostState). h.driver.setup) it.stays;
+      accesses = it.runs.own;
+    }
 interrupt-stay (answers.Handled n) k given steps old new world it =
-    record { groups = it.only_receives.groups; accesses = it.runs.own }
+    record { groups = it.only_receives.groups; setup = it.only_receives.setup; accesses = it.runs.own }
 
 -- A join or a leave that is refused.
 

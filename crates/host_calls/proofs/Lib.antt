@@ -16,3 +16,12 @@ pub mod AdapterSteps
 pub mod CallSteps
 pub mod Endings
 pub mod HostsOfNetworks
+pub mod AdaptersStay
+pub mod PendingFrames
+pub mod SplitSteps
+pub mod NotedSteps
+pub mod ResetStretches
+pub mod ResetParts
+pub mod ResetLifting
+pub mod ResetGives
+pub mod ResetNetworks

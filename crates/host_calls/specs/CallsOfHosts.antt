@@ -41,9 +41,10 @@ pub record HostRuns (k : ℕ) (steps : List AtomicStep) (done : HostDid) (old ne
   -- If no slot was staged before the call, no slot is staged after it.
   pub offered : old.host.driver.staged ≡ [] → new.host.driver.staged ≡ []
 
--- No group is joined or left: the groups joined don't change, and no word of the group table is written.
+-- No group is joined or left: the groups joined and the driver's setup don't change, and no word of the group table is written.
 pub record GroupsStay (k : ℕ) (steps : List AtomicStep) (old new : ConnectedHost) : Type 0 where
   pub groups : new.host.driver.groups ≡ old.host.driver.groups
+  pub setup : new.host.driver.setup ≡ old.host.driver.setup
   pub accesses : All (IsOfDriver old.host.driver.layout) (past_at k steps).accesses
 
 -- A call of a host: the atomic steps that it and its ticks made, and what the host did. Its sockets returned the frames `given`, and it

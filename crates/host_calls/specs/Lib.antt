@@ -8,3 +8,11 @@ pub mod CausesLaws
 pub mod CallsInSteps
 pub mod DrainedHosts
 pub mod DrainSteps
+pub mod Notes
+pub mod NotesLaws
+pub mod NotesView
+pub mod Givings
+pub mod GivingsLaws
+pub mod ResetSteps
+pub mod BeforeReset
+pub mod ResetsInSteps

@@ -1,5 +1,5 @@
 -- A network as plain data: its hosts, and their stations (our choice).
-use Rattle.std.specs.Prelude.{◌≡◌, [], ℕ, true, List, None, Option, Some, slice_get, slice_set}
+use Rattle.std.specs.Prelude.{◌≡◌, [], ℕ, false, true, List, None, Option, Some, slice_get, slice_set}
 use Rattle.driver_law.specs.DriverState.{DriverState}
 use Rattle.packet_socket.specs.HostState.{HostState, new_host}
 use Rattle.stations.specs.Stations.{StationState}
@@ -30,6 +30,7 @@ no_driver = record {
   exact = true;
   bad = 0;
   groups = [];
+  setup = record { rxa = 0; promiscuous = false; by_vlan = false; vlans = []; address = [] };
 }
 
 abbrev pub host_or_empty : Option HostState → HostState

@@ -5,10 +5,13 @@
 mod calls;
 mod causes_law;
 mod draining;
+mod giving;
 mod network;
 mod outlet;
+mod resetting;
 
 pub use calls::Called;
 pub use causes_law::answers_tell_causes;
 pub use network::Network;
 pub use outlet::Outlet;
+pub use resetting::{GivenUp, WasReset};

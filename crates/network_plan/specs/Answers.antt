@@ -4,10 +4,10 @@ use Rattle.stations.specs.declared.tick.Tick.{Tick}
 use Rattle.packet_socket.specs.declared.call.HostAnswer.{HostAnswer}
 use Rattle.packet_socket.specs.declared.call.HostAnswer.TheVariants.{Interrupted as InterruptedBy, Joined as JoinedBy, Left as LeftBy}
 use Rattle.packet_socket.specs.declared.call.HostAnswer.TheVariants.{Received as ReceivedBy, Sent as SentBy}
-use Rattle.network_plan.specs.EventCalls.{Alone, ByCall, CallOrTick, in_event}
+use Rattle.network_plan.specs.EventCalls.{Alone, ByCall, ByReset, EventKind, in_event}
 use Rattle.network_plan.specs.declared.event.Event.{Event}
 use Rattle.network_plan.specs.declared.reply.Answer.{Answer}
-use Rattle.network_plan.specs.declared.reply.Answer.TheVariants.{Interrupted, Joined, Left, NoHost, Received, Sent, Ticked}
+use Rattle.network_plan.specs.declared.reply.Answer.TheVariants.{Interrupted, Joined, Left, NoHost, Received, Reset, Sent, Ticked}
 
 -- an answer with the bytes of its frame
 abbrev pub FrameAnswer : Type 0
@@ -21,6 +21,7 @@ answer_with frame (Received (Err error)) = Received (Err error)
 answer_with frame (Interrupted handled) = Interrupted handled
 answer_with frame (Joined joined) = Joined joined
 answer_with frame (Left left) = Left left
+answer_with frame (Reset sending holding on_after) = Reset sending holding on_after
 answer_with frame Ticked = Ticked
 answer_with frame NoHost = NoHost
 
@@ -33,8 +34,9 @@ event_answer (JoinedBy result) = Joined result
 event_answer (LeftBy result) = Left result
 
 -- the ticks of an event, each Go among them
-abbrev pub ticks_by : CallOrTick → List Tick
+abbrev pub ticks_by : EventKind → List Tick
 ticks_by (ByCall call) = call.ticks
+ticks_by (ByReset host ticks) = ticks
 ticks_by (Alone tick) = tick ∷ []
 
 abbrev pub ticks_of : Event → List Tick

@@ -1,10 +1,10 @@
--- The two kinds of events: a call of a host with the ticks that are played in it, or a tick by itself (our choice). So a definition of
--- calls doesn't need a case for each kind of call.
+-- The kinds of events: a call of a host with the ticks that are played in it, a reset of a host's adapter with its ticks, or a tick by
+-- itself (our choice). So a definition of calls doesn't need a case for each kind of call.
 use Rattle.std.specs.Prelude.{List, ℕ}
 use Rattle.packet_socket.specs.CallEffects.{Interrupting, Joining, Leaving, Receiving, Request, Sending}
 use Rattle.stations.specs.declared.tick.Tick.{Tick}
 use Rattle.network_plan.specs.declared.event.Event.{Event}
-use Rattle.network_plan.specs.declared.event.Event.TheVariants.{Interrupt, Join, Leave, Recv, Send, Tick as OfTick}
+use Rattle.network_plan.specs.declared.event.Event.TheVariants.{Interrupt, Join, Leave, Recv, Reset, Send, Tick as OfTick}
 
 -- the host that is called, which call it makes, and the ticks that are played in the call
 pub record EventCall : Type 0 where
@@ -13,14 +13,16 @@ pub record EventCall : Type 0 where
   pub ticks : List Tick
 
 -- an event
-pub data CallOrTick : Type 0 where
-  ByCall : (call : EventCall) → CallOrTick
-  Alone : (tick : Tick) → CallOrTick
+pub data EventKind : Type 0 where
+  ByCall : (call : EventCall) → EventKind
+  ByReset : (host : ℕ) (ticks : List Tick) → EventKind
+  Alone : (tick : Tick) → EventKind
 
-abbrev pub in_event : Event → CallOrTick
+abbrev pub in_event : Event → EventKind
 in_event (Send host frame ticks) = ByCall (record { host = host; request = Sending frame.items; ticks = ticks.items })
 in_event (Recv host socket ticks) = ByCall (record { host = host; request = Receiving socket; ticks = ticks.items })
 in_event (Interrupt host ticks) = ByCall (record { host = host; request = Interrupting; ticks = ticks.items })
 in_event (Join host group ticks) = ByCall (record { host = host; request = Joining group; ticks = ticks.items })
 in_event (Leave host group ticks) = ByCall (record { host = host; request = Leaving group; ticks = ticks.items })
+in_event (Reset host ticks) = ByReset host ticks.items
 in_event (OfTick tick) = Alone tick

@@ -2,9 +2,9 @@
 
 use stations::Tick;
 
-/// An event of a run. The ticks of a call up to the next [`Go`](Tick::Go) are played just before the call's next
-/// access; what is left behind its last access is played then, with each `Go` skipped. Hosts are numbered from 0 in the
-/// order of the plan.
+/// An event of a run. The ticks of a call, or of a reset, up to the next [`Go`](Tick::Go) are played just before its
+/// next access; what is left behind its last access is played then, with each `Go` skipped. Hosts are numbered from 0
+/// in the order of the plan.
 #[derive(Debug, Drop)]
 pub enum Event {
     /// A host sends a frame of any length. The answer is E20 if the frame has fewer than 14 bytes, and E21 if it has
@@ -51,6 +51,13 @@ pub enum Event {
         /// What is played inside the call.
         ticks: Vec<Tick>,
     },
+    /// A host's driver resets its adapter, and begins again with the groups now joined.
+    Reset {
+        /// The host.
+        host: usize,
+        /// What is played inside the reset.
+        ticks: Vec<Tick>,
+    },
     /// A tick by itself, between calls. `Go` does nothing here.
     Tick(Tick),
 }
@@ -68,7 +75,8 @@ impl Event {
             | Event::Recv { ticks, .. }
             | Event::Interrupt { ticks, .. }
             | Event::Join { ticks, .. }
-            | Event::Leave { ticks, .. } => { ticks.len() }
+            | Event::Leave { ticks, .. }
+            | Event::Reset { ticks, .. } => { ticks.len() }
             Event::Tick(_) => 1,
         }
     }

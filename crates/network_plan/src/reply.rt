@@ -1,5 +1,6 @@
 // What came of an event.
 
+use descriptors::Frame;
 use driver::{Handled, SendError};
 use joined_groups::GroupError;
 use packet_socket::RecvError;
@@ -22,6 +23,16 @@ pub enum Answer<F> {
     Joined(Result<(), GroupError>),
     /// A group was left, or not.
     Left(Result<(), GroupError>),
+    /// An adapter was reset, by the write of CTRL.RST. The frames that were to be sent then are given up, and so are
+    /// those that the host held outside its sockets' queues.
+    Reset {
+        /// The frames that were to be sent, oldest first.
+        sending: Vec<Frame>,
+        /// The frames that were held, oldest first.
+        holding: Vec<Frame>,
+        /// How many accesses were made once the receiver was enabled again.
+        on_after: u64,
+    },
     /// A tick was played by itself.
     Ticked,
     /// There is no such host; the ticks of the call were played.
@@ -46,6 +57,15 @@ impl<F> Answer<F> {
             Answer::Interrupted(handled) => Answer::Interrupted(handled),
             Answer::Joined(joined) => Answer::Joined(joined),
             Answer::Left(left) => Answer::Left(left),
+            Answer::Reset {
+                sending,
+                holding,
+                on_after,
+            } => Answer::Reset {
+                sending,
+                holding,
+                on_after,
+            },
             Answer::Ticked => Answer::Ticked,
             Answer::NoHost => Answer::NoHost,
         }
@@ -64,8 +84,8 @@ pub struct Reply {
     pub outcomes: Outcomes,
 }
 
-/// A run ended before an event, because its observer had no memory for what comes of it. The first `done` events were
-/// run and reported, and nothing else changed.
+/// A run ended before an event, because there was no memory for what comes of it: its observer had none, or none was
+/// left for the frames that a reset gives up. The first `done` events were run and reported, and nothing else changed.
 #[derive(Clone, Copy, Debug, PartialEq, Eq, Error)]
 #[error("E47 Memory")]
 pub struct Stopped {

@@ -25,7 +25,8 @@ made-stands plans hosts stations up = record {
       let station = slice_get-some stations k (omega (arith, below, count, places)) in
       let up_is = up.each k plan.0 host station.0 plan.1 is station.1 in
       subst (λ (world : World). HostStands host world) (ap world_of (sym station.1))
-      (stands-with host station.0.world up_is.ready.ready up_is.ready.work up_is.ready.refilled up_is.ready.offered up_is.sizes.table up_is.ready.can
+      (stands-with host station.0.world up_is.ready.ready up_is.ready.work up_is.ready.refilled up_is.ready.offered up_is.sizes.set_up
+      up_is.sizes.table up_is.ready.can
       (λ small. up_is.no_frames.counts.exact));
   adapters = λ k host is.
       let below = slice_get_within hosts k host is in

@@ -92,7 +92,7 @@ tells-said k call result steps wires h h' Runs world does said =
 
 -- What it says of groups.
 
-of-others : {T : Type 0} (k host : ℕ) (list : List T) → k ≢ host → of_host k host list ≡ []
+pub of-others : {T : Type 0} (k host : ℕ) (list : List T) → k ≢ host → of_host k host list ≡ []
 of-others {T} k host list other =
     elim (eqb_tells k host) [
       | inl same ↦ absurd (other same.1)

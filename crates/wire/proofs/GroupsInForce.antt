@@ -10,6 +10,7 @@ use Rattle.registers.specs.Bits.{HasBit}
 use Rattle.registers.specs.Places.{rctl_en}
 use Rattle.rx_engine.specs.NumberTables.{HasNumbers, numbers_of_groups}
 use Rattle.rx_engine.specs.Registers.{FilterRegisters}
+use Rattle.adapter.specs.State.{AdapterState}
 use Rattle.adapter.specs.World.{World, world_after_write}
 use Rattle.bus.proofs.Lists.{all-head, all-none, all-tail, all-weaker}
 use Rattle.bus.specs.PastOfStretch.{Past}
@@ -18,6 +19,8 @@ use Rattle.bus.specs.Trails.{past_of}
 use Rattle.bus.specs.declared.event.Access.{Access}
 use Rattle.bus.specs.declared.event.Access.TheVariants.{Loads, Reads, Stores, Writes}
 use Rattle.bus.specs.declared.event.Event.TheVariants.{Accesses, Arrives, Steps}
+use Rattle.bring_up.specs.ConfiguredAdapters.{AreWords, FilterHasSetup, HasSetup}
+use Rattle.driver_law.specs.DriverState.{DriverSetup}
 use Rattle.dma_memory.specs.Layout.{Counts}
 use Rattle.joined_groups.specs.Groups.{HasTable, SetsTable, WritesWord, word_of}
 use Rattle.stations.proofs.HostTrails.{world-here}
@@ -27,12 +30,12 @@ use Rattle.stations.specs.AtomicSteps.{At, AtomicStep, Idles, IsNoAccess, after,
 use Rattle.stations.specs.Stations.{StationState, world_at}
 use Rattle.stations.specs.declared.tick.Tick.{Tick}
 use Rattle.delivery.proofs.Joining.{marks-append}
-use Rattle.delivery.proofs.RightFates.{changes-alone, fates-right, receives-append, tails-leave_reception, word-changes}
+use Rattle.delivery.proofs.RightFates.{changes-alone, fates-right, filter-stays, receives-append, tails-leave_reception, word-changes}
 use Rattle.delivery.proofs.ToldAround.{told-at_access, told-at_end}
 use Rattle.delivery.specs.DeliveryLaws.{ChangesGroups}
 use Rattle.delivery.specs.Fates.{Joins, Mark, Quits, marks}
 use Rattle.delivery.specs.Happenings.{Happening, Joined, Left, happened_by, happened_in, of_host, told_around}
-use Rattle.delivery.specs.Reception.{LeavesReception, ReceivesRightly}
+use Rattle.delivery.specs.Reception.{LeavesReception, ReceivesRightly, SameButGroups}
 use Rattle.packet_socket.specs.HostActs.{IsOfDriver, IsTailWrite}
 use Rattle.packet_socket.specs.HostCalls.{Given}
 use Rattle.packet_socket.specs.HostEffects.{JoinsGroup, LeavesGroup, groups_act}
@@ -44,10 +47,28 @@ use Rattle.host_calls.specs.CallsOfHosts.{EndsWithAccess, GroupsStay}
 use Rattle.host_calls.specs.ConnectedHosts.{connected}
 use Rattle.wire.specs.Equations.{HostStands}
 
--- From one state of host k to another, and what happened between them: fates are right, and MTA has the groups' numbers at the end.
+-- From one state of host k to another, and what happened between them: fates are right, and the adapter has the driver's setup and the
+-- groups' numbers at the end.
 pub record Right (k : ℕ) (happened : List Happening) (a b : List StationState) (h h' : HostState) : Type 0 where
   pub right : ReceivesRightly h.driver.groups (world_at a k).adapter (marks k happened) h'.driver.groups (world_at b k).adapter
+  pub set_up : HasSetup h'.driver.setup (world_at b k).adapter
   pub table : HasTable h'.driver.groups (world_at b k)
+
+-- Adapters whose filters are the same, except for MTA, have the same setup.
+pub same-setup : (setup other : DriverSetup) (a b : AdapterState) → SameButGroups a.filter b.filter
+    → b.receive_kilobytes ≡ a.receive_kilobytes → other ≡ setup → HasSetup setup a → HasSetup other b
+same-setup setup other a b filter kilobytes same has =
+    subst (λ (s : DriverSetup). HasSetup s b) (sym same) (record {
+      filter = subst (FilterHasSetup setup) (sym filter) (record {
+        receive_control_is = has.filter.receive_control_is;
+        vlans = has.filter.vlans;
+        words = has.filter.words;
+        address_low = has.filter.address_low;
+        address_high = has.filter.address_high;
+        vlan_type = has.filter.vlan_type;
+      });
+      allocation = kilobytes ∙ has.allocation;
+    })
 
 -- An access of a driver that is up leaves reception alone.
 tail-leaves : (counts : Counts) (offset value : ℕ) → IsTailWrite counts offset value → LeavesReception (Writes offset value)
@@ -64,21 +85,36 @@ leaves counts (Stores address bytes) is = tt
 all-leave : (counts : Counts) (accesses : List Access) → All (IsOfDriver counts) accesses → All LeavesReception accesses
 all-leave counts accesses are = all-weaker (IsOfDriver counts) LeavesReception accesses (leaves counts) are
 
+-- Such accesses leave the table.
+same-table : (groups : List (List ℕ)) (caller k : ℕ) (steps : List AtomicStep) (a b : List StationState) → LeadsTo caller steps a b
+    → All LeavesReception (past_at k steps).accesses → HasTable groups (world_at a k) → HasTable groups (world_at b k)
+same-table groups caller k steps a b leads leave has =
+    let same : (world_at b k).adapter.filter.mta ≡ (world_at a k).adapter.filter.mta =
+    ap (λ (f : FilterRegisters). f.mta) (filter-stays caller k steps a b leads leave) in
+    record {
+      numbers = subst (λ (table : List ℕ). HasNumbers table (numbers_of_groups groups)) (sym same) has.numbers;
+      words = subst AreWords (sym same) has.words;
+    }
+
 -- Without a join or a leave.
 pub stay-right : (caller k : ℕ) (steps : List AtomicStep) (happened : List Happening) (a b : List StationState) (h h' : HostState)
     → LeadsTo caller steps a b → HostStands h (world_at a k) → GroupsStay k steps (connected h a) (connected h' b)
     → marks k happened ≡ marks k (happened_in steps) → Right k happened a b h h'
 stay-right caller k steps happened a b h h' leads stands stay same =
     let groups = h.driver.groups in
-    let keeps = fates-right caller k steps a b groups leads (all-leave h.driver.layout (past_at k steps).accesses stay.accesses)
-    stands.can.receives stands.groups in
+    let leave = all-leave h.driver.layout (past_at k steps).accesses stay.accesses in
+    let keeps = fates-right caller k steps a b groups leads leave
+    stands.can.receives stands.groups.numbers in
     record {
       right =
           subst (λ (behind : List (List ℕ)). ReceivesRightly groups (world_at a k).adapter (marks k happened) behind (world_at b k).adapter)
           (sym stay.groups)
           (subst (λ (all : List Mark). ReceivesRightly groups (world_at a k).adapter all groups (world_at b k).adapter) (sym same)
           keeps.right);
-      table = subst (λ (list : List (List ℕ)). HasTable list (world_at b k)) (sym stay.groups) keeps.has;
+      set_up = same-setup h.driver.setup h'.driver.setup (world_at a k).adapter (world_at b k).adapter keeps.right.filter
+          keeps.right.kilobytes stay.setup stands.set_up;
+      table = subst (λ (list : List (List ℕ)). HasTable list (world_at b k)) (sym stay.groups)
+          (same-table groups caller k steps a b leads leave stands.groups);
     }
 
 -- Steps of a call with at most one access.
@@ -177,14 +213,15 @@ around-marks k mark first middle last is =
 -- By a write: the ticks before it, the write, and the ticks after it.
 written-right : (caller : ℕ) (mark : Mark) (middle : List Happening) (ticks : List Tick) (steps first rest : List AtomicStep)
     (a m b : List StationState) (h h' : HostState) (group : List ℕ) (made : List Access)
-    → HostStands h (world_at a caller) → ChangesGroups mark h.driver.groups h'.driver.groups → marks caller middle ≡ mark ∷ []
+    → HostStands h (world_at a caller) → h'.driver.setup ≡ h.driver.setup → ChangesGroups mark h.driver.groups h'.driver.groups
+    → marks caller middle ≡ mark ∷ []
     → steps ≡ first ++ rest → LeadsTo caller first a m → LeadsTo caller rest m b
     → without_go is_go (map tick_of steps) ≡ without_go is_go ticks
     → (past_at caller first).accesses ≡ made → (past_at caller rest).accesses ≡ [] → EndsWithAccess first
-    → WritesWord group h'.driver.groups made → HasNumbers (world_at m caller).adapter.filter.mta (numbers_of_groups h'.driver.groups)
+    → WritesWord group h'.driver.groups made → HasTable h'.driver.groups (world_at m caller)
     → Right caller (told_around middle ticks (noted_of 0 steps)) a b h h'
-written-right caller mark middle ticks steps first rest a m b h h' group made stands changes says split leads later played made_are quiet
-    ends writes has =
+written-right caller mark middle ticks steps first rest a m b h h' group made stands setup changes says split leads later played made_are
+    quiet ends writes has =
     let g = h.driver.groups in
     let g' = h'.driver.groups in
     let offset = 0x5200 + 4 * word_of group in
@@ -198,52 +235,56 @@ written-right caller mark middle ticks steps first rest a m b h h' group made st
     ∙ world-here one.middle caller (Accesses access) (eq-eqb caller caller refl) one.then_it.0 in
     let before = fates-right caller caller one.early a one.middle g one.leads
     (subst (λ (list : List Access). All LeavesReception list) (sym (none-alone caller one.early one.ticks)) (all-none LeavesReception))
-    stands.can.receives stands.groups in
+    stands.can.receives stands.groups.numbers in
     let written = subst (λ (v : World). ReceivesRightly g w.adapter (mark ∷ []) g' v.adapter) (sym world)
     (word-changes mark (word_of group) writes.value g g' w changes (below-words group)) in
     let enabled : HasBit (world_at m caller).adapter.filter.rctl rctl_en =
     subst (λ (word : ℕ). HasBit word rctl_en)
     (sym (ap (λ (f : FilterRegisters). f.rctl) written.filter ∙ ap (λ (f : FilterRegisters). f.rctl) before.right.filter))
     stands.can.receives in
-    let behind = fates-right caller caller rest m b g' later
-    (subst (λ (list : List Access). All LeavesReception list) (sym quiet) (all-none LeavesReception)) enabled has in
+    let leave = subst (λ (list : List Access). All LeavesReception list) (sym quiet) (all-none LeavesReception) in
+    let behind = fates-right caller caller rest m b g' later leave enabled has.numbers in
     let whole : steps ≡ one.early ++ step ∷ rest =
     split ∙ ap (λ (list : List AtomicStep). list ++ rest) one.split ∙ append_assoc one.early (step ∷ []) rest in
     let said : told_around middle ticks (noted_of 0 steps) ≡ happened_in one.early ++ (middle ++ happened_in rest) =
     ap (λ (list : List AtomicStep). told_around middle ticks (noted_of 0 list)) whole
     ∙ told-at_access caller ticks access one.early rest middle one.ticks after_ticks
     (ap (λ (list : List AtomicStep). without_go is_go (map tick_of list)) (sym whole) ∙ played) in
+    let right : ReceivesRightly g (world_at a caller).adapter (marks caller (told_around middle ticks (noted_of 0 steps))) g'
+    (world_at b caller).adapter =
+    subst (λ (all : List Mark). ReceivesRightly g (world_at a caller).adapter all g' (world_at b caller).adapter)
+    (sym (ap (marks caller) said ∙ around-marks caller mark (happened_in one.early) middle (happened_in rest) says))
+    (receives-append g g g' (world_at a caller).adapter w.adapter (world_at b caller).adapter (marks caller (happened_in one.early))
+    (mark ∷ [] ++ marks caller (happened_in rest)) before.right
+    (receives-append g g' g' w.adapter (world_at m caller).adapter (world_at b caller).adapter (mark ∷ [])
+    (marks caller (happened_in rest)) written behind.right)) in
     record {
-      right =
-          subst (λ (all : List Mark). ReceivesRightly g (world_at a caller).adapter all g' (world_at b caller).adapter)
-          (sym (ap (marks caller) said ∙ around-marks caller mark (happened_in one.early) middle (happened_in rest) says))
-          (receives-append g g g' (world_at a caller).adapter w.adapter (world_at b caller).adapter (marks caller (happened_in one.early))
-          (mark ∷ [] ++ marks caller (happened_in rest)) before.right
-          (receives-append g g' g' w.adapter (world_at m caller).adapter (world_at b caller).adapter (mark ∷ [])
-          (marks caller (happened_in rest)) written behind.right));
-      table = behind.has;
+      right = right;
+      set_up = same-setup h.driver.setup h'.driver.setup (world_at a caller).adapter (world_at b caller).adapter right.filter
+          right.kilobytes setup stands.set_up;
+      table = same-table g' caller caller rest m b later leave has;
     }
 
 -- Without an access: all ticks, and then what is said of the group.
 shared-right : (caller : ℕ) (mark : Mark) (middle : List Happening) (ticks : List Tick) (steps first rest : List AtomicStep)
     (a m b : List StationState) (h h' : HostState)
-    → HostStands h (world_at a caller) → ChangesGroups mark h.driver.groups h'.driver.groups → marks caller middle ≡ mark ∷ []
+    → HostStands h (world_at a caller) → h'.driver.setup ≡ h.driver.setup → ChangesGroups mark h.driver.groups h'.driver.groups
+    → marks caller middle ≡ mark ∷ []
     → steps ≡ first ++ rest → LeadsTo caller first a m → LeadsTo caller rest m b
     → without_go is_go (map tick_of steps) ≡ without_go is_go ticks
     → (past_at caller first).accesses ≡ [] → (past_at caller rest).accesses ≡ []
-    → HasNumbers (world_at m caller).adapter.filter.mta (numbers_of_groups h'.driver.groups)
+    → HasTable h'.driver.groups (world_at m caller)
     → Right caller (told_around middle ticks (noted_of 0 steps)) a b h h'
-shared-right caller mark middle ticks steps first rest a m b h h' stands changes says split leads later played none quiet has =
+shared-right caller mark middle ticks steps first rest a m b h h' stands setup changes says split leads later played none quiet has =
     let g = h.driver.groups in
     let g' = h'.driver.groups in
     let free = all-none LeavesReception in
     let early = fates-right caller caller first a m g leads (subst (λ (list : List Access). All LeavesReception list) (sym none) free)
-    stands.can.receives stands.groups in
+    stands.can.receives stands.groups.numbers in
     let enabled : HasBit (world_at m caller).adapter.filter.rctl rctl_en =
     subst (λ (word : ℕ). HasBit word rctl_en) (sym (ap (λ (f : FilterRegisters). f.rctl) early.right.filter)) stands.can.receives in
     let leave = subst (λ (list : List Access). All LeavesReception list) (sym quiet) free in
     let late = fates-right caller caller rest m b g later leave enabled early.has in
-    let late' = fates-right caller caller rest m b g' later leave enabled has in
     let are : All IsTick steps =
     subst (λ (list : List AtomicStep). All IsTick list) (sym split)
     (All-append IsTick first rest (only-ticks caller first a m leads none) (only-ticks caller rest m b later quiet)) in
@@ -251,37 +292,42 @@ shared-right caller mark middle ticks steps first rest a m b h h' stands changes
     told-at_end ticks steps middle are played
     ∙ ap (λ (list : List AtomicStep). happened_in list ++ middle) split
     ∙ ap (λ (list : List Happening). list ++ middle) (flat_map-append happened_by first rest) in
+    let right : ReceivesRightly g (world_at a caller).adapter (marks caller (told_around middle ticks (noted_of 0 steps))) g'
+    (world_at b caller).adapter =
+    subst (λ (all : List Mark). ReceivesRightly g (world_at a caller).adapter all g' (world_at b caller).adapter)
+    (sym (ap (marks caller) said ∙ marks-append caller (happened_in first ++ happened_in rest) middle
+    ∙ ap (λ (list : List Mark). list ++ marks caller middle) (marks-append caller (happened_in first) (happened_in rest))
+    ∙ ap (λ (list : List Mark). (marks caller (happened_in first) ++ marks caller (happened_in rest)) ++ list) says))
+    (receives-append g g g' (world_at a caller).adapter (world_at b caller).adapter (world_at b caller).adapter
+    (marks caller (happened_in first) ++ marks caller (happened_in rest)) (mark ∷ [])
+    (receives-append g g g (world_at a caller).adapter (world_at m caller).adapter (world_at b caller).adapter
+    (marks caller (happened_in first)) (marks caller (happened_in rest)) early.right late.right)
+    (changes-alone mark g g' (world_at b caller).adapter changes)) in
     record {
-      right =
-          subst (λ (all : List Mark). ReceivesRightly g (world_at a caller).adapter all g' (world_at b caller).adapter)
-          (sym (ap (marks caller) said ∙ marks-append caller (happened_in first ++ happened_in rest) middle
-          ∙ ap (λ (list : List Mark). list ++ marks caller middle) (marks-append caller (happened_in first) (happened_in rest))
-          ∙ ap (λ (list : List Mark). (marks caller (happened_in first) ++ marks caller (happened_in rest)) ++ list) says))
-          (receives-append g g g' (world_at a caller).adapter (world_at b caller).adapter (world_at b caller).adapter
-          (marks caller (happened_in first) ++ marks caller (happened_in rest)) (mark ∷ [])
-          (receives-append g g g (world_at a caller).adapter (world_at m caller).adapter (world_at b caller).adapter
-          (marks caller (happened_in first)) (marks caller (happened_in rest)) early.right late.right)
-          (changes-alone mark g g' (world_at b caller).adapter changes));
-      table = late'.has;
+      right = right;
+      set_up = same-setup h.driver.setup h'.driver.setup (world_at a caller).adapter (world_at b caller).adapter right.filter
+          right.kilobytes setup stands.set_up;
+      table = same-table g' caller caller rest m b later leave has;
     }
 
 changed : (caller : ℕ) (mark : Mark) (middle : List Happening) (ticks : List Tick) (steps : List AtomicStep)
     (a b : List StationState) (h h' : HostState) (given : List Given) (kept : List (List ℕ)) (group : List ℕ) (made : List Access)
-    → HostStands h (world_at a caller) → LeadsTo caller steps a b → ChangesGroups mark h.driver.groups h'.driver.groups
+    → HostStands h (world_at a caller) → LeadsTo caller steps a b → h'.driver.setup ≡ h.driver.setup
+    → ChangesGroups mark h.driver.groups h'.driver.groups
     → marks caller middle ≡ mark ∷ [] → without_go is_go (map tick_of steps) ≡ without_go is_go ticks
     → SetsTable kept group h'.driver.groups made
     → InSteps caller given steps (connected h a) (connected h' b) (groups_act h h' made)
     → Right caller (told_around middle ticks (noted_of 0 steps)) a b h h'
-changed caller mark middle ticks steps a b h h' given kept group made stands leads changes says played sets runs =
+changed caller mark middle ticks steps a b h h' given kept group made stands leads setup changes says played sets runs =
     let stage = runs.stages in
     let later = leads-behind caller stage.first stage.rest a stage.middle b
     (subst (λ (list : List AtomicStep). LeadsTo caller list a b) stage.split leads) stage.leads in
     elim sets [
       | inl shared ↦
-          shared-right caller mark middle ticks steps stage.first stage.rest a stage.middle b h h' stands changes says stage.split
+          shared-right caller mark middle ticks steps stage.first stage.rest a stage.middle b h h' stands setup changes says stage.split
           stage.leads later played (stage.made_are ∙ shared.1) stage.later (stage.holds stands.groups)
       | inr writes ↦
-          written-right caller mark middle ticks steps stage.first stage.rest a stage.middle b h h' group made stands changes says
+          written-right caller mark middle ticks steps stage.first stage.rest a stage.middle b h h' group made stands setup changes says
           stage.split stage.leads later played stage.made_are stage.later stage.ends writes.1 (stage.holds stands.groups)
     ]
 
@@ -295,7 +341,8 @@ pub joined-right : (caller : ℕ) (group : List ℕ) (ticks : List Tick) (steps 
     → Right caller (told_around (Joined caller group ∷ []) ticks (noted_of 0 steps)) a b h h'
 joined-right caller group ticks steps a b h h' given stands leads played it =
     changed caller (Joins group) (Joined caller group ∷ []) ticks steps a b h h' given h.driver.groups group it.accesses stands leads
-    (ap (λ (host : HostState). host.driver.groups) it.joined) (append-nil _ ∙ itself caller (Joins group ∷ [])) played it.sets it.runs
+    (ap (λ (host : HostState). host.driver.setup) it.joined) (ap (λ (host : HostState). host.driver.groups) it.joined)
+    (append-nil _ ∙ itself caller (Joins group ∷ [])) played it.sets it.runs
 
 pub left-right : (caller : ℕ) (group : List ℕ) (ticks : List Tick) (steps : List AtomicStep) (a b : List StationState)
     (h h' : HostState) (given : List Given) → HostStands h (world_at a caller) → LeadsTo caller steps a b
@@ -304,4 +351,5 @@ pub left-right : (caller : ℕ) (group : List ℕ) (ticks : List Tick) (steps : 
     → Right caller (told_around (Left caller group ∷ []) ticks (noted_of 0 steps)) a b h h'
 left-right caller group ticks steps a b h h' given stands leads played it =
     changed caller (Quits group) (Left caller group ∷ []) ticks steps a b h h' given h'.driver.groups group it.accesses stands leads
-    it.left (append-nil _ ∙ itself caller (Quits group ∷ [])) played it.sets it.runs
+    (ap (λ (host : HostState). host.driver.setup) it.others) it.left (append-nil _ ∙ itself caller (Quits group ∷ [])) played it.sets
+    it.runs

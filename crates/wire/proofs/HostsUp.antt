@@ -43,7 +43,7 @@ use Rattle.stations.specs.Stations.{StationState}
 use Rattle.delivery.specs.CountedHosts.{CanAnswer}
 use Rattle.network_plan.specs.declared.plan.HostPlan.{HostPlan}
 use Rattle.wire.specs.HostsUp.{AreOfPhy, ComesUp, HostHasNoFrames}
-use Rattle.wire.proofs.AdaptersStay.{adapter-ticked}
+use Rattle.host_calls.proofs.AdaptersStay.{adapter-ticked}
 use Rattle.wire.proofs.ArrivalsAlone.{alone-stays}
 use Rattle.wire.proofs.CausesOfPhy.{lives-of_phy, no-interrupt, none-told}
 use Rattle.wire.proofs.OwnTicks.{IsAdapterOf, IsPhyOf}
@@ -72,7 +72,7 @@ can-answer : (plan : HostPlan) (size : ℕ) (d : DriverState) (world : World) �
     → d.layout ≡ configured_counts plan.config
     → Ready d world → IsConfigured plan.config (address_bytes plan.image) (settings_of world.adapter) → CanAnswer world.adapter
 can-answer plan size d world had counts ready configured =
-    let control = subst (Controls plan.config.promiscuous (names_vlans plan.config.vlans)) (sym configured.filter.receive_control_is)
+    let control = subst (Controls plan.config.promiscuous (names_vlans plan.config.vlans)) (sym configured.filter.setup.receive_control_is)
     (controls plan.config.promiscuous (names_vlans plan.config.vlans)) in
     let rx : d.layout.rx ≡ plan.config.rx = ap (λ (c : Counts). c.rx) counts in
     let tx : d.layout.tx ≡ plan.config.tx = ap (λ (c : Counts). c.tx) counts in
@@ -97,8 +97,8 @@ pub record IsBroughtUp (plan : HostPlan) (old new : LivelyBus) (host : HostState
   pub adapter : (machine_world old).adapter ≡ new_adapter plan.image plan.link
   pub memory : length (machine_world new).memory ≡ size_of (configured_counts plan.config)
   pub host_is : host ≡ new_host host.driver plan.sockets.items
-  pub fresh : host.driver ≡ with_owners (new_driver (configured_counts plan.config) host.driver.groups []) host.driver.buffers []
-      host.driver.pool []
+  pub fresh : host.driver ≡ with_owners (new_driver (configured_counts plan.config) host.driver.setup host.driver.groups [])
+      host.driver.buffers [] host.driver.pool []
   pub joined : AreNamedOnce plan.config.groups.items host.driver.groups
   pub refilled : IsRefilled host.driver
   pub initialises : Initialises lively plan.config old new host.driver
@@ -201,6 +201,7 @@ comes-up plan old new host wire is =
         allocation = configured.allocation;
         filter = plans-filter plan (settings_of (machine_world new).adapter) is.address configured;
         groups = is.joined;
+        set_up = init.set_up;
         table = init.table;
       };
       devices = record {

@@ -2,9 +2,16 @@ pub mod GroupsInForce
 pub mod Delivering
 pub mod Tellings
 pub mod Calls
-pub mod AdaptersStay
+pub mod CountedCalls
 pub mod Standing
 pub mod Playing
+pub mod ResetAccesses
+pub mod ResetTicks
+pub mod ResetTold
+pub mod ResetLists
+pub mod ResetGoes
+pub mod ResetFates
+pub mod ResetPlays
 pub mod Ticking
 pub mod Running
 pub mod Telling

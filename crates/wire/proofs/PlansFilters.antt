@@ -79,20 +79,20 @@ pub plans-filter : (plan : HostPlan) (settings : Settings) → IsAddress (addres
 unfolding filter_of
 plans-filter plan settings is configured =
     let address = address_bytes plan.image in
-    let control = subst (Controls plan.config.promiscuous (names_vlans plan.config.vlans)) (sym configured.filter.receive_control_is)
+    let control = subst (Controls plan.config.promiscuous (names_vlans plan.config.vlans)) (sym configured.filter.setup.receive_control_is)
     (controls plan.config.promiscuous (names_vlans plan.config.vlans)) in
     let only : IsOnlyEntry settings.filter.ral settings.filter.rah address =
-    subst (λ (rah : List ℕ). IsOnlyEntry settings.filter.ral rah address) (sym configured.filter.address_high)
+    subst (λ (rah : List ℕ). IsOnlyEntry settings.filter.ral rah address) (sym configured.filter.setup.address_high)
     (subst (λ (ral : List ℕ). IsOnlyEntry ral ((high_word address + alone rah_av) ∷ replicate 15 0) address)
-    (sym configured.filter.address_low) (one-entry address is)) in
+    (sym configured.filter.setup.address_low) (one-entry address is)) in
     record {
       addresses = only;
       groups = configured.filter.groups.bits;
       shift = control.shift;
       vlans = record {
         every_vlan = control.every_vlan;
-        numbers = configured.filter.vlans.bits;
-        vlan_type = configured.filter.vlan_type;
+        numbers = configured.filter.setup.vlans.bits;
+        vlan_type = configured.filter.setup.vlan_type;
       };
       all_individuals = control.individuals;
       all_groups = control.groups;

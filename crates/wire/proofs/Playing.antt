@@ -71,7 +71,7 @@ call-goes caller ticks old stations heard accesses h h' given accepted happened 
     tells
 
 -- An observer of a call is told of the ticks that are played, in order.
-told-ticks : (caller n : ℕ) (steps : List AtomicStep) (a b : List StationState) → LeadsTo caller steps a b
+pub told-ticks : (caller n : ℕ) (steps : List AtomicStep) (a b : List StationState) → LeadsTo caller steps a b
     → map tick_in (steps_told n steps) ≡ without_go is_go (map tick_of steps)
 told-ticks caller n [] a b leads = refl
 told-ticks caller n (At host (Steps kind wire_free answer) ∷ later) a b leads =
@@ -103,7 +103,7 @@ told-of_call event call old new ticks runs =
     told-ticks call.caller 0 runs.steps old.stations new.stations runs.of_call.leads ∙ runs.of_call.played ∙ ticks
 
 -- what the outcomes of a reply are
-outcomes-are : (accesses : ℕ) (answer : FrameAnswer) (steps : List AtomicStep) (reply : Reply)
+pub outcomes-are : (accesses : ℕ) (answer : FrameAnswer) (steps : List AtomicStep) (reply : Reply)
     → Replies (ending accesses answer (steps_told 0 steps)) reply → reply.outcomes.list ≡ noted_of 0 steps
 outcomes-are accesses answer steps reply replies = replies.outcomes ∙ steps_told_noted 0 steps
 

@@ -10,12 +10,12 @@ use Rattle.stations.specs.declared.tick.Tick.{Tick}
 use Rattle.delivery.proofs.Waiting.{wires-stay}
 use Rattle.delivery.specs.Happenings.{Happening, told_alone}
 use Rattle.network_plan.specs.declared.event.Event.{Event}
-use Rattle.network_plan.specs.EventCalls.{Alone, ByCall, CallOrTick, EventCall, in_event}
+use Rattle.network_plan.specs.EventCalls.{Alone, ByCall, ByReset, EventCall, EventKind, in_event}
 use Rattle.network_plan.specs.declared.reply.Reply.{Reply}
 use Rattle.wire.specs.Equations.{Delivers, NetworkStands}
 use Rattle.wire.specs.Runs.{EventRuns, HostsGo, IsAnswer, IsReply, RunTold, RunsTo, StatesRun}
 use Rattle.wire.specs.Runs.{caller_in, caller_of, happenings, said, said_of}
-use Rattle.wire.specs.PlayedCalls.{CallPlayed, TickPlayed}
+use Rattle.wire.specs.PlayedCalls.{CallPlayed, ResetPlayed, TickPlayed}
 use Rattle.host_calls.specs.ConnectedHosts.{connected}
 use Rattle.host_calls.specs.Networks.{IsHost, NetworkState}
 use Rattle.stations.specs.ToldTicks.{ComposesTold, TickTold}
@@ -30,9 +30,20 @@ pub call-event : (old new : NetworkState) (event : Event) (call : EventCall) (re
 call-event old new event call reply is played stood = record {
   stood = stood;
   steps = played.steps;
-  go = subst (λ (part : CallOrTick). HostsGo (caller_in part) (said_of part reply) played.steps old new) (sym is) played.go;
-  replied = subst (λ (part : CallOrTick). IsReply part reply played.steps old new) (sym is) played.replied;
-  answer = subst (λ (part : CallOrTick). (h h' : HostState) → IsHost old (caller_in part) h → IsHost new (caller_in part) h'
+  go = subst (λ (part : EventKind). HostsGo (caller_in part) (said_of part reply) played.steps old new) (sym is) played.go;
+  replied = subst (λ (part : EventKind). IsReply part reply played.steps old new) (sym is) played.replied;
+  answer = subst (λ (part : EventKind). (h h' : HostState) → IsHost old (caller_in part) h → IsHost new (caller_in part) h'
+      → IsAnswer part reply.answer played.steps (connected h old.stations) (connected h' new.stations)) (sym is) played.answer;
+}
+
+pub reset-event : (old new : NetworkState) (event : Event) (host : ℕ) (ticks : List Tick) (reply : Reply)
+    → in_event event ≡ ByReset host ticks → ResetPlayed host ticks reply old new → NetworkStands old → EventRuns old event reply new
+reset-event old new event host ticks reply is played stood = record {
+  stood = stood;
+  steps = played.steps;
+  go = subst (λ (part : EventKind). HostsGo (caller_in part) (said_of part reply) played.steps old new) (sym is) played.go;
+  replied = subst (λ (part : EventKind). IsReply part reply played.steps old new) (sym is) played.replied;
+  answer = subst (λ (part : EventKind). (h h' : HostState) → IsHost old (caller_in part) h → IsHost new (caller_in part) h'
       → IsAnswer part reply.answer played.steps (connected h old.stations) (connected h' new.stations)) (sym is) played.answer;
 }
 
@@ -46,9 +57,9 @@ tick-event old stations event tick reply is stands played =
     record {
       stood = stands;
       steps = played.steps;
-      go = subst (λ (part : CallOrTick). HostsGo (caller_in part) (said_of part reply) played.steps old new) (sym is) go;
-      replied = subst (λ (part : CallOrTick). IsReply part reply played.steps old new) (sym is) replied;
-      answer = subst (λ (part : CallOrTick). (h h' : HostState) → IsHost old (caller_in part) h → IsHost new (caller_in part) h'
+      go = subst (λ (part : EventKind). HostsGo (caller_in part) (said_of part reply) played.steps old new) (sym is) go;
+      replied = subst (λ (part : EventKind). IsReply part reply played.steps old new) (sym is) replied;
+      answer = subst (λ (part : EventKind). (h h' : HostState) → IsHost old (caller_in part) h → IsHost new (caller_in part) h'
           → IsAnswer part reply.answer played.steps (connected h old.stations) (connected h' stations)) (sym is)
           (λ was is then now. replied.answer);
     }

@@ -1,25 +1,13 @@
 -- Hosts stand after each event.
-use Rattle.std.proofs.Common.{◌≡◌, ◌≢◌, ◌<◌, [], ℕ, Bool, List, Option, Some, inl, inr, ⊎_elim}
+use Rattle.std.proofs.Common.{◌≡◌, ◌≢◌, ◌<◌, [], ℕ, Bool, List, Some, inl, inr}
 use Rattle.std.proofs.Common.{length, slice_get}
-use Rattle.std.proofs.Common.{refl, sym, subst, ◌∙◌, arith, if◌then◌else◌, slice_set}
-use Rattle.std.specs.List.{All}
-use Rattle.std.specs.Prelude.{IfSome, IsTrue}
+use Rattle.std.proofs.Common.{sym, subst, ◌∙◌, arith, if◌then◌else◌, slice_set}
+use Rattle.std.specs.Prelude.{IsTrue}
 use Rattle.std.proofs.lemmas.Bool.Decides.{eqb_tells}
-use Rattle.std.proofs.lemmas.Nat.{and_le_l}
 use Rattle.std.proofs.lemmas.Option.{slice_get_past, slice_get_within}
 use Rattle.circular_buffer.proofs.Places.{slice_get-set_other, slice_get-set_same, slice_get-some}
 use Rattle.registers.specs.Counting.{greatest_count}
-use Rattle.dma_memory.specs.Layout.{Counts}
-use Rattle.descriptors.specs.Ring.{count_of}
-use Rattle.adapter.specs.Table.{register_at}
-use Rattle.adapter.specs.TableLaws.{register_at-mta}
-use Rattle.adapter.specs.declared.register.Register.{Register}
-use Rattle.adapter.specs.World.{World, receive_ring, transmit_ring}
-use Rattle.adapter.specs.declared.offsets.TheConstants.{RDT, TDT}
-use Rattle.adapter.specs.declared.register.RingRegister.TheVariants.{Tail}
-use Rattle.bus.proofs.Lists.{all-weaker}
-use Rattle.bus.specs.declared.event.Access.{Access}
-use Rattle.bus.specs.declared.event.Access.TheVariants.{Loads, Reads, Stores, Writes}
+use Rattle.adapter.specs.World.{World}
 use Rattle.stations.specs.AtomicSteps.{AtomicStep}
 use Rattle.stations.specs.Stations.{StationState, wire_at, world_at}
 use Rattle.stations.proofs.HostTrails.{trail-of}
@@ -31,81 +19,33 @@ use Rattle.packet_socket.specs.HostState.{HostState}
 use Rattle.stations.proofs.Lengths.{length-stays}
 use Rattle.delivery.specs.Fates.{marks}
 use Rattle.delivery.specs.Happenings.{Happening, happened_in, of_host}
-use Rattle.delivery.proofs.HostSteps.{trail-goes}
-use Rattle.delivery.proofs.Ticks.{absent-nothing, counts-go, ticks-answered}
-use Rattle.delivery.specs.Counts.{tail_of}
-use Rattle.delivery.specs.CountedHosts.{CanAnswer, CanBeCounted, IsCounted, IsCountedWrite}
+use Rattle.delivery.proofs.Ticks.{absent-nothing}
+use Rattle.delivery.specs.CountedHosts.{CanAnswer}
 use Rattle.host_calls.proofs.Calling.{others-run, ready-behind}
 use Rattle.host_calls.proofs.GroupsKept.{stay-alone}
 use Rattle.host_calls.proofs.HostTrails.{none-elsewhere}
+use Rattle.bring_up.specs.ConfiguredAdapters.{HasSetup}
 use Rattle.joined_groups.specs.Groups.{HasTable}
 use Rattle.host_calls.specs.CallsOfHosts.{HostRuns}
-use Rattle.packet_socket.specs.HostActs.{IsGroupWord, IsGroupWrite, IsOfDriver, IsOfHost, IsTailWrite}
 use Rattle.host_calls.specs.ConnectedHosts.{connected}
 use Rattle.wire.specs.Equations.{HostStands, NetworkStands}
 use Rattle.wire.specs.Runs.{HostsGo}
 use Rattle.host_calls.specs.Networks.{IsHost, NetworkState}
-use Rattle.wire.proofs.AdaptersStay.{adapter-behind}
+use Rattle.host_calls.proofs.AdaptersStay.{adapter-behind}
+use Rattle.wire.proofs.CountedCalls.{can-behind, host-counts, host-ticks}
 use Rattle.wire.proofs.Delivering.{Tells, delivers-runs}
 use Rattle.wire.proofs.GroupsInForce.{Right, stay-right}
 
--- Accesses of a driver that is up can be counted.
-
-tail-below : (value slots : ℕ) → value < slots → tail_of value < slots
-tail-below value slots below =
-    let low = and_le_l value (Rattle.adapter.specs.Rings.ring_kept Tail) in
-    omega (arith, low, below)
-
-tail-counted : (counts : Counts) (offset value : ℕ) → IsTailWrite counts offset value
-    → IfSome (register_at offset) (IsCountedWrite counts.rx counts.tx value)
-unfolding register_at
-tail-counted counts offset value is =
-    ⊎_elim
-    (λ (receive : (offset ≡ RDT) × (value < counts.rx)).
-    subst (λ (o : ℕ). IfSome (register_at o) (IsCountedWrite counts.rx counts.tx value)) (sym receive.0)
-    (tail-below value counts.rx receive.1))
-    (λ (transmit : (offset ≡ TDT) × (value < counts.tx)).
-    subst (λ (o : ℕ). IfSome (register_at o) (IsCountedWrite counts.rx counts.tx value)) (sym transmit.0)
-    (tail-below value counts.tx transmit.1)) is
-
-counts-one : (counts : Counts) (access : Access) → IsOfDriver counts access → IsCounted counts.rx counts.tx access
-counts-one counts (Reads offset value) is = tt
-counts-one counts (Writes offset value) is = tail-counted counts offset value is
-counts-one counts (Loads address size) is = tt
-counts-one counts (Stores address bytes) is = tt
-
-group-counted : (rx tx offset value : ℕ) → IsGroupWord offset → IfSome (register_at offset) (IsCountedWrite rx tx value)
-group-counted rx tx offset value is =
-    subst (λ (o : ℕ). IfSome (register_at o) (IsCountedWrite rx tx value)) (sym is.is)
-    (subst (λ (found : Option Register). IfSome found (IsCountedWrite rx tx value)) (sym (register_at-mta is.word is.below)) tt)
-
-group-counts : (rx tx : ℕ) (access : Access) → IsGroupWrite access → IsCounted rx tx access
-group-counts rx tx (Writes offset value) is = group-counted rx tx offset value is
-group-counts rx tx access is = absurd is
-
-host-counts : (counts : Counts) (access : Access) → IsOfHost counts access → IsCounted counts.rx counts.tx access
-host-counts counts access is =
-    ⊎_elim (λ (own : IsOfDriver counts access). counts-one counts access own)
-    (λ (group : IsGroupWrite access). group-counts counts.rx counts.tx access group) is
-
--- of an adapter whose rings the driver knows
-pub all-counted : (h : HostState) (world : World) (accesses : List Access) → HostReady h world → All (IsOfHost h.driver.layout) accesses
-    → All (IsCounted (count_of (receive_ring world)) (count_of (transmit_ring world))) accesses
-all-counted h world accesses ready are =
-    let own = h.driver.layout in
-    subst (λ (n : ℕ). All (IsCounted n (count_of (transmit_ring world))) accesses) (sym ready.ready.receive.slots)
-    (subst (λ (n : ℕ). All (IsCounted own.rx n) accesses) (sym ready.ready.transmit.knows.slots)
-    (all-weaker (IsOfHost own) (IsCounted own.rx own.tx) accesses (host-counts own) are))
-
 -- A host that is ready, with no work forgotten, refilled and able to answer, stands.
 pub stands-with : (h : HostState) (world : World) → HostReady h world → HasNoForgottenWork h.driver world → IsRefilled h.driver
-    → h.driver.staged ≡ [] → HasTable h.driver.groups world → CanAnswer world.adapter
+    → h.driver.staged ≡ [] → HasSetup h.driver.setup world.adapter → HasTable h.driver.groups world → CanAnswer world.adapter
     → (h.driver.missed < greatest_count → IsTrue h.driver.exact) → HostStands h world
-stands-with h world ready work refilled offered groups can exactly = record {
+stands-with h world ready work refilled offered set_up groups can exactly = record {
   ready = ready;
   work = work;
   refilled = refilled;
   offered = offered;
+  set_up = set_up;
   groups = groups;
   can = can;
   one_owner = ready.ready.driver_is.one_owner;
@@ -124,15 +64,13 @@ stands-with h world ready work refilled offered groups can exactly = record {
 pub stands-behind : (caller k : ℕ) (steps : List AtomicStep) (a b : List StationState) (h h' : HostState) (taken : List (List ℕ))
     (given : List Given) (accepted : List (List ℕ))
     → LeadsTo caller steps a b → HostStands h (world_at a k) → HostRuns k steps (did taken given accepted) (connected h a) (connected h' b)
-    → HasTable h'.driver.groups (world_at b k) → HostStands h' (world_at b k)
-stands-behind caller k steps a b h h' taken given accepted leads stands runs groups =
+    → HasSetup h'.driver.setup (world_at b k).adapter → HasTable h'.driver.groups (world_at b k) → HostStands h' (world_at b k)
+stands-behind caller k steps a b h h' taken given accepted leads stands runs set_up groups =
     stands-with h' (world_at b k)
     (ready-behind h (world_at a k) h' (world_at b k) taken given accepted (past_at k steps) runs.flows)
-    (runs.work stands.work) (runs.refilled stands.refilled) (runs.offered stands.offered) groups
-    (trail-goes (events_at k steps) (world_at a k) (world_at b k) (count_of (receive_ring (world_at a k)))
-    (count_of (transmit_ring (world_at a k))) refl refl
-    (all-counted h (world_at a k) (past_at k steps).accesses stands.ready runs.accesses) (trail-of caller k steps a b leads)
-    stands.can).can
+    (runs.work stands.work) (runs.refilled stands.refilled) (runs.offered stands.offered) set_up groups
+    (can-behind (events_at k steps) (world_at a k) (world_at b k) h.driver.layout h' stands.can (trail-of caller k steps a b leads)
+    runs.accesses (ready-behind h (world_at a k) h' (world_at b k) taken given accepted (past_at k steps) runs.flows))
     (runs.flows.driver.misses.small stands.exact.reads)
 
 -- Which host is which.
@@ -206,14 +144,6 @@ each-right caller k steps happened a b hosts h h' was is leads there right other
           (stay-alone k steps (connected was a) (connected is b) stays (none-elsewhere caller k steps a b differ.1 leads)) (others differ.1)
     ]
 
--- A host that stands can be counted over accesses of its driver.
-can-count : (k : ℕ) (steps : List AtomicStep) (a : List StationState) (h : HostState) → HostStands h (world_at a k)
-    → All (IsOfHost h.driver.layout) (past_at k steps).accesses → CanBeCounted k steps a
-can-count k steps a h stands accesses = record {
-  can = stands.can;
-  accesses = all-counted h (world_at a k) (past_at k steps).accesses stands.ready accesses;
-}
-
 -- So all hosts go by the equations, and stand.
 pub hosts-go : (caller : ℕ) (happened : List Happening) (steps : List AtomicStep) (old new : NetworkState)
     (taken : ℕ → List (List ℕ)) (given : ℕ → List Given) (accepted : ℕ → List (List ℕ))
@@ -233,26 +163,23 @@ hosts-go caller happened steps old new taken given accepted stands leads same ru
     there = λ k was there.
         let some = slice_get-some new.hosts k (let below = slice_get_within old.hosts k was there in omega (arith, below, same)) in
         let run = runs k was some.0 there some.1 in
-        let stood = stands.each k was there in
         let behind = ready-behind was (world_at old.stations k) some.0 (world_at new.stations k) (taken k) (given k) (accepted k)
         (past_at k steps) run.flows in
-        ticks-answered caller k steps old.stations new.stations leads
-        (can-count k steps old.stations was stood run.accesses)
-        (record { receiver = behind.ready.law.runs.receiver_runs; transmitter = behind.ready.law.runs.transmitter_runs });
+        host-ticks caller k steps old.stations new.stations some.0 was.driver.layout leads run.accesses behind;
     absent = λ k past.
         absent-nothing caller k steps old.stations new.stations leads
         (slice_get_past old.stations k (let length_same = stands.same in omega (arith, past, length_same)));
     counts = λ k was there.
         let some = slice_get-some new.hosts k (let below = slice_get_within old.hosts k was there in omega (arith, below, same)) in
-        counts-go caller k steps old.stations new.stations leads
-        (can-count k steps old.stations was (stands.each k was there) (runs k was some.0 there some.1).accesses);
+        host-counts caller k steps old.stations new.stations was.driver.layout leads (runs k was some.0 there some.1).accesses;
   };
   stands = record {
     same = length-stays caller steps old.stations new.stations leads ∙ stands.same ∙ sym same;
     each = λ k is here.
         let some = slice_get-some old.hosts k (let below = slice_get_within new.hosts k is here in omega (arith, below, same)) in
         stands-behind caller k steps old.stations new.stations some.0 is (taken k) (given k) (accepted k) leads
-        (stands.each k some.0 some.1) (runs k some.0 is some.1 here) (rights k some.0 is some.1 here).table;
+        (stands.each k some.0 some.1) (runs k some.0 is some.1 here) (rights k some.0 is some.1 here).set_up
+        (rights k some.0 is some.1 here).table;
     adapters = λ k is here.
         let some = slice_get-some old.hosts k (let below = slice_get_within new.hosts k is here in omega (arith, below, same)) in
         adapter-behind (events_at k steps) (world_at old.stations k) (world_at new.stations k)

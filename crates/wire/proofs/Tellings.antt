@@ -9,7 +9,8 @@ use Rattle.driver.specs.SendSteps.{SendAnswer, accepted_by}
 use Rattle.packet_socket.specs.HostCalls.{Given, given_for}
 use Rattle.packet_socket.specs.declared.receive.RecvError.{RecvError}
 use Rattle.stations.specs.AtomicSteps.{AtomicStep}
-use Rattle.delivery.proofs.HostLists.{accepted-none, given-none}
+use Rattle.delivery.proofs.HostLists.{accepted-none, given-none, holding-none, sending-none}
+use Rattle.delivery.specs.Lists.{holding_in_one, sending_in_one}
 use Rattle.delivery.proofs.Laws.{lists-append}
 use Rattle.delivery.proofs.ToldAround.{around_ticks}
 use Rattle.delivery.specs.Fates.{Mark, marks}
@@ -35,6 +36,8 @@ tells-steps k steps wires = record {
   toward = refl;
   stored = refl;
   missed = refl;
+  sending = sending-none k steps;
+  holding = holding-none k steps;
   accepted = ap (map padded) (accepted-none k steps);
   given = λ socket. given-none k socket steps;
 }
@@ -53,6 +56,8 @@ tells-call k host steps wires = record {
   toward = refl;
   stored = refl;
   missed = refl;
+  sending = sending-none k steps;
+  holding = holding-none k steps;
   accepted = ap (map padded) (accepted-none k steps) ∙ none-of (k == host);
   given = λ s. given-none k s steps ∙ ap (given_for s) (none-of (k == host));
 }
@@ -76,6 +81,8 @@ tells-send k host frame (Ok u) steps wires =
       toward = lists.toward wires;
       stored = lists.stored;
       missed = missed ∙ omega arith;
+      sending = sending-none k steps;
+      holding = holding-none k steps;
       accepted = ap (map padded) lists.accepted ∙ accepted-one (k == host) frame (accepted k (happened_in steps)) (accepted-none k steps);
       given = λ socket. lists.given socket ∙ given-none k socket steps ∙ ap (given_for socket) (none-of (k == host));
     }
@@ -109,6 +116,14 @@ gives-missed k host (one ∷ list) = gives-missed k host list
 gives-marks : (k host : ℕ) (list : List Given) → marks k (gives host list) ≡ []
 gives-marks k host [] = refl
 gives-marks k host (one ∷ list) = gives-marks k host list
+
+gives-sending : (k host : ℕ) (list : List Given) → flat_map (sending_in_one k) (gives host list) ≡ []
+gives-sending k host [] = refl
+gives-sending k host (one ∷ list) = gives-sending k host list
+
+gives-holding : (k host : ℕ) (list : List Given) → flat_map (holding_in_one k) (gives host list) ≡ []
+gives-holding k host [] = refl
+gives-holding k host (one ∷ list) = gives-holding k host list
 
 gives-toward : (wires : ℕ → Option ℕ) (k host : ℕ) (list : List Given) → toward wires k (gives host list) ≡ []
 gives-toward wires k host [] = refl
@@ -160,6 +175,14 @@ tells-given k host list steps wires =
       stored =
           lists.stored ∙ ap (λ (later : List (List ℕ)). stored k (happened_in steps) ++ later) (gives-stored k host list) ∙ append-nil _;
       missed = omega (arith, lost, gives-missed k host list);
+      sending =
+          flat_map-append (sending_in_one k) (happened_in steps) (gives host list)
+          ∙ ap (λ (front : List (List ℕ)). front ++ flat_map (sending_in_one k) (gives host list)) (sending-none k steps)
+          ∙ gives-sending k host list;
+      holding =
+          flat_map-append (holding_in_one k) (happened_in steps) (gives host list)
+          ∙ ap (λ (front : List (List ℕ)). front ++ flat_map (holding_in_one k) (gives host list)) (holding-none k steps)
+          ∙ gives-holding k host list;
       accepted =
           ap (map padded) (lists.accepted
           ∙ ap (λ (later : List (List ℕ)). accepted k (happened_in steps) ++ later) (gives-accepted k host list)
@@ -224,6 +247,8 @@ pub record IsOfGroups (k : ℕ) (wires : ℕ → Option ℕ) (middle : List Happ
   pub stored : stored k middle ≡ []
   pub accepted : accepted k middle ≡ []
   pub missed : missed k middle ≡ 0
+  pub sending : flat_map (sending_in_one k) middle ≡ []
+  pub holding : flat_map (holding_in_one k) middle ≡ []
   pub given : (socket : ℕ) → given k socket middle ≡ []
 
 pub tells-group : (k host : ℕ) (middle : List Happening) (ticks : List Tick) (outcomes : List Numbered) (steps : List AtomicStep)
@@ -237,6 +262,8 @@ tells-group k host middle ticks outcomes steps wires none said =
       toward = around-list (toward_by wires k) middle ticks outcomes none.toward ∙ ap (toward wires k) said;
       stored = around-list (stored_by k) middle ticks outcomes none.stored ∙ ap (stored k) said;
       missed = around-missed k middle ticks outcomes none.missed ∙ ap (missed k) said;
+      sending = around-list (sending_in_one k) middle ticks outcomes none.sending ∙ ap (flat_map (sending_in_one k)) said ∙ alone.sending;
+      holding = around-list (holding_in_one k) middle ticks outcomes none.holding ∙ ap (flat_map (holding_in_one k)) said ∙ alone.holding;
       accepted =
           ap (map padded) (around-list (accepted_in_one k) middle ticks outcomes none.accepted ∙ ap (accepted k) said) ∙ alone.accepted;
       given = λ s. around-list (given_in_one k s) middle ticks outcomes (none.given s) ∙ ap (given k s) said ∙ alone.given s;
@@ -251,6 +278,8 @@ joined-adds_none k host group (Joined (Ok u)) wires = record {
   stored = refl;
   accepted = refl;
   missed = omega arith;
+  sending = refl;
+  holding = refl;
   given = λ s. refl;
 }
 joined-adds_none k host group _ wires = record {
@@ -260,6 +289,8 @@ joined-adds_none k host group _ wires = record {
   stored = refl;
   accepted = refl;
   missed = refl;
+  sending = refl;
+  holding = refl;
   given = λ s. refl;
 }
 
@@ -272,6 +303,8 @@ left-adds_none k host group (Left (Ok u)) wires = record {
   stored = refl;
   accepted = refl;
   missed = omega arith;
+  sending = refl;
+  holding = refl;
   given = λ s. refl;
 }
 left-adds_none k host group _ wires = record {
@@ -281,5 +314,7 @@ left-adds_none k host group _ wires = record {
   stored = refl;
   accepted = refl;
   missed = refl;
+  sending = refl;
+  holding = refl;
   given = λ s. refl;
 }

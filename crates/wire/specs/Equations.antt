@@ -2,28 +2,29 @@
 -- define their words. A word from another crate is explained in one sentence at the field that uses it; its definition is in that crate.
 -- docs/CONTRACTS, "To review `Lan::run`", names the files of these definitions.
 --   1. The count of misses, and when it is exact: `IsExact`.
---   2. The equations that have several fields: `CountsMisses`, `CountsUnclaimed`, `KeepsPlan`.
+--   2. The equations that have several fields: `CountsMisses`, `SendsDue`, `KeepsCome`, `KeepsPlan`.
 --   3. `Delivers`: the equations of one host between two states of a network, one equation a field.
 --   4. `HostStands`, `NetworkStands`: what holds of each host before and after each event.
 -- h and h' are a host in the first state and in the second, a and b its worlds. A world is an adapter with its host's memory, and a station
 -- is a host's world with its end of its wire. `happened` is the list of what happened to frames in between (`happenings` of specs/Runs).
-use Rattle.std.specs.Prelude.{◌≡◌, ◌≤◌, ◌<◌, ◌+◌, ◌-◌, ◌^◌, ◌++◌, [], ℕ, IsTrue, List, length, map, min}
+use Rattle.std.specs.Prelude.{◌≡◌, ◌≤◌, ◌<◌, ◌+◌, ◌-◌, ◌^◌, ◌++◌, [], ℕ, IsTrue, List, length, min}
 use Rattle.registers.specs.Counting.{greatest_count}
 use Rattle.dma_memory.specs.Owners.{HasOneOwner}
-use Rattle.descriptors.specs.Frames.{padded}
-use Rattle.adapter.specs.HostFrames.{frames_to_send}
+use Rattle.adapter.specs.HostFrames.{frames_held, frames_to_send}
 use Rattle.adapter.specs.State.{IsAdapter}
 use Rattle.adapter.specs.World.{World}
+use Rattle.bring_up.specs.ConfiguredAdapters.{HasSetup}
 use Rattle.driver_law.specs.DriverState.{owners}
 use Rattle.driver_law.specs.Calls.{HasNoForgottenWork, IsRefilled}
 use Rattle.joined_groups.specs.Groups.{HasTable}
 use Rattle.stations.specs.Stations.{StationState, backlog_at, wire_at, world_at}
-use Rattle.packet_socket.specs.HostCalls.{HostReady, driver_of, held_for_socket, socket_frames, unclaimed_in, without_socket}
+use Rattle.packet_socket.specs.HostCalls.{HostReady, driver_of, held_for_socket, socket_frames, unclaimed_in, waiting_frames}
+use Rattle.packet_socket.specs.HostCalls.{without_socket}
 use Rattle.packet_socket.specs.HostState.{HostState}
-use Rattle.packet_socket.specs.declared.socket_kind.SocketKind.{SocketKind}
 use Rattle.delivery.specs.CountedHosts.{CanAnswer}
 use Rattle.delivery.specs.Fates.{marks}
-use Rattle.delivery.specs.Happenings.{Happening, accepted, given, missed, put, reached, stored, toward}
+use Rattle.delivery.specs.Happenings.{Happening, given, missed, put, reached, toward}
+use Rattle.delivery.specs.Lists.{AreDue, HaveCome}
 use Rattle.delivery.specs.Reception.{ReceivesRightly, SameButGroups}
 use Rattle.host_calls.specs.Networks.{IsHost, NetworkState}
 
@@ -62,15 +63,43 @@ pub record CountsMisses (h : HostState) (a : World) (misses : ℕ) (h' : HostSta
   -- The sum of what the driver read never decreases.
   pub grows : h.driver.missed ≤ h'.driver.missed
 
+-- The frames put on the wire, then those still to be sent, are those that are due.
+-- `frames_to_send`: the frames in the transmit packet buffer, then those of the descriptors from TDH up to, but not including, TDT,
+-- padded with zeros to 60 bytes.
+pub record SendsDue (k : ℕ) (happened : List Happening) (a b : World) : Type 0 where
+  pub due : List (List ℕ)
+  -- those that were to be sent, then those accepted, padded, less those that resets gave up, each taken off the end of this list
+  pub are : AreDue k (frames_to_send a) happened due
+  pub sent : put k happened ++ frames_to_send b ≡ due
+
 -- Frames without a socket are counted, up to the greatest u64, or still held. `unclaimed_in` is the count (`unclaimed`), plus the number of
--- held frames without a socket; `frames` is the number of those stored meanwhile.
-pub record CountsUnclaimed (h : HostState) (a : World) (frames : ℕ) (h' : HostState) (b : World) : Type 0 where
+-- held frames without a socket; `frames` is the number of those that have come.
+pub record CountsUnclaimed (h : HostState) (frames : ℕ) (h' : HostState) (b : World) : Type 0 where
   -- the count never decreases
   pub least : h.unclaimed ≤ h'.unclaimed
-  -- no more are counted and held than were counted, held and stored
-  pub most : unclaimed_in h' b ≤ unclaimed_in h a + frames
+  -- no more are counted and held than were counted and have come
+  pub most : unclaimed_in h' b ≤ h.unclaimed + frames
   -- as many, if the count isn't saturated
-  pub exactly : h'.unclaimed < most_counted → unclaimed_in h' b ≡ unclaimed_in h a + frames
+  pub exactly : h'.unclaimed < most_counted → unclaimed_in h' b ≡ h.unclaimed + frames
+
+-- The frames that have come were given by their sockets, were counted, or are still held.
+-- `frames_held`: the frames in the receive ring and in the receive packet buffer. A frame is in the ring if its last piece is in a finished
+-- slot or in progress; otherwise it is in the packet buffer, whole.
+-- `socket_frames`: those of a list that go to a socket. A frame goes to the first socket for its EtherType. If there is none, it goes to
+-- the first socket for all frames, and if there is none, to no socket. `without_socket`: the number of these.
+pub record KeepsCome (k : ℕ) (happened : List Happening) (h : HostState) (a : World) (h' : HostState) (b : World) : Type 0 where
+  pub came : List (List ℕ)
+  -- those that were held, then those stored, less those that resets gave up, each taken off the end of this list
+  pub have_come : HaveCome k (frames_held h.driver.oldest_receive a) happened came
+  -- The first of them have left the ring, and the others are still held.
+  pub taken : List (List ℕ)
+  pub took : came ≡ taken ++ frames_held h'.driver.oldest_receive b
+  -- The frames that a socket gave, then those still held for it, are those that waited in its queue, then those of `came` that go to it.
+  -- `held_for_socket`: the frames in the socket's queue, then those held that go to it.
+  pub given_is_kept : (socket : ℕ) → given k socket happened ++ held_for_socket h' socket b
+      ≡ waiting_frames h socket a ++ socket_frames h.kinds socket came
+  -- The frames of `came` that go to no socket are counted, until the count saturates, or still held.
+  pub unclaimed_is_counted : CountsUnclaimed h (without_socket h.kinds came) h' b
 
 -- Of what the plan fixes, these don't change: the wire, the sockets, the sizes of rings and pool, the filter except for the groups joined,
 -- and the size of the receive packet buffer. `wire_at stations k` is the number of the k-th host's wire, and `world_at stations k` is the
@@ -87,43 +116,30 @@ pub record KeepsPlan (k : ℕ) (old new : List StationState) (h h' : HostState) 
   -- the size of the receive packet buffer
   pub kilobytes : (world_at new k).adapter.receive_kilobytes ≡ (world_at old k).adapter.receive_kilobytes
 
--- 3. The equations. The lists of a host are parts of what happened, in order (`accepted`, `put`, `reached`, `stored`, `given`, `toward`).
-
--- The frames stored at a host that go to one of its sockets (`socket_frames` are the frames of a list that go to the socket). A frame goes
--- to the first socket for its EtherType. If there is none, it goes to the first socket for all frames, and if there is none, to no socket.
-abbrev pub kept : List SocketKind → (k socket : ℕ) → List Happening → List (List ℕ)
-kept kinds k socket happened = socket_frames kinds socket (stored k happened)
+-- 3. The equations. The lists of a host are parts of what happened, in order (`put`, `reached`, `given`, `toward`).
 
 -- The k-th host, from one state to another, and what happened between them.
 pub record Delivers (k : ℕ) (happened : List Happening) (old new : List StationState) (h h' : HostState) : Type 0 where
   -- the wire, the sockets, the filter except for the groups joined, and the sizes don't change
   pub plan_is_kept : KeepsPlan k old new h h'
-  -- The frames put on the wire, then those still to be sent, are those that were to be sent, then those accepted, padded.
-  -- `frames_to_send`: the frames in the transmit packet buffer, then those of the descriptors from TDH up to, but not including, TDT,
-  -- padded with zeros to 60 bytes.
-  pub sent_is_accepted : put k happened ++ frames_to_send (world_at new k)
-      ≡ frames_to_send (world_at old k) ++ map padded (accepted k happened)
+  -- each accepted frame is put on the wire, padded, or still to be sent, or was given up by a reset
+  pub sent_is_accepted : SendsDue k happened (world_at old k) (world_at new k)
   -- The frames that reached it, then those that still wait at its end of its wire (`backlog_at`), are those that waited, then those that
   -- other hosts put on its wire (`toward`).
   pub reached_is_put : reached k happened ++ backlog_at new k ≡ backlog_at old k ++ toward (wire_at old) k happened
-  -- The frames that a socket gave, then those still held for it, are those that were held, then those stored that go to it.
-  -- `held_for_socket`: the frames in the socket's queue, then those frames of the receive ring and of the receive packet buffer that go to
-  -- it. A frame is in the ring if its last piece is in a finished slot or in progress; otherwise it is in the packet buffer, whole.
-  pub given_is_kept : (socket : ℕ) → given k socket happened ++ held_for_socket h' socket (world_at new k)
-      ≡ held_for_socket h socket (world_at old k) ++ kept h.kinds k socket happened
-  -- Each frame that reached it met the first fate that applies: illegal (it has less than 60 or more than 1,518 bytes), filtered, missed as
-  -- the receive packet buffer had no room for it, stored. None has the fate Off, as the receive side is enabled. There is room for a frame
-  -- if the frames in the buffer and this one occupy at most the buffer's size (`HasRoomFor`). The buffer has the frames of the beginning,
-  -- then those stored, without those that left (`ReceivesRightly`). The filter of a frame's fate is the one in force when the frame comes:
-  -- its groups are those joined at the beginning, with each joined since added, and each left since removed (`in_force`). `marks`: each frame
-  -- that reached it, with its fate, each time that the oldest frame left this buffer, and each group that was joined or left, in order.
-  -- Without a join or a leave MTA doesn't change.
+  -- each stored frame was given by its socket, or counted, or is still held, or was given up by a reset
+  pub stored_is_kept : KeepsCome k happened h (world_at old k) h' (world_at new k)
+  -- Each frame that reached it met the first fate that applies: Off, as the receive side was disabled, which it is only in a reset;
+  -- illegal (it has less than 60 or more than 1,518 bytes), filtered, missed as the receive packet buffer had no room for it, stored.
+  -- There is room for a frame if the frames in the buffer and this one occupy at most the buffer's size (`HasRoomFor`). The buffer has the
+  -- frames of the beginning, then those stored, without those that left and those that a reset gave up (`ReceivesRightly`). The filter of a
+  -- frame's fate is the one in force when the frame comes: its groups are those joined at the beginning, with each joined since added, and
+  -- each left since removed (`in_force`). `marks`: each frame that reached it, with its fate, each time that the oldest frame left this
+  -- buffer, each group that was joined or left, and what resets did, in order. Without a join or a leave MTA is the same at the end.
   pub fates_are_right : ReceivesRightly h.driver.groups (world_at old k).adapter (marks k happened) h'.driver.groups
       (world_at new k).adapter
   -- missed frames are counted until a counter saturates
   pub misses_are_counted : CountsMisses h (world_at old k) (missed k happened) h' (world_at new k)
-  -- stored frames without a socket are counted, until the count saturates, or still held (`without_socket` is their number)
-  pub unclaimed_is_counted : CountsUnclaimed h (world_at old k) (without_socket h.kinds (stored k happened)) h' (world_at new k)
 
 -- 4. What holds of a network before and after each event.
 
@@ -143,6 +159,8 @@ pub record HostStands (host : HostState) (world : World) : Type 0 where
   pub refilled : IsRefilled host.driver
   -- each slot whose descriptor is stored is offered
   pub offered : host.driver.staged ≡ []
+  -- its adapter has the setup that its driver keeps, to set it up again after a reset: RCTL, the VLANs, the address, and RXA of PBA
+  pub set_up : HasSetup host.driver.setup world.adapter
   -- MTA has exactly the bits of the numbers of the groups joined
   pub groups : HasTable host.driver.groups world
   -- both sides of its adapter are enabled, and each head and tail is the index of a slot of its ring

@@ -1,5 +1,6 @@
 -- A host that its network has initialized (our choice).
-use Rattle.std.specs.Prelude.{⊤, ◌≡◌, ◌≢◌, ◌<◌, ◌*◌, ◌↔◌, ℕ, false, true, IsTrue, List, [], Some, String, length, replicate, slice_get, string_eq}
+use Rattle.std.specs.Prelude.{⊤, ◌≡◌, ◌≢◌, ◌<◌, ◌*◌, ◌↔◌, ℕ, false, true, IsTrue, List, [], Some, String, length, replicate, slice_get}
+use Rattle.std.specs.Prelude.{string_eq}
 use Rattle.std.specs.List.{position_or_len}
 use Rattle.std.specs.declared.alloc.Global.{Global}
 use Rattle.eeprom.specs.Image.{HasRightSum}
@@ -18,6 +19,7 @@ use Rattle.bring_up.specs.Link.{NeedsMoreThan}
 use Rattle.bring_up.specs.declared.init_error.InitError.{InitError}
 use Rattle.bring_up.specs.declared.init_error.InitError.TheVariants.{Checksum, Memory, NoLink}
 use Rattle.driver_law.specs.Calls.{HasNoForgottenWork, IsRefilled}
+use Rattle.bring_up.specs.ConfiguredAdapters.{HasSetup}
 use Rattle.joined_groups.specs.Groups.{AreNamedOnce, HasTable}
 use Rattle.packet_socket.specs.HostCalls.{HostReady}
 use Rattle.packet_socket.specs.HostState.{HostState}
@@ -62,6 +64,8 @@ pub record HasPlansSizes (plan : HostPlan) (host : HostState) (world : World) : 
   pub kinds : host.kinds ≡ plan.sockets.items
   pub allocation : world.adapter.receive_kilobytes ≡ plan.config.rxa
   pub filter : HasPlansFilter plan world.adapter.filter
+  -- its adapter has the setup that its driver keeps
+  pub set_up : HasSetup host.driver.setup world.adapter
   -- the groups that its configuration names are joined, each once
   pub groups : AreNamedOnce plan.config.groups.items host.driver.groups
   -- MTA has exactly the bits of their numbers

@@ -1,5 +1,5 @@
--- What the private functions that play one event state: a call with its ticks, or a tick by itself (our choice). None of this is part of
--- the contract of `Lan::run`: an `EventRuns` (specs/Runs) is built from it.
+-- What the private functions that play one event state: a call or a reset with its ticks, or a tick by itself (our choice). None of this
+-- is part of the contract of `Lan::run`: an `EventRuns` (specs/Runs) is built from it.
 use Rattle.std.specs.Prelude.{◌≡◌, ℕ, All, List}
 use Rattle.bus.specs.TickGroups.{without_go}
 use Rattle.packet_socket.specs.CallEffects.{request_of}
@@ -11,14 +11,14 @@ use Rattle.stations.specs.Stations.{StationState}
 use Rattle.stations.specs.declared.observer.Observer.{Ghosts as OfObserver}
 use Rattle.stations.specs.declared.tick.Tick.{Tick}
 use Rattle.delivery.specs.Happenings.{happened_in, told_alone}
-use Rattle.network_plan.specs.EventCalls.{Alone, ByCall, CallOrTick, EventCall}
+use Rattle.network_plan.specs.EventCalls.{Alone, ByCall, ByReset, EventCall, EventKind}
 use Rattle.network_plan.specs.declared.event.Event.{Event}
 use Rattle.network_plan.specs.declared.reply.Answer.TheVariants.{NoHost}
 use Rattle.network_plan.specs.declared.reply.Reply.{Reply}
 use Rattle.host_calls.specs.ConnectedHosts.{connected}
 use Rattle.host_calls.specs.Networks.{IsHost, NetworkState}
 use Rattle.wire.specs.RunObservers.{TellsReply, ending}
-use Rattle.wire.specs.Runs.{AnswersCall, HostsGo, IsCallReply, IsTickReply, said_by}
+use Rattle.wire.specs.Runs.{AnswersCall, AnswersReset, HostsGo, IsCallReply, IsTickReply, reset_answer, said_by, said_in_reset}
 use Rattle.wire.specs.declared.events.Call.{Call}
 use Rattle.wire.specs.declared.events.Part.{Part}
 use Rattle.wire.specs.declared.events.Part.TheVariants as parts
@@ -27,19 +27,28 @@ use Rattle.wire.specs.declared.events.Part.TheVariants as parts
 abbrev pub call_in : Call → EventCall
 call_in call = record { host = call.host; request = request_of call.call; ticks = call.ticks.now }
 
-abbrev pub part_in : Part → CallOrTick
+abbrev pub part_in : Part → EventKind
 part_in (parts.Call call) = ByCall (call_in call)
+part_in (parts.Reset reset) = ByReset reset.host reset.ticks.now
 part_in (parts.Tick tick) = Alone tick
 
 -- A call was made, and this replies to it.
 pub record CallPlayed (call : EventCall) (reply : Reply) (old new : NetworkState) : Type 0 where
   pub steps : List AtomicStep
   pub go : HostsGo call.host (said_by call reply) steps old new
-  pub replied : IsCallReply call reply steps old new
+  pub replied : IsCallReply call.host call.ticks reply steps old new
   pub answer : (h h' : HostState) → IsHost old call.host h → IsHost new call.host h'
       → AnswersCall call reply.answer steps (connected h old.stations) (connected h' new.stations)
 
--- The ticks of a call for a host that isn't there were played, and the observer was told that there is no such host.
+-- A reset was made, and this replies to it.
+pub record ResetPlayed (host : ℕ) (ticks : List Tick) (reply : Reply) (old new : NetworkState) : Type 0 where
+  pub steps : List AtomicStep
+  pub go : HostsGo host (said_in_reset host (reset_answer reply.answer) ticks reply.outcomes.list) steps old new
+  pub replied : IsCallReply host ticks reply steps old new
+  pub answer : (h h' : HostState) → IsHost old host h → IsHost new host h'
+      → AnswersReset host ticks reply.answer steps (connected h old.stations) (connected h' new.stations)
+
+-- The ticks of a call or a reset for a host that isn't there were played, and the observer was told that there is no such host.
 pub record AbsentTold {O : Type 0} (observers : OfObserver O) (ran : O → O → List Event → List Reply → Type 0) (event : Event)
     (ticks : List Tick) (old new : Watched O) : Type 0 where
   pub ticked : O

@@ -6,7 +6,7 @@ use Rattle.stations.specs.AtomicRuns.{is_go}
 use Rattle.stations.specs.Outcomes.{note_of}
 use Rattle.stations.specs.ToldTicks.{TickTold}
 use Rattle.network_plan.specs.Answers.{FrameAnswer, ticks_of}
-use Rattle.network_plan.specs.EventCalls.{Alone, ByCall, CallOrTick, in_event}
+use Rattle.network_plan.specs.EventCalls.{Alone, ByCall, ByReset, EventKind, in_event}
 use Rattle.stations.specs.declared.tick.Tick.{Tick}
 use Rattle.network_plan.specs.declared.event.Event.{Event}
 use Rattle.network_plan.specs.declared.reply.Reply.{Reply}
@@ -16,10 +16,11 @@ pub record HasRoomForEvent {O : Type 0} (ready : O → Event → Type 0) (room_l
   pub answer : ready now event
   pub ticks : length (ticks_of event) ≤ room_left now
 
--- The ticks of an event whose outcomes are told, in order: of a call each but a Go, for a Go only lets the host go on to its next
--- access; and a tick by itself, also a Go.
-abbrev pub ticks_played : CallOrTick → List Tick
+-- The ticks of an event whose outcomes are told, in order: of a call or a reset each but a Go, for a Go only lets the host go on to its
+-- next access; and a tick by itself, also a Go.
+abbrev pub ticks_played : EventKind → List Tick
 ticks_played (ByCall call) = without_go is_go call.ticks
+ticks_played (ByReset host ticks) = without_go is_go ticks
 ticks_played (Alone tick) = tick ∷ []
 
 abbrev pub played_ticks : Event → List Tick

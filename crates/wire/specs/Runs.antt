@@ -3,15 +3,17 @@
 -- that uses it; its definition is in that crate. docs/CONTRACTS, "To review `Lan::run`", names the files of these definitions.
 --   6. A run: `RunsTo`, `StatesRun`.
 --   5. One event with its reply: `EventRuns`, whose fields are records of parts 4, 3 and 2.
---   4. What the reply says of the event's atomic steps: `IsCallReply` for a call, `IsTickReply` for a tick by itself.
---   3. What a host that is there answers: `AnswersCall`.
+--   4. What the reply says of the event's atomic steps: `IsCallReply` for a call or a reset, `IsTickReply` for a tick by itself.
+--   3. What a host that is there answers: `AnswersCall`, `AnswersReset`.
 --   2. The atomic steps of an event, as every host finds them: `HostsGo`, `TicksAnswered`.
 --   1. What an event and its reply say of frames: `said`, `happenings`.
--- Part 7 is for `Lan::play` only. An event is a call with its ticks, or a tick by itself (`in_event`, network_plan/specs/EventCalls). An
--- atomic step is one access of a driver, or one tick that isn't Go with its outcome. Such a tick is a step of an adapter or a delivery, and
--- its outcome is Nothing if there was nothing to do. A station is an adapter with its host's memory (`world_at stations k`) and its end of
--- its wire.
-use Rattle.std.specs.Prelude.{◌≡◌, ◌≢◌, ◌≤◌, ◌↔◌, ◌++◌, ◌∷◌, [], ℕ, All, List, Ok, Option, Some, length, map, slice_get}
+-- Part 7 is for `Lan::play` only. An event is a call or a reset with its ticks, or a tick by itself (`in_event`,
+-- network_plan/specs/EventCalls). An atomic step is one access of a driver, or one tick that isn't Go with its outcome. Such a tick is a
+-- step of an adapter or a delivery, and its outcome is Nothing if there was nothing to do. A station is an adapter with its host's memory
+-- (`world_at stations k`) and its end of its wire.
+use Rattle.std.specs.Prelude.{◌≡◌, ◌≢◌, ◌≤◌, ◌<◌, ◌+◌, ◌↔◌, ◌⊎◌, ◌==◌, ◌&&◌, ◌++◌, ◌∷◌, [], ℕ, All, List, None, Ok, Option, Some}
+use Rattle.std.specs.Prelude.{length, map, nat_le, nat_lt, slice_get}
+use Rattle.adapter.specs.HostFrames.{frames_held, frames_to_send}
 use Rattle.adapter.specs.declared.outcome.Outcome.TheVariants.{Nothing}
 use Rattle.bus.specs.TickGroups.{without_go}
 use Rattle.packet_socket.specs.CallEffects.{EffectOf, Interrupting, Joining, Leaving, Receiving, Request, Sending, given_in}
@@ -25,17 +27,19 @@ use Rattle.stations.specs.declared.outcomes.Numbered.{Numbered}
 use Rattle.stations.specs.declared.tick.Tick.{Tick}
 use Rattle.stations.specs.declared.tick.Tick.TheVariants.{Deliver, Go, Step}
 use Rattle.delivery.specs.Counts.{counts_of}
-use Rattle.delivery.specs.Happenings.{Accepted, Given, Happening, Joined as HasJoined, Left as HasLeft, told, told_alone, told_around}
+use Rattle.delivery.specs.Happenings.{Accepted, Disabled, Enabled, Given, GivenUp, Happening, Joined as HasJoined, Left as HasLeft, put}
+use Rattle.delivery.specs.Happenings.{stored, told, told_alone, told_around, told_where}
 use Rattle.delivery.specs.StepAnswers.{AreAnswered, OfEachTick, counts_at}
 use Rattle.delivery.specs.TickNumbers.{numbers, noted_numbers}
 use Rattle.network_plan.specs.Answers.{FrameAnswer, event_answer}
-use Rattle.network_plan.specs.EventCalls.{Alone, ByCall, CallOrTick, EventCall, in_event}
+use Rattle.network_plan.specs.EventCalls.{Alone, ByCall, ByReset, EventCall, EventKind, in_event}
 use Rattle.network_plan.specs.declared.event.Event.{Event}
-use Rattle.network_plan.specs.declared.reply.Answer.TheVariants.{Joined, Left, NoHost, Received, Sent, Ticked}
+use Rattle.network_plan.specs.declared.reply.Answer.TheVariants.{Joined, Left, NoHost, Received, Reset, Sent, Ticked}
 use Rattle.network_plan.specs.declared.reply.Reply.{Reply}
 use Rattle.host_calls.specs.CallsInSteps.{InSteps}
 use Rattle.host_calls.specs.ConnectedHosts.{ConnectedHost, connected}
 use Rattle.host_calls.specs.Networks.{IsHost, NetworkState}
+use Rattle.host_calls.specs.ResetsInSteps.{ResetsInSteps}
 use Rattle.wire.specs.Equations.{Delivers, NetworkStands}
 
 -- 1. What an event and its reply say of frames. `FrameAnswer` is a reply's answer, with the bytes of the frame that a socket gave.
@@ -74,9 +78,31 @@ said_in_call host (Leaving group) answer ticks outcomes = told_around (left_of h
 abbrev pub said_by : EventCall → Reply → List Happening
 said_by call reply = said_in_call call.host call.request reply.answer call.ticks reply.outcomes.list
 
+-- What a reset answered: the frames that it gave up of those to be sent, and of those held, and the number of accesses that it had made
+-- once RCTL was written again.
+pub record ResetAnswer : Type 0 where
+  pub sending : List (List ℕ)
+  pub holding : List (List ℕ)
+  pub on_after : ℕ
+
+abbrev pub reset_answer : FrameAnswer → Option ResetAnswer
+reset_answer (Reset sending holding on_after) = Some (record { sending = sending.items; holding = holding.items; on_after = on_after })
+reset_answer answer = None
+
+-- Of a reset: what the outcomes with number 0 tell; the receive side is disabled; what those with numbers 1 and 2 tell; frames are given
+-- up; what those with numbers from 3 up to, but not including, `on_after` tell; the receive side is enabled; and what the others tell.
+abbrev pub said_in_reset : (host : ℕ) → Option ResetAnswer → (ticks : List Tick) → (outcomes : List Numbered) → List Happening
+said_in_reset host None ticks outcomes = told ticks outcomes
+said_in_reset host (Some answer) ticks outcomes =
+    told_where (λ number. number == 0) ticks outcomes
+    ++ Disabled host ∷ (told_where (λ number. nat_le 1 number && nat_lt number 3) ticks outcomes
+    ++ GivenUp host answer.sending answer.holding ∷ (told_where (λ number. nat_le 3 number && nat_lt number answer.on_after) ticks outcomes
+    ++ Enabled host ∷ told_where (λ number. nat_le answer.on_after number) ticks outcomes))
+
 -- `told_alone`: the same of a tick by itself
-abbrev pub said_of : CallOrTick → Reply → List Happening
+abbrev pub said_of : EventKind → Reply → List Happening
 said_of (ByCall call) reply = said_by call reply
+said_of (ByReset host ticks) reply = said_in_reset host (reset_answer reply.answer) ticks reply.outcomes.list
 said_of (Alone tick) reply = told_alone tick reply.outcomes.list
 
 abbrev pub said : Event → Reply → List Happening
@@ -90,18 +116,19 @@ happenings (event ∷ events) (reply ∷ replies) = said event reply ++ happenin
 
 -- 2. The atomic steps of an event, as every host finds them.
 
--- The outcome of each tick follows by counting: the frames in the packet buffers, the bytes of each that are still to be moved, the offered
--- slots, whether a piece is in progress, what is pending at the EEPROM and the PHY, and the frames that wait at the ends of the wires. The
--- frame of Put or Delivered is the oldest one there (`sent_is_accepted` and `reached_is_put` of specs/Equations), and its fate is right
--- (`fates_are_right`). `counts_of` are these numbers of an adapter. `counts_at start steps k` are those of the k-th host
--- after the steps, computed from the state at the start: each outcome is applied, and each write of TDT or RDT, which offers slots.
+-- The outcome of each tick follows by counting: the frames in the packet buffers, the bytes of each that are still to be moved, each ring's
+-- head and tail, whether a piece is in progress, whether both sides are enabled, what is pending at the EEPROM and the PHY, and the frames
+-- that wait at the ends of the wires. The frame of Put or Delivered is the oldest one there (`sent_is_accepted` and `reached_is_put` of
+-- specs/Equations), and its fate is right (`fates_are_right`). `counts_of` are these numbers of an adapter. `counts_at start steps k` are
+-- those of the k-th host after the steps, computed from the state at the start: each outcome is applied, and each write of a register. A
+-- write of TDT or RDT offers slots; a reset empties rings, packet buffers and work.
 pub record TicksAnswered (steps : List AtomicStep) (old new : NetworkState) : Type 0 where
-  -- a tick's outcome follows from what is counted at the start, with the outcomes and the writes of TDT and RDT before it applied
+  -- a tick's outcome follows from what is counted at the start, with the outcomes and the writes of registers before it applied
   -- (`AreAnswered`, whose table is in docs/DELIVERY, "Answers")
   pub there : (k : ℕ) (h : HostState) → IsHost old k h → AreAnswered k old.stations steps
   -- a host that isn't there has nothing to do (`OfEachTick`: for each tick that names the k-th host)
   pub absent : (k : ℕ) → length old.hosts ≤ k → OfEachTick k steps (λ before tick outcome. outcome ≡ Nothing)
-  -- what is counted at the end is what was counted at the start, with all outcomes and all writes of TDT and RDT applied
+  -- what is counted at the end is what was counted at the start, with all outcomes and all writes of registers applied
   pub counts : (k : ℕ) (h : HostState) → IsHost old k h
       → counts_of (world_at new.stations k).adapter ≡ counts_at old.stations steps k
 
@@ -146,16 +173,36 @@ pub record AnswersCall (call : EventCall) (answer : FrameAnswer) (steps : List A
   pub accesses : All (IsAccessOf (kind_of call.request) old.host.driver.layout) (past_at call.host steps).accesses
   pub last_writes : OnlyLastWrites (past_at call.host steps).accesses
 
--- 4. What a reply says of the steps. First of a call, then of a tick that is played in no call.
+-- The adapter was reset, and begins again.
+pub record AnswersReset (host : ℕ) (ticks : List Tick) (answer : FrameAnswer) (steps : List AtomicStep) (old new : ConnectedHost) : Type 0
+  where
+    pub given_up : ResetAnswer
+    pub is : reset_answer answer ≡ Some given_up
+    -- `sending`: what was to be sent at the beginning, without the frames put by outcomes with numbers 0 to 2
+    pub sending : put host (told_where (λ number. nat_lt number 3) ticks (noted_of 0 steps)) ++ given_up.sending
+        ≡ frames_to_send (world_at old.stations host)
+    -- `holding`: what was held at the beginning, then the frames stored by outcomes with number 0
+    pub holding : given_up.holding ≡ frames_held old.host.driver.oldest_receive (world_at old.stations host)
+        ++ stored host (told_where (λ number. number == 0) ticks (noted_of 0 steps))
+    -- The second write of RCTL is the access with this number, counted from 1.
+    pub on_after : given_up.on_after ≡ 302 + old.host.driver.layout.rx
+    -- The accesses of the host's driver are exactly those of a reset, in order, and what holds at CTRL.RST, at RCTL and at the end
+    -- (host_calls/specs/ResetsInSteps).
+    pub does : ResetsInSteps host steps old new
+    -- both lists are what was there when CTRL.RST was written
+    pub sending_then : given_up.sending ≡ frames_to_send (world_at does.last host)
+    pub holding_then : given_up.holding ≡ frames_held old.host.driver.oldest_receive (world_at does.last host)
 
--- What a reply says of the call and its ticks, whichever call it is.
-pub record IsCallReply (call : EventCall) (reply : Reply) (steps : List AtomicStep) (old new : NetworkState) : Type 0 where
+-- 4. What a reply says of the steps. First of a call or a reset, then of a tick that is played in no call.
+
+-- What a reply says of the call of a host and its ticks, whichever call it is, a reset among them.
+pub record IsCallReply (host : ℕ) (ticks : List Tick) (reply : Reply) (steps : List AtomicStep) (old new : NetworkState) : Type 0 where
   -- The steps that aren't accesses are the ticks that aren't Go, in order. `tick_of` of an access is Go, so accesses are left out.
-  pub played : without_go is_go (map tick_of steps) ≡ without_go is_go call.ticks
+  pub played : without_go is_go (map tick_of steps) ≡ without_go is_go ticks
   -- a call of a host that isn't there makes no access
-  pub unmade : length old.hosts ≤ call.host → (past_at call.host steps).accesses ≡ []
+  pub unmade : length old.hosts ≤ host → (past_at host steps).accesses ≡ []
   -- it answers NoHost, and no other call does
-  pub no_host : reply.answer ≡ NoHost ↔ (length old.hosts ≤ call.host)
+  pub no_host : reply.answer ≡ NoHost ↔ (length old.hosts ≤ host)
   -- The reply has the number of accesses (`counted_of`, from 0 on), at most the greatest u64.
   pub counted : reply.accesses ≡ counted_of 0 steps
   -- It has the outcome of each tick that isn't Go, with the number of accesses before it (`noted_of`, from 0 accesses on).
@@ -163,10 +210,10 @@ pub record IsCallReply (call : EventCall) (reply : Reply) (steps : List AtomicSt
   -- An outcome's number is the lesser of its group's number and the number of accesses. Each Go ends a group; the first has number 0
   -- (`numbers`). `noted_numbers` are the numbers in the outcomes. So the ticks of group i are played after exactly i accesses, that is,
   -- right before the next access, or after the last access of the call if it makes no more than i.
-  pub numbered : noted_numbers reply.outcomes.list ≡ numbers call.ticks 0 reply.accesses
+  pub numbered : noted_numbers reply.outcomes.list ≡ numbers ticks 0 reply.accesses
   -- A host that isn't called doesn't change: its driver, its queues and its count of frames without a socket. What ticks change of its
   -- station is in `leads` of `HostsGo`.
-  pub others : (k : ℕ) → k ≢ call.host → slice_get new.hosts k ≡ slice_get old.hosts k
+  pub others : (k : ℕ) → k ≢ host → slice_get new.hosts k ≡ slice_get old.hosts k
 
 -- A tick that is played in no call: its outcome is that of its atomic step. A Go does nothing.
 abbrev pub AreOutcomesAlone : Tick → List AtomicStep → List Numbered → Type 0
@@ -193,21 +240,24 @@ pub record IsTickReply (tick : Tick) (reply : Reply) (steps : List AtomicStep) (
 
 -- The host whose call it is. A tick by itself belongs to no call, and makes no access (`accesses` of `IsTickReply`). So any number would do
 -- for it: `LeadsTo` uses this number only for accesses, and the answer of a tick doesn't depend on it.
-abbrev pub caller_in : CallOrTick → ℕ
+abbrev pub caller_in : EventKind → ℕ
 caller_in (ByCall call) = call.host
+caller_in (ByReset host ticks) = host
 caller_in (Alone tick) = 0
 
 abbrev pub caller_of : Event → ℕ
 caller_of event = caller_in (in_event event)
 
 -- what a reply says of the steps
-abbrev pub IsReply : CallOrTick → Reply → List AtomicStep → (old new : NetworkState) → Type 0
-IsReply (ByCall call) = IsCallReply call
+abbrev pub IsReply : EventKind → Reply → List AtomicStep → (old new : NetworkState) → Type 0
+IsReply (ByCall call) = IsCallReply call.host call.ticks
+IsReply (ByReset host ticks) = IsCallReply host ticks
 IsReply (Alone tick) = IsTickReply tick
 
 -- what a host that is there answers
-abbrev pub IsAnswer : CallOrTick → FrameAnswer → List AtomicStep → (old new : ConnectedHost) → Type 0
+abbrev pub IsAnswer : EventKind → FrameAnswer → List AtomicStep → (old new : ConnectedHost) → Type 0
 IsAnswer (ByCall call) = AnswersCall call
+IsAnswer (ByReset host ticks) = AnswersReset host ticks
 IsAnswer (Alone tick) = λ answer steps old new. answer ≡ Ticked
 
 -- An event and its reply lead from one state of a network to the next.
@@ -254,11 +304,17 @@ pub record RunTold {O : Type 0} (ran : O → O → List Event → List Reply →
   pub told : ran from to events replies
   pub runs : RunsTo old events [] replies new
 
+-- the event is a reset of one of so many hosts
+abbrev pub IsResetOf : (hosts : ℕ) → EventKind → Type 0
+IsResetOf hosts (ByReset host ticks) = host < hosts
+IsResetOf hosts kind = ⊥
+
 -- A run stopped before this event. In its state `asked`, in which it was told of all before it, the observer may refuse to make room for it
--- (`refuses`).
-pub record StopsAt {O : Type 0} (refuses : O → Event → Type 0) (next : Option Event) (Told : O → Type 0) : Type 0 where
+-- (`refuses`). Or it is a reset of one of so many hosts: memory for the frames that it gives up may be refused. No clause can say that it
+-- was.
+pub record StopsAt {O : Type 0} (refuses : O → Event → Type 0) (hosts : ℕ) (next : Option Event) (Told : O → Type 0) : Type 0 where
   pub event : Event
   pub is : next ≡ Some event
   pub asked : O
   pub told : Told asked
-  pub refused : refuses asked event
+  pub refused : refuses asked event ⊎ IsResetOf hosts (in_event event)

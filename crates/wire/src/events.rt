@@ -1,12 +1,12 @@
 // One event of a network.
 
-ghost use Rattle.std.specs.Prelude.{◌≡◌, ◌≤◌, ℕ, List, length, take};
+ghost use Rattle.std.specs.Prelude.{◌≡◌, ◌≤◌, ◌<◌, ℕ, IfErr, List, OnOk, length, take};
 ghost use Rattle.bus.specs.TickGroups.{without_go};
 ghost use Rattle.wire.specs.Equations.{NetworkStands};
 ghost use Rattle.network_plan.specs.Answers.{answer_with, event_answer};
-ghost use Rattle.network_plan.specs.EventCalls.{Alone, ByCall, in_event};
+ghost use Rattle.network_plan.specs.EventCalls.{Alone, ByCall, ByReset, in_event};
 ghost use Rattle.packet_socket.specs.CallEffects.{IsLegalAnswer, answer_in};
-ghost use Rattle.wire.specs.PlayedCalls.{AbsentTold, CallPlayed, TickPlayed, call_in, part_in};
+ghost use Rattle.wire.specs.PlayedCalls.{AbsentTold, CallPlayed, ResetPlayed, TickPlayed, call_in, part_in};
 ghost use Rattle.wire.specs.RunObservers.{EventTold, played_ticks};
 ghost use Rattle.stations.specs.AtomicRuns.{is_go};
 ghost use Rattle.stations.specs.AtomicSteps.{watched};
@@ -17,6 +17,7 @@ use host_calls::Network;
 use network_plan::{Answer, Event};
 use packet_socket::{HostAnswer, HostCall};
 use stations::Tick;
+use std::alloc::{AllocError, Global};
 
 /// A call of a host, with the ticks that are played in it, on all stations.
 #[derive(Clone, Copy, Drop)]
@@ -26,15 +27,23 @@ pub(crate) struct Call<'a> {
     pub(crate) ticks: &'a [Tick],
 }
 
-/// What an event is: a call with its ticks, or a tick by itself.
+/// A reset of a host's adapter, with the ticks that are played in it, on all stations.
+#[derive(Clone, Copy, Drop)]
+pub(crate) struct Reset<'a> {
+    pub(crate) host: usize,
+    pub(crate) ticks: &'a [Tick],
+}
+
+/// What an event is: a call with its ticks, a reset with its ticks, or a tick by itself.
 #[derive(Clone, Copy, Drop)]
 pub(crate) enum Part<'a> {
     Call(Call<'a>),
+    Reset(Reset<'a>),
     Tick(Tick),
 }
 
 impl<'a> Part<'a> {
-    /// The call or the tick of an event.
+    /// The call, the reset or the tick of an event.
     #[inline(always)]
     pub(crate) fn of(event: &'a Event) -> Part<'a>
         ensures { part_in result ≡ in_event event.now }
@@ -67,6 +76,10 @@ impl<'a> Part<'a> {
             Event::Leave { host, group, ticks } => Part::Call(Call {
                 host: *host,
                 call: HostCall::Leave(*group),
+                ticks: ticks.as_slice(),
+            }),
+            Event::Reset { host, ticks } => Part::Reset(Reset {
+                host: *host,
                 ticks: ticks.as_slice(),
             }),
             Event::Tick(tick) => Part::Tick(*tick),
@@ -128,6 +141,43 @@ pub(crate) fn make_call<O: RunObserver>(
     let called = network.call(call.host, call.call, call.ticks, observer, given);
     let (answer, size) = ending_of(called.answer);
     observer.answer(event, called.accesses, answer, &given[..size]);
+}
+
+/// Resets the adapter of the host of an event, while its ticks are played. The observer gets the frames that are given
+/// up.
+///
+/// # Errors
+///
+/// Only if memory for these frames is refused. Then nothing has changed.
+pub(crate) fn make_reset<O: RunObserver>(
+    network: &mut Network,
+    alloc: Global,
+    event: &Event,
+    reset: &Reset,
+    observer: &mut O,
+) -> Result<(), AllocError>
+    requires stands { NetworkStands network.old }
+    requires answer { O.ready observer.old event.now }
+    requires room { length reset.now.ticks.now ≤ O.room_left observer.old }
+    requires is { in_event event.now ≡ ByReset reset.now.host reset.now.ticks.now }
+    ensures ok { OnOk result (EventTold O.ran event.now observer.old observer.new
+        (λ reply. ResetPlayed reset.now.host reset.now.ticks.now reply network.old network.new)) }
+    ensures refused { IfErr result (λ error. (reset.now.host < length network.old.hosts)
+        × (network.new ≡ network.old) × (observer.new ≡ observer.old)) }
+{
+    if reset.host >= network.len() {
+        no_host(network, event, reset.ticks, observer);
+        return Ok(());
+    }
+    let found = network.before_reset(alloc, reset.host)?;
+    let done = network.reset(reset.host, reset.ticks, observer, found);
+    let answer = Answer::Reset {
+        sending: done.given_up.sending,
+        holding: done.given_up.holding,
+        on_after: done.on_after,
+    };
+    observer.answer(event, done.accesses, answer, &[]);
+    Ok(())
 }
 
 /// A tick by itself. `Go` changes nothing, and its outcome is `Nothing`.

@@ -5,7 +5,7 @@ use crate::events::{self, Part};
 use crate::run_observer::RunObserver;
 use host_calls::Network;
 use network_plan::{Event, Reply, Stopped};
-use std::alloc::Global;
+use std::alloc::{AllocError, Global};
 use std::marker::Model;
 
 /// Hosts on wires.
@@ -13,6 +13,8 @@ use std::marker::Model;
 /// In contracts it is a `NetworkState`, plain data that `specs/Networks.antt` of `host_calls` lists.
 #[derive(Drop)]
 pub struct Lan {
+    /// Lists of the frames that a reset gives up are allocated by it.
+    pub(crate) alloc: Global,
     pub(crate) network: Network,
     /// The bytes of the last frame that a socket gave, which are lent to the observer.
     pub(crate) given: [u8; 1518],
@@ -31,22 +33,36 @@ impl Model for Lan {
 }
 
 impl Lan {
-    ghost use Rattle.std.specs.Prelude.{◌<◌, IfErr, OnOk, length, slice_get, take};
+    ghost use Rattle.std.specs.Prelude.{◌≡◌, ◌<◌, IfErr, OnOk, length, slice_get, take};
     ghost use Rattle.wire.specs.RunObservers.{EventTold, HasRoomForEvent};
-    ghost use Rattle.wire.specs.Runs.{EventRuns, RunTold, RunsTo, StopsAt};
+    ghost use Rattle.network_plan.specs.EventCalls.{in_event};
+    ghost use Rattle.wire.specs.Runs.{EventRuns, IsResetOf, RunTold, RunsTo, StopsAt};
 
     /// Runs one event. The observer has room for all that comes of it.
+    ///
+    /// # Errors
+    ///
+    /// Only if it is a reset, and memory for the frames that it gives up is refused. Then nothing has changed.
     #[inline(always)]
-    fn event<O: RunObserver>(&mut self, event: &Event, observer: &mut O)
+    fn event<O: RunObserver>(&mut self, event: &Event, observer: &mut O) -> Result<(), AllocError>
         requires room { HasRoomForEvent O.ready O.room_left event.now observer.old }
-        ensures { EventTold O.ran event.now observer.old observer.new
-            (λ reply. EventRuns self.old event.now reply self.new) }
+        ensures ok { OnOk result (EventTold O.ran event.now observer.old observer.new
+            (λ reply. EventRuns self.old event.now reply self.new)) }
+        ensures refused { IfErr result (λ error. IsResetOf (length self.old.hosts) (in_event event.now)
+            × (self.new ≡ self.old) × (observer.new ≡ observer.old)) }
     {
         match Part::of(event) {
             Part::Call(call) => {
                 events::make_call(&mut self.network, event, &call, &mut self.given, observer);
+                Ok(())
             }
-            Part::Tick(tick) => events::tick(&mut self.network, event, tick, observer),
+            Part::Reset(reset) => {
+                events::make_reset(&mut self.network, self.alloc, event, &reset, observer)
+            }
+            Part::Tick(tick) => {
+                events::tick(&mut self.network, event, tick, observer);
+                Ok(())
+            }
         }
     }
 
@@ -55,8 +71,8 @@ impl Lan {
     ///
     /// # Errors
     ///
-    /// Only if the observer refuses to make room for an event. The events before that one were run and told, and it
-    /// changed nothing in the network.
+    /// Only if the observer refuses to make room for an event, or if memory for the frames that a reset gives up is
+    /// refused. The events before that one were run and told, and it changed nothing in the network.
     #[inline(always)]
     pub fn play<O: RunObserver>(
         &mut self,
@@ -66,27 +82,31 @@ impl Lan {
         ensures ok { OnOk result (RunTold O.ran events.now self.old self.new observer.old observer.new) }
         ensures stopped { IfErr result (λ stopped. (stopped.done < length events.now)
             × RunTold O.ran (take stopped.done events.now) self.old self.new observer.old observer.new) }
-        ensures refused { IfErr result (λ stopped. StopsAt O.refuses (slice_get events.now stopped.done)
+        ensures refused { IfErr result (λ stopped. StopsAt O.refuses (length self.old.hosts)
+            (slice_get events.now stopped.done)
             (RunTold O.ran (take stopped.done events.now) self.old self.new observer.old)) }
     {
         for (done, event) in events.iter().enumerate() {
             if !observer.make_room(event, event.tick_count()) {
                 return Err(Stopped { done });
             }
-            self.event(event, observer);
+            if self.event(event, observer).is_err() {
+                return Err(Stopped { done });
+            }
         }
         Ok(())
     }
 
     /// Runs events in order, and appends a reply for each. Whatever the events are, each socket returns the frames for
     /// it in order, each at most once, and no buffer has two owners. A frame is lost only if the filter rejects it, the
-    /// receive packet buffer has no room for it, or no socket takes it; the last two are counted.
+    /// receive packet buffer has no room for it, no socket takes it, or a reset gives it up or disables the receiver.
+    /// Missed frames and frames without a socket are counted. Replies tell the others.
     ///
     /// # Errors
     ///
-    /// If memory for the reply of an event is refused. The first `done` events were run and answered, and this event
-    /// changed nothing. A contract can't name the allocator's answers, so no clause states that this is the only
-    /// reason.
+    /// If memory for the reply of an event, or for the frames that a reset gives up, is refused. The first `done`
+    /// events were run and answered, and this event changed nothing. A contract can't name the allocator's answers, so
+    /// no clause states that this is the only reason.
     pub fn run(
         &mut self,
         alloc: Global,

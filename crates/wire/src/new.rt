@@ -10,7 +10,7 @@ use std::alloc::Global;
 impl Lan {
     /// Makes a network by a plan: initializes its hosts in order, one at a time. Before each access the host's EEPROM
     /// and its PHY take a step. A host's memory is as large as its rings and buffers. After this call only
-    /// [`run`](Lan::run), and the observer of a [`play`](Lan::play), allocate memory.
+    /// [`run`](Lan::run), the observer of a [`play`](Lan::play), and a reset allocate memory.
     ///
     /// # Errors
     ///
@@ -23,6 +23,7 @@ impl Lan {
         plan.check()?;
         let network = bring_up(alloc, plan)?;
         Ok(Lan {
+            alloc,
             network,
             given: [0; 1518],
         })

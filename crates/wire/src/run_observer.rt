@@ -14,7 +14,8 @@ use stations::Observer;
 
 /// Is told what comes of a run: the outcome of each tick, as any [`Observer`], and the answer that ends an event.
 ///
-/// A run promises what `ran` says, and stops only if `refuses` says so.
+/// A run promises what `ran` says. It stops only if `refuses` says so, or before a reset of a host that is there, if
+/// memory for the frames that it gives up is refused.
 pub trait RunObserver: Observer {
     /// Between these two of its states, it was told what is in these replies, one reply for each event, in order.
     ghost ran: { Self → Self → List Event → List Reply → Type 0 };

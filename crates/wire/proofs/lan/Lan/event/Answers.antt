@@ -1,6 +1,8 @@
 use Rattle.std.proofs.Common.{ap, sym, ◌∙◌}
-use Rattle.wire.specs.PlayedCalls.{call_in, part_in}
-use Rattle.wire.proofs.Telling.{call-event-as, tick-event-as, tick-stands}
+use Rattle.wire.specs.PlayedCalls.{ResetPlayed, call_in, part_in}
+use Rattle.wire.specs.RunObservers.{EventTold}
+use Rattle.wire.specs.Runs.{EventRuns}
+use Rattle.wire.proofs.Telling.{call-event-as, on-ok, reset-event-as, tick-event-as, tick-stands}
 use Rattle.wire.proofs.lan.Lan.event.Goals as goal
 
 pub invariant_of-self-in-Tick : goal.invariant_of-self-in-Tick
@@ -8,8 +10,8 @@ invariant_of-self-in-Tick g c =
     tick-stands c.self.inside.network c.tick.new.network _ c.tick.ensures.told.reply c.tick.ensures.hosts c.self.invariant
     c.tick.ensures.told.holds
 
-pub returns-in-Call : goal.returns-in-Call
-returns-in-Call g c =
+pub returns-in-Call-clause-ok : goal.returns-in-Call-clause-ok
+returns-in-Call-clause-ok g c =
     let told = c.make_call.ensures in
     record {
       reply = told.reply;
@@ -19,8 +21,26 @@ returns-in-Call g c =
           c.self.view_is (sym c.of.ensures ∙ ap part_in c.in-Call.is) told.holds c.self.invariant;
     }
 
-pub returns-in-Tick : goal.returns-in-Tick
-returns-in-Tick g c =
+pub returns-in-Reset-clause-ok : goal.returns-in-Reset-clause-ok
+returns-in-Reset-clause-ok g c =
+    let event = c.args.event.now in
+    let reset = c.in-Reset.reset in
+    let new = c.make_reset.new.network in
+    on-ok c.make_reset.result
+    (EventTold g.O.RunObserver.ran event c.args.observer.now c.make_reset.new.observer
+    (λ reply. ResetPlayed reset.host reset.ticks.now reply c.self.inside.network new))
+    (EventTold g.O.RunObserver.ran event c.args.observer.now c.make_reset.new.observer
+    (λ reply. EventRuns c.args.self.now event reply new))
+    (λ told. record {
+      reply = told.reply;
+      told = told.told;
+      holds =
+          reset-event-as c.args.self.now c.self.inside.network new event reset.host reset.ticks.now told.reply c.self.view_is
+          (sym c.of.ensures ∙ ap part_in c.in-Reset.is) told.holds c.self.invariant;
+    }) c.make_reset.ensures.ok
+
+pub returns-in-Tick-clause-ok : goal.returns-in-Tick-clause-ok
+returns-in-Tick-clause-ok g c =
     let told = c.tick.ensures.told in
     record {
       reply = told.reply;

@@ -1,0 +1,14 @@
+-- What a host would give up if its adapter were reset now (our choice).
+use Rattle.std.specs.Prelude.{◌≡◌, ◌≤◌, ◌+◌, vec_capacity}
+use Rattle.rx_engine.specs.declared.engine.TheConstants.{MOST_FRAMES}
+use Rattle.adapter.specs.HostFrames.{frames_held, frames_to_send}
+use Rattle.adapter.specs.World.{World}
+use Rattle.packet_socket.specs.HostState.{HostState}
+use Rattle.host_calls.specs.declared.resetting.GivenUp.{GivenUp}
+
+-- The frames that are to be sent, and those that are held, with room for as many as its receive ring has slots and its packet buffer has
+-- room for.
+pub record IsBeforeReset (host : HostState) (world : World) (found : GivenUp) : Type 0 where
+  pub sending : found.sending.items ≡ frames_to_send world
+  pub holding : found.holding.items ≡ frames_held host.driver.oldest_receive world
+  pub room : host.driver.layout.rx + MOST_FRAMES ≤ vec_capacity found.holding

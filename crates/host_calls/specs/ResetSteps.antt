@@ -1,0 +1,69 @@
+-- The atomic steps of a reset of a host's adapter, in its network (our choice). The accesses among them are exactly those of the driver's
+-- reset, in order (driver/specs/Resetting). Three of them divide the steps: RCTL is written with 0, then CTRL with RST, then RCTL again.
+use Rattle.std.specs.Prelude.{◌≡◌, ◌++◌, ◌∷◌, [], ℕ, List}
+use Rattle.registers.specs.Places.{alone, ctrl_rst}
+use Rattle.dma_memory.specs.Layout.{Counts}
+use Rattle.adapter.specs.declared.offsets.TheConstants.{CTRL, ICR, IMC, MPC, RCTL}
+use Rattle.bus.specs.declared.event.Access.TheVariants.{Reads, Writes}
+use Rattle.bus.specs.declared.event.Event.TheVariants.{Accesses}
+use Rattle.stations.specs.AtomicRuns.{past_at}
+use Rattle.stations.specs.AtomicSteps.{At, AtomicStep}
+use Rattle.driver_law.specs.DriverState.{DriverSetup}
+use Rattle.bring_up.specs.RingRegisters.{receive_control}
+use Rattle.driver.specs.Resetting.{free_accesses, later_accesses, quiet_writes}
+
+-- host k writes a register
+abbrev pub writes_at : (k offset value : ℕ) → AtomicStep
+writes_at k offset value = At k (Accesses (Writes offset value))
+
+-- The steps between the three writes.
+pub record ResetParts : Type 0 where
+  -- ticks, before RCTL is written: the outcomes with number 0
+  pub early : List AtomicStep
+  -- until CTRL.RST is written: the outcomes with numbers 1 and 2
+  pub stopping : List AtomicStep
+  -- until RCTL is written again: the outcomes with numbers from 3 on that are less than the number of accesses then
+  pub resting : List AtomicStep
+  -- and those after it
+  pub later : List AtomicStep
+
+-- the step in which RCTL is written with 0
+abbrev pub disable_of : (k : ℕ) → AtomicStep
+disable_of k = writes_at k RCTL 0
+
+-- before CTRL.RST is written
+abbrev pub before_reset : (k : ℕ) → ResetParts → List AtomicStep
+before_reset k parts = parts.early ++ disable_of k ∷ parts.stopping
+
+-- the step in which it is written
+abbrev pub reset_of : (k : ℕ) → AtomicStep
+reset_of k = writes_at k CTRL (alone ctrl_rst)
+
+-- the step in which RCTL is written again
+abbrev pub enable_of : (k : ℕ) → DriverSetup → AtomicStep
+enable_of k setup = writes_at k RCTL (receive_control setup.promiscuous setup.by_vlan)
+
+-- from the one to the other
+abbrev pub at_rest : (k : ℕ) → DriverSetup → ResetParts → List AtomicStep
+at_rest k setup parts = reset_of k ∷ (parts.resting ++ enable_of k setup ∷ [])
+
+-- all steps
+abbrev pub whole_reset : (k : ℕ) → DriverSetup → ResetParts → List AtomicStep
+whole_reset k setup parts = before_reset k parts ++ (at_rest k setup parts ++ parts.later)
+
+-- what a driver reads and stores in a reset, beside what its setup determines: the values of MPC and ICR, the words of the group table and
+-- of the VLAN table, and the numbers of the buffers that it offers
+pub record ResetValues : Type 0 where
+  pub misses : ℕ
+  pub causes : ℕ
+  pub groups : List ℕ
+  pub vlans : List ℕ
+  pub numbers : List ℕ
+
+-- The accesses of each part, in order. With the three writes between the parts they are all accesses of the reset.
+pub record PartsAccess (k : ℕ) (counts : Counts) (setup : DriverSetup) (values : ResetValues) (parts : ResetParts) : Type 0 where
+  pub early : (past_at k parts.early).accesses ≡ []
+  pub stopping : (past_at k parts.stopping).accesses ≡ Reads MPC values.misses ∷ []
+  pub resting : (past_at k parts.resting).accesses ≡ Writes IMC 0xFFFFFFFF ∷ Reads ICR values.causes
+      ∷ quiet_writes setup counts values.groups values.vlans ++ free_accesses counts values.numbers
+  pub later : (past_at k parts.later).accesses ≡ later_accesses counts

@@ -1,0 +1,106 @@
+-- What a reset of a host does, in the atomic steps of its network (our choice). Before CTRL.RST is written, the driver is ready and both
+-- engines run. Then the adapter is at rest until RCTL is written. From this write on frames are received again.
+use Rattle.std.specs.Prelude.{◌≡◌, ◌++◌, [], ℕ, true, List}
+use Rattle.adapter.specs.HostFrames.{frames_held, frames_to_send}
+use Rattle.adapter.specs.World.{World}
+use Rattle.bus.specs.AdaptersAtRest.{NoFrame}
+use Rattle.bus.specs.Link.{HasLink}
+use Rattle.bring_up.specs.ConfiguredAdapters.{HasSetup}
+use Rattle.joined_groups.specs.Groups.{HasTable}
+use Rattle.stations.specs.AtomicRuns.{LeadsTo, counted_of, past_at}
+use Rattle.stations.specs.AtomicSteps.{AtomicStep, after}
+use Rattle.stations.specs.Stations.{StationState, world_at}
+use Rattle.driver_law.specs.Calls.{HasNoForgottenWork, IsRefilled, SumsMisses, driver_in, with_missed}
+use Rattle.driver_law.specs.DriverState.{DriverSetup, with_owners}
+use Rattle.driver_law.specs.Resets.{reset_driver, reset_world}
+use Rattle.driver.specs.Initialisation.{AreFilterTables}
+use Rattle.packet_socket.specs.HostCalls.{HostGoesTo, HostReady, did_nothing, in_world, waiting_frames}
+use Rattle.packet_socket.specs.HostState.{HostState}
+use Rattle.host_calls.specs.CallsOfHosts.{StepsOfCall}
+use Rattle.host_calls.specs.ConnectedHosts.{ConnectedHost, PlayedCall}
+use Rattle.host_calls.specs.ResetSteps.{PartsAccess, ResetParts, ResetValues, at_rest, before_reset, reset_of, whole_reset}
+
+-- the host once MPC was read
+abbrev pub stopped_host : (misses : ℕ) → HostState → HostState
+stopped_host misses host = record host { driver = with_missed misses host.driver }
+
+-- Until CTRL.RST is written: the host takes no frame and accepts none. None is stored or missed after RCTL is 0.
+pub record StopsInSteps (k misses : ℕ) (parts : ResetParts) (old : ConnectedHost) (last : List StationState) : Type 0 where
+  pub leads : LeadsTo k (before_reset k parts) old.stations last
+  pub goes : HostGoesTo true (in_world old.host (world_at old.stations k)) (in_world (stopped_host misses old.host) (world_at last k))
+      did_nothing (past_at k (before_reset k parts))
+  pub none_stored : (past_at k parts.stopping).stored ≡ []
+  pub none_missed : (past_at k parts.stopping).missed ≡ 0
+
+-- From this write to that of RCTL: first the adapter is as after a reset, with RNBC, GPRC and GPTC at 0; then no frame is put, stored or
+-- missed.
+pub record RestsInSteps (k : ℕ) (setup : DriverSetup) (parts : ResetParts) (last enabled : List StationState) : Type 0 where
+  pub leads : LeadsTo k (at_rest k setup parts) last enabled
+  pub is_reset : world_at (after (reset_of k) last) k ≡ reset_world (world_at last k)
+  pub no_frame : NoFrame (past_at k (at_rest k setup parts))
+
+-- The driver has new slots, with the buffers `numbers`, its other buffers are free, and the value of MPC was added to its count of misses.
+-- Nothing else of the host changes.
+pub record HostBeginsAgain (misses : ℕ) (numbers : List ℕ) (old new : HostState) : Type 0 where
+  pub host : new ≡ record old { driver = new.driver }
+  pub driver : new.driver ≡ with_owners (reset_driver [] (with_missed misses old.driver)) numbers [] new.driver.pool new.driver.handed_out
+  pub refilled : IsRefilled new.driver
+
+-- After the write of RCTL: the host is ready again, and what it holds was stored since.
+pub record RestartsInSteps (k : ℕ) (parts : ResetParts) (enabled : List StationState) (new : ConnectedHost) : Type 0 where
+  pub leads : LeadsTo k parts.later enabled new.stations
+  pub ready : HostReady new.host (world_at new.stations k)
+  pub work : HasNoForgottenWork new.host.driver (world_at new.stations k)
+  pub held : frames_held new.host.driver.oldest_receive (world_at new.stations k) ≡ (past_at k parts.later).stored
+  pub none_put : (past_at k parts.later).put ≡ []
+  pub none_to_send : frames_to_send (world_at new.stations k) ≡ []
+
+-- What is after the reset as it was before: what the driver set up, the numbers in the group table, the frames in the sockets' queues, and
+-- a link that is up. The count of misses loses none.
+pub record KeepsInReset (k : ℕ) (steps : List AtomicStep) (old new : ConnectedHost) : Type 0 where
+  pub set_up : HasSetup old.host.driver.setup (world_at new.stations k).adapter
+  pub groups : HasTable old.host.driver.groups (world_at new.stations k)
+  pub waiting : (socket : ℕ) → waiting_frames new.host socket (world_at new.stations k)
+      ≡ waiting_frames old.host socket (world_at old.stations k)
+  pub sums : SumsMisses (driver_in old.host.driver (world_at old.stations k)) (driver_in new.host.driver (world_at new.stations k))
+      (past_at k steps)
+  pub link : HasLink (world_at old.stations k) → HasLink (world_at new.stations k)
+
+-- Host k reset its adapter in these steps.
+pub record ResetsInSteps (k : ℕ) (steps : List AtomicStep) (old new : ConnectedHost) : Type 0 where
+  pub parts : ResetParts
+  pub split : steps ≡ whole_reset k old.host.driver.setup parts
+  -- the exact accesses: the tables' words have the bits of the groups joined and of the VLANs
+  pub values : ResetValues
+  pub tables : AreFilterTables old.host.driver.groups old.host.driver.setup.vlans values.groups values.vlans
+  pub accesses : PartsAccess k old.host.driver.layout old.host.driver.setup values parts
+  -- all stations when CTRL.RST is written, and right after RCTL is written
+  pub last : List StationState
+  pub enabled : List StationState
+  pub stops : StopsInSteps k values.misses parts old last
+  pub rests : RestsInSteps k old.host.driver.setup parts last enabled
+  pub restarts : RestartsInSteps k parts enabled new
+  pub again : HostBeginsAgain values.misses values.numbers old.host new.host
+  pub keeps : KeepsInReset k steps old new
+
+-- What is given up: what is to be sent, and what is held, when CTRL.RST is written. By the outcomes: what was to be sent at the beginning,
+-- without what was put since; and what was held at the beginning, then what was stored before RCTL was written.
+pub record GivesUp (sending holding : List (List ℕ)) (k oldest : ℕ) (parts : ResetParts) (old last : World) : Type 0 where
+  pub sending_then : sending ≡ frames_to_send last
+  pub holding_then : holding ≡ frames_held oldest last
+  pub sending_since : (past_at k (before_reset k parts)).put ++ sending ≡ frames_to_send old
+  pub holding_since : holding ≡ frames_held oldest old ++ (past_at k parts.early).stored
+
+-- A reset with its ticks, in its atomic steps.
+pub record RunsReset (call : PlayedCall) (old new : ConnectedHost) : Type 0 where
+  pub steps : List AtomicStep
+  pub of_call : StepsOfCall call steps old.stations new.stations
+  pub resets : ResetsInSteps call.caller steps old new
+
+-- It gave up these frames, and so many accesses were made when RCTL was written again.
+pub record MakesReset (call : PlayedCall) (sending holding : List (List ℕ)) (on_after : ℕ) (old new : ConnectedHost) : Type 0 where
+  pub runs : RunsReset call old new
+  pub gives_up : GivesUp sending holding call.caller old.host.driver.oldest_receive runs.resets.parts (world_at old.stations call.caller)
+      (world_at runs.resets.last call.caller)
+  pub enabled_after : on_after ≡ counted_of 0 (before_reset call.caller runs.resets.parts
+      ++ at_rest call.caller old.host.driver.setup runs.resets.parts)

@@ -1,0 +1,167 @@
+// Resets of the hosts of a network, with the ticks inside them.
+
+ghost use Rattle.std.specs.Prelude.{◌≡◌, ◌≤◌, ◌<◌, ◌+◌, IfOk, drop, length, min};
+ghost use Rattle.adapter.specs.State.{IsAdapter};
+ghost use Rattle.stations.specs.Stations.{world_at};
+ghost use Rattle.packet_socket.specs.HostCalls.{HostReady};
+ghost use Rattle.host_calls.specs.ConnectedHosts.{played_call};
+ghost use Rattle.host_calls.specs.Givings.{KeepsReferences, TellsAndNotes};
+ghost use Rattle.host_calls.specs.Networks.{OnlyHostChanges, connected_at, nth_host};
+ghost use Rattle.host_calls.specs.BeforeReset.{IsBeforeReset};
+ghost use Rattle.host_calls.specs.Notes.{NotesTicks};
+ghost use Rattle.host_calls.specs.ResetsInSteps.{MakesReset, RunsReset};
+
+use crate::giving::{Giving, Noted};
+use crate::network::Network;
+use descriptors::Frame;
+use rx_engine::MOST_FRAMES;
+use stations::{LentBus, Observer, Tick};
+use std::alloc::{AllocError, Global};
+
+/// The number of accesses of a reset up to the write of RCTL that enables the receiver, that one counted, without the
+/// one for each descriptor of the receive ring.
+const OTHER_ACCESSES: u64 = 302;
+
+/// The frames that a reset of a host gives up.
+#[derive(Debug, Drop)]
+pub struct GivenUp {
+    /// Those that were to be sent, oldest first.
+    pub sending: Vec<Frame>,
+    /// Those that were held, oldest first.
+    pub holding: Vec<Frame>,
+}
+
+/// What came of a reset.
+#[derive(Debug, Drop)]
+pub struct WasReset {
+    /// The frames that it gave up.
+    pub given_up: GivenUp,
+    /// The number of accesses when RCTL was written again.
+    pub on_after: u64,
+    /// The number of all accesses, up to the greatest `u64`.
+    pub accesses: u64,
+}
+
+/// Removes so many frames from the front of a list, or all if it has fewer.
+fn drop_first(frames: &mut Vec<Frame>, count: u64)
+    ensures { frames.new.items ≡ drop (min (length frames.old.items) count) frames.old.items }
+{
+    let first = frames.len().min(count as usize);
+    frames.drain(..first);
+}
+
+impl Network {
+    /// The frames that a reset of host `number` would give up if it wrote CTRL.RST now, with room for those that may
+    /// come before its receiver is disabled. Nothing changes.
+    ///
+    /// # Errors
+    ///
+    /// Only if memory is refused.
+    pub fn before_reset(&self, alloc: Global, number: usize) -> Result<GivenUp, AllocError>
+        requires there { number < length self.now.hosts }
+        requires ready { HostReady (nth_host self.now number) (world_at self.now.stations number) }
+        requires adapter { IsAdapter (world_at self.now.stations number).adapter }
+        ensures found { IfOk result
+            (IsBeforeReset (nth_host self.now number) (world_at self.now.stations number)) }
+    {
+        let host = &self.hosts[number];
+        let layout = host.layout();
+        let most = usize::from(layout.rx()) + usize::from(MOST_FRAMES);
+        let mut sending = Vec::new(alloc);
+        sending.reserve(usize::from(layout.tx()))?;
+        let mut holding = Vec::new(alloc);
+        holding.reserve(most)?;
+        self.stations
+            .pending(number, host.oldest(), &mut sending, &mut holding);
+        // The list has this room already, but `pending` doesn't promise it.
+        holding.reserve(most - holding.len())?;
+        Ok(GivenUp { sending, holding })
+    }
+
+    /// Resets the adapter of host `number`, while ticks are played on all stations. `found` is from
+    /// [`before_reset`](Network::before_reset). No memory is allocated. No other host changes; ticks may change all
+    /// stations.
+    pub fn reset<O: Observer>(
+        &mut self,
+        number: usize,
+        ticks: &[Tick],
+        observer: &mut O,
+        found: GivenUp,
+    ) -> WasReset
+        requires there { number < length self.old.hosts }
+        requires ready { HostReady (nth_host self.old number) (world_at self.old.stations number) }
+        requires adapter { IsAdapter (world_at self.old.stations number).adapter }
+        requires ticks { length ticks.now ≤ O.room_left observer.old }
+        requires found { IsBeforeReset (nth_host self.old number) (world_at self.old.stations number) found }
+        ensures resets { MakesReset
+            (played_call number ticks.now (O.heard observer.old observer.new) result.accesses)
+            result.given_up.sending.items result.given_up.holding.items result.on_after
+            (connected_at self.old number) (connected_at self.new number) }
+        ensures on_after { result.on_after ≡ 302 + (nth_host self.old number).driver.layout.rx }
+        ensures others { OnlyHostChanges number self.old self.new }
+    {
+        let GivenUp {
+            mut sending,
+            holding,
+        } = found;
+        let rx = self.hosts[number].layout().rx();
+        let most = usize::from(rx) + usize::from(MOST_FRAMES);
+        let mut noted = Noted::new(number, most, holding);
+        let accesses = self.reset_noting(number, ticks, observer, &mut noted);
+        let (put, holding) = noted.into_parts();
+        drop_first(&mut sending, put);
+        WasReset {
+            given_up: GivenUp { sending, holding },
+            on_after: OTHER_ACCESSES + u64::from(rx),
+            accesses,
+        }
+    }
+
+    /// Resets the adapter of host `number`, while ticks are played and noted. Returns the number of accesses.
+    fn reset_noting<O: Observer>(
+        &mut self,
+        number: usize,
+        ticks: &[Tick],
+        observer: &mut O,
+        noted: &mut Noted,
+    ) -> u64
+        requires there { number < length self.old.hosts }
+        requires ready { HostReady (nth_host self.old number) (world_at self.old.stations number) }
+        requires ticks { length ticks.now ≤ O.room_left observer.old }
+        ensures runs { RunsReset (played_call number ticks.now
+            (λ told. O.heard observer.old observer.new told × NotesTicks noted.old noted.new told) result)
+            (connected_at self.old number) (connected_at self.new number) }
+        ensures others { OnlyHostChanges number self.old self.new }
+    {
+        let mut giving = Giving { observer, noted };
+        self.reset_over(number, ticks, &mut giving)
+    }
+
+    /// Resets the adapter of host `number`, while ticks are played, and returns the number of accesses.
+    fn reset_over<O: Observer>(
+        &mut self,
+        number: usize,
+        ticks: &[Tick],
+        giving: &mut Giving<'_, O>,
+    ) -> u64
+        requires there { number < length self.old.hosts }
+        requires ready { HostReady (nth_host self.old number) (world_at self.old.stations number) }
+        requires ticks { length ticks.now ≤ O.room_left giving.old.observer.now }
+        ensures keeps { KeepsReferences giving.old giving.new }
+        ensures runs { HostReady (nth_host self.old number) (world_at self.old.stations number)
+            → RunsReset (played_call number ticks.now (TellsAndNotes O.heard giving.old giving.new) result)
+            (connected_at self.old number) (connected_at self.new number) }
+        ensures others { OnlyHostChanges number self.old self.new }
+    {
+        let mut bus = LentBus {
+            stations: &mut self.stations,
+            ticks,
+            host: number,
+            accesses: 0,
+            observer: giving,
+        };
+        self.hosts[number].reset(&mut bus);
+        bus.finish();
+        bus.accesses
+    }
+}
