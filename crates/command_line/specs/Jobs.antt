@@ -55,6 +55,7 @@ pub record IsRunJobOf (rows : List Row) (job : RunJob) : Type 0 where
   pub scenario : first_of (codes "SCENARIO") rows ≡ Some job.scenario.now
   pub directory : first_of (codes "OUTDIR") rows ≡ Some job.directory.now
   pub wires : IsFlagOf (first_of (codes "wires") rows) job.wires
+  pub events : IsTextOf (first_of (codes "events") rows) job.events
 
 abbrev pub IsShowJobOf : List Row → ShowJob → Type 0
 IsShowJobOf rows job = first_of (codes "TRACE") rows ≡ Some job.trace.now

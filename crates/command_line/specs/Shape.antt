@@ -28,11 +28,11 @@ pass_app =
     (option_rule (codes "address"))) (option_rule (codes "group"))) (option_rule (codes "vlan")))
     (file_rule (codes "IN"))) (file_rule (codes "OUT"))
 
--- `run [--wires] SCENARIO OUTDIR`
+-- `run [--wires] [--events FILE] SCENARIO OUTDIR`
 unfoldable pub run_app : App
 run_app =
-    with_rule (with_rule (with_rule (new_app (codes "run"))
-    (flag_rule (codes "wires"))) (file_rule (codes "SCENARIO"))) (file_rule (codes "OUTDIR"))
+    with_rule (with_rule (with_rule (with_rule (new_app (codes "run"))
+    (flag_rule (codes "wires"))) (option_rule (codes "events"))) (file_rule (codes "SCENARIO"))) (file_rule (codes "OUTDIR"))
 
 -- `show TRACE`
 unfoldable pub show_app : App

@@ -8,10 +8,11 @@ ghost use Rattle.command_line.specs.Shape.{drive_app, file_rule, flag_rule, opti
 ghost use Rattle.command_line.specs.Shape.{required_rule, run_app, serve_app, show_app};
 
 use crate::help::{
-    ADDRESS_HELP, DRIVE_ABOUT, DRIVE_MEMORY_HELP, DRIVE_NOTE, EEPROM_ADDRESS_HELP, EXPECT_HELP,
-    GROUP_HELP, IDLE_HELP, IMAGE_HELP, LINK_HELP, MEMORY_HELP, MISSED_HELP, PASS_ABOUT, PASS_NOTE,
-    PROGRAM_NOTE, RECORD_HELP, REGISTERS_HELP, RUN_ABOUT, RUN_NOTE, RXA_HELP, SCHEDULE_HELP,
-    SEED_HELP, SERVE_ABOUT, SERVE_NOTE, SHOW_ABOUT, SHOW_NOTE, VERSION, VLAN_HELP, WIRES_HELP,
+    ADDRESS_HELP, DRIVE_ABOUT, DRIVE_MEMORY_HELP, DRIVE_NOTE, EEPROM_ADDRESS_HELP, EVENTS_HELP,
+    EXPECT_HELP, GROUP_HELP, IDLE_HELP, IMAGE_HELP, LINK_HELP, MEMORY_HELP, MISSED_HELP,
+    PASS_ABOUT, PASS_NOTE, PROGRAM_NOTE, RECORD_HELP, REGISTERS_HELP, RUN_ABOUT, RUN_NOTE,
+    RXA_HELP, SCHEDULE_HELP, SEED_HELP, SERVE_ABOUT, SERVE_NOTE, SHOW_ABOUT, SHOW_NOTE, VERSION,
+    VLAN_HELP, WIRES_HELP,
 };
 use clap::{Arg, ArgAction, Command};
 use std::alloc::{AllocError, Global};
@@ -160,8 +161,9 @@ fn pass<'a>() -> Subcommand<'a>
     }
 }
 
-const RUN_ARGUMENTS: [Argument<'static>; 3] = [
+const RUN_ARGUMENTS: [Argument<'static>; 4] = [
     Argument::Flag("wires", WIRES_HELP),
+    Argument::Value("events", "FILE", EVENTS_HELP),
     Argument::File(
         "SCENARIO",
         "The scenario to run, a text file, or - for standard input",
@@ -169,7 +171,7 @@ const RUN_ARGUMENTS: [Argument<'static>; 3] = [
     Argument::File("OUTDIR", "The folder to write traces into; it must exist"),
 ];
 
-/// `run [--wires] SCENARIO OUTDIR`.
+/// `run [--wires] [--events FILE] SCENARIO OUTDIR`.
 fn run<'a>() -> Subcommand<'a>
     ensures { app_for result ≡ run_app }
 {

@@ -26,7 +26,7 @@ pub struct PassJob<'a> {
     pub output: &'a str,
 }
 
-/// The job of `run [--wires] SCENARIO OUTDIR`.
+/// The job of `run [--wires] [--events FILE] SCENARIO OUTDIR`.
 #[derive(Clone, Copy)]
 pub struct RunJob<'a> {
     /// The path of the scenario that is run, SCENARIO.
@@ -35,6 +35,8 @@ pub struct RunJob<'a> {
     pub directory: &'a str,
     /// Whether the traces of wires are written, too (`--wires`).
     pub wires: bool,
+    /// The path of the file that gets a line for each event (`--events`, none).
+    pub events: Option<&'a str>,
 }
 
 /// The job of `show TRACE`.

@@ -1,4 +1,4 @@
-//! The job of `run`, from what clap holds for its option, its file and its folder.
+//! The job of `run`, from what clap holds for its options, its file and its folder.
 ghost use Rattle.clap.specs.Words.{found_of, rows_of};
 ghost use Rattle.command_line.specs.Jobs.{HasScenario, IsRunJobOf};
 
@@ -13,9 +13,11 @@ pub(crate) fn run_job<'a>(matches: &ArgMatches<'a>) -> RunJob<'a>
     let scenario = matches.get_str("SCENARIO").unwrap();
     let directory = matches.get_str("OUTDIR").unwrap();
     let wires = matches.get_str("wires") == Some("true");
+    let events = matches.get_str("events");
     RunJob {
         scenario,
         directory,
         wires,
+        events,
     }
 }

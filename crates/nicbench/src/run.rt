@@ -1,5 +1,5 @@
 //! The command `run`.
-ghost use Rattle.std.specs.Prelude.{◌≡◌, ◌+◌, All, IfOk, OnOk, length};
+ghost use Rattle.std.specs.Prelude.{◌≡◌, ◌+◌, All, IfOk, IfSome, OnOk, length};
 ghost use Rattle.nicbench.specs.Sinks.{sockets_in, wires_in};
 
 use crate::fault::Fault;
@@ -7,13 +7,17 @@ use command_line::RunJob;
 use network_plan::HostPlan;
 use pcap_bench::{Sink, Trace, WriterSink};
 use program_files::{
-    FileSink, Watched, create_all, find_folder, read_bytes, read_trace, report_play,
+    FileSink, StandardError, Watched, create, create_all, find_folder, read_bytes, read_trace,
+    report_play,
 };
 use scenario::Scenario;
 use scenario_bench::{Summary, bench, bench_wires, print_summary, wires};
 use std::alloc::{AllocError, Global};
 use std::io::{self, Input};
 use std::rt::Files;
+
+/// The path that stands for standard output.
+const STANDARD_OUTPUT: &str = "-";
 
 /// Reads a scenario.
 fn read_scenario<R: Files + Input + AllocGlobal>(rt: &R, path: &str) -> Result<Scenario, Fault> {
@@ -106,11 +110,24 @@ fn create_wire_sinks<R: Files + AllocGlobal>(
     Ok(sinks)
 }
 
+/// The file of the lines of events, if they go to a file.
+fn create_events_sink<R: Files>(
+    rt: &R,
+    job: &RunJob<'_>,
+) -> Result<Option<FileSink<R::File>>, Fault>
+    ensures { IfOk result (λ file. IfSome file (λ sink. ⟦<FileSink<R::File> as Sink>⟧.failures sink ≡ 0)) }
+{
+    match job.events {
+        Some(path) => Ok(Some(create(rt, path)?)),
+        None => Ok(None),
+    }
+}
+
 /// Makes sure that the files of the wires can be written, too, plays a scenario, and writes the files of the sockets
 /// and then those of the wires.
 fn play_wires<R: Files + Watched + AllocGlobal>(
     rt: &R,
-    directory: &str,
+    job: &RunJob<'_>,
     scenario: &Scenario,
     traces: &[Trace],
     sinks: &mut [FileSink<R::File>],
@@ -119,7 +136,7 @@ fn play_wires<R: Files + Watched + AllocGlobal>(
     requires sinks { length sinks.old ≡ sockets_in scenario.now.plan.hosts.items }
     requires countable { All (λ sink. ⟦<FileSink<R::File> as Sink>⟧.failures sink ≡ 0) sinks.old }
 {
-    let mut wire_sinks = create_wire_sinks(rt, directory, scenario.plan.hosts.as_slice())?;
+    let mut wire_sinks = create_wire_sinks(rt, job.directory, scenario.plan.hosts.as_slice())?;
     report_play(rt, traces);
     match bench_wires(
         rt.alloc(),
@@ -127,6 +144,7 @@ fn play_wires<R: Files + Watched + AllocGlobal>(
         traces,
         sinks,
         wire_sinks.as_mut_slice(),
+        job.events.is_some(),
     ) {
         Ok(summary) => Ok(summary),
         Err(error) => Err(Fault::Bench(error)),
@@ -145,23 +163,74 @@ fn play<R: Files + Watched + AllocGlobal>(
 {
     let mut sinks = create_socket_sinks(rt, job.directory, scenario.plan.hosts.as_slice())?;
     if job.wires {
-        return play_wires(rt, job.directory, scenario, traces, sinks.as_mut_slice());
+        return play_wires(rt, job, scenario, traces, sinks.as_mut_slice());
     }
     report_play(rt, traces);
-    match bench(rt.alloc(), scenario, traces, sinks.as_mut_slice()) {
+    let events = job.events.is_some();
+    match bench(rt.alloc(), scenario, traces, sinks.as_mut_slice(), events) {
         Ok(summary) => Ok(summary),
         Err(error) => Err(Fault::Bench(error)),
     }
 }
 
-/// Reads SCENARIO and the traces that it feeds, plays the scenario, writes its files, and prints a line for each host.
+/// Warns on standard error, once, if sends were refused, or if recvs named a socket that doesn't exist. The status is
+/// the same.
+fn warn<R: Eprint>(rt: &R, summary: &Summary) {
+    let Summary {
+        refused,
+        absent,
+        ..
+    } = summary;
+    if *refused > 0 || *absent > 0 {
+        let _ = eprintln!(rt;
+            "nicbench: sends refused {refused}, recvs of absent sockets {absent}; --events lists them"
+        );
+    }
+}
+
+/// Writes the lines of events to standard output, and the lines of hosts to standard error. The status is the same even
+/// if standard error accepts nothing.
+fn print_to_standard_output<R: Print + Eprint>(rt: &R, summary: &Summary) -> Result<(), Fault> {
+    if let Some(events) = &summary.events {
+        events.write(&mut WriterSink::new(io::writer(rt)))?;
+    }
+    let _ = print_summary(summary, &mut WriterSink::new(StandardError::new(rt)));
+    Ok(())
+}
+
+/// Writes the lines of events to their file, which was opened before the run, if they were asked for. The lines of
+/// hosts go to standard output.
+fn print<R: Files + Print + Eprint>(
+    rt: &R,
+    summary: &Summary,
+    file: Option<FileSink<R::File>>,
+) -> Result<(), Fault>
+    requires { IfSome file (λ sink. ⟦<FileSink<R::File> as Sink>⟧.failures sink ≡ 0) }
+{
+    if let (Some(events), Some(mut sink)) = (&summary.events, file) {
+        events.write(&mut sink)?;
+    }
+    print_summary(summary, &mut WriterSink::new(io::writer(rt)))?;
+    Ok(())
+}
+
+/// Reads SCENARIO and the traces that it feeds, plays the scenario, writes its files, and prints a line for each host,
+/// on request also a line for each event.
 pub(crate) fn run_scenario<R: Files + Input + Print + Watched + AllocGlobal>(
     rt: &R,
     job: &RunJob<'_>,
 ) -> Result<(), Fault> {
     let scenario = read_scenario(rt, job.scenario)?;
     let traces = read_traces(rt, scenario.trace_names())?;
+    if job.events == Some(STANDARD_OUTPUT) {
+        let summary = play(rt, job, &scenario, traces.as_slice())?;
+        print_to_standard_output(rt, &summary)?;
+        warn(rt, &summary);
+        return Ok(());
+    }
+    let file = create_events_sink(rt, job)?;
     let summary = play(rt, job, &scenario, traces.as_slice())?;
-    print_summary(&summary, &mut WriterSink::new(io::writer(rt)))?;
+    print(rt, &summary, file)?;
+    warn(rt, &summary);
     Ok(())
 }

@@ -16,6 +16,7 @@ kinds =
     ∷ (codes "send", line.Send)
     ∷ (codes "recv", line.Recv)
     ∷ (codes "interrupt", line.Interrupt)
+    ∷ (codes "reset", line.Reset)
     ∷ (codes "join", line.Membership change.Join)
     ∷ (codes "leave", line.Membership change.Leave)
     ∷ (codes "tick", line.Tick)

@@ -11,7 +11,7 @@ use Rattle.packet_socket.specs.declared.socket_kind.SocketKind.TheVariants as so
 use Rattle.stations.specs.declared.tick.Tick.{Tick}
 use Rattle.stations.specs.declared.tick.Tick.TheVariants as tick
 use Rattle.scenario.specs.HostOptions.{AreCounted, AreRead, options_asked, uses_in}
-use Rattle.scenario.specs.SoFar.{Host, Said, SoFar, Sends, Receives, Interrupts, Joins, Leaves, Ticks, Feeds, Draws, Drains}
+use Rattle.scenario.specs.SoFar.{Host, Said, SoFar, Sends, Receives, Interrupts, Resets, Joins, Leaves, Ticks, Feeds, Draws, Drains}
 use Rattle.scenario.specs.SoFar.{has_name, place_of}
 use Rattle.scenario.specs.Spellings.{IsAddress, IsFrame, address_in, frame_in, is_number, socket_in}
 use Rattle.scenario.specs.TickWords.{is_tick, tick_named}
@@ -83,6 +83,7 @@ HasCount line.Socket words = length words ≡ 3
 HasCount line.Send words = length (call_words words) ≡ 3
 HasCount line.Recv words = length (call_words words) ≡ 3
 HasCount line.Interrupt words = length (call_words words) ≡ 2
+HasCount line.Reset words = length (call_words words) ≡ 2
 HasCount (line.Membership one) words = length (call_words words) ≡ 3
 HasCount line.Tick words = length words ≡ 2
 HasCount line.Feed words = length words ≡ 3
@@ -98,6 +99,7 @@ HasValues line.Socket words = IsSome (socket_in (word 2 words))
 HasValues line.Send words = IsFrame (word 2 (call_words words)) × (are_ticks (tick_words words) ≡ true)
 HasValues line.Recv words = (is_number 10 64 (word 2 (call_words words)) ≡ true) × (are_ticks (tick_words words) ≡ true)
 HasValues line.Interrupt words = are_ticks (tick_words words) ≡ true
+HasValues line.Reset words = are_ticks (tick_words words) ≡ true
 HasValues (line.Membership one) words = IsAddress (word 2 (call_words words)) × (are_ticks (tick_words words) ≡ true)
 HasValues line.Tick words = is_tick (word 1 words) ≡ true
 HasValues line.Feed words = Unit {0}
@@ -134,6 +136,7 @@ HasHostNames line.Socket hosts words = IsRoomAt (word 1 words) sockets_held most
 HasHostNames line.Send hosts words = AreKnown hosts (word 1 (call_words words)) (tick_words words)
 HasHostNames line.Recv hosts words = AreKnown hosts (word 1 (call_words words)) (tick_words words)
 HasHostNames line.Interrupt hosts words = AreKnown hosts (word 1 (call_words words)) (tick_words words)
+HasHostNames line.Reset hosts words = AreKnown hosts (word 1 (call_words words)) (tick_words words)
 HasHostNames (line.Membership one) hosts words = AreKnown hosts (word 1 (call_words words)) (tick_words words)
 HasHostNames line.Tick hosts words = IsSome (tick_named hosts (word 1 words))
 HasHostNames line.Feed hosts words = NamesHost (word 1 words) hosts
@@ -232,6 +235,8 @@ after_line line.Recv before words =
     before
 after_line line.Interrupt before words =
     saying (Interrupts (number_of (word 1 (call_words words)) before.hosts) (ticks_in before.hosts (tick_words words))) before
+after_line line.Reset before words =
+    saying (Resets (number_of (word 1 (call_words words)) before.hosts) (ticks_in before.hosts (tick_words words))) before
 after_line (line.Membership one) before words =
     saying
     (changes_groups one (number_of (word 1 (call_words words)) before.hosts) (address_in (word 2 (call_words words)))

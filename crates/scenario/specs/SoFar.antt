@@ -38,6 +38,7 @@ pub data Said : Type 0 where
   Sends : (host : ℕ) (frame : List ℕ) (ticks : List Tick) → Said
   Receives : (host socket : ℕ) (ticks : List Tick) → Said
   Interrupts : (host : ℕ) (ticks : List Tick) → Said
+  Resets : (host : ℕ) (ticks : List Tick) → Said
   Joins : (host : ℕ) (group : List ℕ) (ticks : List Tick) → Said
   Leaves : (host : ℕ) (group : List ℕ) (ticks : List Tick) → Said
   Ticks : (tick : Tick) → Said
@@ -49,6 +50,7 @@ abbrev pub event_of : Event → Said
 event_of (event.Send host frame ticks) = Sends host frame.items ticks.items
 event_of (event.Recv host socket ticks) = Receives host socket ticks.items
 event_of (event.Interrupt host ticks) = Interrupts host ticks.items
+event_of (event.Reset host ticks) = Resets host ticks.items
 event_of (event.Join host group ticks) = Joins host group ticks.items
 event_of (event.Leave host group ticks) = Leaves host group ticks.items
 event_of (event.Tick tick) = Ticks tick

@@ -35,12 +35,21 @@ pub struct Scenario {
     pub plan: Plan,
     /// The commands, in order.
     pub commands: Vec<Command>,
+    /// The number of each command's line, from 1.
+    pub(crate) lines: Vec<u64>,
     /// The names of the traces to feed, in order.
     pub(crate) traces: Vec<String>,
 }
 
 impl Scenario {
     ghost use Rattle.std.specs.Prelude.{◌≡◌};
+
+    /// The number of the line of each command, from 1, in order.
+    pub fn command_lines(&self) -> &[u64]
+        ensures { result.now ≡ self.now.lines.items }
+    {
+        self.lines.as_slice()
+    }
 
     /// The names of the traces to feed, one for each `feed` line, in order.
     pub fn trace_names(&self) -> &[String]

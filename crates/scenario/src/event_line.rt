@@ -141,6 +141,21 @@ pub(crate) fn read_interrupt(
     Ok(())
 }
 
+/// `reset HOST`, and ticks.
+pub(crate) fn read_reset(alloc: Global, scenario: &mut Scenario, words: &[&str]) -> Result<(), Stop>
+    ensures { IsAnswer line.Reset (so_far scenario.old) (texts words.now) result (so_far scenario.new) }
+{
+    let (call, ticks) = split_call(words);
+    if call.len() != 2 {
+        return Err(Stop::Fault(Fault::Count));
+    }
+    let hosts = scenario.plan.hosts.as_slice();
+    let (host, ticks) = call_of(alloc, hosts, word_at(call, 1), ticks)?;
+    let event = Event::Reset { host, ticks };
+    say(scenario, Command::Event(event))?;
+    Ok(())
+}
+
 impl GroupChange {
     /// The event in which a host joins or leaves a group.
     fn event(self, host: usize, group: [u8; 6], ticks: Vec<Tick>) -> Event

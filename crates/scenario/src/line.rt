@@ -7,8 +7,8 @@ ghost use Rattle.scenario.specs.Words.{texts};
 
 use crate::command::Scenario;
 use crate::event_line::{
-    read_auto, read_drain, read_feed, read_interrupt, read_membership, read_recv, read_send,
-    read_tick,
+    read_auto, read_drain, read_feed, read_interrupt, read_membership, read_recv, read_reset,
+    read_send, read_tick,
 };
 use crate::line_kind::{LineKind, kind_of};
 use crate::refusal::{Fault, Stop};
@@ -37,6 +37,7 @@ fn read_kind(
         LineKind::Send => read_send(alloc, scenario, words),
         LineKind::Recv => read_recv(alloc, scenario, words),
         LineKind::Interrupt => read_interrupt(alloc, scenario, words),
+        LineKind::Reset => read_reset(alloc, scenario, words),
         LineKind::Membership(change) => read_membership(alloc, scenario, change, words),
         LineKind::Tick => read_tick(scenario, words),
         LineKind::Feed => read_feed(alloc, scenario, words),

@@ -31,6 +31,8 @@ pub(crate) enum LineKind {
     Recv,
     /// `interrupt`: a host handles an interrupt.
     Interrupt,
+    /// `reset`: a host resets its adapter.
+    Reset,
     /// `join` or `leave`: a host joins or leaves a group.
     Membership(GroupChange),
     /// `tick`: a tick between calls.
@@ -44,7 +46,7 @@ pub(crate) enum LineKind {
 }
 
 /// The words that lines begin with, and the kinds of these lines.
-const KINDS: [(&str, LineKind); 13] = [
+const KINDS: [(&str, LineKind); 14] = [
     ("host", LineKind::Host),
     ("group", LineKind::Group),
     ("vlan", LineKind::Vlan),
@@ -52,6 +54,7 @@ const KINDS: [(&str, LineKind); 13] = [
     ("send", LineKind::Send),
     ("recv", LineKind::Recv),
     ("interrupt", LineKind::Interrupt),
+    ("reset", LineKind::Reset),
     ("join", LineKind::Membership(GroupChange::Join)),
     ("leave", LineKind::Membership(GroupChange::Leave)),
     ("tick", LineKind::Tick),

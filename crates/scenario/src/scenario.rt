@@ -3,13 +3,14 @@
 ghost use Rattle.std.specs.Prelude.{◌≡◌, ◌∷◌, ◌<◌, ◌≤◌, IfErr, IfOk, IfSome, drop, length, position};
 ghost use Rattle.std.specs.List.{position_or_len};
 ghost use Rattle.std.specs.Str.Lines.{lines, strip_carriage_return};
-ghost use Rattle.scenario.specs.Answers.{IsRead, IsRefused};
+ghost use Rattle.scenario.specs.Answers.{IsLineAnswer, IsRead, IsRefused};
 ghost use Rattle.scenario.specs.SoFar.{nothing_read, so_far};
 ghost use Rattle.scenario.specs.Words.{is_feed};
+ghost use Rattle.scenario.specs.declared.refusal.Stop.TheVariants as stop;
 
 use crate::command::Scenario;
 use crate::line::read_line;
-use crate::refusal::Refusal;
+use crate::refusal::{Refusal, Stop};
 use network_plan::Plan;
 use std::alloc::Global;
 
@@ -69,8 +70,33 @@ fn empty_scenario(alloc: Global) -> Scenario
             hosts: Vec::new(alloc),
         },
         commands: Vec::new(alloc),
+        lines: Vec::new(alloc),
         traces: Vec::new(alloc),
     }
+}
+
+/// Gives the command of a line, if it has one, the line's number. Each command before it has its number.
+fn number_command(scenario: &mut Scenario, line: usize) -> Result<(), Stop>
+    ensures same { so_far scenario.new ≡ so_far scenario.old }
+    ensures memory { IfErr result (λ stopped. stopped ≡ stop.Memory) }
+{
+    if scenario.lines.len() < scenario.commands.len() {
+        scenario.lines.push(line as u64)?;
+    }
+    Ok(())
+}
+
+/// Reads a line with this number.
+fn read_numbered(
+    alloc: Global,
+    scenario: &mut Scenario,
+    bytes: &[u8],
+    line: usize,
+) -> Result<(), Stop>
+    ensures { IsLineAnswer (so_far scenario.old) bytes.now result (so_far scenario.new) }
+{
+    read_line(alloc, scenario, bytes)?;
+    number_command(scenario, line)
 }
 
 impl Scenario {
@@ -91,7 +117,7 @@ impl Scenario {
             let (_, rest) = text.split_at(start);
             let (bytes, taken) = first_line(rest);
             line += 1;
-            match read_line(alloc, &mut scenario, bytes) {
+            match read_numbered(alloc, &mut scenario, bytes, line) {
                 Ok(()) => start += taken,
                 Err(stop) => return Err(stop.at(line)),
             }

@@ -1,6 +1,6 @@
 -- The result of the bench, by what was played and recorded.
-use Rattle.std.proofs.Common.{◌≡◌, ◌<◌, ◌≤◌, ◌+◌, ◌++◌, ◌∷◌, ◌⊎◌, [], zero, suc, ℕ, List, Option, Some, None, length, map, replicate}
-use Rattle.std.proofs.Common.{slice_get}
+use Rattle.std.proofs.Common.{◌≡◌, ◌<◌, ◌≤◌, ◌+◌, ◌++◌, ◌∷◌, ◌⊎◌, [], zero, suc, ℕ, Bool, List, Option, Some, None, length, map, replicate}
+use Rattle.std.proofs.Common.{if◌then◌else◌, slice_get}
 use Rattle.std.proofs.Common.{option_map, inl, inr, refl, sym, ap, subst, ◌∙◌, arith, take}
 use Rattle.std.proofs.Math.Seq.{take-append_seam}
 use Rattle.std.proofs.lemmas.List.{length-append, length-map}
@@ -14,16 +14,21 @@ use Rattle.scenario.specs.SoFar.{Host, Said, host_of_plan, hosts_of, said_of}
 use Rattle.scenario_bench.specs.Acts.{Act, act_of, history}
 use Rattle.scenario.specs.declared.command.Scenario.{Scenario}
 use Rattle.scenario_bench.specs.Benches.{AreWritten, AreWrittenUpTo, Benches, PlaysEvents, PlaysScenario, SinkState, Stops, StopsBefore}
+use Rattle.scenario_bench.specs.Benches.{TellsRun}
 use Rattle.scenario_bench.specs.Benches.{scenario_events, texts_of}
+use Rattle.scenario_bench.specs.EventLines.{LogState, lines_from}
 use Rattle.scenario_bench.specs.EventLists.{all_events}
+use Rattle.scenario_bench.specs.EventLogView.{plan_name}
 use Rattle.scenario_bench.specs.Given.{given_from, sockets_from}
 use Rattle.scenario_bench.specs.PlayedEvents.{Begins, HasPlayed, HasPlayedFront, HasPlayedScenario, IsUnplayed}
 use Rattle.scenario_bench.specs.PlayedEvents.{StopsWithin, TellTallies, TellsTally}
 use Rattle.scenario_bench.specs.Puts.{PutFrame}
+use Rattle.scenario_bench.specs.RunLogs.{logged, new_log}
 use Rattle.scenario_bench.specs.SocketLists.{SocketFrames, frames_given}
 use Rattle.scenario_bench.specs.Summaries.{TellsHosts, as_told}
 use Rattle.scenario_bench.specs.Tallies.{empty_sockets, no_tally, number_behind, socket_behind, tally_behind}
 use Rattle.scenario_bench.specs.declared.play.Play.{Play}
+use Rattle.scenario_bench.specs.declared.run_log.RunLog.{RunLog}
 use Rattle.scenario_bench.specs.declared.summary.HostSummary.{HostSummary}
 use Rattle.scenario_bench.specs.declared.summary.Summary.{Summary}
 use Rattle.scenario_bench.specs.declared.bench_error.BenchError.{BenchError}
@@ -32,6 +37,7 @@ use Rattle.scenario.specs.declared.command.Command.{Command}
 use Rattle.pcap_trace.specs.declared.fault.WriteError.{WriteError}
 use Rattle.scenario_bench.specs.declared.tally.Tally.{Tally}
 use Rattle.scenario_bench.proofs.Told.{noted-lists, number_told, tally_of}
+use Rattle.scenario_bench.proofs.ToldAnswers.{absent_told, lines_told, refused_told, same_names}
 use Rattle.stations.proofs.Places.{same-places}
 
 -- Summaries, in order.
@@ -175,6 +181,7 @@ hosts_tell plans said a b told begun played tells = record {
           reached = this.reached;
           stored = this.stored;
           given = this.given;
+          resets = this.resets;
         };
         missed = this.counts.0;
         exact = this.counts.1;
@@ -193,8 +200,15 @@ pub tells_as : (hosts plans : List HostPlan) (b : Play) (told : List HostSummary
     → TellTallies (length plans) plans b told
 tells_as hosts plans b told is tells = subst (λ (hs : List HostPlan). TellTallies (length hs) hs b told) is tells
 
-module _ (scenario : Scenario) (traces : List (List (List ℕ))) (puts : Option (List PutFrame)) (play : Play) (summary : Summary)
-    (has : HasPlayedScenario scenario traces puts play summary) where
+-- a summary is that of the record, with these summaries of hosts
+pub record IsOfPlay (play : Play) (told : List HostSummary) (summary : Summary) : Type 0 where
+  pub hosts : summary.hosts.items ≡ told
+  pub refused : summary.refused ≡ play.record.log.refused
+  pub absent : summary.absent ≡ play.record.log.absent
+  pub events : summary.events ≡ play.record.log.lines
+
+module _ (scenario : Scenario) (traces : List (List (List ℕ))) (puts : Option (List PutFrame)) (events : Bool) (play : Play)
+    (hosts : List HostSummary) (has : HasPlayedScenario scenario traces puts events play hosts) where
   abbrev plans : List HostPlan
   plans = scenario.plan.hosts.items
 
@@ -207,8 +221,33 @@ module _ (scenario : Scenario) (traces : List (List (List ℕ))) (puts : Option 
   pub sockets_counted : (count : ℕ) → count ≡ length (sockets_from 0 (hosts_of plans)) → count ≡ length play.record.sockets.items
   sockets_counted count is = is ∙ sym (sockets_count plans said has.first play has.begins has.played)
 
-  pub hosts_told : TellsHosts (hosts_of plans) (history has.played.acts) play.lan summary.hosts.items
-  hosts_told = hosts_tell plans said has.first play summary.hosts.items has.begins has.played has.tells
+  pub hosts_told : {summary : Summary} → IsOfPlay play hosts summary
+      → TellsHosts (hosts_of plans) (history has.played.acts) play.lan summary.hosts.items
+  hosts_told {summary} of_play = hosts_tell plans said has.first play summary.hosts.items has.begins has.played
+      (subst (λ (told : List HostSummary). TellTallies (length plans) plans play told) (sym of_play.hosts) has.tells)
+
+  -- the record of answers is that of a run that began with an empty one
+  log-is : play.record.log ≡ logged 0 has.played.noted.logged.entries (new_log (map plan_name plans) events)
+  log-is =
+      let entries = has.played.noted.logged.entries in
+      has.played.noted.logged.log ∙ ap (λ (n : ℕ). logged n entries has.first.record.log) has.begins.number
+      ∙ ap (logged 0 entries) has.log
+
+  pub run_told : {summary : Summary} → IsOfPlay play hosts summary → TellsRun events plays_in summary
+  run_told {summary} of_play =
+      let entries = has.played.noted.logged.entries in
+      let names = map plan_name plans in
+      record {
+        entries = entries;
+        are = has.played.noted.logged.are;
+        tells = record {
+          refused = of_play.refused ∙ ap (λ (log : RunLog). log.refused) log-is ∙ refused_told 0 entries (new_log names events);
+          absent = of_play.absent ∙ ap (λ (log : RunLog). log.absent) log-is ∙ absent_told 0 entries (new_log names events);
+          lines = ap (option_map (λ (log : LogState). log.text)) (of_play.events ∙ ap (λ (log : RunLog). log.lines) log-is)
+              ∙ lines_told events names entries
+              ∙ ap (λ (all : List (List ℕ)). if events then Some (lines_from all 0 entries) else None) (same_names plans);
+        };
+      }
 
   pub texts_written : {old new : List SinkState} → (count : ℕ) → count ≡ length (sockets_from 0 (hosts_of plans))
       → AreWritten count (map frames_given play.record.sockets.items) old new
@@ -228,9 +267,15 @@ module _ (scenario : Scenario) (traces : List (List (List ℕ))) (puts : Option 
         (texts_are plans said has.first play has.begins has.played) wrote.1,
   )
 
-  pub benched : {old new : List SinkState} → (count : ℕ) → count ≡ length (sockets_from 0 (hosts_of plans))
-      → AreWritten count (map frames_given play.record.sockets.items) old new → Benches scenario traces summary old new
-  benched count counts wrote = record { plays = plays_in; texts = texts_written count counts wrote; tells = hosts_told }
+  pub benched : {old new : List SinkState} → {summary : Summary} → IsOfPlay play hosts summary → (count : ℕ)
+      → count ≡ length (sockets_from 0 (hosts_of plans)) → AreWritten count (map frames_given play.record.sockets.items) old new
+      → Benches scenario traces events summary old new
+  benched of_play count counts wrote = record {
+    plays = plays_in;
+    texts = texts_written count counts wrote;
+    tells = hosts_told of_play;
+    answers = run_told of_play;
+  }
 
   pub bench_failed : {old new : List SinkState} → (error : BenchError) (why : WriteError) → error ≡ errors.Write why
       → (failed : ℕ) × AreWrittenUpTo failed (map frames_given play.record.sockets.items) old new → Stops scenario traces error old new

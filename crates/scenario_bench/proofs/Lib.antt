@@ -8,9 +8,11 @@ pub mod AroundTicks
 pub mod NotedEvents
 pub mod NotedDrains
 pub mod JoinedActs
+pub mod ResetsInOrder
 pub mod EmptySockets
 pub mod PlayedEvents
 pub mod Writing
 pub mod Told
+pub mod ToldAnswers
 pub mod Benching
 pub mod WireBenching

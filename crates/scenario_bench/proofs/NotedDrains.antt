@@ -10,14 +10,17 @@ use Rattle.packet_socket.specs.HostCalls.{Given as GivenFrame}
 use Rattle.pcap_trace.specs.Format.{Timed}
 use Rattle.delivery.specs.Happenings.{Given, Happening, Moved, given, given_in_one}
 use Rattle.wire.specs.DrainedNetworks.{said_of_drain}
-use Rattle.scenario_bench.specs.Acts.{Drained, history}
+use Rattle.scenario_bench.specs.Acts.{Act, Drained, history}
+use Rattle.scenario_bench.specs.EventLines.{place_at}
 use Rattle.scenario_bench.specs.Given.{numbered_frame}
 use Rattle.scenario_bench.specs.DrainedView.{drained_frame}
 use Rattle.scenario_bench.specs.Puts.{PutFrame, PutsGrow}
+use Rattle.scenario_bench.specs.RunLogs.{act_logged, acts_in, logged}
 use Rattle.scenario_bench.specs.SocketLists.{SocketFrames, with_socket_frames}
 use Rattle.scenario_bench.specs.Tallies.{AreNoted, GetsGiven, GetsSaid, TalliesGrow, TallyCounts, tallied_by, socket_behind, tally_behind}
 use Rattle.scenario_bench.specs.Tallies.{with_said}
 use Rattle.scenario_bench.specs.declared.record.Record.{Record}
+use Rattle.scenario_bench.specs.declared.run_log.RunLog.{RunLog}
 use Rattle.scenario_bench.specs.declared.drained.DrainedFrame.{DrainedFrame}
 use Rattle.scenario_bench.specs.declared.tally.Passage.TheVariants as passage
 use Rattle.scenario_bench.specs.declared.tally.Tally.{Tally}
@@ -66,6 +69,25 @@ same-socket host buffered number frames None = refl
 same-socket host buffered number frames (Some socket) =
     ap (λ (s : SocketFrames). Some s) (moves-give host buffered number frames socket)
 
+-- a list of one entry
+
+first-act : (a b : Act) (list others : List Act) → a ∷ list ≡ b ∷ others → a ≡ b
+first-act a b list others is = cc
+
+rest-acts : (a b : Act) (list others : List Act) → a ∷ list ≡ b ∷ others → list ≡ others
+rest-acts a b list others is = cc
+
+no-acts : (a : Act) (list : List Act) → a ∷ list ≡ [] → ⊥
+no-acts a list is = cc
+
+lone-entry : (entries : List (ℕ × Act)) (act : Act) (number : ℕ) (log : RunLog) → acts_in entries ≡ act ∷ []
+    → (line : ℕ) × (logged number entries log ≡ act_logged (place_at number line) act log)
+lone-entry [] act number log is = absurd (no-acts act [] (sym is))
+lone-entry (entry ∷ []) act number log is =
+    (entry.0, ap (λ (one : Act). act_logged (place_at number entry.0) one log) (first-act entry.1 act [] [] is))
+lone-entry (entry ∷ next ∷ later) act number log is =
+    absurd (no-acts next.1 (acts_in later) (rest-acts entry.1 act (next.1 ∷ acts_in later) [] is))
+
 -- So the record of a drain doesn't depend on the number of moved frames.
 pub noted_moves : (host buffered : ℕ) (frames : List GivenFrame) (a b : Record) → AreNoted (Drained host 0 frames ∷ []) a b
     → AreNoted (Drained host buffered frames ∷ []) a b
@@ -75,6 +97,9 @@ noted_moves host buffered frames a b noted = record {
   sockets = λ k. noted.sockets k ∙ same-socket host buffered a.number frames (slice_get a.sockets.items k);
   puts = subst (λ (more : List PutFrame). PutsGrow (more ++ []) a.puts b.puts)
       (puts_drained a.number host 0 frames ∙ sym (puts_drained a.number host buffered frames)) noted.puts;
+  logged =
+      let one = lone-entry noted.logged.entries (Drained host 0 frames) a.number a.log noted.logged.are in
+      record { entries = (one.0, Drained host buffered frames) ∷ []; are = refl; log = noted.logged.log ∙ one.1 };
 }
 
 -- Delivered frames, in order.

@@ -1,11 +1,13 @@
 -- Recorded events, in order.
-use Rattle.std.proofs.Common.{◌≡◌, ◌==◌, ◌&&◌, ◌++◌, ◌∷◌, [], ℕ, Bool, true, false, List, Option, Some, None, Ok, Err}
-use Rattle.std.proofs.Common.{map, replicate, suc, zero}
+use Rattle.std.proofs.Common.{◌≡◌, ◌==◌, ◌&&◌, ◌++◌, ◌∷◌, [], ℕ, Bool, true, false, nat_le, nat_lt, List, Option, Some, None, Ok, Err}
+use Rattle.std.proofs.Common.{length, map, replicate, suc, zero}
 use Rattle.std.proofs.Common.{slice_get, option_map, if◌then◌else◌, refl, sym, ap, subst, ◌∙◌, append-nil}
 use Rattle.std.proofs.lemmas.Grind.{flat_map-append}
 use Rattle.pcap_trace.specs.Format.{Timed}
 use Rattle.delivery.proofs.ToldAround.{around_ticks}
-use Rattle.delivery.specs.Happenings.{Given, Happening, Moved, given, given_in_one, told, told_alone, told_around, told_of}
+use Rattle.delivery.specs.Happenings.{Disabled, Enabled, Given, GivenUp, Happening, Moved, given, given_in_one}
+use Rattle.delivery.specs.Happenings.{told, told_alone, told_around, told_of}
+use Rattle.delivery.specs.Happenings.{told_where}
 use Rattle.network_plan.specs.declared.event.Event.{Event}
 use Rattle.network_plan.specs.declared.event.Event.TheVariants as event
 use Rattle.network_plan.specs.Answers.{FrameAnswer}
@@ -18,11 +20,13 @@ use Rattle.stations.specs.declared.tick.Tick.{Tick}
 use Rattle.stations.specs.declared.tick.Tick.TheVariants as tick
 use Rattle.packet_socket.specs.HostCalls.{Given as GivenFrame}
 use Rattle.wire.specs.DrainedNetworks.{said_of_drain}
-use Rattle.wire.specs.Runs.{accepted_of, given_of, joined_of, left_of, said}
+use Rattle.wire.specs.Runs.{ResetAnswer, accepted_of, given_of, joined_of, left_of, reset_answer, said, said_in_reset}
 use Rattle.scenario_bench.specs.Acts.{Act, Drained, Ran, said_in}
+use Rattle.scenario_bench.specs.EventLines.{place_at}
 use Rattle.scenario_bench.specs.Given.{next_number, numbered_frame}
 use Rattle.scenario_bench.specs.Puts.{PutFrame, PutsGrow, put_frames_in}
 use Rattle.scenario_bench.specs.RecordingLaws.{puts_not}
+use Rattle.scenario_bench.specs.RunLogs.{AreLogged, act_drained}
 use Rattle.scenario_bench.specs.SocketLists.{SocketFrames, with_socket_frames, with_given}
 use Rattle.scenario_bench.specs.Tallies.{AreNoted, GetsGiven, GetsSaid, TalliesGrow, socket_behind}
 use Rattle.scenario_bench.specs.Tallies.{with_said}
@@ -36,6 +40,10 @@ given-of k s host (outcome.Put frame) = refl
 given-of k s host (outcome.Delivered frame fate) = refl
 given-of k s host outcome.Moved = refl
 given-of k s host _ = refl
+
+given-chosen : (k s : ℕ) (b : Bool) (host : ℕ) (one : FrameOutcome) → given k s (if b then told_of host one else []) ≡ []
+given-chosen k s true host one = given-of k s host one
+given-chosen k s false host one = refl
 
 both-none : (k s : ℕ) (xs ys : List Happening) → given k s xs ≡ [] → given k s ys ≡ [] → given k s (xs ++ ys) ≡ []
 both-none k s xs ys one two = flat_map-append (given_in_one k s) xs ys ∙ ap (λ (l : List (List ℕ)). l ++ given k s ys) one ∙ two
@@ -68,6 +76,37 @@ gives-by-ticks k s middle quiet ticks outcomes =
     gives_around middle (told ticks outcomes) (told_around middle ticks outcomes) (around_ticks middle ticks outcomes) quiet k s
     ∙ given-told k s ticks outcomes
 
+-- A reset returns no frame.
+
+given-where : (k s : ℕ) (is_such : ℕ → Bool) (ticks : List Tick) (outcomes : List Numbered) → given k s (told_where is_such ticks
+    outcomes) ≡ []
+given-where k s is_such [] outcomes = refl
+given-where k s is_such (tick.Go ∷ ticks) outcomes = given-where k s is_such ticks outcomes
+given-where k s is_such (tick.Step host kind ∷ ticks) [] = refl
+given-where k s is_such (tick.Step host kind ∷ ticks) (one ∷ outcomes) =
+    both-none k s (if is_such one.accesses then told_of host one.outcome else []) (told_where is_such ticks outcomes)
+    (given-chosen k s (is_such one.accesses) host one.outcome) (given-where k s is_such ticks outcomes)
+given-where k s is_such (tick.Deliver host ∷ ticks) [] = refl
+given-where k s is_such (tick.Deliver host ∷ ticks) (one ∷ outcomes) =
+    both-none k s (if is_such one.accesses then told_of host one.outcome else []) (told_where is_such ticks outcomes)
+    (given-chosen k s (is_such one.accesses) host one.outcome) (given-where k s is_such ticks outcomes)
+
+given-reset : (k s host : ℕ) (found : Option ResetAnswer) (ticks : List Tick) (outcomes : List Numbered)
+    → given k s (said_in_reset host found ticks outcomes) ≡ []
+given-reset k s host None ticks outcomes = given-told k s ticks outcomes
+given-reset k s host (Some found) ticks outcomes =
+    let of = λ (is_such : ℕ → Bool). told_where is_such ticks outcomes in
+    let first = λ (n : ℕ). n == 0 in
+    let second = λ (n : ℕ). nat_le 1 n && nat_lt n 3 in
+    let third = λ (n : ℕ). nat_le 3 n && nat_lt n found.on_after in
+    let last = λ (n : ℕ). nat_le found.on_after n in
+    let behind : List Happening = of third ++ Enabled host ∷ of last in
+    let stopped : List Happening = of second ++ GivenUp host found.sending found.holding ∷ behind in
+    both-none k s (of first) (Disabled host ∷ stopped) (given-where k s first ticks outcomes)
+    (both-none k s (of second) (GivenUp host found.sending found.holding ∷ behind) (given-where k s second ticks outcomes)
+    (both-none k s (of third) (Enabled host ∷ of last) (given-where k s third ticks outcomes)
+    (given-where k s last ticks outcomes)))
+
 -- Only the answer of a socket has a frame.
 abbrev pub answer_of : Event → FrameAnswer → List Happening
 answer_of (event.Recv host socket ticks) one = given_of host socket one
@@ -81,6 +120,7 @@ given-said k s (event.Recv host socket ticks) reply =
     flat_map-append (given_in_one k s) (told ticks.items reply.outcomes.list) (given_of host socket reply.answer)
     ∙ ap (λ (l : List (List ℕ)). l ++ given k s (given_of host socket reply.answer)) (given-told k s ticks.items reply.outcomes.list)
 given-said k s (event.Interrupt host ticks) reply = given-told k s ticks.items reply.outcomes.list
+given-said k s (event.Reset host ticks) reply = given-reset k s host (reset_answer reply.answer) ticks.items reply.outcomes.list
 given-said k s (event.Join host group ticks) reply =
     gives-by-ticks k s (joined_of host group reply.answer) (joins_quiet host group reply.answer) ticks.items reply.outcomes.list
 given-said k s (event.Leave host group ticks) reply =
@@ -141,21 +181,23 @@ single number act (Some socket) = ap (λ (frames : List Timed). Some (with_socke
 act-noted : (act : Act) (old new : Record) → new.number ≡ next_number old.number
     → TalliesGrow (said_in act) old.hosts.items new.hosts.items
     → GetsSaid old.number (said_in act) old.sockets.items new.sockets.items
-    → PutsGrow (put_frames_in old.number (said_in act)) old.puts new.puts → AreNoted (act ∷ []) old new
-act-noted act old new next hosts sockets puts = record {
+    → PutsGrow (put_frames_in old.number (said_in act)) old.puts new.puts → AreLogged (act ∷ []) old new → AreNoted (act ∷ []) old new
+act-noted act old new next hosts sockets puts logged = record {
   number = next;
   hosts = subst (λ (happened : List Happening). TalliesGrow happened old.hosts.items new.hosts.items)
       (sym (append-nil (said_in act))) hosts;
   sockets = λ k. sockets k ∙ single old.number act (slice_get old.sockets.items k);
   puts = subst (λ (more : List PutFrame). PutsGrow more old.puts new.puts)
       (sym (append-nil (put_frames_in old.number (said_in act)))) puts;
+  logged = logged;
 }
 
 pub noted : (one : Event) (reply : Reply) (old new : Record) → new.number ≡ next_number old.number
     → TalliesGrow (said one reply) old.hosts.items new.hosts.items
     → GetsSaid old.number (said one reply) old.sockets.items new.sockets.items
-    → PutsGrow (put_frames_in old.number (said one reply)) old.puts new.puts → AreNoted (Ran one reply ∷ []) old new
-noted one reply old new next hosts sockets puts = act-noted (Ran one reply) old new next hosts sockets puts
+    → PutsGrow (put_frames_in old.number (said one reply)) old.puts new.puts → AreLogged (Ran one reply ∷ []) old new
+    → AreNoted (Ran one reply ∷ []) old new
+noted one reply old new next hosts sockets puts logged = act-noted (Ran one reply) old new next hosts sockets puts logged
 
 -- A drain puts no frame.
 
@@ -177,7 +219,7 @@ puts_drained number host moves frames =
 pub drain_noted : (host : ℕ) (frames : List GivenFrame) (old new : Record) → new.number ≡ next_number old.number
     → TalliesGrow (said_of_drain host 0 frames) old.hosts.items new.hosts.items
     → GetsSaid old.number (said_of_drain host 0 frames) old.sockets.items new.sockets.items → new.puts ≡ old.puts
-    → AreNoted (Drained host 0 frames ∷ []) old new
-drain_noted host frames old new next hosts sockets puts = act-noted (Drained host 0 frames) old new next hosts sockets
+    → new.log ≡ act_drained (place_at old.number old.line) host (length frames) old.log → AreNoted (Drained host 0 frames ∷ []) old new
+drain_noted host frames old new next hosts sockets puts log = act-noted (Drained host 0 frames) old new next hosts sockets
     (subst (λ (more : List PutFrame). PutsGrow more old.puts new.puts) (sym (puts_drained old.number host 0 frames))
-    (puts ∙ puts_not old.puts))
+    (puts ∙ puts_not old.puts)) (record { entries = (old.line, Drained host 0 frames) ∷ []; are = refl; log = log })

@@ -8,8 +8,8 @@ use Rattle.delivery.specs.Happenings.{Moved, told_of}
 use Rattle.adapter.specs.Outcomes.{FrameOutcome}
 use Rattle.adapter.specs.declared.outcome.Outcome.TheVariants as outcome
 use Rattle.scenario_bench.specs.RecordingLaws.{stays}
-use Rattle.scenario_bench.specs.Tallies.{IsPassage, TalliesGrow, TallyCounts, counted_at, counted_once, passage_by}
-use Rattle.scenario_bench.specs.Tallies.{tally_behind}
+use Rattle.scenario_bench.specs.Tallies.{IsPassage, TalliesGrow, TallyCounts, TallyGivesUp, counted_at, counted_once, passage_by}
+use Rattle.scenario_bench.specs.Tallies.{tally_behind, tally_given_up}
 use Rattle.scenario_bench.specs.declared.tally.Passage.{Passage}
 use Rattle.scenario_bench.specs.declared.tally.Passage.TheVariants as passage
 use Rattle.scenario_bench.specs.declared.tally.Tally.{Tally}
@@ -67,6 +67,14 @@ counts_there hosts host one tally new there is = set-there hosts host tally new 
 
 pub counts_nowhere : (hosts : List Tally) (host : ℕ) (one : Passage) → length hosts ≤ host → TallyCounts host one hosts hosts
 counts_nowhere hosts host one below = set-nowhere hosts host (counted_once one) below
+
+pub given_up_there : (hosts : List Tally) (host sending holding : ℕ) (tally new : Tally) → slice_get hosts host ≡ Some tally
+    → new ≡ tally_given_up sending holding tally → TallyGivesUp host sending holding hosts (slice_set hosts host new)
+given_up_there hosts host sending holding tally new there is = set-there hosts host tally new (tally_given_up sending holding) there is
+
+pub given_up_nowhere : (hosts : List Tally) (host sending holding : ℕ) → length hosts ≤ host
+    → TallyGivesUp host sending holding hosts hosts
+given_up_nowhere hosts host sending holding below = set-nowhere hosts host (tally_given_up sending holding) below
 
 -- Passages in outcomes.
 

@@ -18,9 +18,9 @@ use Rattle.network_plan.specs.declared.reply.Reply.{Reply}
 use Rattle.stations.specs.Stations.{world_at}
 use Rattle.wire.specs.DrainedNetworks.{NetworkDrains}
 use Rattle.wire.specs.Runs.{RunTold}
-use Rattle.scenario_bench.specs.Recording.{RecordsReplies}
+use Rattle.scenario_bench.specs.Recording.{AreInOrder, RecordsReplies}
 use Rattle.scenario.specs.SoFar.{Drains, Host, Said, Sends, event_of, said_of}
-use Rattle.scenario_bench.specs.Acts.{Drained, act_of, ran}
+use Rattle.scenario_bench.specs.Acts.{Act, Drained, act_of, ran}
 use Rattle.scenario_bench.specs.DrainedView.{drained_frame}
 use Rattle.scenario_bench.specs.declared.drained.DrainedFrame.{DrainedFrame}
 use Rattle.scenario_bench.specs.PlayedEvents.{HasPlayed, HasPlayedFront, StopsWithin, frames_of}
@@ -30,6 +30,7 @@ use Rattle.scenario_bench.specs.declared.bench_error.BenchError.TheVariants as e
 use Rattle.scenario_bench.specs.declared.play.Play.{Play}
 use Rattle.scenario_bench.proofs.JoinedActs.{acts-ran, leads-drained, leads-join, leads-none, leads-ran}
 use Rattle.scenario_bench.proofs.NotedDrains.{noted_moves}
+use Rattle.scenario_bench.proofs.ResetsInOrder.{in_order}
 use Rattle.scenario_bench.specs.RecordingLaws.{notes_join, noted_none}
 
 pub played_none : (a : Play) → HasPlayed [] a a
@@ -49,6 +50,44 @@ played_join said later a b c one two = record {
   noted = notes_join one.acts two.acts a.record b.record c.record one.noted two.noted;
 }
 
+-- The number of the scenario's line is another one.
+
+abbrev pub lined : Play → (line : ℕ) → Play
+lined a line = record a { «record» = record a.record { line = line } }
+
+noted-lined : (acts : List Act) (line : ℕ) (a b : Play) → AreNoted acts (lined a line).record b.record → AreNoted acts a.record b.record
+noted-lined acts line a b noted = record {
+  number = noted.number;
+  hosts = noted.hosts;
+  sockets = noted.sockets;
+  puts = noted.puts;
+  logged = record { entries = noted.logged.entries; are = noted.logged.are; log = noted.logged.log };
+}
+
+pub played_lined : (said : List Said) (line : ℕ) (a b : Play) → HasPlayed said (lined a line) b → HasPlayed said a b
+played_lined said line a b has = record {
+  acts = has.acts;
+  are = has.are;
+  leads = has.leads;
+  noted = noted-lined has.acts line a b has.noted;
+}
+
+pub stops_lined : (said : List Said) (line : ℕ) (a b : Play) (error : BenchError) → StopsWithin said (lined a line) b error
+    → StopsWithin said a b error
+stops_lined said line a b (errors.Plan error) stops = absurd stops
+stops_lined said line a b (errors.Run stopped) (front, number) = (
+  record {
+    first = front.first;
+    left = front.left;
+    parts = front.parts;
+    some = front.some;
+    played = played_lined front.first line a b front.played;
+  },
+  number,
+)
+stops_lined said line a b errors.Memory stops = stops
+stops_lined said line a b (errors.Write error) stops = absurd stops
+
 -- events that were run are recorded
 pub played : (events : List Event) (a b : Play) → RunTold RecordsReplies events a.lan b.lan a.record b.record → b.record.failed ≡ false
     → HasPlayed (map event_of events) a b
@@ -58,7 +97,9 @@ played events a b told sound =
       acts = ran events first.replies;
       are = acts-ran a.lan events first.replies b.lan first.states;
       leads = leads-ran a.lan events told.replies b.lan first;
-      noted = subst (λ (rs : List Reply). AreNoted (ran events rs) a.record b.record) first.appended (told.told sound).noted;
+      noted =
+          let order = subst (AreInOrder events) (sym first.appended) (in_order a.lan events first.replies b.lan first.states) in
+          subst (λ (rs : List Reply). AreNoted (ran events rs) a.record b.record) first.appended (told.told.recorded sound order).noted;
     }
 
 -- the frames of a drain are recorded

@@ -1,5 +1,5 @@
 -- The result of the bench with the traces of wires.
-use Rattle.std.proofs.Common.{◌≡◌, ◌++◌, [], ℕ, List, Some, length, map, option_map, inl, inr, sym, ap, subst, ◌∙◌}
+use Rattle.std.proofs.Common.{◌≡◌, ◌++◌, [], ℕ, Bool, List, Some, length, map, option_map, inl, inr, sym, ap, subst, ◌∙◌}
 use Rattle.std.proofs.lemmas.List.{length-map}
 use Rattle.network_plan.specs.declared.plan.HostPlan.{HostPlan}
 use Rattle.pcap_trace.specs.Format.{Timed}
@@ -15,8 +15,9 @@ use Rattle.scenario_bench.specs.WireBenches.{BenchSinks, BenchesWires, StopsWire
 use Rattle.scenario_bench.specs.declared.bench_error.BenchError.{BenchError}
 use Rattle.scenario_bench.specs.declared.bench_error.BenchError.TheVariants as errors
 use Rattle.scenario_bench.specs.declared.play.Play.{Play}
+use Rattle.scenario_bench.specs.declared.summary.HostSummary.{HostSummary}
 use Rattle.scenario_bench.specs.declared.summary.Summary.{Summary}
-use Rattle.scenario_bench.proofs.Benching.{hosts_told, plays_in, texts_failed, texts_written}
+use Rattle.scenario_bench.proofs.Benching.{IsOfPlay, hosts_told, plays_in, run_told, texts_failed, texts_written}
 
 -- the record has what was put since it began
 puts-recorded : (said : List Said) (a b : Play) (played : HasPlayed said a b) → a.record.number ≡ 0 → a.record.puts ≡ Some []
@@ -29,8 +30,8 @@ puts-recorded said a b played number none =
 inside : (a b : List PutFrame) → Some a ≡ Some b → a ≡ b
 inside a b e = cc
 
-module _ (scenario : Scenario) (traces : List (List (List ℕ))) (begun : List PutFrame) (play : Play) (summary : Summary)
-    (has : HasPlayedScenario scenario traces (Some begun) play summary) (none : begun ≡ []) where
+module _ (scenario : Scenario) (traces : List (List (List ℕ))) (begun : List PutFrame) (events : Bool) (play : Play)
+    (told : List HostSummary) (has : HasPlayedScenario scenario traces (Some begun) events play told) (none : begun ≡ []) where
   abbrev hosts : List Host
   hosts = hosts_of scenario.plan.hosts.items
 
@@ -39,7 +40,7 @@ module _ (scenario : Scenario) (traces : List (List (List ℕ))) (begun : List P
       (has.recorded ∙ ap (λ (puts : List PutFrame). Some puts) none)
 
   abbrev plays : PlaysScenario scenario traces
-  plays = plays_in scenario traces (Some begun) play summary has
+  plays = plays_in scenario traces (Some begun) events play told has
 
   same-texts : (list : List HostPlan) (names : List (List ℕ)) (puts : List PutFrame) → list ≡ scenario.plan.hosts.items
       → names ≡ wire_names (hosts_of list) → play.record.puts ≡ Some puts → wire_texts (hosts_of list) puts names ≡ wire_texts_of plays
@@ -49,21 +50,23 @@ module _ (scenario : Scenario) (traces : List (List (List ℕ))) (begun : List P
       ∙ ap (wire_texts (hosts_of list) (put_from 0 has.played.acts)) named
       ∙ ap (λ (ps : List HostPlan). wire_texts (hosts_of ps) (put_from 0 has.played.acts) (wire_names (hosts_of ps))) same
 
-  pub benched_wires : {sinks : BenchSinks} → (count wires : ℕ) (list : List HostPlan) (names : List (List ℕ)) (puts : List PutFrame)
+  pub benched_wires : {sinks : BenchSinks} → {summary : Summary} → IsOfPlay play told summary → (count wires : ℕ) (list : List HostPlan)
+      (names : List (List ℕ)) (puts : List PutFrame)
       → count ≡ length (sockets_from 0 hosts) → AreWritten count (map frames_given play.record.sockets.items) sinks.old sinks.new
       → wires ≡ length (wire_names hosts) → list ≡ scenario.plan.hosts.items → names ≡ wire_names (hosts_of list)
       → play.record.puts ≡ Some puts → AreWritten wires (wire_texts (hosts_of list) puts names) sinks.wires_old sinks.wires_new
-      → BenchesWires scenario traces summary sinks
-  benched_wires {sinks} count wires list names puts counts wrote all same named recorded wires_wrote =
+      → BenchesWires scenario traces events summary sinks
+  benched_wires {sinks} of_play count wires list names puts counts wrote all same named recorded wires_wrote =
       let whole : wires ≡ length (wire_texts_of plays) = all
       ∙ sym (length-map (wire_names hosts) (λ (wire : List ℕ). frames_on_wire hosts wire (put_from 0 has.played.acts))) in
       record {
         plays = plays;
-        texts = texts_written scenario traces (Some begun) play summary has count counts wrote;
+        texts = texts_written scenario traces (Some begun) events play told has count counts wrote;
         wires = subst (λ (n : ℕ). AreWritten n (wire_texts_of plays) sinks.wires_old sinks.wires_new) whole
             (subst (λ (texts : List (List Timed)). AreWritten wires texts sinks.wires_old sinks.wires_new)
             (same-texts list names puts same named recorded) wires_wrote);
-        tells = hosts_told scenario traces (Some begun) play summary has;
+        tells = hosts_told scenario traces (Some begun) events play told has of_play;
+        answers = run_told scenario traces (Some begun) events play told has of_play;
       }
 
   -- a socket's sink failed
@@ -72,7 +75,7 @@ module _ (scenario : Scenario) (traces : List (List (List ℕ))) (begun : List P
       → sinks.wires_new ≡ sinks.wires_old → StopsWires scenario traces error sinks
   socket_failed {sinks} error why is wrote untouched =
       subst (λ (e : BenchError). StopsWires scenario traces e sinks) (sym is)
-      (plays, inl (texts_failed scenario traces (Some begun) play summary has wrote, untouched))
+      (plays, inl (texts_failed scenario traces (Some begun) events play told has wrote, untouched))
 
   -- a wire's sink failed
   pub wire_failed : {sinks : BenchSinks} → (error : BenchError) (why : WriteError) (count : ℕ) (list : List HostPlan)
@@ -86,7 +89,7 @@ module _ (scenario : Scenario) (traces : List (List (List ℕ))) (begun : List P
       subst (λ (e : BenchError). StopsWires scenario traces e sinks) (sym is) (
         plays,
         inr (
-          texts_written scenario traces (Some begun) play summary has count counts wrote,
+          texts_written scenario traces (Some begun) events play told has count counts wrote,
           (
             stopped.0,
             subst (λ (texts : List (List Timed)). AreWrittenUpTo stopped.0 texts sinks.wires_old sinks.wires_new)

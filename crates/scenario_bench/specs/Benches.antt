@@ -1,5 +1,5 @@
 -- What the bench does with a scenario (our choice).
-use Rattle.std.specs.Prelude.{◌≡◌, ◌<◌, ◌≤◌, ◌+◌, ℕ, List, Option, Some, Ok, Err, length, map, slice_get, take}
+use Rattle.std.specs.Prelude.{◌≡◌, ◌<◌, ◌≤◌, ◌+◌, ℕ, Bool, List, Option, Some, Ok, Err, length, map, slice_get, take}
 use Rattle.std.specs.Io.KnownBytes.{Appends}
 use Rattle.pcap_trace.specs.Devices.{AppendsFront}
 use Rattle.pcap_trace.specs.Format.{Timed, written}
@@ -13,7 +13,8 @@ use Rattle.scenario_bench.specs.declared.summary.Summary.{Summary}
 use Rattle.scenario_bench.specs.Acts.{Act, ActsLead, act_of, history}
 use Rattle.scenario_bench.specs.EventLists.{all_events}
 use Rattle.scenario_bench.specs.Given.{given_from, sockets_from}
-use Rattle.scenario_bench.specs.Summaries.{TellsHosts, as_told}
+use Rattle.scenario_bench.specs.RunLogs.{acts_in}
+use Rattle.scenario_bench.specs.Summaries.{TellsAnswers, TellsHosts, as_told}
 
 -- The network of the plan was made, and these events and drains were done on it, in order: the delivery theorem holds of them.
 pub record PlaysEvents (scenario : Scenario) (said : List Said) : Type 0 where
@@ -81,11 +82,20 @@ pub record AreWrittenUpTo (failed : ℕ) (texts : List (List Timed)) (old new : 
       → slice_get new failed ≡ Some after → FailsAmong text before after
   pub others : (k : ℕ) → failed < k → slice_get new k ≡ slice_get old k
 
--- At Ok each sink has the frames of its socket, and the summary is that of the hosts.
-pub record Benches (scenario : Scenario) (traces : List (List (List ℕ))) (summary : Summary) (old new : List SinkState) : Type 0 where
+-- what the summary tells of the answers of a run: the numbers of the scenario's lines are those that the reader of scenarios gave
+pub record TellsRun {scenario : Scenario} {said : List Said} (events : Bool) (played : PlaysEvents scenario said) (summary : Summary)
+    : Type 0 where
+  pub entries : List (ℕ × Act)
+  pub are : acts_in entries ≡ played.acts
+  pub tells : TellsAnswers (hosts_of scenario.plan.hosts.items) events entries summary
+
+-- At Ok each sink has the frames of its socket, and the summary is that of the hosts and of the answers.
+pub record Benches (scenario : Scenario) (traces : List (List (List ℕ))) (events : Bool) (summary : Summary) (old new : List SinkState)
+    : Type 0 where
   pub plays : PlaysScenario scenario traces
   pub texts : AreWritten (length (texts_of plays)) (texts_of plays) old new
   pub tells : TellsHosts (hosts_of scenario.plan.hosts.items) (history plays.acts) plays.behind summary.hosts.items
+  pub answers : TellsRun events plays summary
 
 -- At an error nothing was written, except if a sink failed. If memory was refused before an event, those before it were done.
 abbrev pub Stops : (scenario : Scenario) (traces : List (List (List ℕ))) → BenchError → (old new : List SinkState) → Type 0

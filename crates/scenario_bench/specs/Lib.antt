@@ -1,9 +1,13 @@
 pub mod Errors
+pub mod EventLines
 pub mod EventLists
+pub mod EventLogView
+pub mod EventTexts
 pub mod Acts
 pub mod Given
 pub mod SocketLists
 pub mod Puts
+pub mod RunLogs
 pub mod PutView
 pub mod WireLists
 pub mod Tallies

@@ -1,5 +1,5 @@
 -- Events and drains that were played and recorded (our choice).
-use Rattle.std.specs.Prelude.{◌≡◌, ◌↔◌, ◌<◌, ◌++◌, ℕ, List, Err, IsTrue, Ok, Option, Some, length, map, replicate, slice_get}
+use Rattle.std.specs.Prelude.{◌≡◌, ◌↔◌, ◌<◌, ◌++◌, ℕ, Bool, List, Err, IsTrue, Ok, Option, Some, length, map, replicate, slice_get}
 use Rattle.std.specs.Prelude.{string_bytes}
 use Rattle.adapter.specs.World.{World}
 use Rattle.packet_socket.specs.HostState.{HostState}
@@ -7,7 +7,6 @@ use Rattle.stations.specs.Stations.{world_at}
 use Rattle.wire.specs.Equations.{IsExact, counted}
 use Rattle.host_calls.specs.Networks.{IsHost}
 use Rattle.scenario_bench.specs.declared.summary.HostSummary.{HostSummary}
-use Rattle.scenario_bench.specs.declared.summary.Summary.{Summary}
 use Rattle.scenario_bench.specs.declared.tally.Tally.{Tally}
 use Rattle.network_plan.specs.declared.plan.HostPlan.{HostPlan}
 use Rattle.pcap_trace.specs.declared.trace.Trace.{Trace}
@@ -16,9 +15,11 @@ use Rattle.scenario.specs.SoFar.{Said, hosts_of}
 use Rattle.scenario.specs.declared.command.Scenario.{Scenario}
 use Rattle.scenario_bench.specs.Acts.{Act, ActsLead, act_of}
 use Rattle.scenario_bench.specs.Benches.{StopsBefore, scenario_events}
+use Rattle.scenario_bench.specs.EventLogView.{plan_name}
 use Rattle.scenario_bench.specs.Given.{sockets_from}
 use Rattle.scenario_bench.specs.Puts.{PutFrame}
-use Rattle.scenario_bench.specs.Tallies.{AreNoted, empty_sockets, no_tally}
+use Rattle.scenario_bench.specs.RunLogs.{new_log}
+use Rattle.scenario_bench.specs.Tallies.{AreNoted, empty_sockets, no_tally, resets_in}
 use Rattle.scenario_bench.specs.declared.bench_error.BenchError.{BenchError}
 use Rattle.scenario_bench.specs.declared.bench_error.BenchError.TheVariants as errors
 use Rattle.scenario_bench.specs.declared.play.Play.{Play}
@@ -70,6 +71,7 @@ pub record TellsTally (plan : HostPlan) (tally : Tally) (host : HostState) (worl
   pub reached : told.reached ≡ tally.reached
   pub stored : told.stored ≡ tally.stored
   pub given : told.given ≡ tally.given
+  pub resets : told.given_up ≡ resets_in tally
   pub counts : (told.missed ≡ counted host world) × (IsTrue told.exact ↔ IsExact host world) × (told.unclaimed ≡ host.unclaimed)
 
 -- These are the summaries of the first hosts of a plan, this many.
@@ -82,14 +84,15 @@ pub record TellTallies (first : ℕ) (plans : List HostPlan) (play : Play) (told
 -- A scenario.
 
 -- The network of its plan was made, its commands were played, and these are the summaries of its hosts. Frames that adapters put were
--- recorded after these, if there are any.
-pub record HasPlayedScenario (scenario : Scenario) (traces : List (List (List ℕ))) (puts : Option (List PutFrame)) (play : Play)
-    (summary : Summary) : Type 0 where
+-- recorded after these, if there are any, and a line for each event on request.
+pub record HasPlayedScenario (scenario : Scenario) (traces : List (List (List ℕ))) (puts : Option (List PutFrame)) (events : Bool)
+    (play : Play) (hosts : List HostSummary) : Type 0 where
   pub first : Play
   pub begins : Begins scenario.plan.hosts.items first
   pub recorded : first.record.puts ≡ puts
+  pub log : first.record.log ≡ new_log (map plan_name scenario.plan.hosts.items) events
   pub played : HasPlayed (scenario_events scenario traces) first play
-  pub tells : TellTallies (length scenario.plan.hosts.items) scenario.plan.hosts.items play summary.hosts.items
+  pub tells : TellTallies (length scenario.plan.hosts.items) scenario.plan.hosts.items play hosts
 
 -- Its network wasn't made, or memory was refused.
 abbrev pub IsUnplayed : Scenario → (traces : List (List (List ℕ))) → BenchError → Type 0

@@ -1,6 +1,7 @@
 -- The lines that the program prints of a run (our choice).
-use Rattle.std.specs.Prelude.{◌++◌, ℕ, Bool, true, false, List, codes, decimal, string_bytes}
+use Rattle.std.specs.Prelude.{◌++◌, [], ℕ, Bool, true, false, List, None, Option, Some, codes, decimal, string_bytes}
 use Rattle.std.specs.List.{flat_map}
+use Rattle.scenario_bench.specs.declared.summary.GivenUp.{GivenUp}
 use Rattle.scenario_bench.specs.declared.summary.HostSummary.{HostSummary}
 use Rattle.scenario_bench.specs.declared.summary.Summary.{Summary}
 
@@ -13,12 +14,18 @@ abbrev pub exact_word : Bool → List ℕ
 exact_word true = codes " exact"
 exact_word false = codes " atleast"
 
+-- what resets gave up and dropped, if there was one
+abbrev pub resets_text : Option GivenUp → List ℕ
+resets_text None = []
+resets_text (Some told) = field (codes " givenup ") told.sending ++ field (codes " ") told.holding ++ field (codes " off ") told.off
+
 -- the part of a host's line after its name
 abbrev pub host_fields : HostSummary → List ℕ
 host_fields host =
     field (codes " accepted ") host.accepted ++ field (codes " put ") host.put ++ field (codes " reached ") host.reached
     ++ field (codes " stored ") host.stored ++ field (codes " missed ") host.missed ++ exact_word host.exact
-    ++ field (codes " given ") host.given ++ field (codes " unclaimed ") host.unclaimed ++ codes "\n"
+    ++ field (codes " given ") host.given ++ field (codes " unclaimed ") host.unclaimed ++ resets_text host.given_up
+    ++ codes "\n"
 
 abbrev pub host_line : HostSummary → List ℕ
 host_line host = string_bytes host.name ++ host_fields host

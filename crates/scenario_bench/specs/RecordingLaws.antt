@@ -2,8 +2,9 @@
 use Rattle.std.proofs.Common.{◌≡◌, ◌++◌, ◌∷◌, [], ℕ, List, None, Option, Some, length, map}
 use Rattle.std.proofs.Common.{option_map, slice_get, refl, sym, ap, subst, ◌∙◌, append_assoc, append-nil, arith, length-append}
 use Rattle.std.specs.Prelude.{⊤}
-use Rattle.std.specs.List.{flat_map}
+use Rattle.std.specs.List.{flat_map, fold}
 use Rattle.std.proofs.lemmas.Grind.{flat_map-append}
+use Rattle.std.proofs.lemmas.List.{map-append}
 use Rattle.std.proofs.lemmas.List.Sums.{fold-append}
 use Rattle.pcap_trace.specs.Format.{Timed}
 use Rattle.delivery.specs.Happenings.{Happening, given}
@@ -12,12 +13,15 @@ use Rattle.network_plan.specs.declared.reply.Reply.{Reply}
 use Rattle.stations.specs.ToldTicks.{ComposesTold, TickTold}
 use Rattle.wire.specs.RunObservers.{ComposesRuns, happened_of}
 use Rattle.scenario_bench.specs.Acts.{Act, Ran, history, ran, said_in}
+use Rattle.scenario_bench.specs.EventLines.{place_at}
 use Rattle.scenario_bench.specs.Given.{given_from, next_number, numbered_frame}
 use Rattle.scenario_bench.specs.Puts.{PutFrame, PutsGrow, put_frame_in, put_frames_in, put_from}
-use Rattle.scenario_bench.specs.Recording.{HearsTicks, RecordsReplies}
+use Rattle.scenario_bench.specs.Recording.{AreInOrder, HearsTicks, RecordsReplies}
+use Rattle.scenario_bench.specs.RunLogs.{AreLogged, act_logged, acts_in, log_heard, logged}
 use Rattle.scenario_bench.specs.SocketLists.{SocketFrames}
 use Rattle.scenario_bench.specs.Tallies.{AreNoted, TalliesGrow, tallied_by, number_behind, socket_behind, tally_behind}
 use Rattle.scenario_bench.specs.declared.record.Record.{Record}
+use Rattle.scenario_bench.specs.declared.run_log.RunLog.{RunLog}
 use Rattle.scenario_bench.specs.declared.tally.Tally.{Tally}
 
 -- Numbers of hosts.
@@ -84,6 +88,25 @@ behind-join number acts later (Some socket) =
     (append_assoc socket.frames first second
     ∙ ap (λ (frames : List Timed). socket.frames ++ frames) (sym (given-join socket.host socket.socket number acts later)))
 
+-- Lines of acts, one list after the other.
+
+logged-join : (number : ℕ) (entries later : List (ℕ × Act)) (log : RunLog)
+    → logged number (entries ++ later) log ≡ logged (number_behind number (acts_in entries)) later (logged number entries log)
+logged-join number [] later log = refl
+logged-join number (entry ∷ entries) later log =
+    logged-join (next_number number) entries later (act_logged (place_at number entry.0) entry.1 log)
+
+logs-join : (acts later : List Act) (a b c : Record) → b.number ≡ number_behind a.number acts → AreLogged acts a b → AreLogged later b c
+    → AreLogged (acts ++ later) a c
+logs-join acts later a b c number one two = record {
+  entries = one.entries ++ two.entries;
+  are = map-append (λ (entry : ℕ × Act). entry.1) one.entries two.entries
+      ∙ ap (λ (list : List Act). list ++ acts_in two.entries) one.are ∙ ap (λ (list : List Act). acts ++ list) two.are;
+  log = two.log ∙ ap (logged b.number two.entries) one.log
+      ∙ ap (λ (n : ℕ). logged n two.entries (logged a.number one.entries a.log)) (number ∙ ap (number_behind a.number) (sym one.are))
+      ∙ sym (logged-join a.number one.entries two.entries a.log);
+}
+
 pub notes_join : (acts later : List Act) (a b c : Record) → AreNoted acts a b → AreNoted later b c → AreNoted (acts ++ later) a c
 notes_join acts later a b c one two = record {
   number = two.number ∙ ap (λ (n : ℕ). number_behind n later) one.number
@@ -98,6 +121,7 @@ notes_join acts later a b c one two = record {
   puts = subst (λ (puts : List PutFrame). PutsGrow puts a.puts c.puts) (sym (put_from-join a.number acts later))
       (puts_join (put_from a.number acts) (put_from (number_behind a.number acts) later) a.puts b.puts c.puts one.puts
       (subst (λ (n : ℕ). PutsGrow (put_from n later) b.puts c.puts) one.number two.puts));
+  logged = logs-join acts later a b c one.number one.logged two.logged;
 }
 
 nothing-more : (number : ℕ) (found : Option SocketFrames) → found ≡ option_map (socket_behind number []) found
@@ -111,6 +135,7 @@ noted_none a = record {
   hosts = grows_not a.hosts.items;
   sockets = λ k. nothing-more a.number (slice_get a.sockets.items k);
   puts = puts_not a.puts;
+  logged = record { entries = []; are = refl; log = refl };
 }
 
 -- What the record is told.
@@ -123,6 +148,7 @@ ticks_compose = record {
     sockets = refl;
     hosts = grows_not a.hosts.items;
     puts = λ sound. puts_not a.puts;
+    log = λ sound. refl;
   };
   joins = λ a b c first later one two. record {
     before = λ sound. one.before (two.before sound);
@@ -141,6 +167,8 @@ ticks_compose = record {
         subst (λ (puts : List PutFrame). PutsGrow puts a.puts c.puts) (sym both)
         (puts_join (of first) (of later) a.puts b.puts c.puts (one.puts (two.before sound))
         (subst (λ (n : ℕ). PutsGrow (put_frames_in n (flat_map happened_of later)) b.puts c.puts) one.number (two.puts sound)));
+    log = λ sound. two.log sound ∙ ap (λ (log : RunLog). fold log_heard log later) (one.log (two.before sound))
+        ∙ sym (fold-append log_heard a.log first later);
   };
 }
 
@@ -153,28 +181,45 @@ ran-join (one ∷ events) later [] others same = absurd (omega (arith, same))
 ran-join (one ∷ events) later (reply ∷ replies) others same =
     ap (λ (acts : List Act). Ran one reply ∷ acts) (ran-join events later replies others (omega (arith, same)))
 
+-- Replies tell their outcomes in order in two lists, one after the other.
+order-first : (events later : List Event) (replies others : List Reply) → length replies ≡ length events
+    → AreInOrder (events ++ later) (replies ++ others) → AreInOrder events replies × AreInOrder later others
+order-first [] later [] others same order = (tt, order)
+order-first [] later (reply ∷ replies) others same order = absurd (omega (arith, same))
+order-first (one ∷ events) later [] others same order = absurd (omega (arith, same))
+order-first (one ∷ events) later (reply ∷ replies) others same order =
+    let rest = order-first events later replies others (omega (arith, same)) order.1 in
+    ((order.0, rest.0), rest.1)
+
 pub record_composes : ComposesRuns HearsTicks RecordsReplies (λ now one. ⊤)
 record_composes = record {
-  quiet = λ a b heard sound. record {
-    before = heard.before sound;
+  quiet = λ a b heard. record {
     each = refl;
-    noted = record {
-      number = heard.number;
-      hosts = heard.hosts;
-      sockets = λ k.
-          ap (λ (sockets : List SocketFrames). slice_get sockets k) heard.sockets ∙ (noted_none a).sockets k;
-      puts = heard.puts sound;
+    recorded = λ sound order. record {
+      before = heard.before sound;
+      noted = record {
+        number = heard.number;
+        hosts = heard.hosts;
+        sockets = λ k.
+            ap (λ (sockets : List SocketFrames). slice_get sockets k) heard.sockets ∙ (noted_none a).sockets k;
+        puts = heard.puts sound;
+        logged = record { entries = []; are = refl; log = heard.log sound };
+      };
     };
   };
-  joins = λ a b c events later replies others one two sound.
-      let last = two sound in
-      let first = one last.before in
-      record {
-        before = first.before;
-        each = omega (arith, first.each, last.each, length-append events later, length-append replies others);
-        noted =
-            subst (λ (acts : List Act). AreNoted acts a c) (sym (ran-join events later replies others first.each))
-            (notes_join (ran events replies) (ran later others) a b c first.noted last.noted);
-      };
+  joins = λ a b c events later replies others one two. record {
+    each = let first = one.each in let second = two.each in
+        omega (arith, first, second, length-append events later, length-append replies others);
+    recorded = λ sound order.
+        let parts = order-first events later replies others one.each order in
+        let last = two.recorded sound parts.1 in
+        let first = one.recorded last.before parts.0 in
+        record {
+          before = first.before;
+          noted =
+              subst (λ (acts : List Act). AreNoted acts a c) (sym (ran-join events later replies others one.each))
+              (notes_join (ran events replies) (ran later others) a b c first.noted last.noted);
+        };
+  };
   keeps_room = λ a b event told heard room. tt;
 }

@@ -1,15 +1,23 @@
 -- The summary of each host after a run (our choice).
 use Rattle.std.specs.Prelude.{◌≡◌, ◌↔◌, ℕ, IsTrue, List, Some, length, min, slice_get, string_bytes, sum_by}
-use Rattle.std.specs.Prelude.{◌==◌, if◌then◌else◌}
-use Rattle.delivery.specs.Happenings.{Happening, Given, accepted, put, reached, stored}
+use Rattle.std.specs.Prelude.{◌==◌, ◌∷◌, [], Bool, false, None, Option, if◌then◌else◌, map, option_map}
+use Rattle.std.specs.List.{flat_map, fold, list_any}
+use Rattle.delivery.specs.Happenings.{Happening, Given, GivenUp, Reached, accepted, of_host, put, reached, stored}
+use Rattle.delivery.specs.Lists.{holding_in_one, sending_in_one}
+use Rattle.rx_engine.specs.declared.arrival.Fate.TheVariants as fate
 use Rattle.packet_socket.specs.HostState.{HostState}
 use Rattle.adapter.specs.World.{World}
 use Rattle.stations.specs.Stations.{world_at}
 use Rattle.wire.specs.Equations.{IsExact, counted}
 use Rattle.host_calls.specs.Networks.{IsHost, NetworkState}
 use Rattle.scenario.specs.SoFar.{Host}
+use Rattle.scenario_bench.specs.Acts.{Act}
+use Rattle.scenario_bench.specs.EventLines.{LogState, lines_from}
 use Rattle.scenario_bench.specs.Given.{greatest_number}
+use Rattle.scenario_bench.specs.RunLogs.{absent_by, acts_in, refused_by}
+use Rattle.scenario_bench.specs.declared.summary.GivenUp.{GivenUp as ResetsTold}
 use Rattle.scenario_bench.specs.declared.summary.HostSummary.{HostSummary}
+use Rattle.scenario_bench.specs.declared.summary.Summary.{Summary}
 
 -- a number in a summary: it saturates at the greatest
 abbrev pub as_told : ℕ → ℕ
@@ -23,6 +31,25 @@ count_given k one = 0
 abbrev pub all_given : ℕ → List Happening → ℕ
 all_given k happened = sum_by (count_given k) happened
 
+-- a frame that reached the k-th host while its receive side was disabled
+abbrev pub off_by : ℕ → Happening → List (List ℕ)
+off_by k (Reached host frame fate.Off) = of_host k host (frame ∷ [])
+off_by k one = []
+
+-- whether the k-th host was reset
+abbrev pub resets : ℕ → Happening → Bool
+resets k (GivenUp host sending holding) = k == host
+resets k one = false
+
+-- The numbers of frames that resets of the k-th host gave up and dropped, if there was one.
+abbrev pub resets_told : (k : ℕ) → List Happening → Option ResetsTold
+resets_told k happened =
+    if list_any (resets k) happened then Some (record {
+      sending = as_told (length (flat_map (sending_in_one k) happened));
+      holding = as_told (length (flat_map (holding_in_one k) happened));
+      off = as_told (length (flat_map (off_by k) happened));
+    }) else None
+
 -- The numbers of frames in the summary of the k-th host: that it accepted, put, that reached it, that it stored and returned.
 pub record TellsFrames (k : ℕ) (happened : List Happening) (told : HostSummary) : Type 0 where
   pub accepted : told.accepted ≡ as_told (length (accepted k happened))
@@ -30,6 +57,7 @@ pub record TellsFrames (k : ℕ) (happened : List Happening) (told : HostSummary
   pub reached : told.reached ≡ as_told (length (reached k happened))
   pub stored : told.stored ≡ as_told (length (stored k happened))
   pub given : told.given ≡ as_told (all_given k happened)
+  pub resets : told.given_up ≡ resets_told k happened
 
 -- The summary of the k-th host: its name, the numbers of frames, and its counts.
 pub record TellsHost (k : ℕ) (plan : Host) (happened : List Happening) (host : HostState) (world : World) (told : HostSummary)
@@ -45,3 +73,11 @@ pub record TellsHosts (plans : List Host) (happened : List Happening) (network :
   pub count : length told ≡ length plans
   pub each : (k : ℕ) (plan : Host) (host : HostState) (one : HostSummary) → slice_get plans k ≡ Some plan → IsHost network k host
       → slice_get told k ≡ Some one → TellsHost k plan happened host (world_at network.stations k) one
+
+-- The answers of these acts, each with the number of its line in the scenario: how many sends were refused, how many recvs named a socket
+-- that doesn't exist, and on request a line for each act.
+pub record TellsAnswers (plans : List Host) (events : Bool) (entries : List (ℕ × Act)) (told : Summary) : Type 0 where
+  pub refused : told.refused ≡ fold refused_by 0 (acts_in entries)
+  pub absent : told.absent ≡ fold absent_by 0 (acts_in entries)
+  pub lines : option_map (λ (log : LogState). log.text) told.events
+      ≡ (if events then Some (lines_from (map (λ (plan : Host). plan.name) plans) 0 entries) else None)

@@ -1,17 +1,23 @@
 -- What is recorded during a run (our choice).
-use Rattle.std.specs.Prelude.{◌≡◌, ◌==◌, ℕ, List, [], ◌∷◌, Option, Some, None, if◌then◌else◌, map, option_map, slice_get}
+use Rattle.std.specs.Prelude.{◌≡◌, ◌==◌, ◌+◌, ℕ, true, false, List, [], ◌∷◌, Option, Some}
+use Rattle.std.specs.Prelude.{None, if◌then◌else◌, length, map, min, option_map}
+use Rattle.std.specs.Prelude.{slice_get}
 use Rattle.std.specs.List.{fold}
 use Rattle.rx_engine.specs.declared.arrival.Fate.{Fate}
 use Rattle.rx_engine.specs.declared.arrival.Fate.TheVariants as fate
 use Rattle.pcap_trace.specs.Format.{Timed}
-use Rattle.delivery.specs.Happenings.{Happening, Accepted, Put, Reached, Given, given}
+use Rattle.delivery.specs.Happenings.{Happening, Accepted, Put, Reached, Given, GivenUp as HasGivenUp, given}
+use Rattle.network_plan.specs.Answers.{FrameAnswer}
+use Rattle.network_plan.specs.declared.reply.Answer.TheVariants as answer
 use Rattle.adapter.specs.Outcomes.{FrameOutcome}
 use Rattle.adapter.specs.declared.outcome.Outcome.TheVariants as outcome
 use Rattle.scenario_bench.specs.Acts.{Act, history}
 use Rattle.scenario_bench.specs.SocketLists.{SocketFrames, no_frames, with_socket_frames, with_given}
-use Rattle.scenario_bench.specs.Given.{given_from, next_number, numbered_frame}
+use Rattle.scenario_bench.specs.Given.{given_from, greatest_number, next_number, numbered_frame}
 use Rattle.scenario_bench.specs.Puts.{PutsGrow, put_from}
+use Rattle.scenario_bench.specs.RunLogs.{AreLogged}
 use Rattle.scenario_bench.specs.declared.record.Record.{Record}
+use Rattle.scenario_bench.specs.declared.summary.GivenUp.{GivenUp}
 use Rattle.scenario_bench.specs.declared.tally.Passage.{Passage}
 use Rattle.scenario_bench.specs.declared.tally.Passage.TheVariants as passage
 use Rattle.scenario_bench.specs.declared.tally.Tally.{Tally}
@@ -22,6 +28,7 @@ abbrev pub counted_once : Passage → Tally → Tally
 counted_once passage.Accepted tally = record tally { accepted = next_number tally.accepted }
 counted_once passage.Put tally = record tally { put = next_number tally.put }
 counted_once passage.Reached tally = record tally { reached = next_number tally.reached }
+counted_once passage.Off tally = record tally { reached = next_number tally.reached; off = next_number tally.off }
 counted_once passage.Stored tally = record tally { reached = next_number tally.reached; stored = next_number tally.stored }
 counted_once passage.Given tally = record tally { given = next_number tally.given }
 
@@ -31,7 +38,31 @@ counted_at k host one tally = if k == host then counted_once one tally else tall
 
 abbrev pub passage_by : Fate → Passage
 passage_by fate.Stored = passage.Stored
+passage_by fate.Off = passage.Off
 passage_by _ = passage.Reached
+
+-- a number that grows by this many, up to the greatest
+abbrev pub grown_by : (more : ℕ) → ℕ → ℕ
+grown_by more number = min (number + more) greatest_number
+
+-- a reset gave up so many frames
+abbrev pub tally_given_up : (sending holding : ℕ) → Tally → Tally
+tally_given_up sending holding tally =
+    record tally { sending = grown_by sending tally.sending; holding = grown_by holding tally.holding; is_reset = true }
+
+-- at a host, if it is this one
+abbrev pub given_up_at : (k host sending holding : ℕ) → Tally → Tally
+given_up_at k host sending holding tally = if k == host then tally_given_up sending holding tally else tally
+
+-- what resets gave up, if there was one
+abbrev pub resets_in : Tally → Option GivenUp
+resets_in tally =
+    if tally.is_reset then Some (record { sending = tally.sending; holding = tally.holding; off = tally.off }) else None
+
+-- what happens to a frame by the answer of a reset
+abbrev pub given_up_of : (host : ℕ) → FrameAnswer → List Happening
+given_up_of host (answer.Reset sending holding on_after) = HasGivenUp host sending.items holding.items ∷ []
+given_up_of host one = []
 
 -- what a happening adds to the k-th host's numbers
 abbrev pub tallied_by : ℕ → Tally → Happening → Tally
@@ -39,10 +70,21 @@ tallied_by k tally (Accepted host frame) = counted_at k host passage.Accepted ta
 tallied_by k tally (Put host frame) = counted_at k host passage.Put tally
 tallied_by k tally (Reached host frame one) = counted_at k host (passage_by one) tally
 tallied_by k tally (Given host socket frame) = counted_at k host passage.Given tally
+tallied_by k tally (HasGivenUp host sending holding) = given_up_at k host (length sending) (length holding) tally
 tallied_by k tally one = tally
 
 abbrev pub no_tally : Tally
-no_tally = record { accepted = 0; put = 0; reached = 0; stored = 0; given = 0 }
+no_tally = record {
+  accepted = 0;
+  put = 0;
+  reached = 0;
+  stored = 0;
+  given = 0;
+  sending = 0;
+  holding = 0;
+  off = 0;
+  is_reset = false;
+}
 
 -- Of events and drains.
 
@@ -70,12 +112,18 @@ pub record AreNoted (acts : List Act) (old new : Record) : Type 0 where
   pub hosts : TalliesGrow (history acts) old.hosts.items new.hosts.items
   pub sockets : SocketsGrow old.number acts old.sockets.items new.sockets.items
   pub puts : PutsGrow (put_from old.number acts) old.puts new.puts
+  pub logged : AreLogged acts old new
 
 -- What the parts of an act add.
 
 -- one passage at a host
 abbrev pub TallyCounts : (host : ℕ) → Passage → (old new : List Tally) → Type 0
 TallyCounts host one old new = (k : ℕ) → slice_get new k ≡ option_map (counted_at k host one) (slice_get old k)
+
+-- a reset of a host gave up so many frames
+abbrev pub TallyGivesUp : (host sending holding : ℕ) → (old new : List Tally) → Type 0
+TallyGivesUp host sending holding old new =
+    (k : ℕ) → slice_get new k ≡ option_map (given_up_at k host sending holding) (slice_get old k)
 
 -- the passage in an outcome, if there is one
 abbrev pub IsPassage : FrameOutcome → Option Passage → Type 0

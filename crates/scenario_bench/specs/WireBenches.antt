@@ -1,11 +1,11 @@
 -- What the bench does with a scenario if it also writes the frames of wires (our choice).
-use Rattle.std.specs.Prelude.{◌≡◌, ◌⊎◌, ℕ, List, Err, length}
+use Rattle.std.specs.Prelude.{◌≡◌, ◌⊎◌, ℕ, Bool, List, Err, length}
 use Rattle.pcap_trace.specs.Format.{Timed}
 use Rattle.wire.specs.NewNetworks.{IsLanAnswer}
 use Rattle.scenario.specs.SoFar.{Said, hosts_of}
 use Rattle.scenario.specs.declared.command.Scenario.{Scenario}
 use Rattle.scenario_bench.specs.Acts.{history}
-use Rattle.scenario_bench.specs.Benches.{AreWritten, AreWrittenUpTo, PlaysEvents, PlaysScenario, SinkState, StopsBefore}
+use Rattle.scenario_bench.specs.Benches.{AreWritten, AreWrittenUpTo, PlaysEvents, PlaysScenario, SinkState, StopsBefore, TellsRun}
 use Rattle.scenario_bench.specs.Benches.{scenario_events, texts_of}
 use Rattle.scenario_bench.specs.Puts.{put_from, wire_names, wire_texts}
 use Rattle.scenario_bench.specs.Summaries.{TellsHosts}
@@ -26,12 +26,14 @@ pub record BenchSinks : Type 0 where
   pub wires_old : List SinkState
   pub wires_new : List SinkState
 
--- At Ok each sink has the frames of its socket or of its wire, and the summary is that of the hosts.
-pub record BenchesWires (scenario : Scenario) (traces : List (List (List ℕ))) (summary : Summary) (sinks : BenchSinks) : Type 0 where
+-- At Ok each sink has the frames of its socket or of its wire, and the summary is that of the hosts and of the answers.
+pub record BenchesWires (scenario : Scenario) (traces : List (List (List ℕ))) (events : Bool) (summary : Summary) (sinks : BenchSinks)
+    : Type 0 where
   pub plays : PlaysScenario scenario traces
   pub texts : AreWritten (length (texts_of plays)) (texts_of plays) sinks.old sinks.new
   pub wires : AreWritten (length (wire_texts_of plays)) (wire_texts_of plays) sinks.wires_old sinks.wires_new
   pub tells : TellsHosts (hosts_of scenario.plan.hosts.items) (history plays.acts) plays.behind summary.hosts.items
+  pub answers : TellsRun events plays summary
 
 abbrev pub AreUntouched : BenchSinks → Type 0
 AreUntouched sinks = (sinks.new ≡ sinks.old) × (sinks.wires_new ≡ sinks.wires_old)

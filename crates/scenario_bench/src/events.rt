@@ -36,7 +36,7 @@ fn step_event(host: usize, kind: StepKind) -> Event
 
 /// How many receive buffers a frame of this size needs after it is padded; one if the frame is too short or too long
 /// for `send` (E20, E21).
-pub(crate) fn pieces_of(size: usize) -> usize
+pub fn pieces_of(size: usize) -> usize
     ensures { result ≡ lists.pieces_for size }
 {
     if size > LONGEST_LEGAL {
@@ -163,7 +163,11 @@ impl EventMemory {
         match event {
             Event::Send { frame, .. } => self.frame = frame,
             Event::Interrupt { ticks, .. } => self.ticks = ticks,
-            Event::Recv { .. } | Event::Join { .. } | Event::Leave { .. } | Event::Tick(_) => {}
+            Event::Recv { .. }
+            | Event::Reset { .. }
+            | Event::Join { .. }
+            | Event::Leave { .. }
+            | Event::Tick(_) => {}
         }
     }
 

@@ -6,20 +6,25 @@
 
 mod bench_error;
 mod drained;
+mod event_log;
+mod event_text;
 mod events;
 mod given;
 mod play;
 mod printing;
 mod put;
 mod record;
+mod run_log;
 mod socket_list;
 mod summary;
 mod tally;
 mod wire_list;
 
 pub use bench_error::BenchError;
+pub use event_log::EventLog;
+pub use events::pieces_of;
 pub use play::{bench, bench_wires};
 pub use printing::print_summary;
 pub use socket_list::sockets;
-pub use summary::{HostSummary, Summary};
+pub use summary::{GivenUp, HostSummary, Summary};
 pub use wire_list::wires;

@@ -6,10 +6,12 @@ ghost use Rattle.packet_socket.specs.HostState.{HostState};
 ghost use Rattle.scenario.specs.SoFar.{Drains, event_of, hosts_of, said_of};
 ghost use Rattle.scenario_bench.specs.Benches.{AreWritten, AreWrittenUpTo, Benches, Stops};
 ghost use Rattle.scenario_bench.specs.EventLists as lists;
+ghost use Rattle.scenario_bench.specs.EventLogView.{plan_name};
 ghost use Rattle.scenario_bench.specs.Given.{sockets_from};
 ghost use Rattle.scenario_bench.specs.PlayedEvents.{Begins, HasPlayed, HasPlayedScenario, IsUnplayed, StopsAtPlan};
 ghost use Rattle.scenario_bench.specs.PlayedEvents.{StopsWithin, TellTallies, TellsTally, frames_of};
 ghost use Rattle.scenario_bench.specs.Puts.{wire_names};
+ghost use Rattle.scenario_bench.specs.RunLogs.{new_log};
 ghost use Rattle.scenario_bench.specs.SocketLists.{frames_given};
 ghost use Rattle.scenario_bench.specs.WireBenches.{BenchesWires, StopsWires};
 ghost use Rattle.scenario_bench.specs.declared.tally.Tally.{Tally};
@@ -21,6 +23,7 @@ use crate::drained::DrainedFrames;
 use crate::events::{EventMemory, pieces_of, set_behind_send};
 use crate::put::PutFrames;
 use crate::record::Record;
+use crate::run_log::RunLog;
 use crate::summary::{HostSummary, Summary};
 use crate::wire_list::wires;
 use network_plan::{Event, HostPlan, Plan, Stopped};
@@ -32,6 +35,14 @@ use scenario::{Command, Scenario};
 use std::alloc::{AllocError, Global};
 use wire::Lan;
 
+/// The number of the line at this place, or 0 if there is none.
+fn line_at(lines: &[u64], place: usize) -> u64 {
+    match lines.get(place) {
+        Some(line) => *line,
+        None => 0,
+    }
+}
+
 /// Hosts on wires, the record of their run, and the room for the frames of a drain.
 #[derive(Drop)]
 struct Play {
@@ -41,14 +52,21 @@ struct Play {
 }
 
 impl Play {
-    /// Initializes the hosts of a plan. Frames that adapters put are recorded after these, if there are any.
-    fn new(alloc: Global, plan: &Plan, puts: Option<PutFrames>) -> Result<Play, BenchError>
+    /// Initializes the hosts of a plan. Frames that adapters put are recorded after these, if there are any. `events`
+    /// says whether there is to be a line for each event.
+    fn new(
+        alloc: Global,
+        plan: &Plan,
+        puts: Option<PutFrames>,
+        events: bool,
+    ) -> Result<Play, BenchError>
         ensures ok { IfOk result (Begins plan.now.hosts.items) }
         ensures puts { IfOk result (λ play. play.record.puts ≡ puts) }
+        ensures log { IfOk result (λ play. play.record.log ≡ new_log (map plan_name plan.now.hosts.items) events) }
         ensures err { IfErr result (StopsAtPlan plan.now.hosts.items) }
     {
         let lan = Lan::new(alloc, plan)?;
-        let record = Record::new(alloc, plan.hosts.as_slice(), puts)?;
+        let record = Record::new(alloc, plan.hosts.as_slice(), puts, events)?;
         let drained = DrainedFrames::new(alloc);
         Ok(Play {
             lan,
@@ -172,7 +190,7 @@ impl Play {
         }
     }
 
-    /// Runs the events and drains of these commands, in order.
+    /// Runs the events and drains of these commands, in order. The lines of events have the numbers of these lines.
     #[tactic(auto, using(crate::proofs::PlayedEvents::none_fed, crate::proofs::PlayedEvents::all_ran))]
     fn commands(
         &mut self,
@@ -180,6 +198,7 @@ impl Play {
         plans: &[HostPlan],
         traces: &[Trace],
         commands: &[Command],
+        lines: &[u64],
     ) -> Result<(), BenchError>
         requires { 0 < length plans.now }
         ensures ok { OnOk result (HasPlayed (lists.all_events (hosts_of plans.now) (map frames_of traces.now)
@@ -189,6 +208,7 @@ impl Play {
     {
         let mut left = commands;
         while let Some((command, later)) = left.split_first() {
+            self.record.line = line_at(lines, commands.len().saturating_sub(left.len()));
             self.command(alloc, plans, traces, command)?;
             left = later;
         }
@@ -220,21 +240,47 @@ impl Play {
             exact: counts.exact,
             given: tally.given,
             unclaimed: counts.unclaimed,
+            given_up: tally.resets(),
         })
     }
 
-    /// The summary of all hosts.
+    /// The summaries of all hosts.
     #[tactic(auto, using(crate::proofs::Benching::none_told))]
-    fn summary(&self, alloc: Global, plans: &[HostPlan]) -> Result<Summary, AllocError>
+    fn host_summaries(
+        &self,
+        alloc: Global,
+        plans: &[HostPlan],
+    ) -> Result<Vec<HostSummary>, AllocError>
         requires tallies { length plans.now ≤ length self.now.record.hosts.items }
         requires hosts { length plans.now ≤ length self.now.lan.hosts }
-        ensures { IfOk result (λ summary. TellTallies (length plans.now) plans.now self.now summary.hosts.items) }
+        ensures { IfOk result (λ hosts. TellTallies (length plans.now) plans.now self.now hosts.items) }
     {
         let mut hosts = Vec::new(alloc);
         for (number, plan) in plans.iter().enumerate() {
             hosts.push(self.host_summary(alloc, number, plan)?)?;
         }
-        Ok(Summary { hosts })
+        Ok(hosts)
+    }
+
+    /// The summary of the run, with these of the hosts.
+    fn summary(self, hosts: Vec<HostSummary>) -> Summary
+        ensures hosts { result.hosts ≡ hosts }
+        ensures refused { result.refused ≡ self.record.log.refused }
+        ensures absent { result.absent ≡ self.record.log.absent }
+        ensures events { result.events ≡ self.record.log.lines }
+    {
+        let record = self.record;
+        let RunLog {
+            refused,
+            absent,
+            lines,
+        } = record.log;
+        Summary {
+            hosts,
+            refused,
+            absent,
+            events: lines,
+        }
     }
 
     /// Writes to each sink the frames of its socket.
@@ -258,22 +304,25 @@ impl Play {
 }
 
 /// Makes the network of a scenario's plan, and plays its commands in order. Frames that adapters put are recorded after
-/// these, if there are any. Returns what was played, and the summary.
+/// these, if there are any. `events` is whether there is to be a line for each event. Returns what was played, and the
+/// summaries of the hosts.
 fn play_scenario(
     alloc: Global,
     scenario: &Scenario,
     traces: &[Trace],
     puts: Option<PutFrames>,
-) -> Result<(Play, Summary), BenchError>
+    events: bool,
+) -> Result<(Play, Vec<HostSummary>), BenchError>
     ensures ok { IfOk result (λ played.
-        HasPlayedScenario scenario.now (map frames_of traces.now) puts played.0 played.1) }
+        HasPlayedScenario scenario.now (map frames_of traces.now) puts events played.0 played.1.items) }
     ensures err { IfErr result (IsUnplayed scenario.now (map frames_of traces.now)) }
 {
     let plans = scenario.plan.hosts.as_slice();
-    let mut play = Play::new(alloc, &scenario.plan, puts)?;
-    play.commands(alloc, plans, traces, scenario.commands.as_slice())?;
-    let summary = play.summary(alloc, plans)?;
-    Ok((play, summary))
+    let mut play = Play::new(alloc, &scenario.plan, puts, events)?;
+    let commands = scenario.commands.as_slice();
+    play.commands(alloc, plans, traces, commands, scenario.command_lines())?;
+    let hosts = play.host_summaries(alloc, plans)?;
+    Ok((play, hosts))
 }
 
 /// Plays a scenario: makes the network of its plan, and runs its events and drains in order. Then it writes to each
@@ -281,7 +330,7 @@ fn play_scenario(
 /// of its event or drain, in microseconds. Events and drains are numbered from 0, up to the greatest `u64`.
 ///
 /// Pass a trace for each name of [`Scenario::trace_names`], and a sink for each socket of [`sockets`](crate::sockets),
-/// in the same order.
+/// in the same order. If `events` is true, the summary has a line for each event and drain.
 ///
 /// # Errors
 ///
@@ -295,28 +344,30 @@ pub fn bench<W: Sink>(
     scenario: &Scenario,
     traces: &[Trace],
     sinks: &mut [W],
+    events: bool,
 ) -> Result<Summary, BenchError>
     requires traces { length traces.now ≡ length scenario.now.traces.items }
     requires sinks { length sinks.old ≡ length (sockets_from 0 (hosts_of scenario.now.plan.hosts.items)) }
     requires countable { All (λ (sink : W). W.failures sink < u64.MAX) sinks.old }
-    ensures ok { IfOk result (λ summary. Benches scenario.now (map frames_of traces.now) summary
+    ensures ok { IfOk result (λ summary. Benches scenario.now (map frames_of traces.now) events summary
         (map (λ (s : W). record { taken = W.taken s; failures = W.failures s }) sinks.old)
         (map (λ (s : W). record { taken = W.taken s; failures = W.failures s }) sinks.new)) }
     ensures err { IfErr result (λ error. Stops scenario.now (map frames_of traces.now) error
         (map (λ (s : W). record { taken = W.taken s; failures = W.failures s }) sinks.old)
         (map (λ (s : W). record { taken = W.taken s; failures = W.failures s }) sinks.new)) }
 {
-    let (play, summary) = play_scenario(alloc, scenario, traces, None)?;
+    let (play, hosts) = play_scenario(alloc, scenario, traces, None, events)?;
     let mut writer = RecordWriter::new(alloc)?;
     play.write(&mut writer, sinks)?;
-    Ok(summary)
+    Ok(play.summary(hosts))
 }
 
 /// Plays a scenario as [`bench`] does, and after the traces of sockets writes those of wires: to each of `wire_sinks`
 /// the frames that were put on its wire, in order, as a trace. The time of a frame is the number of its event, as in
 /// the traces of sockets.
 ///
-/// Pass a sink for each wire of [`wires`](crate::wires), in the same order, and traces and sinks as for [`bench`].
+/// Pass a sink for each wire of [`wires`](crate::wires), in the same order, and traces, sinks and `events` as for
+/// [`bench`].
 ///
 /// # Errors
 ///
@@ -328,13 +379,14 @@ pub fn bench_wires<W: Sink>(
     traces: &[Trace],
     sinks: &mut [W],
     wire_sinks: &mut [W],
+    events: bool,
 ) -> Result<Summary, BenchError>
     requires traces { length traces.now ≡ length scenario.now.traces.items }
     requires sinks { length sinks.old ≡ length (sockets_from 0 (hosts_of scenario.now.plan.hosts.items)) }
     requires wires { length wire_sinks.old ≡ length (wire_names (hosts_of scenario.now.plan.hosts.items)) }
     requires countable { All (λ (sink : W). W.failures sink < u64.MAX) sinks.old }
     requires wires_countable { All (λ (sink : W). W.failures sink < u64.MAX) wire_sinks.old }
-    ensures ok { IfOk result (λ summary. BenchesWires scenario.now (map frames_of traces.now) summary (record {
+    ensures ok { IfOk result (λ summary. BenchesWires scenario.now (map frames_of traces.now) events summary (record {
       old = map (λ (s : W). record { taken = W.taken s; failures = W.failures s }) sinks.old;
       new = map (λ (s : W). record { taken = W.taken s; failures = W.failures s }) sinks.new;
       wires_old = map (λ (s : W). record { taken = W.taken s; failures = W.failures s }) wire_sinks.old;
@@ -349,11 +401,11 @@ pub fn bench_wires<W: Sink>(
 {
     let plans = scenario.plan.hosts.as_slice();
     let puts = PutFrames::new(alloc);
-    let (play, summary) = play_scenario(alloc, scenario, traces, Some(puts))?;
+    let (play, hosts) = play_scenario(alloc, scenario, traces, Some(puts), events)?;
     let names = wires(alloc, plans)?;
     let mut writer = RecordWriter::new(alloc)?;
     play.write(&mut writer, sinks)?;
     let puts = play.record.puts.as_ref().unwrap();
     puts.write_wires(plans, names.as_slice(), &mut writer, wire_sinks)?;
-    Ok(summary)
+    Ok(play.summary(hosts))
 }

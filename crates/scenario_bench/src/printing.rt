@@ -2,15 +2,15 @@
 ghost use Rattle.std.specs.Prelude.{◌≡◌, ◌<◌, ◌≤◌, ◌+◌, ◌++◌, length, OnErr, OnOk};
 ghost use Rattle.std.specs.Io.KnownBytes.{Appends};
 ghost use Rattle.pcap_trace.specs.Devices.{AppendsFront, CountsFailures};
-ghost use Rattle.scenario_bench.specs.Printing.{exact_word, field, host_fields, host_line, summary_text};
+ghost use Rattle.scenario_bench.specs.Printing.{exact_word, field, host_fields, host_line, resets_text, summary_text};
 
-use crate::summary::{HostSummary, Summary};
+use crate::summary::{GivenUp, HostSummary, Summary};
 use arrayvec::ArrayVec;
 use itoa::Buffer;
 use pcap_trace::{Sink, WriteError, write_all};
 
-/// Room for the part of a line after a name: seven labels and numbers, of at most 60 bytes each, and a word.
-const LONGEST_LINE: usize = 480;
+/// Room for the part of a line after a name: ten labels and numbers, of at most 60 bytes each, and a word.
+const LONGEST_LINE: usize = 700;
 
 /// The part of a line after a name.
 type Line = ArrayVec<u8, LONGEST_LINE>;
@@ -18,7 +18,7 @@ type Line = ArrayVec<u8, LONGEST_LINE>;
 /// Appends a label and a number.
 fn push_field(line: &mut Line, label: &[u8], number: u64)
     requires label { length label.now ≤ 20 }
-    requires room { length line.old.items + 60 ≤ 480 }
+    requires room { length line.old.items + 60 ≤ 700 }
     ensures text { line.new.items ≡ line.old.items ++ field label.now number }
     ensures short { length line.new.items ≤ length line.old.items + 60 }
 {
@@ -30,12 +30,26 @@ fn push_field(line: &mut Line, label: &[u8], number: u64)
 
 /// Appends whether the number of missed frames is exact.
 fn push_exact(line: &mut Line, exact: bool)
-    requires room { length line.old.items + 8 ≤ 480 }
+    requires room { length line.old.items + 8 ≤ 700 }
     ensures text { line.new.items ≡ line.old.items ++ exact_word exact }
     ensures short { length line.new.items ≤ length line.old.items + 8 }
 {
     let word: &[u8] = if exact { b" exact" } else { b" atleast" };
     line.try_extend_from_slice(word).unwrap();
+}
+
+/// Appends what resets gave up, if there was one.
+fn push_resets(line: &mut Line, given_up: Option<GivenUp>)
+    requires room { length line.old.items + 180 ≤ 700 }
+    ensures text { line.new.items ≡ line.old.items ++ resets_text given_up }
+    ensures short { length line.new.items ≤ length line.old.items + 180 }
+{
+    let Some(given_up) = given_up else {
+        return;
+    };
+    push_field(line, b" givenup ", given_up.sending);
+    push_field(line, b" ", given_up.holding);
+    push_field(line, b" off ", given_up.off);
 }
 
 /// The part of a host's line after its name.
@@ -51,6 +65,7 @@ fn fields_of(host: &HostSummary) -> Line
     push_exact(&mut line, host.exact);
     push_field(&mut line, b" given ", host.given);
     push_field(&mut line, b" unclaimed ", host.unclaimed);
+    push_resets(&mut line, host.given_up);
     line.push(b'\n');
     line
 }
@@ -67,7 +82,8 @@ fn print_host<W: Sink>(host: &HostSummary, sink: &mut W) -> Result<(), WriteErro
 }
 
 /// Writes the program's lines of a run to a sink, one a host: `NAME accepted A put P reached R stored S missed M exact
-/// given G unclaimed U`, with `atleast` for `exact` if more were missed. Each ends with a line feed. Allocates no
+/// given G unclaimed U`, with `atleast` for `exact` if more were missed, and ` givenup T R off O` behind it if the host
+/// was reset. Each ends with a line feed. Allocates no
 /// memory.
 ///
 /// # Errors

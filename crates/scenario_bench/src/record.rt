@@ -8,15 +8,21 @@ ghost use Rattle.scenario_bench.specs.Acts.{Drained};
 ghost use Rattle.scenario_bench.specs.DrainedView.{drained_frame};
 ghost use Rattle.scenario_bench.specs.Given.{numbered_frame, sockets_from, sockets_of_host};
 ghost use Rattle.scenario_bench.specs.Puts.{PutsGrow, is_put, put_frames_in};
-ghost use Rattle.scenario_bench.specs.Recording.{NotesAnswer, answered};
+ghost use Rattle.scenario_bench.specs.EventLines.{place_at};
+ghost use Rattle.scenario_bench.specs.EventLogView.{plan_name};
+ghost use Rattle.scenario_bench.specs.Recording.{NotesAnswer, NotesLine, answered};
+ghost use Rattle.scenario_bench.specs.RunLogs.{new_log};
 ghost use Rattle.scenario_bench.specs.Tallies.{AreNoted, GetsGiven, GetsSaid, IsPassage, TalliesGrow, TallyCounts};
-ghost use Rattle.scenario_bench.specs.Tallies.{empty_sockets, no_tally};
+ghost use Rattle.scenario_bench.specs.Tallies.{TallyGivesUp};
+ghost use Rattle.scenario_bench.specs.Tallies.{empty_sockets, given_up_of, no_tally};
 ghost use Rattle.wire.specs.DrainedNetworks.{said_of_drain};
 ghost use Rattle.wire.specs.Runs.{accepted_of, given_of};
 
 use crate::drained::DrainedFrame;
+use crate::event_log::Place;
 use crate::given::GivenFrames;
 use crate::put::PutFrames;
+use crate::run_log::RunLog;
 use crate::tally::{Passage, Tally};
 use adapter::{Fate, Outcome, StepKind};
 use network_plan::{Answer, Event, HostPlan};
@@ -29,14 +35,18 @@ use wire::RunObserver;
 pub(crate) struct Record {
     /// The number of the next event or drain, up to the greatest.
     pub(crate) number: u64,
+    /// The number of its line in the scenario, from 1.
+    pub(crate) line: u64,
     /// The counts of each host.
     pub(crate) hosts: Vec<Tally>,
     /// The frames of each socket, hosts in order and their sockets in order.
     pub(crate) sockets: Vec<GivenFrames>,
     /// The frames that adapters put on wires; `None` if they aren't recorded.
     pub(crate) puts: Option<PutFrames>,
-    /// Whether memory was refused for a frame that a socket returned or that was put on a wire. This doesn't happen,
-    /// because the memory is allocated before the frame's event. But the proof doesn't use this fact.
+    /// What is recorded of answers.
+    pub(crate) log: RunLog,
+    /// Whether memory was refused for a frame that a socket returned or that was put on a wire, or for an event's line.
+    /// This doesn't happen, because the memory is allocated before the event. But the proof doesn't use this fact.
     pub(crate) failed: bool,
 }
 
@@ -59,6 +69,7 @@ fn passage_of(outcome: &Outcome<()>) -> Option<Passage>
     match outcome {
         Outcome::Put(_) => Some(Passage::Put),
         Outcome::Delivered(_, Fate::Stored) => Some(Passage::Stored),
+        Outcome::Delivered(_, Fate::Off) => Some(Passage::Off),
         Outcome::Delivered(_, _) => Some(Passage::Reached),
         _ => None,
     }
@@ -110,6 +121,16 @@ fn count(hosts: &mut [Tally], host: usize, passage: Passage)
 {
     if host < hosts.len() {
         hosts[host] = hosts[host].with(passage);
+    }
+}
+
+/// Counts the frames that a reset of a host gave up.
+#[tactic(auto, using(crate::proofs::Noting::given_up_there, crate::proofs::Noting::given_up_nowhere))]
+fn give_up(hosts: &mut [Tally], host: usize, sending: u64, holding: u64)
+    ensures { TallyGivesUp host sending holding hosts.old hosts.new }
+{
+    if host < hosts.len() {
+        hosts[host] = hosts[host].given_up(sending, holding);
     }
 }
 
@@ -170,6 +191,7 @@ fn most_puts(event: &Event) -> usize {
         Event::Send { ticks, .. }
         | Event::Recv { ticks, .. }
         | Event::Interrupt { ticks, .. }
+        | Event::Reset { ticks, .. }
         | Event::Join { ticks, .. }
         | Event::Leave { ticks, .. } => puts_among(ticks.as_slice()),
         Event::Tick(tick) => puts_among(std::slice::from_ref(tick)),
@@ -224,6 +246,21 @@ fn note_sent(hosts: &mut [Tally], host: usize, answer: Answer<()>)
     }
 }
 
+/// Records the frames that a reset gave up.
+#[tactic(auto, using(crate::specs::RecordingLaws::grows_not))]
+fn note_reset(hosts: &mut [Tally], host: usize, answer: Answer<()>)
+    ensures { (frame : List ℕ) → TalliesGrow (given_up_of host (answer_with frame answer)) hosts.old hosts.new }
+{
+    if let Answer::Reset {
+        sending,
+        holding,
+        ..
+    } = answer
+    {
+        give_up(hosts, host, sending.len() as u64, holding.len() as u64);
+    }
+}
+
 /// Records the frames that a drained host delivered, each for its socket.
 #[tactic(auto, using(crate::proofs::NotedDrains::drain_rules))]
 fn note_drained(
@@ -249,26 +286,52 @@ fn note_drained(
 
 impl Record {
     /// The record of these hosts before a run. Frames that are put on wires are recorded after these, if there are any.
+    /// `events` is whether there is to be a line for each event.
     pub(crate) fn new(
         alloc: Global,
         plans: &[HostPlan],
         puts: Option<PutFrames>,
+        events: bool,
     ) -> Result<Record, AllocError>
         ensures number { IfOk result (λ noted. noted.number ≡ 0) }
         ensures hosts { IfOk result (λ noted. noted.hosts.items ≡ replicate (length plans.now) no_tally) }
         ensures sockets { IfOk result
             (λ noted. noted.sockets.items ≡ empty_sockets (sockets_from 0 (hosts_of plans.now))) }
         ensures puts { IfOk result (λ noted. noted.puts ≡ puts) }
+        ensures log { IfOk result (λ noted. noted.log ≡ new_log (map plan_name plans.now) events) }
     {
         let hosts = no_tallies(alloc, plans.len())?;
         let sockets = no_given(alloc, plans)?;
+        let log = RunLog::new(alloc, plans, events)?;
         Ok(Record {
             number: 0,
+            line: 0,
             hosts,
             sockets,
             puts,
+            log,
             failed: false,
         })
+    }
+
+    /// Where the next event stands.
+    fn place(&self) -> Place
+        ensures { result ≡ place_at self.now.number self.now.line }
+    {
+        Place {
+            number: self.number,
+            line: self.line,
+        }
+    }
+
+    /// Records the line of an event.
+    fn note_line(&mut self, event: &Event, accesses: u64, answer: &Answer<()>, frame: &[u8])
+        ensures { NotesLine event.now accesses (answer_with frame.now answer.now) self.old self.new }
+    {
+        let place = self.place();
+        if self.log.end(place, event, accesses, answer, frame).is_err() {
+            self.failed = true;
+        }
     }
 
     /// Records the answer of a socket, with its frame.
@@ -293,6 +356,7 @@ impl Record {
         match event {
             Event::Send { host, .. } => note_sent(self.hosts.as_mut_slice(), *host, answer),
             Event::Recv { host, socket, .. } => self.note_received(*host, *socket, answer, frame),
+            Event::Reset { host, .. } => note_reset(self.hosts.as_mut_slice(), *host, answer),
             Event::Interrupt { .. } | Event::Join { .. } | Event::Leave { .. } | Event::Tick(_) =>
                 {}
         }
@@ -309,6 +373,8 @@ impl Record {
         ensures { OnOk result
             (AreNoted (Drained host 0 (map drained_frame given.now) ∷ []) self.old self.new) }
     {
+        let place = self.place();
+        self.log.drain(place, host, given.len())?;
         let hosts = self.hosts.as_mut_slice();
         note_drained(hosts, self.sockets.as_mut_slice(), host, self.number, given)?;
         self.number = self.number.saturating_add(1);
@@ -326,10 +392,13 @@ impl Observer for Record {
 
     ghost composes = { ticks_compose };
 
-    fn note(&mut self, tick: Tick, _accesses: u64, outcome: Outcome<()>, frame: &[u8]) {
+    fn note(&mut self, tick: Tick, accesses: u64, outcome: Outcome<()>, frame: &[u8]) {
         let host = tick_host(tick);
         note_outcome(self.hosts.as_mut_slice(), host, &outcome);
         if note_put(&mut self.puts, host, self.number, &outcome, frame).is_err() {
+            self.failed = true;
+        }
+        if self.log.note(tick, accesses, &outcome, frame).is_err() {
             self.failed = true;
         }
     }
@@ -348,11 +417,11 @@ impl RunObserver for Record {
 
     ghost composes_runs = { record_composes };
 
-    fn make_room(&mut self, event: &Event, _ticks: usize) -> bool {
+    fn make_room(&mut self, event: &Event, ticks: usize) -> bool {
         if self.failed {
             return false;
         }
-        if reserve_puts(&mut self.puts, event).is_err() {
+        if reserve_puts(&mut self.puts, event).is_err() || self.log.reserve(ticks).is_err() {
             return false;
         }
         match event {
@@ -363,8 +432,10 @@ impl RunObserver for Record {
         }
     }
 
-    // Only the record changes: as `NotesAnswer` of `note_answer` says, and the number of the next event is one more.
-    fn answer(&mut self, event: &Event, _accesses: u64, answer: Answer<()>, frame: &[u8]) {
+    // Only the record changes: as `NotesLine` of `note_line` and `NotesAnswer` of `note_answer` say, and the number of
+    // the next event is one more.
+    fn answer(&mut self, event: &Event, accesses: u64, answer: Answer<()>, frame: &[u8]) {
+        self.note_line(event, accesses, &answer, frame);
         self.note_answer(event, answer, frame);
         self.number = self.number.saturating_add(1);
     }

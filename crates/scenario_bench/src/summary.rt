@@ -1,4 +1,6 @@
-//! The summary of the hosts after a run.
+//! The summary of a run.
+
+use crate::event_log::EventLog;
 
 /// The summary of a host. Each number saturates at the greatest `u64`.
 #[derive(Drop)]
@@ -22,11 +24,30 @@ pub struct HostSummary {
     pub given: u64,
     /// The number of frames that no socket took.
     pub unclaimed: u64,
+    /// What its resets gave up, if it was reset.
+    pub given_up: Option<GivenUp>,
 }
 
-/// The summaries of the hosts of a plan, in order.
+/// What the resets of a host gave up and dropped. Each number saturates at the greatest `u64`.
+#[derive(Clone, Copy)]
+pub struct GivenUp {
+    /// The number of frames that were to be sent.
+    pub sending: u64,
+    /// The number of frames that were held.
+    pub holding: u64,
+    /// The number of frames that reached its adapter while its receive side was disabled.
+    pub off: u64,
+}
+
+/// The summary of a run.
 #[derive(Drop)]
 pub struct Summary {
-    /// The hosts.
+    /// The hosts of the plan, in order.
     pub hosts: Vec<HostSummary>,
+    /// The number of sends that were refused (E20 to E22), up to the greatest `u64`.
+    pub refused: u64,
+    /// The number of recvs that named a socket that doesn't exist (E31), up to the greatest `u64`.
+    pub absent: u64,
+    /// A line for each event, if they were asked for.
+    pub events: Option<EventLog>,
 }

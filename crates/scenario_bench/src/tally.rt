@@ -1,6 +1,8 @@
 //! The counts of a host's frames.
 ghost use Rattle.std.specs.Prelude.{◌≡◌};
-ghost use Rattle.scenario_bench.specs.Tallies.{counted_once};
+ghost use Rattle.scenario_bench.specs.Tallies.{counted_once, resets_in, tally_given_up};
+
+use crate::summary::GivenUp;
 
 /// The numbers of frames of a host that were accepted, put and so on. Each saturates at the greatest `u64`.
 #[derive(Clone, Copy, Default)]
@@ -10,6 +12,14 @@ pub(crate) struct Tally {
     pub(crate) reached: u64,
     pub(crate) stored: u64,
     pub(crate) given: u64,
+    /// Frames that resets gave up while they were to be sent.
+    pub(crate) sending: u64,
+    /// Frames that resets gave up while they were held.
+    pub(crate) holding: u64,
+    /// Frames that reached it while a reset had disabled its receive side.
+    pub(crate) off: u64,
+    /// Whether it was reset.
+    pub(crate) is_reset: bool,
 }
 
 /// What happened to a frame at a host.
@@ -21,6 +31,8 @@ pub(crate) enum Passage {
     Put,
     /// It reached the adapter, which didn't store it.
     Reached,
+    /// It reached the adapter, whose receive side was disabled.
+    Off,
     /// It reached the adapter, which stored it.
     Stored,
     /// A socket returned it.
@@ -37,6 +49,10 @@ impl Tally {
             Passage::Accepted => tally.accepted = tally.accepted.saturating_add(1),
             Passage::Put => tally.put = tally.put.saturating_add(1),
             Passage::Reached => tally.reached = tally.reached.saturating_add(1),
+            Passage::Off => {
+                tally.reached = tally.reached.saturating_add(1);
+                tally.off = tally.off.saturating_add(1);
+            }
             Passage::Stored => {
                 tally.reached = tally.reached.saturating_add(1);
                 tally.stored = tally.stored.saturating_add(1);
@@ -44,5 +60,31 @@ impl Tally {
             Passage::Given => tally.given = tally.given.saturating_add(1),
         }
         tally
+    }
+
+    /// These counts after a reset, which gave up so many frames.
+    pub(crate) fn given_up(self, sending: u64, holding: u64) -> Tally
+        ensures { result ≡ tally_given_up sending holding self }
+    {
+        Tally {
+            sending: self.sending.saturating_add(sending),
+            holding: self.holding.saturating_add(holding),
+            is_reset: true,
+            ..self
+        }
+    }
+
+    /// What the resets gave up, if there was one.
+    pub(crate) fn resets(self) -> Option<GivenUp>
+        ensures { result ≡ resets_in self }
+    {
+        if !self.is_reset {
+            return None;
+        }
+        Some(GivenUp {
+            sending: self.sending,
+            holding: self.holding,
+            off: self.off,
+        })
     }
 }

@@ -7,11 +7,11 @@ use Rattle.scenario_bench.specs.PlayedEvents.{HasPlayed, frames_of}
 use Rattle.scenario_bench.proofs.Benching.{same_events, tallies_enough, tells_as, unplayed}
 use Rattle.scenario_bench.proofs.play.play_scenario.Goals as goal
 
-pub summary-requires-clause-tallies : goal.summary-requires-clause-tallies
-summary-requires-clause-tallies c =
+pub host_summaries-requires-clause-tallies : goal.host_summaries-requires-clause-tallies
+host_summaries-requires-clause-tallies c =
     subst (λ (plans : List HostPlan). length plans ≤ length c.commands.new.self.record.hosts.items) (sym c.as_slice-plans.ensures.value)
     (tallies_enough c.args.scenario.now.plan.hosts.items
-    (all_events (hosts_of c.as_slice-plans.result.now) (map frames_of c.args.traces.now) (map said_of c.as_slice.result.now))
+    (all_events (hosts_of c.as_slice-plans.result.now) (map frames_of c.args.traces.now) (map said_of c.as_slice-commands.result.now))
     c.in_ok-play.play c.commands.new.self c.in_ok-play.ensures.ok c.in_ok-commands.ensures.ok)
 
 pub returns-clause-ok : goal.returns-clause-ok
@@ -19,11 +19,12 @@ returns-clause-ok c = record {
   first = c.in_ok-play.play;
   begins = c.in_ok-play.ensures.ok;
   recorded = c.in_ok-play.ensures.puts;
+  log = c.in_ok-play.ensures.log;
   played = subst (λ (said : List Said). HasPlayed said c.in_ok-play.play c.commands.new.self)
-      (same_events c.as_slice-plans.result.now c.as_slice.result.now c.args.scenario.now (map frames_of c.args.traces.now)
-      c.as_slice-plans.ensures.value c.as_slice.ensures.value) c.in_ok-commands.ensures.ok;
-  tells = tells_as c.as_slice-plans.result.now c.args.scenario.now.plan.hosts.items c.commands.new.self c.in_ok-summary.summary.hosts.items
-      c.as_slice-plans.ensures.value c.in_ok-summary.ensures;
+      (same_events c.as_slice-plans.result.now c.as_slice-commands.result.now c.args.scenario.now (map frames_of c.args.traces.now)
+      c.as_slice-plans.ensures.value c.as_slice-commands.ensures.value) c.in_ok-commands.ensures.ok;
+  tells = tells_as c.as_slice-plans.result.now c.args.scenario.now.plan.hosts.items c.commands.new.self c.in_ok-hosts.hosts.items
+      c.as_slice-plans.ensures.value c.in_ok-hosts.ensures;
 }
 
 pub returns-in_err-commands-clause-err : goal.returns-in_err-commands-clause-err
@@ -31,5 +32,5 @@ returns-in_err-commands-clause-err c =
     let p = err_from_is_err_and c.from_residual-in_err-commands.result c.from_residual-in_err-commands.ensures.1 in
     rw (p.1, p.2) (unplayed c.args.scenario.now (map frames_of c.args.traces.now) _ c.in_ok-play.play c.commands.new.self _
     c.in_ok-play.ensures.ok
-    (same_events c.as_slice-plans.result.now c.as_slice.result.now c.args.scenario.now (map frames_of c.args.traces.now)
-    c.as_slice-plans.ensures.value c.as_slice.ensures.value) c.in_err-commands.ensures.err)
+    (same_events c.as_slice-plans.result.now c.as_slice-commands.result.now c.args.scenario.now (map frames_of c.args.traces.now)
+    c.as_slice-plans.ensures.value c.as_slice-commands.ensures.value) c.in_err-commands.ensures.err)

@@ -4,6 +4,7 @@ use Rattle.std.specs.Prelude.{string_bytes}
 use Rattle.stations.specs.Stations.{world_at}
 use Rattle.wire.specs.Counting.{AreCounts}
 use Rattle.wire.specs.declared.counts.Counts.{Counts}
+use Rattle.scenario_bench.specs.Tallies.{resets_in}
 use Rattle.scenario_bench.specs.declared.tally.Tally.{Tally}
 use Rattle.scenario_bench.proofs.play.Play.host_summary.Goals as goal
 
@@ -23,5 +24,6 @@ returns c = λ tally host tally_is host_is.
       reached = ap (λ (t : Tally). t.reached) same;
       stored = ap (λ (t : Tally). t.stored) same;
       given = ap (λ (t : Tally). t.given) same;
+      resets = c.resets.ensures ∙ ap resets_in same;
       counts = (counts.missed, counts.exact, counts.unclaimed);
     }

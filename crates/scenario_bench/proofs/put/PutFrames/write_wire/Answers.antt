@@ -18,7 +18,8 @@ pub loop-info-init : goal.loop-info-init
 loop-info-init g c = record {
   quiet = refl;
   written = puts-first (hosts_of c.args.plans.now) c.args.wire.now c.args.self.now c.self.inside.infos.items
-      c.as_slice-info-items.result.now c.self.inside.bytes.items c.as_slice-bytes.result.now (g.W.Sink.taken c.args.sink.now) c.begin.new.self (sym c.self.view_is)
+      c.as_slice-info-items.result.now c.self.inside.bytes.items c.as_slice-bytes.result.now (g.W.Sink.taken c.args.sink.now)
+      c.begin.new.self (sym c.self.view_is)
       c.as_slice-info-items.ensures.value c.as_slice-bytes.ensures.value c.self.invariant.bytes c.self.invariant.short c.begin.ensures;
 }
 

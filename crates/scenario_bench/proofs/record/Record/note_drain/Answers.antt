@@ -1,10 +1,13 @@
-use Rattle.std.proofs.Common.{◌≡◌, List, arith, map, refl, rules, subst, sym}
+use Rattle.std.proofs.Common.{◌≡◌, ◌∙◌, ℕ, List, ap, arith, length, map, refl, rules, subst, sym}
 use Rattle.std.specs.Vec.{with_items}
-use Rattle.std.proofs.lemmas.List.{with_items_is}
+use Rattle.std.proofs.lemmas.List.{length-map, with_items_is}
 use Rattle.wire.specs.DrainedNetworks.{said_of_drain}
 use Rattle.scenario_bench.specs.DrainedView.{drained_frame}
+use Rattle.scenario_bench.specs.EventLines.{place_at}
+use Rattle.scenario_bench.specs.RunLogs.{act_drained}
 use Rattle.scenario_bench.specs.SocketLists.{SocketFrames}
 use Rattle.scenario_bench.specs.Tallies.{GetsSaid, TalliesGrow}
+use Rattle.scenario_bench.specs.declared.event_log.Place.{Place}
 use Rattle.scenario_bench.specs.declared.tally.Tally.{Tally}
 use Rattle.scenario_bench.proofs.NotedEvents.{drain_noted}
 use Rattle.scenario_bench.proofs.record.Record.note_drain.Goals as goal
@@ -27,3 +30,7 @@ returns c =
     (subst (λ (a : List SocketFrames). GetsSaid old.number happened a (with_items old.sockets sockets).items) (sym sockets_before)
     (subst (λ (b : List SocketFrames). GetsSaid old.number happened c.as_mut_slice.result.now b) (sym sockets_after)
     c.in_ok-note_drained.ensures.sockets)) refl
+    (c.in_ok-drain.ensures
+    ∙ ap (λ (place : Place). act_drained place c.args.host (length c.args.given.now) old.log) c.place-place.ensures
+    ∙ ap (λ (n : ℕ). act_drained (place_at old.number old.line) c.args.host n old.log)
+    (sym (length-map c.args.given.now drained_frame)))

@@ -2,7 +2,7 @@ use Rattle.std.proofs.Common.{rules, Some, ap, arith, sym, ◌∙◌}
 use Rattle.std.proofs.lemmas.Option.{slice_get-get_or}
 use Rattle.network_plan.specs.declared.plan.HostPlan.{HostPlan}
 use Rattle.scenario_bench.proofs.Benching.{one_told}
-use Rattle.scenario_bench.proofs.play.Play.summary.Goals as goal
+use Rattle.scenario_bench.proofs.play.Play.host_summaries.Goals as goal
 
 pub loop-number-preserved : goal.loop-number-preserved
 loop-number-preserved c = one_told c.loop-number.number c.args.plans.now c.args.self.now c.loop-number.hosts.items c.push.new.self.items

@@ -1,0 +1,119 @@
+-- What the summary tells of answers, by the record.
+use Rattle.std.proofs.Common.{◌≡◌, ◌++◌, ◌∷◌, [], ℕ, Bool, true, false, List, Option, Some, None, map, option_map}
+use Rattle.std.proofs.Common.{if◌then◌else◌, length, refl, sym, ap, ◌∙◌, append_assoc, append-nil}
+use Rattle.std.specs.List.{flat_map, fold}
+use Rattle.stations.specs.ToldTicks.{TickTold}
+use Rattle.network_plan.specs.declared.plan.HostPlan.{HostPlan}
+use Rattle.scenario.specs.SoFar.{Host, hosts_of}
+use Rattle.scenario_bench.specs.Acts.{Act, Drained, Ran}
+use Rattle.scenario_bench.specs.EventLines.{LogState, act_line, drain_logged, end_logged, lines_from, no_lines}
+use Rattle.scenario_bench.specs.EventLines.{place_at, text_of, tick_logged}
+use Rattle.scenario_bench.specs.EventLines.{told_in}
+use Rattle.scenario_bench.specs.EventLogView.{plan_name}
+use Rattle.scenario_bench.specs.Given.{next_number}
+use Rattle.scenario_bench.specs.RunLogs.{absent_behind, absent_by, act_logged, acts_in, log_heard, logged}
+use Rattle.scenario_bench.specs.RunLogs.{new_log, refused_behind, refused_by}
+use Rattle.scenario_bench.specs.declared.event_log.Place.{Place}
+use Rattle.scenario_bench.specs.declared.run_log.RunLog.{RunLog}
+
+-- Refusals.
+
+refused-heard : (ticks : List TickTold) (log : RunLog) → (fold log_heard log ticks).refused ≡ log.refused
+refused-heard [] log = refl
+refused-heard (told ∷ ticks) log = refused-heard ticks (log_heard log told)
+
+refused-act : (place : Place) (act : Act) (log : RunLog) → (act_logged place act log).refused ≡ refused_by log.refused act
+refused-act place (Ran event reply) log =
+    ap (λ (n : ℕ). refused_behind n reply.answer) (refused-heard (told_in event reply) log)
+refused-act place (Drained host buffered given) log = refl
+
+pub refused_told : (number : ℕ) (entries : List (ℕ × Act)) (log : RunLog)
+    → (logged number entries log).refused ≡ fold refused_by log.refused (acts_in entries)
+refused_told number [] log = refl
+refused_told number (entry ∷ entries) log =
+    refused_told (next_number number) entries (act_logged (place_at number entry.0) entry.1 log)
+    ∙ ap (λ (n : ℕ). fold refused_by n (acts_in entries)) (refused-act (place_at number entry.0) entry.1 log)
+
+absent-heard : (ticks : List TickTold) (log : RunLog) → (fold log_heard log ticks).absent ≡ log.absent
+absent-heard [] log = refl
+absent-heard (told ∷ ticks) log = absent-heard ticks (log_heard log told)
+
+absent-act : (place : Place) (act : Act) (log : RunLog) → (act_logged place act log).absent ≡ absent_by log.absent act
+absent-act place (Ran event reply) log =
+    ap (λ (n : ℕ). absent_behind n reply.answer) (absent-heard (told_in event reply) log)
+absent-act place (Drained host buffered given) log = refl
+
+pub absent_told : (number : ℕ) (entries : List (ℕ × Act)) (log : RunLog)
+    → (logged number entries log).absent ≡ fold absent_by log.absent (acts_in entries)
+absent_told number [] log = refl
+absent_told number (entry ∷ entries) log =
+    absent_told (next_number number) entries (act_logged (place_at number entry.0) entry.1 log)
+    ∙ ap (λ (n : ℕ). fold absent_by n (acts_in entries)) (absent-act (place_at number entry.0) entry.1 log)
+
+-- Lines.
+
+abbrev ready : (names : List (List ℕ)) → (text : List ℕ) → LogState
+ready names text = record { names = names; outcomes = []; text = text }
+
+heard-lines : (ticks : List TickTold) (log : RunLog) (state : LogState) → log.lines ≡ Some state
+    → (fold log_heard log ticks).lines ≡ Some (fold tick_logged state ticks)
+heard-lines [] log state is = is
+heard-lines (told ∷ ticks) log state is =
+    heard-lines ticks (log_heard log told) (tick_logged state told)
+    (ap (option_map (λ (lines : LogState). tick_logged lines told)) is)
+
+all-heard : (ticks : List TickTold) (state : LogState)
+    → fold tick_logged state ticks ≡ record state { outcomes = state.outcomes ++ flat_map (text_of state.names) ticks }
+all-heard [] state = ap (λ (outcomes : List ℕ). record state { outcomes = outcomes }) (sym (append-nil state.outcomes))
+all-heard (told ∷ ticks) state =
+    all-heard ticks (tick_logged state told)
+    ∙ ap (λ (outcomes : List ℕ). record state { outcomes = outcomes })
+    (append_assoc state.outcomes (text_of state.names told) (flat_map (text_of state.names) ticks))
+
+act-lines : (place : Place) (act : Act) (log : RunLog) (names : List (List ℕ)) (text : List ℕ) → log.lines ≡ Some (ready names text)
+    → (act_logged place act log).lines ≡ Some (ready names (text ++ act_line names place act))
+act-lines place (Ran event reply) log names text is =
+    let ticks = told_in event reply in
+    ap (option_map (end_logged place event reply.accesses reply.answer))
+    (heard-lines ticks log (ready names text) is ∙ ap (λ (state : LogState). Some state) (all-heard ticks (ready names text)))
+act-lines place (Drained host buffered given) log names text is = ap (option_map (drain_logged place host (length given))) is
+
+lines-logged : (number : ℕ) (entries : List (ℕ × Act)) (log : RunLog) (names : List (List ℕ)) (text : List ℕ)
+    → log.lines ≡ Some (ready names text)
+    → (logged number entries log).lines ≡ Some (ready names (text ++ lines_from names number entries))
+lines-logged number [] log names text is =
+    is ∙ ap (λ (all : List ℕ). Some (ready names all)) (sym (append-nil text))
+lines-logged number (entry ∷ entries) log names text is =
+    let place = place_at number entry.0 in
+    let line = act_line names place entry.1 in
+    lines-logged (next_number number) entries (act_logged place entry.1 log) names (text ++ line)
+    (act-lines place entry.1 log names text is)
+    ∙ ap (λ (all : List ℕ). Some (ready names all)) (append_assoc text line (lines_from names (next_number number) entries))
+
+heard-none : (ticks : List TickTold) (log : RunLog) → log.lines ≡ None → (fold log_heard log ticks).lines ≡ None
+heard-none [] log is = is
+heard-none (told ∷ ticks) log is =
+    heard-none ticks (log_heard log told) (ap (option_map (λ (lines : LogState). tick_logged lines told)) is)
+
+act-none : (place : Place) (act : Act) (log : RunLog) → log.lines ≡ None → (act_logged place act log).lines ≡ None
+act-none place (Ran event reply) log is =
+    ap (option_map (end_logged place event reply.accesses reply.answer)) (heard-none (told_in event reply) log is)
+act-none place (Drained host buffered given) log is = ap (option_map (drain_logged place host (length given))) is
+
+none-logged : (number : ℕ) (entries : List (ℕ × Act)) (log : RunLog) → log.lines ≡ None → (logged number entries log).lines ≡ None
+none-logged number [] log is = is
+none-logged number (entry ∷ entries) log is =
+    let place = place_at number entry.0 in
+    none-logged (next_number number) entries (act_logged place entry.1 log) (act-none place entry.1 log is)
+
+pub lines_told : (events : Bool) (names : List (List ℕ)) (entries : List (ℕ × Act))
+    → option_map (λ (log : LogState). log.text) (logged 0 entries (new_log names events)).lines
+    ≡ (if events then Some (lines_from names 0 entries) else None)
+lines_told true names entries =
+    ap (option_map (λ (log : LogState). log.text)) (lines-logged 0 entries (new_log names true) names [] refl)
+lines_told false names entries =
+    ap (option_map (λ (log : LogState). log.text)) (none-logged 0 entries (new_log names false) refl)
+
+pub same_names : (plans : List HostPlan) → map plan_name plans ≡ map (λ (host : Host). host.name) (hosts_of plans)
+same_names [] = refl
+same_names (plan ∷ plans) = ap (λ (names : List (List ℕ)). plan_name plan ∷ names) (same_names plans)

@@ -1,0 +1,77 @@
+-- The line of each event in the log of a run (our choice).
+use Rattle.std.specs.Prelude.{◌++◌, ◌∷◌, [], ℕ, List, codes, length}
+use Rattle.std.specs.List.{flat_map}
+use Rattle.network_plan.specs.Answers.{FrameAnswer}
+use Rattle.network_plan.specs.declared.event.Event.{Event}
+use Rattle.network_plan.specs.declared.reply.Reply.{Reply}
+use Rattle.stations.specs.ToldTicks.{TickTold, tick_told}
+use Rattle.stations.specs.declared.outcomes.Numbered.{Numbered}
+use Rattle.stations.specs.declared.tick.Tick.{Tick}
+use Rattle.wire.specs.RunObservers.{played_ticks}
+use Rattle.scenario_bench.specs.Acts.{Act, Drained, Ran}
+use Rattle.scenario_bench.specs.EventTexts.{answer_text, event_text, name_at, numbered, told_text}
+use Rattle.scenario_bench.specs.Given.{next_number}
+use Rattle.scenario_bench.specs.declared.event_log.Place.{Place}
+
+-- what came of a tick
+abbrev pub text_of : (names : List (List ℕ)) → TickTold → List ℕ
+text_of names told = told_text names told.tick told.accesses told.outcome
+
+-- `EVENT line LINE`
+abbrev pub place_text : Place → List ℕ
+place_text place = numbered [] place.number ++ numbered (codes " line ") place.line
+
+-- `EVENT line LINE CALL ANSWER accesses N`, and what came of the event's ticks
+abbrev pub event_line : (names : List (List ℕ)) → Place → Event → (accesses : ℕ) → FrameAnswer → (outcomes : List ℕ) → List ℕ
+event_line names place event accesses answer outcomes =
+    place_text place ++ event_text names event ++ answer_text answer ++ numbered (codes " accesses ") accesses ++ outcomes ++ codes "\n"
+
+-- `EVENT line LINE drain HOST ok N`: this many frames were returned
+abbrev pub drain_line : (names : List (List ℕ)) → Place → (host count : ℕ) → List ℕ
+drain_line names place host count =
+    place_text place ++ (codes " drain " ++ name_at names host) ++ numbered (codes " ok ") count ++ codes "\n"
+
+-- The i-th outcome of a call belongs to the i-th of its ticks that is played.
+abbrev pub paired : List Tick → List Numbered → List TickTold
+paired [] outcomes = []
+paired (tick ∷ ticks) [] = []
+paired (tick ∷ ticks) (one ∷ outcomes) = tick_told tick one.accesses one.outcome ∷ paired ticks outcomes
+
+abbrev pub told_in : Event → Reply → List TickTold
+told_in event reply = paired (played_ticks event) reply.outcomes.list
+
+-- the line of an act
+abbrev pub act_line : (names : List (List ℕ)) → Place → Act → List ℕ
+act_line names place (Ran event reply) =
+    event_line names place event reply.accesses reply.answer (flat_map (text_of names) (told_in event reply))
+act_line names place (Drained host buffered given) = drain_line names place host (length given)
+
+abbrev pub place_at : (number line : ℕ) → Place
+place_at number line = record { number = number; line = line }
+
+-- The lines of these acts, each with the number of its line in the scenario. The first act has this number.
+abbrev pub lines_from : (names : List (List ℕ)) → (number : ℕ) → List (ℕ × Act) → List ℕ
+lines_from names number [] = []
+lines_from names number (entry ∷ entries) =
+    act_line names (place_at number entry.0) entry.1 ++ lines_from names (next_number number) entries
+
+-- A log.
+
+-- the names of the hosts, what came of the ticks of the event that is played, and the lines of the events before it
+pub record LogState : Type 0 where
+  pub names : List (List ℕ)
+  pub outcomes : List ℕ
+  pub text : List ℕ
+
+abbrev pub no_lines : (names : List (List ℕ)) → LogState
+no_lines names = record { names = names; outcomes = []; text = [] }
+
+abbrev pub tick_logged : LogState → TickTold → LogState
+tick_logged log told = record log { outcomes = log.outcomes ++ text_of log.names told }
+
+abbrev pub end_logged : Place → Event → (accesses : ℕ) → FrameAnswer → LogState → LogState
+end_logged place event accesses answer log =
+    record log { outcomes = []; text = log.text ++ event_line log.names place event accesses answer log.outcomes }
+
+abbrev pub drain_logged : Place → (host count : ℕ) → LogState → LogState
+drain_logged place host count log = record log { text = log.text ++ drain_line log.names place host count }

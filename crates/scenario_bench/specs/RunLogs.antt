@@ -1,0 +1,73 @@
+-- What is recorded of the answers of a run (our choice).
+use Rattle.std.specs.Prelude.{◌≡◌, ◌∷◌, [], ℕ, Bool, List, Option, Some, None, Err, if◌then◌else◌, length, map, option_map}
+use Rattle.std.specs.List.{fold}
+use Rattle.network_plan.specs.Answers.{FrameAnswer}
+use Rattle.network_plan.specs.declared.event.Event.{Event}
+use Rattle.network_plan.specs.declared.reply.Answer.TheVariants as answer
+use Rattle.packet_socket.specs.declared.receive.RecvError.TheVariants as recv
+use Rattle.stations.specs.ToldTicks.{TickTold}
+use Rattle.scenario_bench.specs.Acts.{Act, Drained, Ran}
+use Rattle.scenario_bench.specs.EventLines.{LogState, drain_logged, end_logged, no_lines, place_at, tick_logged, told_in}
+use Rattle.scenario_bench.specs.Given.{next_number}
+use Rattle.scenario_bench.specs.declared.event_log.Place.{Place}
+use Rattle.scenario_bench.specs.declared.record.Record.{Record}
+use Rattle.scenario_bench.specs.declared.run_log.RunLog.{RunLog}
+
+-- a send was refused
+abbrev pub refused_behind : ℕ → FrameAnswer → ℕ
+refused_behind count (answer.Sent (Err error)) = next_number count
+refused_behind count one = count
+
+-- there is no such socket
+abbrev pub absent_behind : ℕ → FrameAnswer → ℕ
+absent_behind count (answer.Received (Err recv.NoSocket)) = next_number count
+absent_behind count one = count
+
+-- the numbers of refusals after an act
+abbrev pub refused_by : ℕ → Act → ℕ
+refused_by count (Ran event reply) = refused_behind count reply.answer
+refused_by count (Drained host buffered given) = count
+
+abbrev pub absent_by : ℕ → Act → ℕ
+absent_by count (Ran event reply) = absent_behind count reply.answer
+absent_by count (Drained host buffered given) = count
+
+-- A record of them.
+
+-- before the first event
+abbrev pub new_log : (names : List (List ℕ)) → (events : Bool) → RunLog
+new_log names events = record { refused = 0; absent = 0; lines = if events then Some (no_lines names) else None }
+
+abbrev pub answered_log : FrameAnswer → RunLog → RunLog
+answered_log one log = record log { refused = refused_behind log.refused one; absent = absent_behind log.absent one }
+
+abbrev pub log_heard : RunLog → TickTold → RunLog
+log_heard log told = record log { lines = option_map (λ (lines : LogState). tick_logged lines told) log.lines }
+
+abbrev pub log_ended : Place → Event → (accesses : ℕ) → FrameAnswer → RunLog → RunLog
+log_ended place event accesses one log =
+    answered_log one (record log { lines = option_map (end_logged place event accesses one) log.lines })
+
+abbrev pub act_drained : Place → (host count : ℕ) → RunLog → RunLog
+act_drained place host count log = record log { lines = option_map (drain_logged place host count) log.lines }
+
+-- an act is recorded
+abbrev pub act_logged : Place → Act → RunLog → RunLog
+act_logged place (Ran event reply) log =
+    log_ended place event reply.accesses reply.answer (fold log_heard log (told_in event reply))
+act_logged place (Drained host buffered given) log = act_drained place host (length given) log
+
+-- Acts are recorded in order, each with the number of its line in the scenario. The first act has this number.
+abbrev pub logged : (number : ℕ) → List (ℕ × Act) → RunLog → RunLog
+logged number [] log = log
+logged number (entry ∷ entries) log =
+    logged (next_number number) entries (act_logged (place_at number entry.0) entry.1 log)
+
+abbrev pub acts_in : List (ℕ × Act) → List Act
+acts_in entries = map (λ (entry : ℕ × Act). entry.1) entries
+
+-- These acts were recorded. The numbers of their lines are those that the record was given.
+pub record AreLogged (acts : List Act) (old new : Record) : Type 0 where
+  pub entries : List (ℕ × Act)
+  pub are : acts_in entries ≡ acts
+  pub log : new.log ≡ logged old.number entries old.log

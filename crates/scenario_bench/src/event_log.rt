@@ -1,0 +1,161 @@
+//! The log of a run: a line for each event.
+ghost use Rattle.std.specs.Prelude.{◌≡◌, IfOk, map, string_bytes};
+ghost use Rattle.scenario_bench.specs.EventLogView.{plan_name};
+
+use crate::event_text::{push_answer, push_event, push_host, push_number, push_told};
+use adapter::Outcome;
+use network_plan::{Answer, Event, HostPlan};
+use pcap_trace::{Sink, WriteError, write_all};
+use stations::Tick;
+use std::alloc::{AllocError, Global};
+use std::marker::Model;
+
+/// Room for a tick with its outcome, in bytes: more than the longest name, two numbers and the words need.
+const LONGEST_TOLD: usize = 96;
+
+/// Room for the rest of a line, in bytes.
+const LONGEST_REST: usize = 192;
+
+/// Where an event stands: its number in the run, and the number of its line in the scenario.
+#[derive(Clone, Copy)]
+pub(crate) struct Place {
+    pub(crate) number: u64,
+    pub(crate) line: u64,
+}
+
+/// A line for each event that was played, in order. Before the end of an event, also what came of its ticks so far.
+///
+/// In contracts it is the names of the hosts and these texts, a `LogState`.
+#[derive(Drop)]
+pub struct EventLog {
+    names: Vec<String>,
+    outcomes: Vec<u8>,
+    text: Vec<u8>,
+}
+
+impl Model for EventLog {
+    ghost use Rattle.scenario_bench.specs.EventLines.{LogState};
+
+    ghost Value = { LogState };
+
+    ghost use Rattle.scenario_bench.specs.EventLogView.{log_state_of};
+
+    ghost view = { log_state_of };
+}
+
+/// The names of hosts, in order.
+fn names_of(alloc: Global, plans: &[HostPlan]) -> Result<Vec<String>, AllocError>
+    ensures { IfOk result (λ names. map string_bytes names.items ≡ map plan_name plans.now) }
+{
+    let mut names = Vec::new(alloc);
+    for plan in plans {
+        names.push(String::from_str(alloc, plan.name.as_str())?)?;
+    }
+    Ok(names)
+}
+
+impl EventLog {
+    ghost use Rattle.std.specs.Prelude.{◌≡◌, ◌<◌, IfOk, OnErr, OnOk, map};
+    ghost use Rattle.std.specs.Io.KnownBytes.{Appends};
+    ghost use Rattle.adapter.specs.Outcomes.{with_frame};
+    ghost use Rattle.network_plan.specs.Answers.{answer_with};
+    ghost use Rattle.pcap_trace.specs.Devices.{AppendsFront, CountsFailures};
+    ghost use Rattle.stations.specs.ToldTicks.{tick_told};
+    ghost use Rattle.scenario_bench.specs.EventLines.{drain_logged, end_logged, no_lines, tick_logged};
+    ghost use Rattle.scenario_bench.specs.EventLogView.{plan_name};
+
+    /// No line yet, of these hosts.
+    pub(crate) fn new(alloc: Global, plans: &[HostPlan]) -> Result<EventLog, AllocError>
+        ensures { IfOk result (λ log. log ≡ no_lines (map plan_name plans.now)) }
+    {
+        Ok(EventLog {
+            names: names_of(alloc, plans)?,
+            outcomes: Vec::new(alloc),
+            text: Vec::new(alloc),
+        })
+    }
+
+    /// Makes room for the line of an event with this many ticks.
+    pub(crate) fn reserve(&mut self, ticks: usize) -> Result<(), AllocError>
+        ensures { self.new ≡ self.old }
+    {
+        let outcomes = ticks.saturating_mul(LONGEST_TOLD);
+        self.outcomes.reserve(outcomes)?;
+        self.text.reserve(outcomes.saturating_add(LONGEST_REST))
+    }
+
+    /// Records what came of a tick.
+    pub(crate) fn note(
+        &mut self,
+        tick: Tick,
+        accesses: u64,
+        outcome: &Outcome<()>,
+        frame: &[u8],
+    ) -> Result<(), AllocError>
+        ensures { OnOk result
+            (self.new ≡ tick_logged self.old (tick_told tick accesses (with_frame frame.now outcome.now))) }
+    {
+        push_told(
+            &mut self.outcomes,
+            self.names.as_slice(),
+            tick,
+            accesses,
+            outcome,
+            frame,
+        )
+    }
+
+    /// Ends the line of an event.
+    pub(crate) fn end(
+        &mut self,
+        place: Place,
+        event: &Event,
+        accesses: u64,
+        answer: &Answer<()>,
+        frame: &[u8],
+    ) -> Result<(), AllocError>
+        ensures { OnOk result
+            (self.new ≡ end_logged place event.now accesses (answer_with frame.now answer.now) self.old) }
+    {
+        push_number(&mut self.text, b"", place.number)?;
+        push_number(&mut self.text, b" line ", place.line)?;
+        push_event(&mut self.text, self.names.as_slice(), event)?;
+        push_answer(&mut self.text, answer, frame)?;
+        push_number(&mut self.text, b" accesses ", accesses)?;
+        self.text.extend_from_slice(self.outcomes.as_slice())?;
+        self.text.extend_from_slice(b"\n")?;
+        self.outcomes.clear();
+        Ok(())
+    }
+
+    /// Records a drain of a host, which returned this many frames.
+    pub(crate) fn drain(
+        &mut self,
+        place: Place,
+        host: usize,
+        count: usize,
+    ) -> Result<(), AllocError>
+        ensures { OnOk result (self.new ≡ drain_logged place host count self.old) }
+    {
+        push_number(&mut self.text, b"", place.number)?;
+        push_number(&mut self.text, b" line ", place.line)?;
+        push_host(&mut self.text, b" drain ", self.names.as_slice(), host)?;
+        push_number(&mut self.text, b" ok ", count as u64)?;
+        self.text.extend_from_slice(b"\n")
+    }
+
+    /// Writes the lines to a sink: `EVENT line LINE CALL ANSWER accesses N`, and for each tick ` @N TICK OUTCOME`, where N
+    /// is the number of accesses before it. Allocates no memory.
+    ///
+    /// # Errors
+    ///
+    /// E67 [`Write`](WriteError::Write) if the sink fails; then it has a beginning of the text.
+    pub fn write<W: Sink>(&self, sink: &mut W) -> Result<(), WriteError>
+        requires { W.failures sink.old < u64.MAX }
+        ensures ok { OnOk result (Appends (W.taken sink.old) (W.taken sink.new) self.now.text) }
+        ensures err { OnErr result (AppendsFront (W.taken sink.old) (W.taken sink.new) self.now.text) }
+        ensures failures { CountsFailures result (W.failures sink.old) (W.failures sink.new) }
+    {
+        write_all(sink, self.text.as_slice())
+    }
+}

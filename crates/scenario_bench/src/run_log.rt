@@ -1,0 +1,117 @@
+//! What is recorded of the answers of a run: refusals, and on request a line for each event.
+ghost use Rattle.std.specs.Prelude.{◌≡◌, ℕ, List, IfOk, OnOk, map};
+ghost use Rattle.adapter.specs.Outcomes.{with_frame};
+ghost use Rattle.network_plan.specs.Answers.{answer_with};
+ghost use Rattle.stations.specs.ToldTicks.{tick_told};
+ghost use Rattle.scenario_bench.specs.EventLogView.{plan_name};
+ghost use Rattle.scenario_bench.specs.RunLogs.{act_drained, answered_log, log_ended, log_heard, new_log};
+
+use crate::event_log::{EventLog, Place};
+use adapter::Outcome;
+use network_plan::{Answer, Event, HostPlan};
+use packet_socket::RecvError;
+use stations::Tick;
+use std::alloc::{AllocError, Global};
+
+/// What is recorded of the answers of a run.
+#[derive(Drop)]
+pub(crate) struct RunLog {
+    /// The number of sends that were refused, up to the greatest `u64`.
+    pub(crate) refused: u64,
+    /// The number of recvs that named a socket that doesn't exist, up to the greatest `u64`.
+    pub(crate) absent: u64,
+    /// A line for each event; `None` if they aren't recorded.
+    pub(crate) lines: Option<EventLog>,
+}
+
+impl RunLog {
+    /// No answer yet. `events` is whether there is to be a line for each event.
+    pub(crate) fn new(alloc: Global, plans: &[HostPlan], events: bool) -> Result<RunLog, AllocError>
+        ensures { IfOk result (λ log. log ≡ new_log (map plan_name plans.now) events) }
+    {
+        let lines = if events {
+            Some(EventLog::new(alloc, plans)?)
+        } else {
+            None
+        };
+        Ok(RunLog {
+            refused: 0,
+            absent: 0,
+            lines,
+        })
+    }
+
+    /// Makes room for the line of an event with this many ticks.
+    pub(crate) fn reserve(&mut self, ticks: usize) -> Result<(), AllocError>
+        ensures { self.new ≡ self.old }
+    {
+        match &mut self.lines {
+            Some(lines) => lines.reserve(ticks),
+            None => Ok(()),
+        }
+    }
+
+    /// Records what came of a tick.
+    pub(crate) fn note(
+        &mut self,
+        tick: Tick,
+        accesses: u64,
+        outcome: &Outcome<()>,
+        frame: &[u8],
+    ) -> Result<(), AllocError>
+        ensures { OnOk result
+            (self.new ≡ log_heard self.old (tick_told tick accesses (with_frame frame.now outcome.now))) }
+    {
+        match &mut self.lines {
+            Some(lines) => lines.note(tick, accesses, outcome, frame),
+            None => Ok(()),
+        }
+    }
+
+    /// Counts an answer, if it refuses a send or if there is no such socket.
+    fn count(&mut self, answer: &Answer<()>)
+        ensures { (frame : List ℕ) → self.new ≡ answered_log (answer_with frame answer.now) self.old }
+    {
+        match answer {
+            Answer::Sent(Err(_)) => self.refused = self.refused.saturating_add(1),
+            Answer::Received(Err(RecvError::NoSocket)) => {
+                self.absent = self.absent.saturating_add(1);
+            }
+            _ => {}
+        }
+    }
+
+    /// Records the end of an event.
+    pub(crate) fn end(
+        &mut self,
+        place: Place,
+        event: &Event,
+        accesses: u64,
+        answer: &Answer<()>,
+        frame: &[u8],
+    ) -> Result<(), AllocError>
+        ensures { OnOk result
+            (self.new ≡ log_ended place event.now accesses (answer_with frame.now answer.now) self.old) }
+    {
+        self.count(answer);
+        match &mut self.lines {
+            Some(lines) => lines.end(place, event, accesses, answer, frame),
+            None => Ok(()),
+        }
+    }
+
+    /// Records a drain of a host, which returned this many frames.
+    pub(crate) fn drain(
+        &mut self,
+        place: Place,
+        host: usize,
+        count: usize,
+    ) -> Result<(), AllocError>
+        ensures { OnOk result (self.new ≡ act_drained place host count self.old) }
+    {
+        match &mut self.lines {
+            Some(lines) => lines.drain(place, host, count),
+            None => Ok(()),
+        }
+    }
+}
