@@ -3,7 +3,7 @@
 ghost use Rattle.std.specs.Prelude.{◌≡◌, fold, length};
 ghost use Rattle.adapter.specs.Hashed.{adapter_writes};
 ghost use Rattle.adapter.specs.Outcomes.{framed};
-ghost use Rattle.adapter.specs.Receiving.{IsFate, after_arrive};
+ghost use Rattle.adapter.specs.Receiving.{IsFate, after_arrive, after_data, after_done};
 ghost use Rattle.adapter.specs.Registers.{after_read, after_write, answer_at};
 ghost use Rattle.adapter.specs.State.{IsAdapter};
 ghost use Rattle.adapter.specs.Steps.{Answers, ChangesAtMost, TellsWork, after_step, memory_after_step};
@@ -36,6 +36,16 @@ pub fn step(
         Outcome::Moved => Outcome::Moved,
         outcome => outcome,
     }
+}
+
+/// A twin of an [`Adapter::step`] of RxData, and of the step of RxDone after it.
+pub fn piece(adapter: &mut Adapter, memory: &mut HostMemory) -> (Outcome<()>, Outcome<()>)
+    ensures { adapter.new ≡ after_done (framed result.1 adapter.old)
+        (after_data (framed result.0 adapter.old) adapter.old) }
+{
+    let data = adapter.step(StepKind::RxData, memory, true);
+    let done = adapter.step(StepKind::RxDone, memory, true);
+    (data, done)
 }
 
 /// A twin of [`Adapter::arrive`].
@@ -80,6 +90,14 @@ pub fn write(adapter: &mut Adapter, offset: u32, value: u32)
     ensures adapter { IsAdapter adapter.new }
 {
     adapter.write(offset, value);
+}
+
+/// A twin of an [`Adapter::write`], and of the [`Adapter::value`] after it.
+pub fn value_after_write(adapter: &mut Adapter, at: u32, word: u32) -> u32
+    ensures { result ≡ answer_at at (after_write at word adapter.old) }
+{
+    adapter.write(at, word);
+    adapter.value(at)
 }
 
 /// A twin of [`Adapter::feed`].

@@ -2,15 +2,11 @@
 #![tactic(auto)]
 
 #[cfg(test)]
-mod descriptor_bytes;
-#[cfg(test)]
 mod descriptors_readme;
 #[cfg(test)]
 mod dma_memory_readme;
 #[cfg(test)]
 mod eeprom_readme;
-#[cfg(test)]
-mod events;
 #[cfg(test)]
 mod frame_queue_readme;
 #[cfg(test)]
@@ -27,7 +23,5 @@ mod registers_readme;
 mod rx_engine_readme;
 #[cfg(test)]
 mod solo_bus_readme;
-#[cfg(test)]
-mod sound_buses;
 #[cfg(test)]
 mod tx_engine_readme;

@@ -27,7 +27,8 @@ pub fn play<O: RunObserver>(
     ensures ok { OnOk result (RunTold O.ran events.now lan.old lan.new observer.old observer.new) }
     ensures stopped { IfErr result (λ stopped. (stopped.done < length events.now)
         × RunTold O.ran (take stopped.done events.now) lan.old lan.new observer.old observer.new) }
-    ensures refused { IfErr result (λ stopped. StopsAt O.refuses (slice_get events.now stopped.done)
+    ensures refused { IfErr result (λ stopped. StopsAt O.refuses (length lan.old.hosts)
+        (slice_get events.now stopped.done)
         (RunTold O.ran (take stopped.done events.now) lan.old lan.new observer.old)) }
 {
     match lan.play(events, observer) {

@@ -1,7 +1,6 @@
-//! Traces over devices that give or take little at a time, or fail, and over the system's readers and writers.
+//! Traces over the system's readers and writers.
 ghost use Rattle.std.specs.Prelude.{◌≡◌, ◌<◌};
 
-use crate::slow_devices::{SlowSink, SlowSource};
 use descriptors::Frame;
 use pcap_trace::{
     DeviceError, ReadError, ReaderSource, RecordWriter, Sink, Source, Trace, VecSink, WriteError,
@@ -9,7 +8,6 @@ use pcap_trace::{
 };
 use std::alloc::Global;
 use std::io;
-use std::process::Abort;
 use std::test::Fail;
 
 /// Writes a trace of two frames of 60 bytes, which has 176 bytes.
@@ -33,74 +31,6 @@ fn count<S: Source>(alloc: Global, source: &mut S) -> Result<usize, ReadError>
     requires { S.failures source.old < u64.MAX }
 {
     Ok(Trace::read(alloc, source)?.frames.len())
-}
-
-/// Asserts what is read from a source that gives so many bytes a read, and fails at this read.
-fn reads(
-    rt: &impl Abort,
-    alloc: Global,
-    bytes: &[u8],
-    most: usize,
-    failing: u64,
-    wanted: (Result<usize, ReadError>, u64),
-) {
-    let mut source = SlowSource {
-        bytes,
-        most,
-        failing,
-        reads: 0,
-        failures: 0,
-        limit: 1_000,
-    };
-    let answer = count(alloc, &mut source);
-    assert_eq!(rt;
-        (answer, source.failures()),
-        wanted,
-        "read {failing} of {most} bytes"
-    );
-}
-
-/// Each read in turn fails. The trace takes a read for each piece, and one more tells its end.
-#[test]
-fn each_read_fails(rt: HostRuntime) -> Result<(), Fail> {
-    let whole = two_frames(rt.alloc())?;
-    for failing in 1..=177 {
-        reads(
-            &rt,
-            rt.alloc(),
-            whole.bytes(),
-            1,
-            failing,
-            (Err(ReadError::Read), 1),
-        );
-    }
-    for (most, failing, wanted) in [
-        (1, 178, (Ok(2), 0)),
-        (7, 1, (Err(ReadError::Read), 1)),
-        (7, 27, (Err(ReadError::Read), 1)),
-        (7, 28, (Ok(2), 0)),
-        (65_536, 2, (Err(ReadError::Read), 1)),
-    ] {
-        reads(&rt, rt.alloc(), whole.bytes(), most, failing, wanted);
-    }
-    Ok(())
-}
-
-/// Each write in turn fails. What went out then is a beginning of the text: one byte less than writes.
-#[test]
-fn each_write_fails(rt: HostRuntime) -> Result<(), Fail> {
-    let whole = two_frames(rt.alloc())?;
-    for failing in 1..=177 {
-        let mut sink = SlowSink::new(rt.alloc(), failing);
-        let answer = record(&mut RecordWriter::new(rt.alloc())?, &mut sink);
-        let fails = failing <= 176;
-        assert_eq!(rt;
-            (answer.is_err(), sink.failures()),
-            (fails, u64::from(fails))
-        );
-        assert!(rt; sink.text.len() as u64 + 1 == failing && whole.bytes().starts_with(&sink.text));
-    }
-    Ok(())
 }
 
 /// A reader that fails.

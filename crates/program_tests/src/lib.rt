@@ -10,8 +10,6 @@ mod devices;
 #[cfg(test)]
 mod engine_faults_readme;
 #[cfg(test)]
-mod failing_sinks;
-#[cfg(test)]
 mod names_of_targets;
 #[cfg(test)]
 mod no_memory;
@@ -24,16 +22,10 @@ mod pci_function_readme;
 #[cfg(test)]
 mod printed_counts;
 #[cfg(test)]
-mod refused_scenarios;
-#[cfg(test)]
-mod scenario_calls;
-#[cfg(test)]
 mod scenario_readme;
 #[cfg(test)]
 mod schedule_player_readme;
 #[cfg(test)]
 mod server_calls;
-#[cfg(test)]
-mod slow_devices;
 #[cfg(test)]
 mod step_schedules_readme;

@@ -150,12 +150,11 @@ impl Device {
     }
 
     /// The fault that a step was, if it was one.
-    fn fault_told(&mut self, kind: StepKind, outcome: Outcome<()>) -> Option<EngineFault>
-        ensures unchanged { self.new ≡ self.old }
-        ensures fault { listed result ≡ faults_told kind outcome self.old.machine.world }
+    fn fault_told(&self, kind: StepKind, outcome: Outcome<()>) -> Option<EngineFault>
+        ensures { listed result ≡ faults_told kind outcome self.now.machine.world }
     {
         match outcome {
-            Outcome::Fault => fault_of(&mut self.machine, kind),
+            Outcome::Fault => fault_of(&self.machine, kind),
             _ => None,
         }
     }

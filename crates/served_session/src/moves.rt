@@ -145,13 +145,12 @@ impl Session {
     }
 
     /// The target of an access at this place.
-    fn target_at(&mut self, place: Place, address: u64) -> Target
-        ensures unchanged { self.new ≡ self.old }
-        ensures target { result ≡ target_at place address self.old }
+    fn target_at(&self, place: Place, address: u64) -> Target
+        ensures { result ≡ target_at place address self.now }
     {
         match place {
             Place::Register(offset) => Target::Register(offset),
-            Place::Memory => memory_target(&mut self.device.machine, address),
+            Place::Memory => memory_target(&self.device.machine, address),
         }
     }
 

@@ -8,4 +8,5 @@
 pub mod player_calls;
 pub mod qtest_calls;
 pub mod schedule_calls;
+pub mod session_calls;
 pub mod text_calls;

@@ -1,8 +1,7 @@
 //! How many steps draining a host takes. Which frames it gives, in which order, is played on the built program.
 
 use crate::outlet::Taken;
-use crate::texts::{HOSTS, events_of};
-use scenario::Scenario;
+use crate::texts::{HOSTS, prepared};
 use std::alloc::{AllocError, Global};
 use std::process::Abort;
 use std::test::Fail;
@@ -25,42 +24,8 @@ const ASKED: &str =
 /// The oldest frame of b is finished in memory.
 const FINISHED: &str = "tick rxdata:b\ntick rxdone:b\n";
 
-/// The two hosts with these sockets, and so many frames that come to b and are finished, and so many that come; and
-/// then what these lines say.
-fn text_of(
-    alloc: Global,
-    sockets: &str,
-    finished: u8,
-    brought: u8,
-    rest: &[&str],
-) -> Result<String, AllocError> {
-    let mut text = String::from_str(alloc, HOSTS)?;
-    text.push_str(sockets)?;
-    for number in 0..finished.saturating_add(brought) {
-        text.push_str(BROUGHT)?;
-        text.push_str(if number < finished { FINISHED } else { "" })?;
-    }
-    push_all(&mut text, rest)?;
-    Ok(text)
-}
-
-/// Puts lines behind a text.
-fn push_all(text: &mut String, lines: &[&str]) -> Result<(), AllocError> {
-    for line in lines {
-        text.push_str(line)?;
-    }
-    Ok(())
-}
-
-/// A network on which what this text says was done.
-fn played(alloc: Global, text: &str) -> Result<Lan, Fail> {
-    let scenario = Scenario::read(alloc, text.as_bytes())?;
-    let mut lan = Lan::new(alloc, &scenario.plan)?;
-    let events = events_of(alloc, scenario.commands)?;
-    let mut replies = Vec::new(alloc);
-    lan.run(alloc, &events, &mut replies)?;
-    Ok(lan)
-}
+/// b sends a frame.
+const SENT: &str = "send b ffffffffffff02000000000288b5\ntick txtake:b\ntick txput:b\n";
 
 /// A broadcast of 1,518 bytes of a comes to b's packet buffer.
 fn push_long_frame(text: &mut String) -> Result<(), AllocError> {
@@ -71,24 +36,24 @@ fn push_long_frame(text: &mut String) -> Result<(), AllocError> {
     text.push_str("\ntick txtake:a\ntick txput:a\ntick deliver:b\n")
 }
 
-/// Drains a host, and asserts how many steps that takes.
-fn drains(
-    rt: &impl Abort,
-    alloc: Global,
-    lan: &mut Lan,
-    host: usize,
-    steps: u64,
-) -> Result<(), Fail> {
-    let mut taken = Taken::with_room(alloc, lan.drain_room(host))?;
-    assert_eq!(rt; lan.drain(host, &mut taken), steps);
-    Ok(())
+/// The two hosts, and then these lines.
+fn text_of(alloc: Global, lines: &[&str]) -> Result<String, AllocError> {
+    let mut text = String::from_str(alloc, HOSTS)?;
+    for line in lines {
+        text.push_str(line)?;
+    }
+    Ok(text)
 }
 
 /// Plays a text, and drains b, then b again, then a host that isn't there: only the first drain takes steps.
 fn drains_b(rt: &impl Abort, alloc: Global, text: &str, steps: u64) -> Result<(), Fail> {
-    let mut lan = played(alloc, text)?;
+    let (plan, events) = prepared(alloc, text)?;
+    let mut lan = Lan::new(alloc, &plan)?;
+    let mut replies = Vec::new(alloc);
+    lan.run(alloc, &events, &mut replies)?;
     for (host, steps) in [(1, steps), (1, 0), (9, 0)] {
-        drains(rt, alloc, &mut lan, host, steps)?;
+        let mut taken = Taken::with_room(alloc, lan.drain_room(host))?;
+        assert_eq!(rt; lan.drain(host, &mut taken), steps);
     }
     Ok(())
 }
@@ -96,28 +61,18 @@ fn drains_b(rt: &impl Abort, alloc: Global, text: &str, steps: u64) -> Result<()
 #[test]
 fn steps_of_drains_are_counted(rt: HostRuntime) -> Result<(), Fail> {
     let alloc = rt.alloc();
-    let rows: [(&str, u8, u8, &[&str], u64); 8] = [
-        (ALL, 0, 3, &[], 12),
-        (ALL, 0, 4, &[], 16),
+    let rows: [(&[&str], u64); 5] = [
+        (&[ALL, BROUGHT, BROUGHT, BROUGHT], 12),
         // b has to handle that it sent, too.
-        (
-            ALL,
-            0,
-            3,
-            &["send b ffffffffffff02000000000288b5\ntick txtake:b\ntick txput:b\n"],
-            13,
-        ),
-        // There are more frames than receive slots.
-        (ALL, 7, 2, &[], 16),
-        ("", 0, 1, &[], 3),
-        (TWO, 0, 1, &[ASKED], 8),
-        (TWO, 0, 1, &["tick rxdata:b\n", BROUGHT, ASKED], 11),
+        (&[ALL, BROUGHT, BROUGHT, BROUGHT, SENT], 13),
+        (&[BROUGHT], 3),
+        (&[TWO, BROUGHT, "tick rxdata:b\n", BROUGHT, ASKED], 11),
         // Frames wait in both queues; one is in work; and one is in the packet buffer.
         (
-            TWO,
-            1,
-            0,
             &[
+                TWO,
+                BROUGHT,
+                FINISHED,
                 ASKED,
                 FINISHED,
                 "interrupt b\n",
@@ -128,12 +83,12 @@ fn steps_of_drains_are_counted(rt: HostRuntime) -> Result<(), Fail> {
             9,
         ),
     ];
-    for (sockets, finished, brought, rest, steps) in rows {
-        let text = text_of(alloc, sockets, finished, brought, rest)?;
+    for (lines, steps) in rows {
+        let text = text_of(alloc, lines)?;
         drains_b(&rt, alloc, text.as_str(), steps)?;
     }
     // Six pieces, each moved and finished, with an interrupt after RXDMT0 and one after RXT0, and a recv.
-    let mut text = text_of(alloc, ALL, 0, 0, &[])?;
+    let mut text = text_of(alloc, &[ALL])?;
     push_long_frame(&mut text)?;
     drains_b(&rt, alloc, text.as_str(), 15)
 }

@@ -4,16 +4,14 @@
 #[cfg(test)]
 mod drains;
 #[cfg(test)]
-mod groups;
-#[cfg(test)]
 mod logs;
-#[cfg(test)]
-mod memory_tests;
 #[cfg(test)]
 mod no_memory;
 #[cfg(test)]
 mod outlet;
 #[cfg(test)]
 mod readme;
+#[cfg(test)]
+mod resets;
 #[cfg(test)]
 mod texts;

@@ -40,12 +40,11 @@ returns-in_err-tell g c =
     let then = c.in_ok-shown.ensures.state in
     let next = puts_next a.wire_free kind outcome a.machine.world.memory a.machine.world.adapter c.step-outcome.ensures.occurs.1
     ∙ sym c.in_ok-frame.ensures in
-    let same = c.fault_told-fault.ensures.fault ∙ ap (λ (d : Device). faults_told kind outcome d.machine.world) then in
+    let same = c.fault_told-fault.ensures ∙ ap (λ (d : Device). faults_told kind outcome d.machine.world) then in
     let after : c.push_fault.new.self ≡ stepped a machine frames faults =
-    c.in_ok-push_fault.ensures.state ∙ ap (keeping [] faults) (c.fault_told-fault.ensures.unchanged ∙ then) in
+    c.in_ok-push_fault.ensures.state ∙ ap (keeping [] faults) then in
     let shown = c.as_slice.ensures.value ∙ c.in_ok-push_fault.ensures.text
-    ∙ ap (λ (d : Device). c.in_ok-shown.shown.items ++ cond d.events (flat_map fault_line faults) [])
-    (c.fault_told-fault.ensures.unchanged ∙ then) in
+    ∙ ap (λ (d : Device). c.in_ok-shown.shown.items ++ cond d.events (flat_map fault_line faults) []) then in
     let text = step_text kind outcome a c.push_fault.new.self machine frames faults c.kind_word.result.now c.outcome_word.result.now
     c.in_ok-shown.shown.items c.as_slice.result.now c.kind_word.ensures c.outcome_word.ensures c.in_ok-shown.ensures.text shown next same
     after in
@@ -69,12 +68,11 @@ returns g c =
     let then = c.in_ok-shown.ensures.state in
     let next = puts_next a.wire_free kind outcome a.machine.world.memory a.machine.world.adapter c.step-outcome.ensures.occurs.1
     ∙ sym c.in_ok-frame.ensures in
-    let same = c.fault_told-fault.ensures.fault ∙ ap (λ (d : Device). faults_told kind outcome d.machine.world) then in
+    let same = c.fault_told-fault.ensures ∙ ap (λ (d : Device). faults_told kind outcome d.machine.world) then in
     let after : c.push_fault.new.self ≡ stepped a machine frames faults =
-    c.in_ok-push_fault.ensures.state ∙ ap (keeping [] faults) (c.fault_told-fault.ensures.unchanged ∙ then) in
+    c.in_ok-push_fault.ensures.state ∙ ap (keeping [] faults) then in
     let shown = c.as_slice.ensures.value ∙ c.in_ok-push_fault.ensures.text
-    ∙ ap (λ (d : Device). c.in_ok-shown.shown.items ++ cond d.events (flat_map fault_line faults) [])
-    (c.fault_told-fault.ensures.unchanged ∙ then) in
+    ∙ ap (λ (d : Device). c.in_ok-shown.shown.items ++ cond d.events (flat_map fault_line faults) []) then in
     let text = step_text kind outcome a c.push_fault.new.self machine frames faults c.kind_word.result.now c.outcome_word.result.now
     c.in_ok-shown.shown.items c.as_slice.result.now c.kind_word.ensures c.outcome_word.ensures c.in_ok-shown.ensures.text shown next same
     after in
