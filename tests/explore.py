@@ -3,9 +3,8 @@
 
 usage: tests/explore.py PROGRAM LIBRARY [--every]
 
-PROGRAM is `nicbench`, and LIBRARY is what `tools/library` wrote. With --every, every schedule of the tests `stages` and
-`cuts` is searched, too, which takes minutes. The last line is 'N passed, M failed', and the exit
-status is 1 if anything failed.
+PROGRAM is `nicbench`, and LIBRARY is what `tools/library` wrote. With --every, every schedule of the tests is searched,
+too, which takes minutes. The last line is 'N passed, M failed', and the exit status is 1 if anything failed.
 """
 
 import json
@@ -21,13 +20,15 @@ from bench import Bench  # noqa: E402
 
 TOP = os.path.dirname(os.path.dirname(os.path.abspath(__file__)))
 EXPLORER, EXAMPLES = os.path.join(TOP, "bindings", "c", "explore"), os.path.join(TOP, "examples", "explore")
-LIMIT = 600
+LIMIT = 3600
 PASSES, FOUND, USAGE, NOT_RUN, NOTHING = range(5)
 ZEROED = ["-O0", "-ftrivial-auto-var-init=zero"]
 WARNINGS = ["-std=gnu11", "-Wall", "-Wextra", "-Werror"]
 # The schedules of just each depth, by tools/races (depths 1 and 2) and by a search that plays each schedule (3 and 4).
 STAGES = 518, 139_447, 25_630_662, 3_583_586_963
-OFFERS, CUTS, HELD = 108, 210, 586
+OFFERS, EXCHANGE, CUTS, HELD = (108, 6_306), 286, 210, 586
+# Of all schedules of up to one and two deviations: how many fail, by a search that plays each
+FAILING = ("late", 3, 130), ("freed", 112, 39_220)
 # Each bug: the test, options, and its smallest schedule, whose place is the earliest one
 BUGS = [("late", "", "4.6 rxdone before read ICR"), ("length", "", "4.8 rxdone before read rx[1]+12"), ("freed", "", "63.4 txtake before read TDH"),
         ("rdt", "", "58.5 rxdata before write rx[2]"), ("tdt", "", "63.3 txtake before write tx[0]"),
@@ -35,6 +36,9 @@ BUGS = [("late", "", "4.6 rxdone before read ICR"), ("length", "", "4.8 rxdone b
         ("cuts:cuts", "", "2.1 rxdone before write 0x20000"), ("offers:rxo", "", "39.3 arrive before write ICR")]
 BY_ITSELF = "head", "part"
 RIGHT = "right", "masks", "pool"
+# The tests of which every schedule is searched in seconds, and in minutes
+SECONDS = *(f"exchange:{name}" for name in RIGHT), "offers:right"
+MINUTES = "offers:masks", "offers:pool", *RIGHT, *(f"cuts:{name}" for name in RIGHT)
 # A test that keeps a count outside of its state, so that its accesses change from run to run
 FORGETS = """
 #include <nic82540em_explore.h>
@@ -125,8 +129,10 @@ def counts(bench, stages):
     for depth, count in enumerate(STAGES, 1):
         total += count
         bench.check(f"counts: stages, depth {depth}", bench.none_of(stages, "right", "--explore", str(depth)), total)
-    for name, words, count in [("offers", ["offers:right"], OFFERS), ("cuts", ["cuts:right"], CUTS), ("stages with holds", ["right", "--holds"], HELD)]:
-        bench.check(f"counts: {name}", bench.none_of(stages, *words, "--explore", "1"), 1 + count)
+    bench.check("counts: offers, depth 2", bench.none_of(stages, "offers:right", "--explore", "2"), 1 + sum(OFFERS))
+    for words, count in [(["offers:right"], OFFERS[0]), (["exchange:right"], EXCHANGE), (["cuts:right"], CUTS),
+                         (["right", "--holds"], HELD)]:
+        bench.check(f"counts: {words}", bench.none_of(stages, *words, "--explore", "1"), 1 + count)
     bench.check("counts: each run from nothing", bench.none_of(stages, "right", "--explore", "1", "--again"), 1 + STAGES[0])
     fast = bench.build("stages-O2", *sources("stages.c", "driver.c"), words=["-O2"])
     bench.check("counts: another build", bench.none_of(fast, "right", "--explore", "2"), 1 + sum(STAGES[:2]))
@@ -140,11 +146,12 @@ def bugs(bench, stages):
     """Each bug is found, by one deviation; its schedule is stored and played again, and the right driver passes it."""
     for name, words, deviation in BUGS:
         found = os.path.join(bench.folder, "found.txt")
-        status, out, errors = bench.run(stages, name, *words.split(), "--out", found)
+        status, out, errors = bench.run(stages, name, *words.split(), "--out", found, "--serve", bench.program)
         with open(found) as file:
             lines = file.read().splitlines()
         bench.check(f"bugs: {name}", (status, lines[2:], errors), (FOUND, [deviation], ""))
         bench.check(f"bugs: {name}: smallest", "\nsmallest: no schedule with fewer deviations fails\n" in out, True)
+        bench.check(f"bugs: {name}: served", out.splitlines()[-1], f"{bench.program} serve plays it, with the same result")
         fault = lines[1].removeprefix("# ")
         bench.check(f"bugs: {name}: again", bench.run(stages, name, "--replay", found), (FOUND, f"{fault}\n", ""))
         right = f"{name.partition(':')[0]}:right" if ":" in name else "right"
@@ -152,6 +159,29 @@ def bugs(bench, stages):
     for name in BY_ITSELF:
         status, out, _ = bench.run(stages, name)
         bench.check(f"bugs: {name}", (status, "\nno race: the test fails by itself, without any deviation\n" in out), (FOUND, True))
+
+
+def all_that_fail(bench, stages):
+    """With --all, each schedule that fails is found, and each seed."""
+    for name, *wanted in FAILING:
+        for depth, count in enumerate(wanted, 1):
+            out = bench.run(stages, name, "--explore", str(depth), "--all")[1]
+            bench.check(f"all: {name}, depth {depth}", int(re.search(r"holds: (\d+) of \d+ fail\n", out)[1]), count)
+    out = bench.run(stages, "late", "--explore", "1", "--all")[1]
+    bench.check("all: kinds", "\n3 of rxdone before read ICR, such as 4.6 rxdone before read ICR\n" in out, True)
+    out = bench.run(stages, "late", "--all", "--runs", "200")[1]
+    seeds, count = re.findall(r"^seed \d+: ", out, re.M), int(re.search(r"^(\d+) of them fail$", out, re.M)[1])
+    bench.check("all: seeds", (len(seeds), count > 10), (count, True))
+
+
+def by_priorities(bench, stages):
+    """PCT finds races of depth 2, and no fault of the right driver. The probability is that of the finder's formula."""
+    for name in ("late", "freed"):
+        status, out, _ = bench.run(stages, name, "--pct", "2")
+        events, bound = map(int, re.search(r"^PCT, depth 2: (\d+) events, .* at least 1/(\d+)$", out, re.M).groups())
+        bench.check(f"pct: {name}", (status, bound), (FOUND, 4 * events))
+    status, out, _ = bench.run(stages, "right", "--pct", "3", "--runs", "300")
+    bench.check("pct: right", (status, "\nno run fails\n" in out), (PASSES, True))
 
 
 def races(bench, stages):
@@ -201,9 +231,15 @@ def arguments(bench, stages):
         bench.check(f"arguments: {words}", got, (USAGE, "", f"explore: {wanted}\nFor more information, try '--help'.\n"))
     bad = bench.source("bad.txt", "4.6 rz before read ICR\n")
     bench.check("arguments: a schedule", bench.run(stages, "right", "--replay", bad), (USAGE, "", f"explore: {bad}: line 1: it has no deviation, such as rx\n"))
+    served = bench.run(stages, "right", "--replay", "/dev/null", "--serve", "nonesuch")
+    bench.check("arguments: no program", served, (PASSES, "The test passes.\nnonesuch serve can't play it: it can't be started\n", ""))
+    got = bench.run(stages, "right", "--explore", "every", "--all")
+    bench.check("arguments: all of every", got, (USAGE, "", "explore: --all: with --explore, it needs a number\nFor more information, try '--help'.\n"))
     other = bench.source("other.txt", "4.6 rxdone before read RDH\n999.1 rx before read ICR\n")
     status, out, _ = bench.run(stages, "right", "--replay", other)
     bench.check("arguments: another access", (status, out.splitlines()[0]), (FOUND, "4.6 rxdone before read RDH: at this place, the test makes another access: read rx[1]+8"))
+    served = bench.run(stages, "right", "--replay", other, "--serve", bench.program, "--json")[1]
+    bench.check("arguments: another access, served", json.loads(served)["served"], False)
     bench.check("arguments: NIC_EXPLORE", bench.run(stages, "late", env={"NIC_EXPLORE": "1"})[0], FOUND)
     late = bench.source("late.txt", "4.6 rxdone before read ICR\n")
     bench.check("arguments: NIC_REPLAY", bench.run(stages, "late", env={"NIC_REPLAY": late})[:2], (FOUND, "frame 1 was never received\n"))
@@ -254,9 +290,9 @@ def rust(bench):
     bench.check("rust: late", [result[key] for key in ("result", "fault", "schedule")], ["fails", "frame 1 was never received", ["4.6 rx before read ICR"]])
 
 
-def every(bench, stages):
-    """Every schedule of the drivers without a bug."""
-    for name in (*RIGHT, "cuts:right", "cuts:pool", "offers:right"):
+def every(bench, stages, names):
+    """Every schedule of drivers without a bug."""
+    for name in names:
         status, out, errors = bench.run(stages, name, "--explore", "every")
         bench.check(f"every: {name}", (status, "none of" in out, errors), (PASSES, True, ""))
         print(f"{name}: {out}", end="", flush=True)
@@ -270,17 +306,16 @@ def main():
         if not bench.compiler:
             print("there is no C compiler\n0 passed, 1 failed")
             return 1
-        ran = subprocess.run([os.path.join(EXPLORER, "build"), library], capture_output=True, text=True)
-        bench.check("the explorer is built", (ran.returncode, ran.stdout, ran.stderr), (0, "", ""))
         stages = bench.build("stages", *sources("stages.c", "driver.c"))
-        for part in (counts, bugs, races, drawn, arguments):
+        for part in (counts, bugs, all_that_fail, by_priorities, races, drawn, arguments):
             part(bench, stages)
         ends(bench)
         pointers(bench)
         rust(bench)
         lab(bench)
+        every(bench, stages, SECONDS)
         if "--every" in sys.argv[3:]:
-            every(bench, stages)
+            every(bench, stages, MINUTES)
         print(f"{bench.passed} passed, {bench.failed} failed")
         return 1 if bench.failed else 0
 

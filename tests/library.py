@@ -27,11 +27,12 @@ import adapter  # noqa: E402
 import nic82540em  # noqa: E402
 import sweep  # noqa: E402
 from bench import Bench  # noqa: E402
-from driver import CTRL, EERD, RCTL  # noqa: E402
+from driver import CTRL, EERD, ICR, RCTL, RDH, RDLEN, RDT  # noqa: E402
 from expected import EN, RST  # noqa: E402
 from random_requests import BAM, RandomRequests, Words  # noqa: E402
 
 MEMORY = 8192
+GPRC = 0x4074
 SEEDS, REQUESTS = 10, 1000
 # The steps before an access, of every other seed
 STEPS = 3
@@ -276,6 +277,25 @@ def copies(library):
     library.check("the number of accesses that was set", (inside.nic.accesses(), inside.nic.digest()), (3, digest))
     copied.nic.memory()[9] ^= 1
     library.check("the memory of a copy", (inside.nic.digest(), copied.nic.digest() != digest), (digest, True))
+    states = [[one.nic.state_digest(seed) for seed in (1, 2)] for one in (inside, copied)]
+    library.check("the state of a copy with other memory", (states[0], len(set(states[0]))), (states[1], 2))
+
+
+def states_by_contents(library):
+    """The same registers and frames have one digest, wherever the frames lie in the packet buffer; others have another."""
+    nics = [nic82540em.Nic(library.shared, memory=MEMORY) for _ in range(3)]
+    first, frame, other = ([255] * 6 + [n] * 54 for n in (1, 2, 3))
+    for nic, frames in zip(nics, ([frame], [first, frame], [other])):
+        nic.write(RDLEN, 128), nic.write(RCTL, EN | BAM)
+        nic.store(0, (0x1000).to_bytes(16, "little"))
+        for number, one in enumerate(frames):
+            nic.write(RDT, 1)
+            nic.arrive(bytes(one))
+            if number:
+                nic.step("rxdata"), nic.step("rxdone")
+        nic.write(RDH, 0), nic.read(ICR), nic.read(GPRC)
+    digests = [nic.state_digest() for nic in nics]
+    library.check("states by contents", [digests[0] == one for one in digests], [True, True, False])
 
 
 def steps_by_ticks(library):
@@ -501,8 +521,9 @@ def is_built(library, words):
     return ran.returncode == 0
 
 
-PARTS = (same_answers, steps_by_schedule, state_without_accesses, steps_that_are_possible, copies, steps_by_ticks, frames_that_wait,
-         drivers, refused_memory, examples_in_c, fuzzers, examples_in_other_languages, by_pkg_config, by_cmake, by_pip)
+PARTS = (same_answers, steps_by_schedule, state_without_accesses, steps_that_are_possible, copies, states_by_contents,
+         steps_by_ticks, frames_that_wait, drivers, refused_memory, examples_in_c, fuzzers, examples_in_other_languages,
+         by_pkg_config, by_cmake, by_pip)
 
 
 def main():

@@ -74,6 +74,7 @@ int main(void)
     CHECK(nic82540em_peek(&copy, NIC_VET, &value) && value == 0x1234);
     CHECK(nic82540em_read(&nic, NIC_VET) == 0x1234 && nic82540em_settle(&nic) == 0);
     CHECK(nic82540em_possible(&nic) == 0 && nic82540em_digest(&nic) == nic82540em_digest(&copy));
+    CHECK(nic82540em_state_digest(&nic, 1) == nic82540em_state_digest(&copy, 1));
     nic82540em_free(&nic);
     nic82540em_free(&copy);
     CHECK(live == 0);

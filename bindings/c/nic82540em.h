@@ -177,6 +177,11 @@ bool nic82540em_copy(struct nic82540em *nic, struct nic82540em *into);
  * takes time in proportion to the size of memory. */
 uint64_t nic82540em_digest(struct nic82540em *nic);
 
+/* A digest of the adapter's state by its contents: its registers, the frames in its packet buffer and the work in progress.
+ * Adapters with the same state have equal digests for each seed. It covers neither the host's memory nor what
+ * nic82540em_digest leaves out. */
+uint64_t nic82540em_state_digest(struct nic82540em *nic, uint64_t seed);
+
 #ifdef __cplusplus
 }
 #endif

@@ -1,4 +1,4 @@
-/* The tests `stages`, `cuts` and `offers` of examples/drivers in C.
+/* The tests `stages`, `cuts`, `offers` and `exchange` of examples/drivers in C.
  *
  * usage: stages DRIVER | TEST:DRIVER [OPTION..]
  */
@@ -23,11 +23,10 @@ static void fail(const char *format, unsigned one, unsigned two, unsigned three)
     t->fault = t->text;
 }
 
-/* Makes the next frame, which takes this number of receive buffers. Returns its length. */
-static unsigned make(uint8_t *frame, bool is_received, int slots)
+/* Makes the next frame. Returns its length. */
+static unsigned make_long(uint8_t *frame, bool is_received, unsigned length)
 {
     static const uint8_t to[] = { 2, 0, 0, 0, 0, 1, 2, 0, 0, 0, 0, 9, 0x88, 0xB5 };
-    unsigned length = LENGTHS[slots - 1];
 
     memset(frame, (int)++t->number, length);
     memcpy(frame, to, sizeof to);
@@ -36,13 +35,24 @@ static unsigned make(uint8_t *frame, bool is_received, int slots)
     return length;
 }
 
-static void arrive(int slots)
+/* Makes the next frame, which takes this number of receive buffers. */
+static unsigned make(uint8_t *frame, bool is_received, int slots)
+{
+    return make_long(frame, is_received, LENGTHS[slots - 1]);
+}
+
+static void arrive_long(unsigned bytes)
 {
     uint8_t frame[LONGEST_FRAME];
-    unsigned length = make(frame, true, slots);
+    unsigned length = make_long(frame, true, bytes);
 
     if (x_arrive(frame, length) == NIC_STORED)
         t->came[t->came_count++] = known_of(frame, length);
+}
+
+static void arrive(int slots)
+{
+    arrive_long(LENGTHS[slots - 1]);
 }
 
 static void offer_frame(int slots)
@@ -128,13 +138,18 @@ static unsigned wire(struct known *put)
     return count < MOST ? count : MOST;
 }
 
-static void finish(void)
+static void compare_both(void)
 {
     struct known put[MOST];
 
-    settle();
     compare("received", t->came, t->came_count, t->received, t->received_count);
     compare("sent", t->out, t->sent_count, put, wire(put));
+}
+
+static void finish(void)
+{
+    settle();
+    compare_both();
 }
 
 static void finish_arrivals(void)
@@ -197,8 +212,7 @@ static bool has(const struct known *list, unsigned count, struct known one)
 }
 
 /* The frames of the test and the answers may be mixed on the wire. After a settle that did nothing, the handler may
- * cut in
- * and send an answer, which is left then. */
+ * cut in and send an answer, which is left then. */
 static void finish_answers(void)
 {
     struct known put[MOST], own[MOST], other[MOST];
@@ -304,6 +318,32 @@ static void stages(void)
         transmit_ring_is_full();
 }
 
+/* The test `exchange`: frames arrive and are sent, and then some are sent without a pause */
+
+static void exchange(void)
+{
+    static const unsigned lengths[] = { 60, 257, 1518, 60, 256, 1518 };
+    uint8_t frame[LONGEST_FRAME];
+
+    for (int n = 0; n < 6 && is_ok(); n++) {
+        arrive_long(lengths[2 * n % 6]);
+        send_frame(frame, make_long(frame, false, lengths[n]));
+        x_settle();
+        arrive_long(lengths[(2 * n + 1) % 6]);
+        handle();
+        x_settle();
+        handle();
+        compare_both();
+    }
+    for (int n = 6; n < 14 && is_ok(); n++)
+        send_frame(frame, make_long(frame, false, lengths[n % 6]));
+    if (!is_ok())
+        return;
+    x_settle();
+    handle();
+    compare_both();
+}
+
 static const char *test(void *word)
 {
     const char *name = word, *colon = strchr(name, ':'), *driver = colon ? colon + 1 : name;
@@ -320,7 +360,7 @@ static const char *test(void *word)
         t->pool[n] = SLOTS + n;
     bring_up();
     if (is_ok())
-        colon ? *name == 'o' ? offers() : cuts() : stages();
+        colon ? *name == 'o' ? offers() : *name == 'e' ? exchange() : cuts() : stages();
     return t->fault;
 }
 

@@ -2,14 +2,18 @@
 
 import gzip
 import os
+import tempfile
 
 import sources
 from packing import help_texts
 from packing.archive import Tree
+from page_maker.command import MARK, make_site
 
 NAME = sources.LIBRARY
 FOLDERS = ("docs", "examples", "machines", "bench", "bindings", "crates", os.path.join("tools", "race_finder"))
-FILES = ("README.md", "CHANGELOG.md", "LICENSE", os.path.join("tools", "races"))
+FILES = ("README.md", "CHANGELOG.md", "LICENSE", os.path.join("tools", "races"), os.path.join("tools", "run_chart"))
+# The site of tools/pages
+SITE = os.path.join("share", "doc", "nicbench", "site")
 # `./nicbench --build` is a line of the pages: here the program is built.
 SCRIPT = """#!/bin/sh
 # Runs the program of this release with the given words. `--build` has nothing to do.
@@ -24,6 +28,14 @@ FINDER = """#!/bin/sh
 # Finds races: see nicbench-races(1).
 exec /usr/bin/python3 /usr/share/nicbench/tools/races "$@"
 """
+
+
+def add_site(tree):
+    """Adds the site. It is made without the toolchain's sources, so it depends on the repository alone."""
+    with tempfile.TemporaryDirectory() as folder:
+        make_site(folder, "")
+        os.remove(os.path.join(folder, MARK))
+        tree.add_folder(folder, SITE)
 
 
 def release_tree(program, library, version, notes, moment):
@@ -45,6 +57,7 @@ def release_tree(program, library, version, notes, moment):
         tree.add(f"share/man/man1/{name}", page)
     tree.add("share/bash-completion/completions/nicbench", help_texts.bash(found))
     tree.add("share/zsh/site-functions/_nicbench", help_texts.zsh(found))
+    add_site(tree)
     return tree
 
 
@@ -61,7 +74,7 @@ def debian_tree(tree):
     made = Tree()
     for path, data in tree.files.items():
         target = place(path)
-        if path.endswith(f"{NAME}.pc"):
+        if path.endswith(".pc"):
             data = data.replace(b"prefix=${pcfiledir}/../..\n", b"prefix=/usr\n", 1)
         elif path.startswith("share/man/"):
             target, data = f"{target}.gz", gzip.compress(data, 9, mtime=0)

@@ -9,23 +9,33 @@ import tempfile
 from packing.root import Root
 
 # Programs that a session needs and a release doesn't have
-NEEDS = {"python3": "python3", "tools/races": "python3", "examples/emulators/qemu.py": "qemu-system-x86_64",
-         "cc ": "cc", "pkg-config": "pkg-config"}
+NEEDS = {"python3": "python3", "tools/races": "python3", "tools/run_chart": "python3",
+         "examples/emulators/qemu.py": "qemu-system-x86_64", "cc ": "cc", "pkg-config": "pkg-config"}
 FLAGS = "$(pkg-config --cflags --libs nic82540em)"
 FIRST = "line 1\n00000080\nline 0\n"
+EXPLORER = "$(pkg-config --cflags --libs nic82540em_explore)"
+STAGES = "{0}/stages.c {0}/driver.c"
+# all schedules of up to two deviations of the test `stages`
+EXPLORED = "all schedules of up to 2 deviations, without holds: none of 139966 fails\n...\n"
 # records RXT0 by ICS, and reads ICR
 PYTHON = "python3 -B -c 'from nic82540em import Nic; n = Nic(); n.write(0xC8, 0x80); print(hex(n.read(0xC0)))'"
 CAUSES = "0x80\n"
+HERE = "export PKG_CONFIG_PATH=$PWD/lib/pkgconfig"
 LIBRARY = [
-    (f"export PKG_CONFIG_PATH=$PWD/lib/pkgconfig; cc -o first examples/library/first.c {FLAGS}", ""),
+    (f"{HERE}; cc -o first examples/library/first.c {FLAGS}", ""),
     ("./first", FIRST),
     (f"NIC82540EM_LIB=lib PYTHONPATH=bindings/python {PYTHON}", CAUSES),
+    (f"{HERE}; cc -O0 -o stages {STAGES.format('examples/explore')} {EXPLORER}", ""),
+    ("./stages right --explore 2", EXPLORED),
+    ("./nicbench run --events events examples/reset.scenario . && tools/run_chart examples/reset.scenario events", None),
 ]
 PACKAGE = [
     ("nicbench show /usr/share/nicbench/examples/empty.pcap", "frames 0 skipped 0 cut no\n"),
     ("nicbench-races --runs 3 -- python3 -S /usr/share/nicbench/examples/drivers/receive_test.py right", None),
     (f"cc -o first /usr/share/nicbench/examples/library/first.c {FLAGS} && ./first", FIRST),
     (PYTHON, CAUSES),
+    (f"cc -O0 -o stages {STAGES.format('/usr/share/nicbench/examples/explore')} {EXPLORER}", ""),
+    ("./stages right --explore 2", EXPLORED),
 ]
 
 

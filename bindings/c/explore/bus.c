@@ -22,13 +22,19 @@ void xi_set_test(const char *(*test)(void *), void *argument)
 static void at_place(enum event event, uint64_t address)
 {
     B->event = event, B->address = address;
-    B->history = (B->history + 1 + event + (address << 8)) * 0xD1B54A32D192ED03;
+    if (xi_given.check)
+        B->history = (B->history + 1 + event + (address << 8)) * 0xD1B54A32D192ED03;
     xi_to_explorer();
+}
+
+const char *xi_test(void)
+{
+    return the_test(the_argument);
 }
 
 static void run_test(void)
 {
-    S->fault = the_test(the_argument);
+    S->fault = xi_test();
     at_place(ENDED, 0);
 }
 
@@ -65,9 +71,11 @@ void xi_next_place(void)
     B->last = 0, B->stage = B->event < ARRIVE ? 0 : STAGES;
 }
 
+/* Answers are compared with --check only. */
 uint64_t xi_answer(uint64_t value)
 {
-    B->history = (B->history ^ value) * 0x9E3779B97F4A7C15, B->history ^= B->history >> 31;
+    if (xi_given.check)
+        B->history = (B->history ^ value) * 0x9E3779B97F4A7C15, B->history ^= B->history >> 31;
     return value;
 }
 
@@ -75,6 +83,8 @@ static void answer_bytes(const uint8_t *at, size_t count)
 {
     uint64_t hash = count, word;
 
+    if (!xi_given.check)
+        return;
     for (; count >= 8; count -= 8, at += 8) {
         memcpy(&word, at, 8);
         hash = (hash ^ word) * 0x9E3779B97F4A7C15u, hash ^= hash >> 29;
@@ -110,9 +120,27 @@ static size_t take(const struct frames *frames, unsigned number, void *into, siz
 
 /* What the adapter does */
 
+/* The adapter has changed, or may have. */
+static void change(void)
+{
+    B->knows_possible = B->knows_digest = false;
+}
+
 unsigned xi_possible(void)
 {
-    return nic82540em_possible(&S->nic);
+    if (!B->knows_possible)
+        B->possible = nic82540em_possible(&S->nic), B->knows_possible = true;
+    return B->possible;
+}
+
+/* The digest of the adapter without the host's memory */
+struct digest xi_adapter(void)
+{
+    if (!B->knows_digest) {
+        B->digest.one = nic82540em_state_digest(&S->nic, 1), B->digest.two = nic82540em_state_digest(&S->nic, 2);
+        B->knows_digest = true;
+    }
+    return B->digest;
 }
 
 unsigned xi_play(uint32_t kind)
@@ -121,6 +149,8 @@ unsigned xi_play(uint32_t kind)
     uint8_t frame[LONGEST];
     size_t count;
 
+    if (outcome != NIC_NOTHING)
+        change(), B->moves += kind < NIC_EEPROM;
     while (outcome == NIC_PUT && (count = nic82540em_take_put(&S->nic, frame, sizeof frame)) != 0)
         add(&S->put, frame, count, 0);
     return outcome;
@@ -130,6 +160,7 @@ static uint32_t deliver(const void *frame, size_t count)
 {
     uint32_t fate = nic82540em_arrive(&S->nic, frame, count);
 
+    change();
     add(&S->arrived, frame, count, fate);
     return fate;
 }
@@ -139,6 +170,7 @@ static void deliver_offered(void)
     uint8_t frame[LONGEST];
     size_t count = take(&S->offers, S->offered++, frame, sizeof frame);
 
+    B->moves++;
     deliver(frame, count);
 }
 
@@ -161,8 +193,7 @@ bool xi_deviate(int action)
 
     if (B->path_count == MOST_PATH)
         xi_die("a run has more than 1,024 deviations");
-    *one = (struct deviation){ B->round, B->access, action, B->event, B->address, "" };
-    xi_name(one->before, sizeof one->before, B->event, B->address);
+    *one = (struct deviation){ B->round, B->access, action, xi_place() };
     if (action == ARRIVAL) {
         did = S->offered < S->offers.count;
         if (did)
@@ -207,6 +238,7 @@ uint32_t x_read(uint32_t offset)
         return xi_pipe_read(offset);
     at_place(READ, offset);
     value = (uint32_t)xi_answer(nic82540em_read(&S->nic, offset));
+    change();
     cut_in();
     return value;
 }
@@ -219,6 +251,7 @@ void x_write(uint32_t offset, uint32_t value)
     }
     at_place(WRITE, offset);
     nic82540em_write(&S->nic, offset, value);
+    change();
     know(offset, value);
     cut_in();
 }

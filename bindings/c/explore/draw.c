@@ -9,6 +9,7 @@
 enum { MOST_IN_BURST = 64, ROUND = 8 };
 static struct saved first_round; /* before the request that begins round 1 */
 static uint64_t random_state;
+static unsigned pct_depth, pct_events;
 static const int steps[] = { NIC_TXTAKE, NIC_TXPUT, NIC_RXDATA, NIC_RXDONE, ARRIVAL };
 
 static uint64_t draw(void)
@@ -17,6 +18,12 @@ static uint64_t draw(void)
 
     x = (x ^ x >> 30) * 0xBF58476D1CE4E5B9, x = (x ^ x >> 27) * 0x94D049BB133111EB;
     return x ^ x >> 31;
+}
+
+/* A number below this one */
+unsigned xi_below(unsigned end)
+{
+    return (unsigned)((draw() >> 32) * end >> 32);
 }
 
 /* What would do something here: a bit for each kind of step, and one for ARRIVAL. */
@@ -34,11 +41,9 @@ static void uniform(void)
     uint64_t bits = draw();
     unsigned possible = possible_here();
 
-    if (!possible)
-        return;
     memcpy(order, steps, sizeof order);
     for (unsigned n = 4; n > 0; n--) {
-        unsigned m = (unsigned)(draw() % (n + 1));
+        unsigned m = xi_below(n + 1);
         int kept = order[n];
         order[n] = order[m], order[m] = kept;
     }
@@ -63,14 +68,17 @@ static void burst(void)
                 working[count++] = steps[k];
         if (!count)
             return;
-        xi_deviate(working[draw() % (unsigned)count]);
+        xi_deviate(working[xi_below((unsigned)count)]);
     }
 }
 
 static void draw_here(uint64_t seed)
 {
-    uint64_t chance = draw();
+    uint64_t chance;
 
+    if (!possible_here())
+        return;
+    chance = draw();
     if (B->event >= ARRIVE && chance >> 32 & (ROUND - 1))
         return;
     if (seed % 2 == 0)
@@ -100,6 +108,19 @@ static void to_first_round(bool with_holds)
             xi_tick();
 }
 
+/* From now on, runs are drawn by PCT. Returns the number of events of a run without deviations, from round 1 on. */
+unsigned xi_set_pct(unsigned depth)
+{
+    unsigned before;
+
+    xi_begin(false);
+    to_first_round(false);
+    for (before = B->places + B->moves; B->event != ENDED; xi_next_place())
+        xi_tick();
+    pct_depth = depth, pct_events = B->places + B->moves - before;
+    return pct_events;
+}
+
 /* Plays the run of a seed: by even ones, steps are drawn before each access, and by odd ones, bursts before few. */
 void xi_draw(uint64_t seed, bool with_holds, bool is_new)
 {
@@ -112,11 +133,16 @@ void xi_draw(uint64_t seed, bool with_holds, bool is_new)
         if (xi_saves && !is_new && !with_holds)
             xi_save(&first_round);
     }
+    if (pct_depth)
+        xi_pct_begin(pct_depth, pct_events);
     for (; B->event != ENDED; xi_next_place()) {
         if (with_holds)
             draw_holds();
         xi_tick();
-        draw_here(seed);
+        if (pct_depth)
+            xi_pct_here();
+        else
+            draw_here(seed);
     }
 }
 
@@ -128,18 +154,20 @@ static bool is_hold(const struct deviation *one, int stage)
 /* Plays the deviations of a place. Returns the number of the first one that is later. */
 static unsigned play_here(const struct deviation *path, unsigned at, unsigned count, char *lack, size_t room)
 {
-    char name[24];
+    char name[32], wanted[32];
+    struct place here = xi_place();
     unsigned end = at;
 
     while (end < count && path[end].round == B->round && path[end].access == B->access)
         end++;
-    xi_name(name, sizeof name, B->event, B->address);
-    for (unsigned n = at; n < end; n++)
-        if (lack && !lack[0] && strcmp(name, path[n].before)) {
+    for (unsigned n = at; lack && !lack[0] && n < end; n++) {
+        xi_name(name, sizeof name, &here), xi_name(wanted, sizeof wanted, &path[n].before);
+        if (strcmp(name, wanted)) {
             xi_text(lack, room, &path[n]);
             snprintf(lack + strlen(lack), room - strlen(lack), ": at this place, the test makes another access: %s",
                      name);
         }
+    }
     for (; B->stage < STAGES; B->stage++) {
         bool is_held = false;
         for (unsigned n = at; n < end; n++)

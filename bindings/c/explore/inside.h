@@ -4,20 +4,32 @@
 
 #include "nic82540em_explore.h"
 
-enum { PAGE = 4096, MOST_FRAMES = 256, MOST_BYTES = 1 << 17, MOST_PATH = 1024, LONGEST = 1518, MOST_OPTIONS = 8, MOST_PLACES = 100000 };
+enum { PAGE = 4096, MOST_FRAMES = 256, MOST_BYTES = 1 << 17, MOST_PATH = 1024, LONGEST = 1518, MOST_OPTIONS = 8,
+       MOST_PLACES = 100000 };
 /* What may be done before an access or a request: steps (NIC_TXTAKE to NIC_PHY), and these */
 enum { TX = NIC_PHY + 1, RX, HOLD_EEPROM, HOLD_PHY, ARRIVAL, ACTIONS, DEFAULT = -1 };
 enum event { READ, WRITE, LOAD, STORE, ARRIVE, STEP, SETTLE, OFFER, ENDED };
 enum { STAGES = 2 }; /* default steps of a place: of the EEPROM and of the PHY */
 enum { PASSES, FOUND, USAGE, NOT_RUN, NOTHING };
 
+struct digest {
+    uint64_t one, two;
+};
+
+/* An access or a request: of memory in a ring, `ring` is 1 + its number, and `address` begins at the ring. A schedule
+ * that was read has its text instead. */
+struct place {
+    enum event event;
+    int ring;
+    uint64_t address;
+    const char *text;
+};
+
 /* A deviation, and the place before which it is: a round, and an access in it, or 0 for the request that begins it. */
 struct deviation {
     unsigned round, access;
     int action;
-    enum event event;
-    uint64_t address;
-    char before[24]; /* the name of the access or request */
+    struct place before;
 };
 
 /* Frames, one after the other. */
@@ -30,10 +42,14 @@ struct frames {
 /* What is saved, but isn't a part of what is compared: where the run is. */
 struct book {
     unsigned round, access, places;
+    unsigned moves; /* steps of engines, and arrivals of offered frames, that did something */
     unsigned path_count, did; /* deviations; those that did something */
     int stage, last;                         /* default steps so far; 1 + the last action at this place, or 0 */
     enum event event;
     uint64_t address, history; /* of the place; a hash of all answers so far */
+    bool knows_possible, knows_digest; /* of the adapter, as it is now */
+    unsigned possible;
+    struct digest digest;
     uint32_t rings[2][3];      /* as written: of the receive and the transmit ring, RDBAL, RDBAH and RDLEN */
     struct deviation path[MOST_PATH];
 };
@@ -41,16 +57,12 @@ struct book {
 /* What is saved and compared beside the memory of the test and of the adapter. */
 struct state {
     struct nic82540em nic;
-    size_t heap_used, memory_used, last_block;
+    size_t heap_used, memory_used, last_block, before_last; /* last_block: where the last one begins */
     const char *fault;
     void (*handler)(void);
     bool takes_none; /* whether the handler is kept out */
     unsigned offered; /* the number of the offered frame that arrives next */
     struct frames put, arrived, offers;
-};
-
-struct digest {
-    uint64_t one, two;
 };
 
 /* A copy of all that a run has changed. */
@@ -82,23 +94,27 @@ int xi_pages(void);
 /* switch.c: the test runs on a stack of its own */
 void xi_start(void (*function)(void));
 void xi_to_test(void);
+void xi_clear_stack(void);
 void xi_to_explorer(void);
 char *xi_stack(void **top); /* the end of the stack of the test; stores its top, if `top` isn't null */
 void xi_set_stack(void *top);
 
 /* bus.c: the adapter and the places of a run */
 void xi_set_test(const char *(*test)(void *), void *argument);
+const char *xi_test(void);
 void xi_begin(bool is_new);
 void xi_next_place(void);
 unsigned xi_play(uint32_t kind);
 unsigned xi_possible(void);
+struct digest xi_adapter(void);
 bool xi_deviate(int action);
 void xi_tick(void);
 uint64_t xi_answer(uint64_t value);
 
 /* names.c: the text of schedules */
 extern const char *const xi_actions[ACTIONS];
-void xi_name(char *into, size_t room, enum event event, uint64_t address);
+struct place xi_place(void);
+void xi_name(char *into, size_t room, const struct place *place);
 void xi_text(char *into, size_t room, const struct deviation *one);
 void xi_print(void *file, const struct deviation *path, unsigned count);
 int xi_read_schedule(const char *path, struct deviation *into);
@@ -107,21 +123,50 @@ int xi_read_schedule(const char *path, struct deviation *into);
 enum { EVERY = -1, DEEPEST = 16 };
 struct found { /* what a search has shown */
     bool fails;
-    double schedules;
+    double schedules; /* that pass */
     size_t states;
-    struct deviation path[MOST_PATH];
+    bool is_complete; /* all schedules were tried */
     unsigned count;
+    bool is_silent;
+    struct deviation path[MOST_PATH];
     char fault[128];
 };
-void xi_explore(int depth, bool with_holds, size_t most_states, struct found *found);
+void xi_explore(int depth, bool with_holds, bool finds_all, size_t most_states, struct found *found);
 void xi_keep(struct found *found);
+unsigned xi_below(unsigned end);
+unsigned xi_set_pct(unsigned depth);
 void xi_draw(uint64_t seed, bool with_holds, bool is_new);
 void xi_replay(const struct deviation *path, unsigned count, bool is_new, char *lack, size_t room);
 void xi_shrink(struct found *found);
 
+/* words.c: what the words of the command ask for */
+enum { DRAWN = -2 };
+extern struct given {
+    int depth; /* of an exploration, EVERY or DRAWN */
+    uint64_t runs, seed, states;
+    unsigned pct;
+    bool holds, json, check, again, pipe, all;
+    const char *replay, *out, *serve;
+} xi_given;
+extern char xi_command[1024]; /* the words of the test */
+void xi_take_words(int count, char **words);
+
+/* pct.c: draws by priorities */
+enum { PCT_ACTORS = 5 };
+void xi_pct_begin(unsigned depth, unsigned events);
+void xi_pct_here(void);
+
+/* kinds.c: schedules that fail, by kinds */
+void xi_add_failed(const struct deviation *path, unsigned count, const char *fault, bool is_silent);
+void xi_print_kinds(void);
+uint64_t xi_failed(void);
+
+/* confirm.c: schedules that are played by `nicbench serve` */
+const char *xi_confirm(const char *program, const struct deviation *path, unsigned count, char *fault, size_t room);
+
 /* pipe.c: the calls of the test as requests of `nicbench serve` */
 extern bool xi_is_piped;
-int xi_pipe(const char *(*test)(void *), void *argument);
+int xi_pipe(void);
 uint32_t xi_pipe_read(uint32_t offset);
 void xi_pipe_write(uint32_t offset, uint32_t value);
 void xi_pipe_load(uint64_t address, void *into, size_t count);

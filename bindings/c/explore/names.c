@@ -36,35 +36,47 @@ static void name_register(char *into, size_t room, const char *verb, uint32_t of
     snprintf(into, room, "%s register[%#x]", verb, offset);
 }
 
-/* The name of an access or a request at this time of the run. */
-void xi_name(char *into, size_t room, enum event event, uint64_t address)
+/* The access or the request at which the run is. */
+struct place xi_place(void)
 {
-    if (event >= ARRIVE) {
-        snprintf(into, room, "%s", event == ENDED ? "the end" : events[event]);
-        return;
-    }
-    if (event <= WRITE) {
-        name_register(into, room, events[event], (uint32_t)address);
-        return;
-    }
-    for (int ring = 0; ring < 2; ring++) {
+    struct place place = { xi_book->event, 0, xi_book->address, NULL };
+
+    for (int ring = 0; ring < 2 && (place.event == LOAD || place.event == STORE); ring++) {
         const uint32_t *at = xi_book->rings[ring];
-        uint64_t from = address - (at[0] | (uint64_t)at[1] << 32);
-        if (from < at[2]) {
-            char byte[8] = "";
-            if (from % 16)
-                snprintf(byte, sizeof byte, "+%u", (unsigned)(from % 16));
-            snprintf(into, room, "%s %cx[%u]%s", events[event], "rt"[ring], (unsigned)(from / 16), byte);
-            return;
-        }
+        uint64_t from = xi_book->address - (at[0] | (uint64_t)at[1] << 32);
+        if (from < at[2])
+            return (struct place){ place.event, 1 + ring, from, NULL };
     }
-    snprintf(into, room, "%s %#llx", events[event], (unsigned long long)address);
+    return place;
+}
+
+/* The name of an access or a request */
+void xi_name(char *into, size_t room, const struct place *place)
+{
+    enum event event = place->event;
+    unsigned slot = (unsigned)(place->address / 16), byte = (unsigned)(place->address % 16);
+
+    if (place->text)
+        snprintf(into, room, "%s", place->text);
+    else if (event >= ARRIVE)
+        snprintf(into, room, "%s", event == ENDED ? "the end" : events[event]);
+    else if (event <= WRITE)
+        name_register(into, room, events[event], (uint32_t)place->address);
+    else if (!place->ring)
+        snprintf(into, room, "%s %#llx", events[event], (unsigned long long)place->address);
+    else if (byte)
+        snprintf(into, room, "%s %cx[%u]+%u", events[event], "rt"[place->ring - 1], slot, byte);
+    else
+        snprintf(into, room, "%s %cx[%u]", events[event], "rt"[place->ring - 1], slot);
 }
 
 /* A deviation as a line of a schedule */
 void xi_text(char *into, size_t room, const struct deviation *one)
 {
-    snprintf(into, room, "%u.%u %s before %s", one->round, one->access, xi_actions[one->action], one->before);
+    char name[32];
+
+    xi_name(name, sizeof name, &one->before);
+    snprintf(into, room, "%u.%u %s before %s", one->round, one->access, xi_actions[one->action], name);
 }
 
 void xi_print(void *file, const struct deviation *path, unsigned count)
@@ -97,7 +109,7 @@ static const char *read_deviation(char *line, struct deviation *into)
         into->action++;
     if (into->action == ACTIONS)
         return "it has no deviation, such as rx";
-    snprintf(into->before, sizeof into->before, "%.23s", rest);
+    into->before = (struct place){ ENDED, 0, 0, strdup(rest) };
     return NULL;
 }
 

@@ -31,9 +31,8 @@ int nic82540em_explore(int count, char **words, const char *(*test)(void *argume
 /* What the adapter is made of: NIC82540EM_DEFAULTS, unless it is changed before nic82540em_explore is called. */
 extern struct nic82540em_options x_options;
 
-/* The accesses of the driver, as nic82540em_read .. nic82540em_store. Before each, deviations may be played. An
- * access of
- * memory that isn't there ends the test, which fails. */
+/* The accesses of the driver, as nic82540em_read .. nic82540em_store. Before each, deviations may be played. An access
+ * of memory that isn't there ends the test, which fails. */
 uint32_t x_read(uint32_t offset);
 void x_write(uint32_t offset, uint32_t value);
 void x_load(uint64_t address, void *into, size_t count);
@@ -53,16 +52,15 @@ uint64_t x_settle(void);                            /* steps until none does any
 /* Whether the interrupt line is asserted. */
 bool x_line(void);
 
-/* The frames that were put on the wire, and those that arrived, from number 0 on. x_put and x_arrived copy up to `room`
- * bytes of one into `into`, and return its length, or 0 if there is none. */
+/* The frames that were put on the wire, and those that arrived, from number 0 on. x_put and x_arrived copy up to
+ * `room` bytes of one into `into`, and return its length, or 0 if there is none. */
 unsigned x_put_count(void);
 size_t x_put(unsigned number, void *into, size_t room);
 unsigned x_arrived_count(void);
 size_t x_arrived(unsigned number, uint32_t *fate, void *into, size_t room);
 
 /* From now on, this handler cuts in after each access and request that leaves the line asserted, but not on itself;
- * with
- * NULL, none does. x_interrupts keeps it out or lets it in again, and returns whether it was let in before. */
+ * with NULL, none does. x_interrupts keeps it out or lets it in again, and returns whether it was let in before. */
 void x_handler(void (*handler)(void));
 bool x_interrupts(bool is_on);
 

@@ -168,7 +168,7 @@ bool xi_pipe_line(void)
     return is_raised;
 }
 
-int xi_pipe(const char *(*test)(void *), void *argument)
+int xi_pipe(void)
 {
     const char *fault;
 
@@ -176,7 +176,7 @@ int xi_pipe(const char *(*test)(void *), void *argument)
     xi_prepare(false);
     xi_clear();
     ask("events on\n");
-    fault = test(argument);
+    fault = xi_test();
     if (fault)
         fprintf(stderr, "%s\n", fault);
     return fault ? FOUND : PASSES;

@@ -1,12 +1,9 @@
 /* Goes through all schedules of up to some deviations, or through every schedule, up to one that fails.
  *
  * A choice is a place at which something may be done, or left: a deviation, or a default step. At each choice, the
- * search
- * takes one option after the other, from the saved state of the choice, and the default last. If the state is known
- * from
- * an earlier choice, with at least as many deviations left, all that follows has passed, and isn't played again.
- * Without
- * saved states, each run begins from nothing, and is played to its end.
+ * search takes one option after the other, from the saved state of the choice, and the default last. If the state is
+ * known from an earlier choice, with at least as many deviations left, all that follows has passed, and isn't played
+ * again. Without saved states, each run begins from nothing, and is played to its end.
  */
 #include "inside.h"
 #include <stdio.h>
@@ -18,7 +15,7 @@
 
 enum { MOST_CHOICES = 1 << 16 };
 /* Before one access, deviations of different actors can be exchanged, so they are tried in the order of these actors.
- * */
+ */
 static const int actors[ACTIONS] = { 2, 2, 3, 3, -1, -1, 2, 3, 0, 1, 3 };
 
 /* A choice of the run: its state, its options, the one that is taken (`count` is the default), the deviations that are
@@ -27,6 +24,7 @@ struct choice {
     struct saved saved;
     struct digest key;
     int actions[MOST_OPTIONS], count, option, left;
+    bool fails; /* a schedule below it fails, so its state isn't known */
     double counts[DEEPEST + 1];
 };
 
@@ -39,7 +37,9 @@ struct known {
 
 static struct choice choices[MOST_CHOICES];
 static int top, depth, left;
-static bool is_every, has_holds;
+static bool is_every, has_holds, goes_on;
+static struct digest tail[MOST_PLACES]; /* the states of the run at which no deviation is left */
+static int tail_count;
 static char *table;
 static size_t room, known_count, entry, most_known;
 
@@ -138,6 +138,12 @@ static int options_here(int *actions)
     return count;
 }
 
+static void go_on(void)
+{
+    xi_clear_stack();
+    xi_next_place();
+}
+
 /* Goes on up to the next choice. Returns the number of its options beside the default; 0 at the end of the run. */
 static int next_choice(int *actions)
 {
@@ -153,7 +159,7 @@ static int next_choice(int *actions)
         int count = options_here(actions);
         if (count)
             return count;
-        xi_next_place();
+        go_on();
     }
 }
 
@@ -167,7 +173,7 @@ static void take(int action)
             xi_deviate(action);
         B->stage++;
     } else if (action == DEFAULT)
-        xi_next_place();
+        go_on();
     else
         xi_deviate(action);
 }
@@ -186,36 +192,72 @@ static void retake(const struct choice *choice)
 
 /* The search */
 
-/* Plays the run on to its end, or to a known state. Returns the numbers of schedules below it, or NULL if it fails. */
-static const double *forward(void)
-{
-    static const double one[DEEPEST + 1] = { 1 };
+static const double one_passes[DEEPEST + 1] = { 1 };
 
-    for (;;) {
+/* All that follows has passed: so many schedules by their numbers of deviations. */
+static const double *pass(const double *counts)
+{
+    static double kept[DEEPEST + 1];
+
+    memcpy(kept, counts, width() * sizeof *kept);
+    while (tail_count)
+        know(tail[--tail_count], 0, one_passes);
+    return kept;
+}
+
+/* The run fails. Returns NULL, or, if the search goes on, the numbers of schedules that pass. */
+static const double *fail(struct found *found)
+{
+    static const double none[DEEPEST + 1] = { 0 };
+
+    tail_count = 0;
+    if (!found->fails)
+        xi_keep(found);
+    if (!goes_on)
+        return NULL;
+    xi_add_failed(B->path, B->path_count, S->fault, found->is_silent);
+    for (int n = 0; n < top; n++)
+        choices[n].fails = true;
+    return none;
+}
+
+/* Makes a choice, whose options are tried later, the newest one. */
+static struct choice *begin_choice(const int *actions, int count, struct digest key)
+{
+    struct choice *choice = &choices[top];
+
+    if (++top == MOST_CHOICES)
+        xi_die("a run has more than 65,535 choices");
+    choice->key = key, choice->count = count, choice->option = 0, choice->left = left, choice->fails = false;
+    memcpy(choice->actions, actions, sizeof choice->actions);
+    memset(choice->counts, 0, sizeof choice->counts);
+    if (xi_saves)
+        xi_save(&choice->saved);
+    return choice;
+}
+
+/* Plays the run on to its end, or to a known state. Returns the numbers of schedules below it that pass, or NULL if it
+ * fails and the search ends. */
+static const double *forward(struct found *found)
+{
+    for (tail_count = 0;;) {
         int actions[MOST_OPTIONS], count = next_choice(actions);
-        struct choice *choice = &choices[top];
+        struct digest key = { 0, 0 };
         if (count == 0)
-            return S->fault ? NULL : one;
+            return S->fault ? fail(found) : pass(one_passes);
         if (xi_saves) {
-            choice->key = key_here();
-            struct known *known = look(choice->key);
+            key = key_here();
+            const struct known *known = look(key);
             if (known->left >= left)
-                return known->counts;
-            if (left == 0)
-                know(choice->key, 0, one);
+                return pass(known->counts);
         }
-        if (left == 0) {
+        if (left)
+            retake(begin_choice(actions, count, key));
+        else {
+            if (xi_saves && tail_count < MOST_PLACES)
+                tail[tail_count++] = key;
             take(DEFAULT);
-            continue;
         }
-        if (++top == MOST_CHOICES)
-            xi_die("a run has more than 65,535 choices");
-        choice->count = count, choice->option = 0, choice->left = left;
-        memcpy(choice->actions, actions, sizeof actions);
-        memset(choice->counts, 0, sizeof choice->counts);
-        if (xi_saves)
-            xi_save(&choice->saved);
-        retake(choice);
     }
 }
 
@@ -263,7 +305,7 @@ static bool backward(const double *below, double *counts)
             retake(choice);
             return true;
         }
-        if (xi_saves)
+        if (xi_saves && !choice->fails)
             know(choice->key, choice->left, choice->counts);
         memcpy(counts, choice->counts, sizeof choice->counts);
     }
@@ -280,26 +322,25 @@ void xi_keep(struct found *found)
 }
 
 /* Tries all schedules of up to this number of deviations, or EVERY schedule, up to one that fails, or until there are
- * more
- * states than `most_states`: then `schedules` is 0. */
-void xi_explore(int given_depth, bool with_holds, size_t most_states, struct found *found)
+ * more states than `most_states`: then `schedules` is 0. With `finds_all`, goes on after one that fails. */
+void xi_explore(int given_depth, bool with_holds, bool finds_all, size_t most_states, struct found *found)
 {
     double counts[DEEPEST + 1];
     const double *below;
 
-    memset(found, 0, offsetof(struct found, path));
+    memset(found, 0, offsetof(struct found, is_silent));
     is_every = given_depth == EVERY, depth = left = is_every ? 1 : given_depth, has_holds = with_holds;
+    goes_on = finds_all;
     free(table), table = NULL, room = known_count = 0, most_known = most_states, top = 0;
     entry = sizeof(struct known) + width() * sizeof(double);
     xi_begin(false);
     xi_next_place();
-    while ((below = forward()) != NULL && known_count <= most_known && !xi_stopped())
+    while ((below = forward(found)) != NULL && known_count <= most_known && !xi_stopped())
         if (!backward(below, counts)) {
             for (size_t n = 0; n < width(); n++)
                 found->schedules += counts[n];
+            found->is_complete = true;
             break;
         }
     found->states = known_count;
-    if (!below)
-        xi_keep(found);
 }

@@ -1,11 +1,9 @@
 /* The memory of a run, its copies and its digests.
  *
  * All that a run changes is in an arena at a fixed address: what the explorer knows of the run, what the test keeps,
- * and
- * the heap of libnic82540em, whose three functions are here. After xi_track, its pages can't be written: the first
- * write
- * to one is a fault, whose handler notes the page. So a state is the pages that any run has changed, and the used part
- * of the stack of the test.
+ * and the heap of libnic82540em, whose three functions are here. After xi_track, its pages can't be written: the first
+ * write to one is a fault, whose handler notes the page. So a state is the pages that any run has changed, and the
+ * used part of the stack of the test.
  */
 #define _GNU_SOURCE
 #include "inside.h"
@@ -35,6 +33,8 @@ static int own[MOST_OWN], own_count; /* the pages that differ from it in some ru
 static char is_own[PAGES];
 static struct digest base_digest[PAGES];
 static bool is_tracked;
+static char *host, *host_end;    /* the host's memory */
+static char wire[64 * LONGEST];  /* the frames on the wire: at a place there are none, so it isn't saved */
 
 _Noreturn void xi_die(const char *why)
 {
@@ -73,12 +73,16 @@ void xi_prepare(bool may_save)
 {
     struct sigaction action = { .sa_sigaction = on_signal, .sa_flags = SA_SIGINFO | SA_NODEFER };
     int kind = PROT_READ | PROT_WRITE, flags = MAP_PRIVATE | MAP_ANONYMOUS | MAP_NORESERVE | MAP_FIXED_NOREPLACE;
+    static bool is_prepared;
 
+    xi_saves = may_save;
+    if (is_prepared)
+        return;
+    is_prepared = true;
     if (mmap(ARENA, PAGES * (size_t)PAGE, kind, flags, -1, 0) != ARENA)
         xi_die("the memory at 0x200000000000 isn't free");
     sigemptyset(&action.sa_mask);
     sigaction(SIGSEGV, &action, NULL), sigaction(SIGABRT, &action, NULL), sigaction(SIGFPE, &action, NULL);
-    xi_saves = may_save;
 }
 
 /* The arena before a run: zeros */
@@ -93,9 +97,12 @@ void xi_clear(void)
 void xi_track(void)
 {
     size_t size = PAGES * (size_t)PAGE;
+    void *first = NULL;
 
     if (!xi_saves || is_tracked)
         return;
+    host_end = (char *)(uintptr_t)nic82540em_memory(&xi_state->nic, &first);
+    host = first, host_end = host + (uintptr_t)host_end;
     base = mmap(NULL, size, PROT_READ | PROT_WRITE, MAP_PRIVATE | MAP_ANONYMOUS | MAP_NORESERVE, -1, 0);
     if (base == MAP_FAILED)
         xi_die("memory is refused");
@@ -125,13 +132,17 @@ struct tried {
     void *block;
 };
 
+/* A large block begins a page, and no other block is in its pages. */
 struct tried rattle_alloc(size_t size, size_t align)
 {
-    size_t at = (xi_state->heap_used + align + 15) & ~(size_t)15;
+    size_t whole = size < PAGE ? align > 16 ? align : 16 : PAGE;
+    size_t at = (xi_state->heap_used + whole - 1) / whole * whole, end = (at + size + whole - 1) / whole * whole;
 
-    if (size > HEAP_PAGES * (size_t)PAGE || at + size > HEAP_PAGES * (size_t)PAGE)
+    if (size == sizeof wire && x_options.memory != sizeof wire)
+        return (struct tried){ true, wire };
+    if (size > HEAP_PAGES * (size_t)PAGE || end > HEAP_PAGES * (size_t)PAGE)
         return (struct tried){ false, HEAP };
-    xi_state->last_block = xi_state->heap_used, xi_state->heap_used = at + size;
+    xi_state->last_block = at, xi_state->before_last = xi_state->heap_used, xi_state->heap_used = end;
     return (struct tried){ true, HEAP + at };
 }
 
@@ -146,10 +157,8 @@ struct tried rattle_realloc(void *block, size_t kept, size_t size, size_t align)
 
 void rattle_dealloc(void *block)
 {
-    size_t at = (size_t)((char *)block - HEAP);
-
-    if (at >= xi_state->last_block && at <= xi_state->last_block + 31)
-        xi_state->heap_used = xi_state->last_block;
+    if (block == HEAP + xi_state->last_block && xi_state->heap_used > xi_state->last_block)
+        xi_state->heap_used = xi_state->before_last;
 }
 
 void *x_memory(size_t size)
@@ -219,19 +228,29 @@ static struct digest digest_of_base(int page)
     return base_digest[page];
 }
 
-/* The digest of the state: of the stack of the test, and of each page, as its difference from that at xi_track. What is
- * below the top of the stack in its block is cleared: it isn't used any more. */
+/* Whether the bytes of a page are a part of the state: not those of the book, and on the heap of the library only
+ * those of the host's memory. The adapter's own digest stands for the others. */
+static bool is_compared(int page)
+{
+    char *at = ARENA + page * (size_t)PAGE;
+
+    return page >= BOOK_PAGES && (at < HEAP || (at >= host && at < host_end));
+}
+
+/* The digest of the state: of the stack of the test, of the adapter by its contents, and of each page, as its
+ * difference from that at xi_track. What is below the top of the stack in its block is cleared: it isn't used any
+ * more. */
 struct digest xi_digest(void)
 {
     void *top;
     char *end = xi_stack(&top), *from = (char *)((uintptr_t)top & ~(uintptr_t)(BLOCK - 1));
-    struct digest sum;
+    struct digest sum, adapter = xi_adapter();
 
-    nic82540em_recount(&xi_state->nic, 0);
     memset(from, 0, (size_t)((char *)top - from));
     sum = digest_of(from, (size_t)(end - from) / BLOCK, (uintptr_t)top);
+    sum.one += adapter.one, sum.two += adapter.two;
     for (int n = 0; n < own_count; n++)
-        if (own[n] >= BOOK_PAGES) {
+        if (is_compared(own[n])) {
             struct digest now = digest_of(ARENA + own[n] * (size_t)PAGE, PAGE / BLOCK, (uint64_t)own[n]);
             struct digest before = digest_of_base(own[n]);
             sum.one += now.one - before.one, sum.two += now.two - before.two;

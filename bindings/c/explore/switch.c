@@ -1,7 +1,7 @@
 /* The test runs on a stack of its own, and changes places with the explorer.
  *
- * On x86-64, the registers that a function keeps are pushed to the stack that is left, so the used part of the stack is
- * all that must be saved. On other processors, ucontext keeps them elsewhere, and no state is saved.
+ * On x86-64, the registers that a function keeps are pushed to the stack that is left, so the used part of the stack
+ * is all that must be saved. On other processors, ucontext keeps them elsewhere, and no state is saved.
  */
 #define _GNU_SOURCE
 #include "inside.h"
@@ -9,7 +9,7 @@
 #include <sys/mman.h>
 #include <ucontext.h>
 
-enum { STACK_SIZE = 1 << 20 };
+enum { STACK_SIZE = 1 << 20, CLEARED = 1 << 15 };
 #define STACK ((char *)0x201000000000)
 
 static bool is_test; /* whether the test runs now */
@@ -45,6 +45,16 @@ char *xi_stack(void **top)
 void xi_set_stack(void *top)
 {
     test_top = top;
+}
+
+/* What earlier calls have left below the top of the stack is cleared, since it would be in the frames of later calls.
+ */
+void xi_clear_stack(void)
+{
+    size_t room = (size_t)((char *)test_top - STACK), size = room < CLEARED ? room : CLEARED;
+
+    if (xi_saves)
+        memset((char *)test_top - size, 0, size);
 }
 
 #ifdef __x86_64__

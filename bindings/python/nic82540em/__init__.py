@@ -60,6 +60,7 @@ CALLS = {
     "recount": (None, [ctypes.c_uint64]),
     "possible": (ctypes.c_uint32, []),
     "digest": (ctypes.c_uint64, []),
+    "state_digest": (ctypes.c_uint64, [ctypes.c_uint64]),
     "copy": (ctypes.c_bool, [ctypes.POINTER(Handle)]),
 }
 
@@ -161,6 +162,12 @@ class Nic:
     def digest(self):
         """Returns a digest of the adapter and its memory, without the wire and the number of accesses."""
         return self.call("digest")
+
+    def state_digest(self, seed=0):
+        """Returns a digest of the adapter's state by its contents, without memory, for a seed."""
+        if not 0 <= seed < 1 << 64:
+            raise Refused(f"state_digest {seed}")
+        return self.call("state_digest", seed)
 
     def copy(self):
         """Returns a copy of the adapter, with its memory, its wire and its schedule. Raises Refused if memory is refused."""

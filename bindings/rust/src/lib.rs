@@ -201,6 +201,7 @@ extern "C" {
     fn nic82540em_recount(nic: &mut Handle, accesses: u64);
     fn nic82540em_possible(nic: &mut Handle) -> u32;
     fn nic82540em_digest(nic: &mut Handle) -> u64;
+    fn nic82540em_state_digest(nic: &mut Handle, seed: u64) -> u64;
     fn nic82540em_copy(nic: &mut Handle, into: &mut Handle) -> bool;
 }
 
@@ -331,6 +332,12 @@ impl Nic {
     /// of accesses.
     pub fn digest(&mut self) -> u64 {
         unsafe { nic82540em_digest(&mut self.handle) }
+    }
+
+    /// A digest of the adapter's state by its contents, without memory: its registers, the frames in its packet buffer and
+    /// the work in progress. Adapters with the same state have equal digests for each seed.
+    pub fn state_digest(&mut self, seed: u64) -> u64 {
+        unsafe { nic82540em_state_digest(&mut self.handle, seed) }
     }
 
     /// A copy of the adapter, with its memory, its wire and its schedule.

@@ -1,3 +1,4 @@
+pub mod Digests
 pub mod Order
 pub mod Numbers
 pub mod LinkedAdapters

@@ -6,6 +6,7 @@ ghost use Rattle.bus.specs.Digests.{digest_of};
 ghost use Rattle.bus.specs.Machines.{is_asserted};
 ghost use Rattle.bus.specs.Trails.{Occurs};
 ghost use Rattle.eeprom.specs.Image.{image_with};
+ghost use Rattle.linked_adapter.specs.Digests.{state_digest_of};
 ghost use Rattle.linked_adapter.specs.LinkedAdapters.{AnswersArrival, AnswersInterleave, AnswersStep};
 ghost use Rattle.linked_adapter.specs.LinkedAdapters.{AnswersTaking, IsNew, after_step, new_linked, next_frames};
 ghost use Rattle.linked_adapter.specs.LinkedAdapters.{pba, step_of};
@@ -25,6 +26,7 @@ use mdic_phy::Link;
 use rand_core::SeedableRng;
 use rand_pcg::Lcg64Xsh32;
 use std::alloc::{AllocError, Global};
+use std::hash::{FoldHasher, Hasher};
 use std::ptr::from_ref;
 
 /// The number of frames that fit on the wire (our choice).
@@ -232,6 +234,19 @@ impl LinkedAdapter {
         ensures { self.new ≡ record self.old { ticks = on } }
     {
         self.ticks = on;
+    }
+
+    /// A digest of the adapter's state, by its contents: its registers, the frames in its packet buffer and the work in
+    /// progress. Adapters with the same state have equal digests for each seed. It covers neither memory nor what
+    /// [`digest`](LinkedAdapter::digest) leaves out.
+    #[tactic(auto, unfolding(crate::specs::Digests::state_digest_of))]
+    pub fn state_digest(&self, seed: u64) -> u64
+        ensures { result ≡ state_digest_of seed self.now.machine.world.adapter }
+    {
+        let mut hasher = FoldHasher::default();
+        hasher.write_u64(seed);
+        self.machine.adapter().feed(&mut hasher);
+        hasher.finish()
     }
 
     /// A digest of the adapter and its memory. It doesn't cover the wire, the steps before accesses, and their number.

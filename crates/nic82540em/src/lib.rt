@@ -12,6 +12,7 @@ ghost use Rattle.adapter.specs.Registers.{answer_at};
 ghost use Rattle.bus.specs.Digests.{digest_of};
 ghost use Rattle.bus.specs.Machines.{is_asserted};
 ghost use Rattle.bus.specs.declared.event.Access.TheVariants.{Reads, Writes};
+ghost use Rattle.linked_adapter.specs.Digests.{state_digest_of};
 ghost use Rattle.linked_adapter.specs.LinkedAdapters.{Accessed, AnswersArrival, AnswersInterleave, AnswersLoad};
 ghost use Rattle.linked_adapter.specs.LinkedAdapters.{AnswersSchedule, AnswersStep, AnswersStore, AnswersTaking};
 ghost use Rattle.linked_adapter.specs.LinkedAdapters.{IsCopy, IsNew, Settles, TellsPossible};
@@ -429,6 +430,27 @@ pub extern "C" fn nic82540em_digest(alloc: Global, nic: &mut Nic) -> u64
     }
     let adapter = nic.owner.take(alloc);
     let answer = adapter.digest();
+    nic.owner.put(adapter);
+    answer
+}
+
+/// A digest of the adapter's state, by its contents: its registers, the frames in its packet buffer and the work in
+/// progress. Adapters with the same state have equal digests. It covers neither memory nor what [`nic82540em_digest`]
+/// leaves out.
+#[unsafe(no_mangle)]
+pub extern "C" fn nic82540em_state_digest(alloc: Global, nic: &mut Nic, seed: u64) -> u64
+    requires sound { nic.old.owner.full ≡ nic.old.held }
+    ensures sound { nic.new.owner.full ≡ nic.new.held }
+    ensures held { nic.new.held ≡ nic.old.held }
+    ensures value { nic.old.held ≡ true → result ≡ state_digest_of seed nic.old.owner.value.machine.world.adapter }
+    ensures same { nic.old.held ≡ true → nic.new.owner.value ≡ nic.old.owner.value }
+    ensures none { nic.old.held ≡ false → (result ≡ 0) × (nic.new ≡ nic.old) }
+{
+    if !nic.held {
+        return 0;
+    }
+    let adapter = nic.owner.take(alloc);
+    let answer = adapter.state_digest(seed);
     nic.owner.put(adapter);
     answer
 }

@@ -8,9 +8,12 @@
 
 static void touch(bool is_store, const void *at)
 {
+    const uint8_t *begin, *byte = at;
     uint64_t size;
-    const uint8_t *begin = x_host(&size), *byte = at;
 
+    if (!x_inside())
+        return;
+    begin = x_host(&size);
     if (byte >= begin && byte < begin + size)
         x_touch(is_store, (uint64_t)(byte - begin));
 }

@@ -1,0 +1,87 @@
+/* Draws schedules by probabilistic concurrency testing: the actor with the highest priority goes first.
+ *
+ * The priorities are random. After some random events of a run, one fewer than the depth, the actor of the event gets
+ * a priority below all others. A driver that polls isn't starved: before every fourth read of one place in a row,
+ * another actor takes a step.
+ */
+#include "inside.h"
+
+#define B xi_book
+#define S xi_state
+
+enum { DRIVER, RECEIVE, FETCH, PUT, WIRE, PATIENCE = 4 };
+static unsigned priorities[PCT_ACTORS], change_at[DEEPEST], changes, events, reads;
+static struct place last_read;
+
+/* The step that an actor could take, or DEFAULT */
+static int step_of(int actor)
+{
+    unsigned possible = xi_possible();
+    int step = actor == RECEIVE ? NIC_RXDONE : actor == FETCH ? NIC_TXTAKE : NIC_TXPUT;
+
+    if (actor == DRIVER)
+        return DEFAULT;
+    if (actor == WIRE)
+        return S->offered < S->offers.count ? ARRIVAL : DEFAULT;
+    if (actor == RECEIVE && !(possible >> NIC_RXDONE & 1))
+        step = NIC_RXDATA;
+    return possible >> step & 1 ? step : DEFAULT;
+}
+
+/* An event of an actor. At a change, its priority becomes lower. */
+static void count(int actor)
+{
+    events++;
+    for (unsigned n = 0; n < changes; n++)
+        if (change_at[n] == events)
+            priorities[actor] = n + 1;
+}
+
+/* Whether a driver that polls must wait before this access */
+static bool polls(void)
+{
+    bool is_read = B->event == READ || B->event == LOAD;
+    bool is_again = is_read && B->event == last_read.event && B->address == last_read.address;
+
+    reads = is_again ? reads + 1 : is_read;
+    last_read.event = B->event, last_read.address = B->address;
+    return reads && reads % PATIENCE == 0;
+}
+
+/* Begins a run of this depth, which has about so many events. */
+void xi_pct_begin(unsigned depth, unsigned most_events)
+{
+    for (unsigned actor = 0; actor < PCT_ACTORS; actor++) {
+        unsigned other = xi_below(actor + 1);
+        priorities[actor] = priorities[other], priorities[other] = depth + actor;
+    }
+    changes = depth - 1;
+    for (unsigned n = 0; n < changes; n++)
+        change_at[n] = 1 + xi_below(most_events);
+    events = reads = 0, last_read.event = ENDED;
+}
+
+/* The actor with the highest priority of those that could take a step; DRIVER if there is none */
+static int first_waiting(void)
+{
+    int first = DRIVER;
+
+    for (int actor = RECEIVE; actor < PCT_ACTORS; actor++)
+        if (step_of(actor) != DEFAULT && (first == DRIVER || priorities[actor] > priorities[first]))
+            first = actor;
+    return first;
+}
+
+/* The steps before the access or the request at which the run is */
+void xi_pct_here(void)
+{
+    bool must_wait = polls();
+    int first;
+
+    while ((first = first_waiting()) != DRIVER && (must_wait || priorities[first] > priorities[DRIVER])) {
+        must_wait = false;
+        count(first);
+        xi_deviate(step_of(first));
+    }
+    count(DRIVER);
+}
