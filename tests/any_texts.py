@@ -8,7 +8,7 @@ import stat
 from bench import FILE_HEADER, packet, trace, written
 from scenario_reader import (CALLS, LONGEST_FRAME, MOST_BYTES, MOST_CAPTURED, OPEN, READ, SETUP, SHORTEST_FRAME, STEPS, WORDS, Scenario,
                              TraceRead)
-from scenarios import UNCHANGED, folder, refusal
+from scenarios import ANY_WARNING, UNCHANGED, folder, refusal
 
 FRAME = "0200000000020200000000010800"
 TRACE = "t.pcap"
@@ -37,6 +37,7 @@ tick rxdone:e
 join e 01:00:5e:00:00:01 / deliver:e go
 leave e 01:00:5e:00:00:01
 interrupt e / eeprom:e phy:e go
+reset e / deliver:e go rxdone:e
 recv e 0 / go
 interrupt b / deliver:b go rxdata:b rxdone:b
 recv b 18446744073709551615 /
@@ -73,7 +74,7 @@ HOST_OPTIONS = {
 # Lines that are made long: how they begin, and what then fills them.
 LONG_LINES = [("#", "x"), ("", " "), ("send a 00", " "), ("send a ", "0"), ("interrupt a /", "\t"), ("interrupt a / ", "go "), ("fly ", "y"), ("# ", "\u00e9"),
               ("recv a ", "0"), ("host f 02:00:00:00:00:06 w", "\t"), ("feed a ", "x")]
-COUNTS = re.compile(rb" accepted \d+ put \d+ reached \d+ stored \d+ missed \d+ (exact|atleast) given \d+ unclaimed \d+$")
+COUNTS = re.compile(rb" accepted \d+ put \d+ reached \d+ stored \d+ missed \d+ (exact|atleast) given \d+ unclaimed \d+( givenup \d+ \d+ off \d+)?$")
 
 
 def fed_fault(bench, path, given):
@@ -133,7 +134,7 @@ def runs(bench, met, name, text, given=b"", options=()):
     else:
         wanted = (status, b"", hosts, {file: FILE_HEADER for file in files})
         held = {file: data[:len(FILE_HEADER)] for file, data in held.items()}
-    bench.check(f"{name}: {text[-400:]!r}", (ran.returncode, ran.stderr, told, held), wanted)
+    bench.check(f"{name}: {text[-400:]!r}", (ran.returncode, ANY_WARNING.sub(b"", ran.stderr), told, held), wanted)
 
 
 def cut_texts(bench, met):

@@ -117,8 +117,9 @@ Arguments:
   <OUTDIR>    The folder to write traces into; it must exist
 
 Options:
-      --wires  Also write all frames that adapters put on each wire, to OUTDIR/WIRE.pcap
-  -h, --help   Print help
+      --wires          Also write all frames that adapters put on each wire, to OUTDIR/WIRE.pcap
+      --events <FILE>  Also write a line for each event to FILE, or to standard output if FILE is -
+  -h, --help           Print help
 
 A scenario is a text of lines; spaces or tabs separate words. In this one a host sends a frame of 14
 bytes to another, and its adapter pads it to 60:
@@ -158,6 +159,8 @@ Then come the events, numbered from 0:
   send HOST HEX           a call: it sends a frame of these bytes
   recv HOST S             a call: its socket S returns the oldest frame in its queue
   interrupt HOST          a call: its driver handles an interrupt
+  reset HOST              a call: its driver resets its adapter. Frames that are still to be sent,
+                          and received ones that aren't in a socket's queue yet, are given up
   join HOST ADDRESS       a call: its driver joins a multicast group, and so its adapter stores the
                           frames of this group, too
   leave HOST ADDRESS      a call: its driver leaves a group
@@ -189,7 +192,19 @@ unchanged. Standard output has a line for each host:
 The counts are of frames that its sends accepted, that its adapter put on the wire, that reached it,
 that it stored, and that it missed because its receive packet buffer was full ('atleast' in place of
 'exact' if there may be more); then frames that its sockets returned, and frames that none of its
-sockets takes.
+sockets takes. The line of a host that was reset ends with 'givenup T R off O': resets gave up T
+frames that were to be sent and R received ones, and O frames reached it while its receiver was off.
+If sends were refused, or recvs named sockets that don't exist, a line on standard error counts
+them.
+
+With --events, FILE has a line for each event, such as
+
+  6 line 12 interrupt b handled 1 accesses 9 @1 rxdata:b moved @1 rxdone:b done
+
+This is its number and that of its line in the scenario, the call, its answer, the number of its
+accesses to memory and registers, and each tick that it played: after @ the number of accesses
+before the tick, then its outcome. A frame is shown by its size. FILE is written after the files in
+OUTDIR. If it is -, the lines of hosts go to standard error.
 
 If run fails, it prints 'nicbench: CODE NAME' on standard error, or 'nicbench: line N: CODE NAME' if
 a line is invalid. If existing files in OUTDIR are unchanged, a second line says so:

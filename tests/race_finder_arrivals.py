@@ -16,7 +16,7 @@ from server_pages import TOP, follow, read_page
 
 sys.path.append(os.path.join(TOP, "examples", "drivers"))
 from arrivals import MISSED  # noqa: E402
-from driver import RIGHT  # noqa: E402
+from driver import QUEUE, RIGHT  # noqa: E402
 
 OTHER = f"{FRAME[:-2]}ff"
 # Enables reception, and offers two frames. Reads the status of the first slot, ICR, and the status again. Then the adapter settles.
@@ -131,6 +131,12 @@ def actors(server):
     server.check("arrivals: no bound without --pct", "pct" in result, False)
 
 
+def passes(server, test, name, *words):
+    """A driver without a bug passes a test with all schedules that the finder tries."""
+    status, out, errors = find(server, *words, command=[*STAGED, test, name])
+    server.check(f"arrivals: {name} passes {test}", (status, "\nno run fails\n" in out, errors), (PASSES, True, ""))
+
+
 def drivers(server):
     """The test `offers` of examples/drivers finds a race that the same frames don't show if they arrive by request."""
     server.check("arrivals: forked runs", script(server, f"COMMAND = {[*STAGED, 'offers', 'late']!r}\n{SAME}"), (
@@ -141,9 +147,10 @@ def drivers(server):
     server.check("arrivals: by request, no drawn schedule shows it", (status, "\nno run fails\n" in out, errors), (PASSES, True, ""))
     for name in RIGHT:
         for test, words in [("offers", ["--runs", "30"]), ("arrives", ["--runs", "10"]), ("groups", ["--runs", "20"]),
-                            ("misses", ["--runs", "10", "--options", f"--missed {MISSED}"])]:
-            status, out, errors = find(server, *words, command=[*STAGED, test, name])
-            server.check(f"arrivals: {name} passes {test}", (status, "\nno run fails\n" in out, errors), (PASSES, True, ""))
+                            ("misses", ["--runs", "10", "--options", f"--missed {MISSED}"]), ("resets", ["--runs", "10"])]:
+            passes(server, test, name, *words)
+    for name in QUEUE:
+        passes(server, "resets", name, "--runs", "30")
     status, out, errors = find(server, "--pct", "3", "--runs", "30", command=[*STAGED, "offers", "right"])
     server.check("arrivals: right passes offers by PCT", (status, "\nno run fails\n" in out, errors), (PASSES, True, ""))
 

@@ -12,12 +12,12 @@ import xml.etree.ElementTree as ElementTree
 
 from race_finder import FINDER, FOUND, FRAME, PASSES, SMALL, SMALLEST, USAGE, find, replay
 from race_finder_output import REGISTERS, read, script, whole, write
-from race_finder_stages import ARRIVAL_BUGS, BUGS, MORE_BUGS, STAGED, rows
+from race_finder_stages import ARRIVAL_BUGS, BUGS, MORE_BUGS, RESET_BUGS, STAGED, rows
 from server import LIMIT, lines
 from server_pages import TOP, read_page
 
 FILES = ["chart.svg", "chart.txt", "log.txt", "run.vcd", "schedule.txt"]
-MOST_LINES, LONGEST = 25, 150
+MOST_LINES, LONGEST = 25, 155
 
 # The charts of docs/RACES.md
 
@@ -28,11 +28,11 @@ SECTIONS = {
     "rdt": "A slot is used before its descriptor is stored", "tdt": "A frame is taken before it is stored",
     "freed": "The head has passed a frame that isn't sent", "eerd": "A word is read before it is there",
     "cuts": "The handler cuts in on a send", "rxo": "A frame is missed while misses are counted",
-    "clears": "A word of the group table is cleared for a moment",
+    "clears": "A word of the group table is cleared for a moment", "mpc": "A miss is lost in a reset",
 }
 # The bugs that are no races have no chart.
-NO_RACES = ["group", "wraps"]
-CHART = re.compile(r"^```\n\$ ([^\n]*examples/drivers/staged_test\.py (?:stages|cuts|offers|groups) (\S+))\n(.*?)^```$", re.M | re.S)
+NO_RACES = ["group", "wraps", "offers-queued"]
+CHART = re.compile(r"^```\n\$ ([^\n]*examples/drivers/staged_test\.py (?:stages|cuts|offers|groups|resets) (\S+))\n(.*?)^```$", re.M | re.S)
 
 
 def charts_of(page):
@@ -51,7 +51,7 @@ def command_of(test, bug, deviations):
 def pages(server):
     """Each bug has a chart in the section of its race, which the finder prints character by character."""
     found = {bug: rest for bug, *rest in charts_of(read_page("docs", "RACES.md"))}
-    wanted = {*BUGS, *MORE_BUGS, *ARRIVAL_BUGS} - {*NO_RACES}
+    wanted = {*BUGS, *MORE_BUGS, *ARRIVAL_BUGS, *RESET_BUGS} - {*NO_RACES}
     server.check("pages: all races have a chart", sorted(found), sorted(wanted))
     server.check("pages: there is one chart for each", len(list(charts_of(read_page("docs", "RACES.md")))), len(found))
     finder = " ".join([*FINDER, "--server", server.program])

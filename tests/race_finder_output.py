@@ -118,7 +118,7 @@ def whole():
 def script(server, text, *arguments):
     """Runs a script that uses the finder's modules: its exit status, its output and its errors."""
     words = [sys.executable, "-S", "-E", "-c", text, server.program, os.path.join(TOP, "tools"), *arguments]
-    ran = subprocess.run(words, cwd=server.folder, capture_output=True, timeout=LIMIT)
+    ran = subprocess.run(words, cwd=server.folder, capture_output=True, timeout=10 * LIMIT)
     return ran.returncode, ran.stdout.decode(), ran.stderr.decode()
 
 

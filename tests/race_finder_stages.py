@@ -10,13 +10,15 @@ from server import LIMIT
 from server_pages import TOP, read_page
 
 sys.path.append(os.path.join(TOP, "examples", "drivers"))
-from driver import ARRIVAL_BUGS, BUGS, MORE_BUGS, RIGHT  # noqa: E402
+from driver import ARRIVAL_BUGS, BUGS, MORE_BUGS, QUEUE, RESET_BUGS, RIGHT  # noqa: E402
 
 STAGED = [sys.executable, "-S", "-E", os.path.join(TOP, "examples", "drivers", "staged_test.py")]
 HEADING = "| Bug | Test | Options | Seed | Schedule |"
 # Bugs whose schedules the finder finds again here, and how. The others take longer.
 AGAIN = {"late": ["--explore", "1"], "length": ["--explore", "1"], "masks-late": ["--explore", "1"], "cuts": ["--runs", "1"], "rxo": ["--explore", "1"],
-         "clears": ["--explore", "1"]}
+         "clears": ["--explore", "1"], "mpc": ["--explore", "1"]}
+# The drivers that have bugs of their own. Those without the bug pass the schedules that show it.
+RIGHT_OF = {"offers-queued": "queue"}
 RIGHT_SEEDS = 20
 # Draws the schedules of the seeds 1 to argv[4] until one fails. Prints this seed, or `none`. Doesn't shrink the schedule.
 DRAW = """
@@ -56,7 +58,7 @@ def table(server):
     seen = []
     for bug, test, options, seed, deviations in rows():
         seen.append(bug)
-        command, right, text = [*STAGED, test, bug], [*STAGED, test, "right"], "".join(f"{line}\n" for line in deviations)
+        command, right, text = [*STAGED, test, bug], [*STAGED, test, RIGHT_OF.get(bug, "right")], "".join(f"{line}\n" for line in deviations)
         server.check(f"table: {bug}, its first seed", first_seed(server, options, int(seed), command), (seed, ""))
         server.check(f"table: {bug} needs at most one deviation", len(deviations) <= 1, True)
         status, out, errors = replay(server, text, *options, command=command)
@@ -72,7 +74,7 @@ def table(server):
             found = (server.get("found") or b"").decode().splitlines()[2:]
             server.check(f"table: the schedule of {bug} is found", (status, found, errors), (FOUND, deviations, ""))
             server.remove("found")
-    server.check("table: its bugs", seen, [*BUGS, *MORE_BUGS, *ARRIVAL_BUGS])
+    server.check("table: its bugs", seen, [*BUGS, *MORE_BUGS, *ARRIVAL_BUGS, *RESET_BUGS])
 
 
 def right_drivers(server):
@@ -90,7 +92,8 @@ def right_drivers(server):
 def usage(server):
     """Words that name no test or no driver."""
     names = "|".join([*RIGHT, *BUGS, *MORE_BUGS])
-    staged = f"staged_test.py stages|cuts|offers|arrives|groups|misses [{names}|{'|'.join(ARRIVAL_BUGS)}]"
+    more = "|".join([*ARRIVAL_BUGS, *QUEUE, *RESET_BUGS])
+    staged = f"staged_test.py stages|cuts|offers|arrives|groups|misses|resets [{names}|{more}]"
     for script, words, begin in [(STAGED, [], staged), (STAGED, ["exchange"], staged), (STAGED, ["cuts", "lat"], staged), (STAGED, ["cuts", "late", "x"], staged),
                                  (EXCHANGE, ["lat"], f"exchange_test.py [{names}]"), (EXCHANGE, ["late", "x"], f"exchange_test.py [{names}]")]:
         ran = subprocess.run([*script, *words], stdin=subprocess.DEVNULL, capture_output=True, timeout=LIMIT)

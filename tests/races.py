@@ -75,7 +75,7 @@ def row(bench, name, schedule, numbers_of_a, numbers_of_b, options="", setup=(SO
     files = {f"{host}.{n}.pcap": FILE_HEADER for host in set(sockets) for n in range(sockets.count(host))}
     files.update({file: written(frames) for file, frames in schedule.given.items()})
     third = told("c") if b"host c" in others else b""
-    plays(bench, f"races: {name}", text, told("a", **numbers_of_a) + told("b", **numbers_of_b) + third, files)
+    plays(bench, f"races: {name}", text, told("a", **numbers_of_a) + told("b", **numbers_of_b) + third, files, warned=None)
 
 
 def counts(sent, given=None, **others):

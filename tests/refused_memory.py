@@ -1,5 +1,7 @@
 """Makes allocations of the built program fail."""
 
+import os
+
 import refusing
 import scenarios
 from bench import packet, trace, written
@@ -25,6 +27,7 @@ def all_cases(bench):
         memory_of_words(bench, words_of)
     memory_of_run(bench, [], [])
     memory_of_run(bench, ["--wires"], ["w.pcap"])
+    memory_of_run(bench, ["--events", os.devnull], [])
     for words_of in [["show", "in.pcap"], ["pass", "in.pcap", "out.pcap"], ["run", "--wires", "s.scenario", "outdir"]]:
         no_memory_for_output(bench, words_of)
 
@@ -63,7 +66,7 @@ def memory_of_run(bench, options, wire_files):
     setup = b"group b 01:00:5e:00:00:01\nvlan b 5\nsocket b 0806\nsocket b all\n"
     text = scenarios.EXAMPLE.replace(b"02 w\n", b"02 w rx 16 tx 24 buffers 32 rxa 8 link 2 promiscuous\n").replace(b"socket b all\n", setup)
     calls = b"send a 0200000000020200000000010800 / go txtake:a go go txput:a\nrecv b 0 / eeprom:a phy:a\ninterrupt b / go rxdata:b rxdone:b\n"
-    calls += b"join b 01:00:5e:00:00:02 / txput:a go deliver:b\nleave b 01:00:5e:00:00:01 / txput:a\n"
+    calls += b"join b 01:00:5e:00:00:02 / txput:a go deliver:b\nleave b 01:00:5e:00:00:01 / txput:a\nreset b / deliver:b go rxdone:b\nreset a\n"
     bench.put("s.scenario", text + calls + b"feed a fed.pcap\nauto 20 1\ndrain b\n")
     path = scenarios.folder(bench)
     whole = bench.run("run", *options, "s.scenario", "outdir")

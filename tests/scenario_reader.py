@@ -13,10 +13,10 @@ WORD, COUNT, VALUE, NAME, ORDER, LONG, TEXT = "E50 Word", "E51 Count", "E52 Valu
 HEADER, MAGIC, VERSION, LINK_TYPE, RECORD, READ, OPEN = ("E60 Header", "E61 Magic", "E62 Version", "E63 LinkType", "E64 Record", "E66 Read",
                                                          "E68 Open")
 # The words of each line, without ticks and options.
-WORDS = {"host": 4, "group": 3, "vlan": 3, "socket": 3, "send": 3, "recv": 3, "interrupt": 2, "join": 3, "leave": 3, "tick": 2, "feed": 3, "auto": 3,
-         "drain": 2}
+WORDS = {"host": 4, "group": 3, "vlan": 3, "socket": 3, "send": 3, "recv": 3, "interrupt": 2, "join": 3, "leave": 3, "reset": 2, "tick": 2,
+         "feed": 3, "auto": 3, "drain": 2}
 SETUP = {"host", "group", "vlan", "socket"}
-CALLS = {"send", "recv", "interrupt", "join", "leave"}
+CALLS = {"send", "recv", "interrupt", "join", "leave", "reset"}
 # The options of a host that have values, each with its default and its greatest number.
 OPTIONS = {"rx": (8, U16), "tx": (8, U16), "buffers": (16, U16), "rxa": (48, U8), "link": (1, U16)}
 STEPS = {"txtake", "txput", "rxdata", "rxdone", "eeprom", "phy", "deliver"}

@@ -57,11 +57,22 @@ def held(path):
     return files
 
 
-def plays(bench, name, text, lines, files, options=()):
-    """Runs a scenario with these options; checks the lines, and the files in OUTDIR."""
+def warning(refused, absent=0):
+    """What a run prints on standard error if sends were refused, or recvs named sockets that don't exist."""
+    return b"nicbench: sends refused %d, recvs of absent sockets %d; --events lists them\n" % (refused, absent)
+
+
+# Each warning of this kind.
+ANY_WARNING = re.compile(rb"nicbench: sends refused \d+, recvs of absent sockets \d+; --events lists them\n")
+
+
+def plays(bench, name, text, lines, files, options=(), warned=b""):
+    """Runs a scenario with these options; checks the lines, a warning (None: any or none), and the files in OUTDIR."""
     path = folder(bench)
     bench.put("s.scenario", text)
-    bench.ends(name, ["run", *options, "s.scenario", "outdir"], 0, lines)
+    ran = bench.run("run", *options, "s.scenario", "outdir")
+    told_on_error = ANY_WARNING.sub(b"", ran.stderr) if warned is None else ran.stderr
+    bench.check(name, (ran.returncode, ran.stdout, told_on_error), (0, lines, warned or b""))
     bench.check(f"{name}: what is written", held(path), files)
 
 
@@ -100,11 +111,13 @@ def played(bench):
     many = b"".join(b"socket a %04x\nsocket b %04x\n" % (n, n) for n in range(8))
     plays(bench, "run: eight sockets", TWO_HOSTS + many, told("a") + told("b"), {f"{host}.{n}.pcap": FILE_HEADER for host in "ab" for n in range(8)})
     lengths = b"".join(b"send a %s\n" % (b"ff" * length) for length in [13, 1519, 14, 1518])
-    plays(bench, "run: sends too short and too long", TO_SOCKET + lengths, told("a", accepted=2) + told("b"), {"b.0.pcap": FILE_HEADER})
+    plays(bench, "run: sends too short and too long", TO_SOCKET + lengths, told("a", accepted=2) + told("b"), {"b.0.pcap": FILE_HEADER},
+          warned=warning(2))
     full = b"send a %s\n" % EXAMPLE_FRAME.hex().encode()
-    plays(bench, "run: a full ring", TO_SOCKET + full * 8 + b"tick txtake:a\n" + full, told("a", accepted=7) + told("b"), {"b.0.pcap": FILE_HEADER})
+    plays(bench, "run: a full ring", TO_SOCKET + full * 8 + b"tick txtake:a\n" + full, told("a", accepted=7) + told("b"), {"b.0.pcap": FILE_HEADER},
+          warned=warning(2))
     plays(bench, "run: a full ring has room behind a put", TO_SOCKET + full * 8 + b"tick txtake:a\ntick txput:a\n" + full,
-          told("a", accepted=8, put=1) + told("b"), {"b.0.pcap": FILE_HEADER})
+          told("a", accepted=8, put=1) + told("b"), {"b.0.pcap": FILE_HEADER}, warned=warning(1))
     plays(bench, "run: the highest link", TWO_HOSTS.replace(b"02 w\n", b"02 w link 2000\n"), told("a") + told("b"), {})
     late = b"interrupt b / go" + b" rxdata:b rxdone:b" * 6 + b"\n"
     missed = (TO_SOCKET.replace(b"02 w\n", b"02 w rxa 2\n") + b"send a %s\n" % LONG_FRAME.hex().encode() * 3 + b"tick txtake:a\ntick txput:a\n" * 3
@@ -137,7 +150,7 @@ def feeds(bench):
     bench.put("lengths.pcap", trace(packet(EXAMPLE_FRAME[:13]), packet(EXAMPLE_FRAME), packet(bytes(1519)), packet(LONG_FRAME)))
     plays(bench, "feed: frames that send refuses", TO_SOCKET + b"feed a lengths.pcap\n",
           told("a", accepted=2, put=2) + told("b", reached=2, stored=2, given=2),
-          {"b.0.pcap": written([(15, EXAMPLE_FRAME), (41, LONG_FRAME)])})
+          {"b.0.pcap": written([(15, EXAMPLE_FRAME), (41, LONG_FRAME)])}, warned=warning(2))
     three = (b"host a 02:00:00:00:00:01 w\nhost c 02:00:00:00:00:03 other\nhost b 02:00:00:00:00:02 w\nhost d 02:00:00:00:00:04 other\n"
              b"host e 02:00:00:00:00:05 w promiscuous\nsocket b 0806\nsocket b all\nsocket e 0800\nfeed a twenty.pcap\n")
     # Each frame is 14 events: three of the sender, six for b's two sockets and five for e's one.
@@ -381,7 +394,7 @@ def drawn(bench):
         bench.put("s.scenario", text)
         ran = bench.run("run", "s.scenario", "outdir")
         runs.append((ran.returncode, ran.stdout, ran.stderr, held(path)))
-        bench.check(f"auto: {name}", (ran.returncode, ran.stderr), (0, b""))
+        bench.check(f"auto: {name}", (ran.returncode, ran.stderr), (0, warning(578)))
         bench.check(f"auto: {name}: as the first", runs[-1] == runs[0], True)
     bench.check("auto: frames are given", len(runs[0][3]["a.0.pcap"]) > 10000, True)
     all_fit(bench, hosts, runs[0][1].decode())

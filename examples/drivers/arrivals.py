@@ -35,11 +35,14 @@ class Arrivals(Traffic):
         else:
             self.arrive(slots)
 
+    def stored(self):
+        """Returns the frames that the adapter has stored, and that the driver must receive."""
+        return [frame for fate, frame in self.adapter.arrived if fate == "stored"]
+
     def finish(self):
         """Lets the adapter do all that is left. Then all stored frames must be received, and all missed ones counted."""
         self.settle()
-        stored = [frame for fate, frame in self.adapter.arrived if fate == "stored"]
-        self.check(fault_of("received", stored, self.driver.received))
+        self.check(fault_of("received", self.stored(), self.driver.received))
         missed = self.missed + sum(fate == "missed" for fate, _ in self.adapter.arrived)
         if self.driver.missed != missed:
             raise Fault(f"{self.driver.missed} missed frames were counted instead of {missed}")

@@ -7,7 +7,7 @@ The other emulator is QEMU, or the program of `--other`, which answers requests 
 does; its registers begin at `--registers`. The requests are drawn by each seed, N of them, or are the lines of FILE. After
 each request, the adapter does all work that it can do. Compared are the answer, the changes of the interrupt line, the
 frames that are sent, and the rings and receive buffers in memory. Known departures (docs/EMULATORS.md) are counted and
-left out, unless there is `--all`. The exit status is 1 if there is another difference.
+left out, unless there is `--all`. The exit status is 1 if there is another difference, and 2 if the emulator isn't installed.
 """
 
 import argparse
@@ -21,7 +21,7 @@ sys.path.insert(0, HERE)
 
 from departures import departures_of  # noqa: E402
 from drawing import drawn  # noqa: E402
-from emulators import Ended, Other, Qemu, Serve  # noqa: E402
+from emulators import Ended, Missing, Other, Qemu, Serve  # noqa: E402
 from registers import table_of  # noqa: E402
 from session import Session  # noqa: E402
 
@@ -155,7 +155,11 @@ def main():
     def other():
         return Other(words.other, int(words.registers, 0)) if words.other else Qemu()
 
-    first = other()
+    try:
+        first = other()
+    except Missing as error:
+        print(f"compare.py: {error}", file=sys.stderr)
+        return 2
     image = first.image()  # both adapters get the same EEPROM
     first.close()
     lists = {f"seed {seed}": drawn(seed, words.count) for seed in words.seeds}

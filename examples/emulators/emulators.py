@@ -29,6 +29,10 @@ class Ended(Exception):
     """The emulator ended, or its answer isn't one."""
 
 
+class Missing(Exception):
+    """The emulator isn't installed."""
+
+
 class Emulator:
     """A program that answers requests.
 
@@ -38,10 +42,15 @@ class Emulator:
 
     # The most times that something is waited for, and the most frames that arrive at once
     WAITS, MOST = 1000, 10
+    # What to do if the program isn't there
+    ADVICE = ""
 
     def __init__(self, words, registers, **options):
         self.registers = registers
-        self.process = subprocess.Popen(words, stdin=subprocess.PIPE, stdout=subprocess.PIPE, bufsize=0, **options)
+        try:
+            self.process = subprocess.Popen(words, stdin=subprocess.PIPE, stdout=subprocess.PIPE, bufsize=0, **options)
+        except FileNotFoundError:
+            raise Missing(f"there is no {words[0]}{self.ADVICE}") from None
         self.answers = os.fdopen(os.dup(self.process.stdout.fileno()), "r", encoding="ascii")
 
     def lines(self, request):
@@ -186,6 +195,7 @@ class Qemu(Emulator):
     write of RCTL it waits until the adapter receives again, which is a second of virtual time later.
     """
 
+    ADVICE = "; on Debian: apt-get install qemu-system-x86"
     # The interrupt of the device, on the interrupt controller whose inputs are reported
     INTERRUPT = 11
     # The nanoseconds for which reception is held back after a write of RCTL, and some more

@@ -4,8 +4,8 @@
 usage: qemu.py [--on qemu|serve] [--nicbench PROGRAM] [--qemu PROGRAM] [--frames N] [--seed N] [--log FILE]
 
 The driver sends N frames of 60 to 1,518 bytes, drawn by the seed, while N other frames arrive. The exit status is 1 if a
-frame is lost, changed or out of order on either way. With `--on serve` the adapter is that of `nicbench serve`, which takes
-random steps before each access.
+frame is lost, changed or out of order on either way, and 2 if the emulator isn't installed. With `--on serve` the adapter is
+that of `nicbench serve`, which takes random steps before each access.
 """
 
 import argparse
@@ -22,7 +22,7 @@ sys.dont_write_bytecode = True
 HERE = os.path.dirname(os.path.abspath(__file__))
 sys.path.insert(0, HERE)
 
-from emulators import ICR, MEMORY, Qemu, Serve  # noqa: E402
+from emulators import ICR, MEMORY, Missing, Qemu, Serve  # noqa: E402
 from traces import read_trace, write_trace  # noqa: E402
 
 PROGRAM = os.path.join(HERE, "..", "..", "nicbench")
@@ -118,8 +118,12 @@ def run(words, folder):
 
 def main():
     words = arguments()
-    with tempfile.TemporaryDirectory() as folder:
-        return 0 if run(words, folder) else 1
+    try:
+        with tempfile.TemporaryDirectory() as folder:
+            return 0 if run(words, folder) else 1
+    except Missing as error:
+        print(f"qemu.py: {error}", file=sys.stderr)
+        return 2
 
 
 if __name__ == "__main__":

@@ -87,7 +87,8 @@ static void copy(struct nic82540em *nic)
     printf(", again: %d\n", nic82540em_copy(nic, &other));
     printf("the same digest: %d", nic82540em_digest(nic) == nic82540em_digest(&other));
     nic82540em_write(&other, NIC_EERD, NIC_EERD_START | NIC_EERD_ADDR(2));
-    printf(", and after an access %d\n", nic82540em_digest(nic) == nic82540em_digest(&other));
+    printf(", and after an access %d", nic82540em_digest(nic) == nic82540em_digest(&other));
+    printf(", of the state %d\n", nic82540em_state_digest(nic, 1) == nic82540em_state_digest(&other, 1));
     printf("possible: %02" PRIx32 ", of the copy %02" PRIx32, nic82540em_possible(nic), nic82540em_possible(&other));
     nic82540em_ticks(&other, true);
     printf(", EERD by ticks %08" PRIx32 "\n", nic82540em_read(&other, NIC_EERD));
@@ -114,7 +115,8 @@ static void without(struct nic82540em *nic)
            nic82540em_line(nic), nic82540em_settle(nic), nic82540em_interleave(nic, 1, 1), nic82540em_accesses(nic));
     printf(" %d %d %" PRIu64, nic82540em_schedule(nic, 0, NIC_PHY), nic82540em_peek(nic, NIC_VET, &value),
            nic82540em_memory(nic, &memory));
-    printf(" %" PRIx32 " %" PRIu64 " %d", nic82540em_possible(nic), nic82540em_digest(nic), nic82540em_copy(nic, &other));
+    printf(" %" PRIx32 " %" PRIu64 " %" PRIu64 " %d", nic82540em_possible(nic), nic82540em_digest(nic),
+           nic82540em_state_digest(nic, 1), nic82540em_copy(nic, &other));
     printf(", %s\n", bytes[0] == 1 && value == 5 && memory == bytes ? "and nothing changed" : "and something changed");
 }
 

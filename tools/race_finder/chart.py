@@ -177,13 +177,13 @@ def end_of(run):
 
 
 def gap_after(column):
-    return ROOM if column in ("driver", "registers", "memory", "adapter") else NARROW
+    return NARROW if column in ("", "place", "wire", "line") else ROOM
 
 
-def layout(rows):
+def layout(rows, columns=COLUMNS):
     """Where each column of some rows begins, and where the last one ends, in characters."""
     starts, at = {}, 0
-    for column in COLUMNS:
+    for column in columns:
         starts[column] = at
         at += max(len(column), *(len(row.cells.get(column, "")) for row in rows)) + gap_after(column)
     return starts, at
@@ -191,7 +191,7 @@ def layout(rows):
 
 def arrow_ends(row, starts):
     """The characters from which to which the arrow of a row goes, and whether it points to the right."""
-    left, right = sorted(row.arrow, key=COLUMNS.index)
+    left, right = sorted(row.arrow, key=starts.get)
     text = row.cells.get(left, "")
     return starts[left] + (len(text) + 1 if text else 0), starts[right] - 1, row.arrow[1] == right
 
@@ -199,7 +199,7 @@ def arrow_ends(row, starts):
 def line_of(row, starts):
     """The line of a row."""
     line = ""
-    for column in COLUMNS:
+    for column in starts:
         line = line.ljust(starts[column]) + row.cells.get(column, "")
     if row.arrow:
         begin, end, is_right = arrow_ends(row, starts)
@@ -208,9 +208,13 @@ def line_of(row, starts):
     return line.rstrip()
 
 
+def text_chart(rows, end, columns=COLUMNS):
+    """The text of a chart of these rows, with this last line."""
+    heading = ChartRow(dict(zip(columns, columns)))
+    starts, _ = layout([heading, *rows], columns)
+    return "".join(f"{line_of(row, starts)}\n" for row in [heading, *rows]) + f"   {end}\n"
+
+
 def chart(run):
     """The text of a run's chart."""
-    rows = chart_of(run)
-    heading = ChartRow(dict(zip(COLUMNS, COLUMNS)))
-    starts, _ = layout([heading, *rows])
-    return "".join(f"{line_of(row, starts)}\n" for row in [heading, *rows]) + f"   {end_of(run)}\n"
+    return text_chart(chart_of(run), end_of(run))

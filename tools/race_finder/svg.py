@@ -36,7 +36,7 @@ def y_of(row):
 
 def texts_of(row, number, starts):
     """The texts of a row; the bar isn't a text."""
-    for column in COLUMNS:
+    for column in starts:
         text = row.cells.get(column, "")
         if text and text != BAR:
             name = column or "star"
@@ -74,11 +74,11 @@ def bars_of(rows, starts):
                f'width="{BAR_WIDTH}" height="{HEIGHT * size}"/>')
 
 
-def svg(run):
-    """The chart of a run as an SVG document. The colors of a dark background are used if the reader prefers them."""
-    rows, end = chart_of(run), end_of(run)[:LONGEST]
-    heading = ChartRow({column: column for column in COLUMNS})
-    starts, characters = layout([heading, *rows])
+def picture(rows, end, columns=COLUMNS):
+    """A chart of these rows with this last line, as an SVG document. The colors of a dark background are used if the
+    reader prefers them."""
+    heading = ChartRow({column: column for column in columns})
+    starts, characters = layout([heading, *rows], columns)
     width = x_of(max(characters, starts["place"] + len(end))) + MARGIN
     height = y_of(len(rows) + 1) + MARGIN
     parts = [
@@ -91,3 +91,8 @@ def svg(run):
         *bars_of(rows, starts),
         f'<text class="end" x="{x_of(starts["place"])}" y="{y_of(len(rows) + 1)}">{xml_text(end)}</text>', "</svg>"]
     return "".join(f"{part}\n" for part in parts)
+
+
+def svg(run):
+    """The chart of a run as an SVG document."""
+    return picture(chart_of(run), end_of(run)[:LONGEST])
