@@ -5,6 +5,7 @@
 //! `0xFFFFFFFF`, and changes nothing.
 #![tactic(auto)]
 
+mod handle;
 mod owner;
 
 ghost use Rattle.std.specs.Prelude.{◌≡◌, IfSome, false, length, true};
@@ -17,18 +18,9 @@ ghost use Rattle.linked_adapter.specs.LinkedAdapters.{Accessed, AnswersArrival, 
 ghost use Rattle.linked_adapter.specs.LinkedAdapters.{AnswersSchedule, AnswersStep, AnswersStore, AnswersTaking};
 ghost use Rattle.linked_adapter.specs.LinkedAdapters.{IsCopy, IsNew, Settles, TellsPossible};
 
-use crate::owner::Owner;
+pub use handle::Nic;
 use linked_adapter::{AdapterOptions, LinkedAdapter, REFUSED};
 use std::alloc::Global;
-
-/// A place for an adapter. C makes it with zeros.
-#[repr(C)]
-pub struct Nic {
-    /// Whether it holds an adapter.
-    pub held: bool,
-    /// The adapter.
-    pub owner: Owner,
-}
 
 /// Makes a new adapter in a handle that holds none. Returns `false`, and changes nothing, if the handle holds an
 /// adapter, if a number of the options is out of range, and if memory is refused.
@@ -340,8 +332,7 @@ pub extern "C" fn nic82540em_schedule(
     answer
 }
 
-/// Stores the value that a read of the register at an offset would return now in `into`. No access happens. Returns
-/// whether there is an adapter.
+/// Stores what a read of the register at an offset would return in `into`, without an access. Returns whether it did.
 #[unsafe(no_mangle)]
 pub extern "C" fn nic82540em_peek(alloc: Global, nic: &mut Nic, offset: u32, into: &mut u32) -> bool
     requires sound { nic.old.owner.full ≡ nic.old.held }
@@ -361,8 +352,7 @@ pub extern "C" fn nic82540em_peek(alloc: Global, nic: &mut Nic, offset: u32, int
     true
 }
 
-/// The kinds of steps that have something to do: bit `n` is set if and only if a step with number `n` would not have the
-/// outcome with number 0.
+/// The kinds of steps that have something to do: bit `n` is set if and only if a step with number `n` has.
 #[unsafe(no_mangle)]
 pub extern "C" fn nic82540em_possible(alloc: Global, nic: &mut Nic) -> u32
     requires sound { nic.old.owner.full ≡ nic.old.held }
@@ -434,9 +424,8 @@ pub extern "C" fn nic82540em_digest(alloc: Global, nic: &mut Nic) -> u64
     answer
 }
 
-/// A digest of the adapter's state, by its contents: its registers, the frames in its packet buffer and the work in
-/// progress. Adapters with the same state have equal digests. It covers neither memory nor what [`nic82540em_digest`]
-/// leaves out.
+/// A digest of the adapter's registers, of the frames in its packet buffer, and of the work in progress. Adapters with
+/// the same state have equal digests. It covers neither memory nor what [`nic82540em_digest`] leaves out.
 #[unsafe(no_mangle)]
 pub extern "C" fn nic82540em_state_digest(alloc: Global, nic: &mut Nic, seed: u64) -> u64
     requires sound { nic.old.owner.full ≡ nic.old.held }
