@@ -2,6 +2,7 @@
  * the client, as with --pipe. */
 #define _GNU_SOURCE
 #include "inside.h"
+#include <limits.h>
 #include <stdio.h>
 #include <stdlib.h>
 #include <string.h>
@@ -98,11 +99,13 @@ const char *xi_confirm(const char *program, const struct deviation *deviations, 
                        size_t room)
 {
     static char lack[128];
-    char path[] = "/tmp/schedule-XXXXXX";
+    const char *folder = getenv("TMPDIR");
+    char path[PATH_MAX];
     int pipes[PIPES][2];
     pid_t server, client;
     bool is_played;
 
+    snprintf(path, sizeof path, "%s/schedule-XXXXXX", folder && *folder ? folder : P_tmpdir);
     write_schedule(path, deviations, count);
     fflush(NULL);
     for (int n = 0; n < PIPES; n++)
