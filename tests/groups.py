@@ -3,6 +3,7 @@
 import random
 
 from races import FINISH, INTERRUPT, RECV, SOCKET, Schedule, bring, frame, row, send
+from scenarios import TO_SOCKET, folder
 
 GROUP, SAME_NUMBER, SAME_WORD, OTHER_WORD = "01:00:5e:00:00:01", "01:00:5f:00:00:01", "01:00:5e:00:10:01", "01:00:5e:00:00:02"
 INDIVIDUAL, BROADCAST = "02:00:00:00:00:01", "ff:ff:ff:ff:ff:ff"
@@ -139,6 +140,17 @@ def drawn(bench):
         schedule.plays(bench, f"random joins and leaves, seed {seed}")
 
 
+def counted(bench):
+    """A join or a leave makes one access, or none if another group that is joined has the same number."""
+    calls = [("join", GROUP, 1), ("join", SAME_NUMBER, 0), ("join", SAME_WORD, 1),
+             ("leave", GROUP, 0), ("leave", SAME_NUMBER, 1), ("leave", SAME_WORD, 1)]
+    bench.put("s.scenario", TO_SOCKET + "".join(f"{call} b {group}\n" for call, group, _ in calls).encode())
+    folder(bench)
+    ran = bench.run("run", "--events", "-", "s.scenario", "outdir")
+    wanted = [f"{at} line {at + 4} {call} b ok accesses {accesses}" for at, (call, _, accesses) in enumerate(calls)]
+    bench.check("accesses of joins and leaves", ran.stdout.decode().splitlines(), wanted)
+
+
 def all_cases(bench):
-    for part in [changes, between_accesses, rejected, drawn]:
+    for part in [changes, between_accesses, counted, rejected, drawn]:
         part(bench)
