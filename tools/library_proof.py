@@ -23,7 +23,9 @@ import prove
 import sources
 from quick import kit_of
 
-KEPT = os.path.join(sources.BUILD, "proved-library", f"lib{sources.LIBRARY}.a")
+KEPT = os.path.join(sources.BUILD, "proved-library")
+# The processors for which the toolchain builds a library, as it names them
+TARGETS = {"x86_64": "x86_64-unknown-linux-gnu", "aarch64": "aarch64-unknown-linux-gnu"}
 LOG = os.path.join(sources.BUILD, "library-proved.log")
 # What `./test` notes of its `rt ci`: the stamp of the library's sources, and when it began and ended
 GATE = os.path.join(sources.BUILD, "ci-proved")
@@ -55,14 +57,24 @@ def out(name, *path):
     return os.path.join(sources.CRATES, name, "out", *path)
 
 
-def by_rt(rt, crates, archive, tell):
+def build_by_rt(rt, name, crates, archive, target):
+    """Lets `rt lib` prove a static library and the crates below it, and builds the archive for the target."""
+    folder = os.path.join(sources.CRATES, name)
+    run(rt, "lib", cwd=folder)
+    if target == sources.HOST:
+        shutil.copyfile(out(name, f"lib{name}.a"), archive)
+    else:
+        rlibs = {other: out(other, "rlib", f"{other}.rlib") for other in crates if other != name}
+        compile_crate(rt, name, crates, rlibs, archive, folder, target)
+
+
+def by_rt(rt, crates, archive, target, tell):
     """Lets `rt lib` build the archive, if it has kept all crates below the library. Returns whether it did."""
     if not all(os.path.exists(out(name, "rlib", "stamp")) for name in crates if name != sources.LIBRARY):
         return False
     tell("`rt lib` builds the library over what `rt` has kept in crates/*/out")
     try:
-        run(rt, "lib", cwd=os.path.join(sources.CRATES, sources.LIBRARY))
-        shutil.copyfile(out(sources.LIBRARY, f"lib{sources.LIBRARY}.a"), archive)
+        build_by_rt(rt, sources.LIBRARY, crates, archive, target)
     except (LibraryFailed, OSError) as error:
         tell(f"`rt lib` has built no library: {error}")
         return False
@@ -105,37 +117,40 @@ def proved_with_program(rt, folder):
     return {name: os.path.join(folder, name, f"{name}.rlib") for name in names}
 
 
-def compile_crate(rt, name, crates, rlibs, target, folder):
-    """Proves and builds a crate over the libraries of the crates below it. That of the library becomes an archive."""
-    kit = kit_of(shutil.which(rt))
+def compile_crate(rt, name, crates, rlibs, path, folder, target=sources.HOST):
+    """Proves and builds a crate over the libraries of the crates below it. A static library becomes an archive."""
+    kit, is_static = kit_of(shutil.which(rt)), "staticlib" in crates[name].split(":")[0]
     words = [os.path.join(kit, "bin", "rattle"), "build", "--crate-name", name, "src/lib.rt"]
-    words += ["--crate-type", "staticlib", "--toolchain", os.path.join(kit, "toolchain")] * (name == sources.LIBRARY)
-    words += ["--statements"] * (name != sources.LIBRARY)
+    if is_static:
+        words += ["--crate-type", "staticlib", "--toolchain", os.path.join(kit, "toolchain")]
+        words += ["--target", TARGETS[target]] * (target != sources.HOST)
+    else:
+        words += ["--statements"]
     for other in ("std", *below(crates[name])):
         words += ["--extern", f"{other}={rlibs.get(other) or os.path.join(kit, 'rlibs', f'{other}.rlib')}"]
-    for path in rlibs.values():
-        words += ["-L", f"dependency={os.path.dirname(path)}"]
+    for rlib in rlibs.values():
+        words += ["-L", f"dependency={os.path.dirname(rlib)}"]
     words += ["-L", f"dependency={os.path.join(kit, 'rlibs')}", "--logic-built", os.path.join(kit, "logic_built"),
               "--antt-project", os.path.join(kit, "rattle", "logic", "antt-project.json"),
-              "--jobs", "2", "-o", target]
+              "--jobs", "2", "-o", path]
     run(*words, cwd=folder)
 
 
-def over(rt, crates, found, archive, work, tell):
+def over(rt, crates, found, archive, work, target, tell):
     """Builds the archive over the libraries that were found, and proves the crates that are missing in a folder."""
     missing = [name for name in crates if name not in found and name != sources.LIBRARY]
     tell(f"{len(found)} of {len(crates)} crates are proved; proving {' '.join([*missing, sources.LIBRARY])}")
     rlibs = dict(found)
     for name in (*missing, sources.LIBRARY):
         is_library = name == sources.LIBRARY
-        target = archive if is_library else os.path.join(work, name, f"{name}.rlib")
-        os.makedirs(os.path.dirname(target), exist_ok=True)
-        compile_crate(rt, name, crates, rlibs, target, os.path.join(sources.CRATES, name))
+        path = archive if is_library else os.path.join(work, name, f"{name}.rlib")
+        os.makedirs(os.path.dirname(path), exist_ok=True)
+        compile_crate(rt, name, crates, rlibs, path, os.path.join(sources.CRATES, name), target)
         if not is_library:
-            rlibs[name] = target
+            rlibs[name] = path
 
 
-def from_nothing(rt, crates, archive, tell):
+def from_nothing(rt, crates, archive, target, tell):
     """Proves all crates in a copy, and builds the archive there."""
     tell(f"proving {len(crates)} crates")
     try:
@@ -143,14 +158,15 @@ def from_nothing(rt, crates, archive, tell):
         if prove.prove(rt, prove.Progress(crates, tell), LOG) != 0:
             raise LibraryFailed(f"{prove.last_lines(LOG)}the library was not proved; all that was printed is in {LOG}")
         rlibs = {name: prove.rlib(name) for name in crates if name != sources.LIBRARY}
-        compile_crate(rt, sources.LIBRARY, crates, rlibs, archive, os.path.join(prove.WORK, "crates", sources.LIBRARY))
+        folder = os.path.join(prove.WORK, "crates", sources.LIBRARY)
+        compile_crate(rt, sources.LIBRARY, crates, rlibs, archive, folder, target)
     finally:
         shutil.rmtree(prove.WORK, ignore_errors=True)
 
 
-def from_proved(rt, crates, archive, tell):
+def from_proved(rt, crates, archive, target, tell):
     """Builds the archive over crates that were proved before, if there are some. Returns whether it did."""
-    if by_rt(rt, crates, archive, tell):
+    if by_rt(rt, crates, archive, target, tell):
         return True
     for find in (lambda _: proved_here(rt, crates), lambda work: proved_with_program(rt, work)):
         with tempfile.TemporaryDirectory() as work:
@@ -158,26 +174,50 @@ def from_proved(rt, crates, archive, tell):
             if not found:
                 continue
             try:
-                over(rt, crates, found, archive, work, tell)
+                over(rt, crates, found, archive, work, target, tell)
                 return True
             except LibraryFailed as error:
                 tell(f"the proved crates don't fit: {error}")
     return False
 
 
-def build(rt, archive, tell):
+def kept(name, target):
+    """Where the archive of a static library is kept for a target."""
+    return os.path.join(KEPT, *([] if target == sources.HOST else [target]), f"lib{name}.a")
+
+
+def is_kept(rt, crates, archive):
+    return os.path.exists(archive) and prove.text_of(f"{archive}.sources") == prove.stamp(rt, crates)
+
+
+def note_sources(rt, crates, archive):
+    """Notes from which sources an archive that is kept was proved."""
+    prove.write(f"{archive}.sources", prove.stamp(rt, crates))
+
+
+def search(rt, target, tell):
+    """The proved archive of the explorer's search: two small crates, which stand on the standard library alone."""
+    crates, archive = sources.crates(sources.SEARCH), kept(sources.SEARCH, target)
+    if not is_kept(rt, crates, archive):
+        tell("proving the explorer's search")
+        os.makedirs(os.path.dirname(archive), exist_ok=True)
+        build_by_rt(rt, sources.SEARCH, crates, archive, target)
+        note_sources(rt, crates, archive)
+    return archive
+
+
+def build(rt, archive, target, tell):
     """Makes the proved archive, as the file `archive`."""
-    crates = sources.crates(sources.LIBRARY)
-    stamp = prove.stamp(rt, crates)
-    if os.path.exists(KEPT) and prove.text_of(f"{KEPT}.sources") == stamp:
+    crates, known = sources.crates(sources.LIBRARY), kept(sources.LIBRARY, target)
+    if is_kept(rt, crates, known):
         tell("taking the archive that was proved from these sources")
-        shutil.copyfile(KEPT, archive)
+        shutil.copyfile(known, archive)
         return
-    if not from_proved(rt, crates, archive, tell):
-        from_nothing(rt, crates, archive, tell)
-    os.makedirs(os.path.dirname(KEPT), exist_ok=True)
-    shutil.copyfile(archive, KEPT)
-    prove.write(f"{KEPT}.sources", stamp)
+    if not from_proved(rt, crates, archive, target, tell):
+        from_nothing(rt, crates, archive, target, tell)
+    os.makedirs(os.path.dirname(known), exist_ok=True)
+    shutil.copyfile(archive, known)
+    note_sources(rt, crates, known)
 
 
 if __name__ == "__main__":

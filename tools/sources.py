@@ -9,6 +9,9 @@ CRATES = os.path.join(TOP, "crates")
 BUILD = os.path.join(TOP, ".build")
 PROGRAM = "nicbench"
 LIBRARY = "nic82540em"
+SEARCH = "schedule_search_c"
+# The processor on which the toolchain runs
+HOST = "x86_64"
 # The source that has the version, as a constant.
 VERSIONED = os.path.join(CRATES, "command_line", "src", "help.rt")
 # Folders of a crate that no build reads.

@@ -255,12 +255,14 @@ bool send(const void *frame, unsigned length)
 struct known known_of(const void *bytes, uint32_t length)
 {
     const uint8_t *at = bytes;
-    uint64_t hash = 14695981039346656037u ^ length, word = 0;
+    uint64_t hash = 14695981039346656037u ^ length, words[4];
     uint32_t n = 0;
 
-    for (; n + 8 <= length; n += 8) {
-        memcpy(&word, at + n, 8);
-        hash = (hash ^ word) * 0x9E3779B97F4A7C15u, hash ^= hash >> 29;
+    for (; n + 32 <= length; n += 32) {
+        memcpy(words, at + n, 32);
+        hash = (hash ^ words[0]) * 0x9E3779B97F4A7C15u + (words[1] ^ words[2] >> 31) * 0xBF58476D1CE4E5B9u
+               + (words[2] ^ words[3] >> 29) * 0x94D049BB133111EBu + words[3];
+        hash ^= hash >> 29;
     }
     for (; n < length; n++)
         hash = (hash ^ at[n]) * 1099511628211u;

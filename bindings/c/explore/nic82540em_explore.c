@@ -8,9 +8,11 @@
 #include <string.h>
 #include <sys/stat.h>
 #include <time.h>
+#include <unistd.h>
 
 enum { DEEPEST_SMALLER = 6, STATES_SMALLER = 500000 };
 static uint64_t runs, failed_runs, all_states, deviations;
+static bool tried_one; /* whether all schedules of up to one deviation were tried, and pass */
 static struct found found;
 static volatile sig_atomic_t is_stopped;
 static const char *served = "null"; /* whether `nicbench serve` has played the schedule with the same result */
@@ -209,7 +211,7 @@ static int nothing(void)
 static int ended(void)
 {
     say("%s: not all were tried: there are more than %llu states\n", is_stopped ? "ended" : "--states",
-        (unsigned long long)found.states);
+        (unsigned long long)(is_stopped ? found.states : xi_given.states));
     print_json("ended", 0, false);
     return is_stopped ? 128 + SIGINT : NOT_RUN;
 }
@@ -259,7 +261,7 @@ static int add_failed_run(uint64_t seed)
         say("%llu runs\n", (unsigned long long)runs);
     say("seed %llu: %s\n", (unsigned long long)seed, xi_state->fault);
     failed_runs++;
-    return xi_given.all ? -1 : report(xi_saves && !xi_given.pct ? 2 : 0);
+    return xi_given.all ? -1 : report(tried_one ? 2 : 0);
 }
 
 /* Whether the run of a seed that was drawn from a saved state has other answers than from nothing */
@@ -322,10 +324,13 @@ static int by_draws(void)
     if (xi_given.pct)
         begin_pct();
     else if (xi_given.depth == DRAWN && xi_saves && !xi_given.check && !xi_given.all) {
-        if (explore(1, xi_given.states) && found.fails) {
+        if (!explore(1, xi_given.states))
+            return ended();
+        if (found.fails) {
             say("%s: one fails: %s\n", searched(1), found.fault);
             return report(0);
         }
+        tried_one = true;
         say("%s: none of %s fails\n", searched(1), number_text(found.schedules));
     }
     status = draw(xi_given.check);
@@ -372,12 +377,12 @@ static bool fails_by_itself(void)
 /* Whether the stack and the pages of a run can be saved here. */
 static bool may_save(void)
 {
-#if !defined(__x86_64__) || defined(__SANITIZE_ADDRESS__)
+#if !(defined(__x86_64__) || defined(__aarch64__)) || defined(__SANITIZE_ADDRESS__)
     return false;
 #else
     const char *preloaded = getenv("LD_PRELOAD"); /* valgrind sets it */
 
-    return !xi_given.again && !(preloaded && strstr(preloaded, "vgpreload"));
+    return !xi_given.again && !(preloaded && strstr(preloaded, "vgpreload")) && sysconf(_SC_PAGESIZE) == PAGE;
 #endif
 }
 

@@ -1,11 +1,13 @@
 /* Goes through all schedules of up to some deviations, or through every schedule, up to one that fails.
  *
- * A choice is a place at which something may be done, or left: a deviation, or a default step. At each choice, the
- * search takes one option after the other, from the saved state of the choice, and the default last. If the state is
- * known from an earlier choice, with at least as many deviations left, all that follows has passed, and isn't played
- * again. Without saved states, each run begins from nothing, and is played to its end.
+ * A choice is a place at which something may be done, or left: a deviation, or a default step. schedule_search, which
+ * is proved, says which option is taken at each choice, one after the other, the default last, and which states are
+ * known: those from which all that follows has passed, with at least as many deviations left. Here, the runs are
+ * played, from the saved state of a choice, and schedules are counted. Without saved states, each run begins from
+ * nothing, and is played to its end.
  */
 #include "inside.h"
+#include "schedule_search.h"
 #include <stdio.h>
 #include <stdlib.h>
 #include <string.h>
@@ -13,99 +15,83 @@
 #define B xi_book
 #define S xi_state
 
-enum { MOST_CHOICES = 1 << 16 };
+enum { MOST_CHOICES = 1 << 19, FIRST_ROOM = 1 << 14 };
 /* Before one access, deviations of different actors can be exchanged, so they are tried in the order of these actors.
  */
 static const int actors[ACTIONS] = { 2, 2, 3, 3, -1, -1, 2, 3, 0, 1, 3 };
 
-/* A choice of the run: its state, its options, the one that is taken (`count` is the default), the deviations that are
- * left, and the number of schedules below it by their numbers of deviations. */
-struct choice {
+/* What belongs to a choice of the path: its state, its options beside the default, and the number of schedules below
+ * it that pass, by their numbers of deviations. */
+struct extra {
     struct saved saved;
-    struct digest key;
-    int actions[MOST_OPTIONS], count, option, left;
-    bool fails; /* a schedule below it fails, so its state isn't known */
+    int actions[MOST_OPTIONS];
     double counts[DEEPEST + 1];
 };
 
-/* A state below which all schedules of up to `left` deviations pass, and how many these are. */
-struct known {
-    struct digest key;
-    int64_t left;
-    double counts[];
-};
-
-static struct choice choices[MOST_CHOICES];
-static int top, depth, left;
+static struct schedule_search search;
+static struct schedule_choice path[MOST_CHOICES];
+static struct extra extras[MOST_CHOICES];
 static bool is_every, has_holds, goes_on;
-static struct digest tail[MOST_PLACES]; /* the states of the run at which no deviation is left */
-static int tail_count;
-static char *table;
-static size_t room, known_count, entry, most_known;
+static struct schedule_known *table;
+static double *table_counts; /* for each entry of the table, the numbers of schedules below it */
+static size_t room, known_count;
 
 /* Known states */
 
-static struct known *entry_at(size_t at)
+/* The numbers of schedules have so many parts: one for each number of deviations. */
+static size_t width(void)
 {
-    return (struct known *)(table + at * entry);
+    return is_every ? 1 : (size_t)search.depth + 1;
 }
 
-static struct known *find(struct digest key)
+/* The index of the entry of a key, or else of an empty one */
+static size_t index_of(const struct schedule_key *key)
 {
-    size_t at = key.one & (room - 1);
+    size_t at = schedule_search_find(table, room, key);
 
-    while (entry_at(at)->key.one && (entry_at(at)->key.one != key.one || entry_at(at)->key.two != key.two))
-        at = (at + 1) & (room - 1);
-    return entry_at(at);
+    if (at >= room)
+        xi_die("the table of known states is full");
+    return at;
+}
+
+static double *counts_of(const struct schedule_key *key)
+{
+    return table_counts + index_of(key) * width();
 }
 
 static void enlarge(void)
 {
-    char *old = table;
+    struct schedule_known *old = table;
+    double *old_counts = table_counts;
     size_t count = room;
 
-    room = room ? 2 * room : 1 << 14;
-    table = calloc(room, entry);
-    if (!table)
+    room *= 2;
+    table = calloc(room, sizeof *table), table_counts = calloc(room * width(), sizeof *table_counts);
+    if (!table || !table_counts)
         xi_die("memory is refused: there are too many states");
-    for (size_t n = 0; n < count; n++) {
-        struct known *one = (struct known *)(old + n * entry);
-        if (one->key.one)
-            memcpy(find(one->key), one, entry);
-    }
-    free(old);
+    schedule_search_grow(old, count, table, room);
+    for (size_t n = 0; n < count; n++)
+        if (old[n].key.one)
+            memcpy(counts_of(&old[n].key), old_counts + n * width(), width() * sizeof *old_counts);
+    free(old), free(old_counts);
 }
 
-/* The entry of a state; a new one has `left` -1. */
-static struct known *look(struct digest key)
+/* A search begins, with an empty table. */
+static void begin(int depth)
 {
-    struct known *one;
-
-    if (4 * known_count >= 3 * room)
-        enlarge();
-    one = find(key);
-    if (!one->key.one)
-        one->key = key, one->left = -1, known_count++;
-    return one;
-}
-
-static size_t width(void)
-{
-    return is_every ? 1 : (size_t)depth + 1;
-}
-
-static void know(struct digest key, int budget, const double *counts)
-{
-    struct known *one = look(key);
-
-    one->left = budget;
-    memcpy(one->counts, counts, width() * sizeof *counts);
+    free(table), free(table_counts);
+    search.depth = is_every ? 0 : (uint32_t)depth, room = FIRST_ROOM, known_count = 0;
+    table = calloc(room, sizeof *table), table_counts = calloc(room * width(), sizeof *table_counts);
+    if (!table || !table_counts)
+        xi_die("memory is refused");
+    schedule_search_begin(&search, path, MOST_CHOICES, table, room, search.depth, !is_every);
 }
 
 /* The key of the state at a choice: with what was done at this place, if this restricts the options. */
-static struct digest key_here(void)
+static struct schedule_key key_here(void)
 {
-    struct digest key = xi_digest();
+    struct digest digest = xi_digest();
+    struct schedule_key key = { digest.one, digest.two };
 
     key.one += 0x1000003ull * (uint64_t)(is_every ? 0 : B->last) + 0x9E3779B97F4A7C15ull * (uint64_t)(B->stage + 1);
     key.one += !key.one;
@@ -178,137 +164,138 @@ static void take(int action)
         xi_deviate(action);
 }
 
-static int action_of(const struct choice *choice)
-{
-    return choice->option == choice->count ? DEFAULT : choice->actions[choice->option];
-}
-
-/* The run is at a choice again: takes the option that was chosen. */
-static void retake(const struct choice *choice)
-{
-    left = choice->left - (!is_every && action_of(choice) != DEFAULT);
-    take(action_of(choice));
-}
-
 /* The search */
 
-static const double one_passes[DEEPEST + 1] = { 1 };
-
-/* All that follows has passed: so many schedules by their numbers of deviations. */
-static const double *pass(const double *counts)
+/* Takes what the newest choice of the path says. */
+static void take_newest(void)
 {
-    static double kept[DEEPEST + 1];
+    const struct schedule_choice *newest = &path[search.count - 1];
+    const int *actions = extras[search.count - 1].actions;
 
-    memcpy(kept, counts, width() * sizeof *kept);
-    while (tail_count)
-        know(tail[--tail_count], 0, one_passes);
-    return kept;
+    take(newest->taken == newest->place.possible ? DEFAULT : actions[newest->taken]);
 }
 
-/* The run fails. Returns NULL, or, if the search goes on, the numbers of schedules that pass. */
-static const double *fail(struct found *found)
+/* A choice is new. If it has options that are tried later, its state is saved. */
+static void begin_newest(const int *actions)
 {
-    static const double none[DEEPEST + 1] = { 0 };
+    struct extra *extra = &extras[search.count - 1];
 
-    tail_count = 0;
+    memcpy(extra->actions, actions, sizeof extra->actions);
+    memset(extra->counts, 0, width() * sizeof *extra->counts);
+    if (xi_saves && path[search.count - 1].taken < path[search.count - 1].place.possible)
+        xi_save(&extra->saved);
+}
+
+/* The run fails. Returns whether the search goes on. */
+static bool fail(struct found *found, double *counts)
+{
+    memset(counts, 0, width() * sizeof *counts);
+    schedule_search_fail(&search);
     if (!found->fails)
         xi_keep(found);
-    if (!goes_on)
-        return NULL;
-    xi_add_failed(B->path, B->path_count, S->fault, found->is_silent);
-    for (int n = 0; n < top; n++)
-        choices[n].fails = true;
-    return none;
+    if (goes_on)
+        xi_add_failed(B->path, B->path_count, S->fault, found->is_silent);
+    return goes_on;
 }
 
-/* Makes a choice, whose options are tried later, the newest one. */
-static struct choice *begin_choice(const int *actions, int count, struct digest key)
+/* Plays the run on to its end, or to a known state. `counts` gets the numbers of schedules that begin with it and pass.
+ * Returns false if it fails and the search ends. */
+static bool forward(struct found *found, double *counts)
 {
-    struct choice *choice = &choices[top];
-
-    if (++top == MOST_CHOICES)
-        xi_die("a run has more than 65,535 choices");
-    choice->key = key, choice->count = count, choice->option = 0, choice->left = left, choice->fails = false;
-    memcpy(choice->actions, actions, sizeof choice->actions);
-    memset(choice->counts, 0, sizeof choice->counts);
-    if (xi_saves)
-        xi_save(&choice->saved);
-    return choice;
-}
-
-/* Plays the run on to its end, or to a known state. Returns the numbers of schedules below it that pass, or NULL if it
- * fails and the search ends. */
-static const double *forward(struct found *found)
-{
-    for (tail_count = 0;;) {
+    for (;;) {
         int actions[MOST_OPTIONS], count = next_choice(actions);
-        struct digest key = { 0, 0 };
-        if (count == 0)
-            return S->fault ? fail(found) : pass(one_passes);
-        if (xi_saves) {
-            key = key_here();
-            const struct known *known = look(key);
-            if (known->left >= left)
-                return pass(known->counts);
+        struct schedule_place place = { { 0, 0 }, (uint32_t)count };
+        uint32_t met;
+        if (count == 0) {
+            memset(counts, 0, width() * sizeof *counts), counts[0] = 1;
+            return !S->fault || fail(found, counts);
         }
-        if (left)
-            retake(begin_choice(actions, count, key));
-        else {
-            if (xi_saves && tail_count < MOST_PLACES)
-                tail[tail_count++] = key;
-            take(DEFAULT);
+        if (xi_saves)
+            place.key = key_here();
+        met = schedule_search_meet(&search, path, MOST_CHOICES, table, room, &place);
+        if (met == SCHEDULE_FULL)
+            xi_die("a run has more than 524,288 choices");
+        if (met == SCHEDULE_PASSES) {
+            memcpy(counts, counts_of(&place.key), width() * sizeof *counts);
+            return true;
         }
+        if (met != SCHEDULE_GOES || !search.count)
+            xi_die("the search has an answer that is none");
+        begin_newest(actions);
+        take_newest();
     }
 }
 
-/* The run is at the newest choice again. */
+/* The run is at the newest choice of the path again. */
 static void return_to_newest(void)
 {
+    size_t count = search.count;
     int actions[MOST_OPTIONS];
 
     if (xi_saves) {
-        xi_restore(&choices[top - 1].saved);
+        xi_restore(&extras[count - 1].saved);
         return;
     }
     xi_begin(true);
     xi_next_place();
-    for (int n = 0; n < top; n++) {
-        while (next_choice(actions) && left == 0)
-            take(DEFAULT);
-        if (n < top - 1)
-            retake(&choices[n]);
+    for (search.count = 0; search.count < count; search.count++) {
+        if (search.count)
+            take_newest();
+        if (next_choice(actions) != (int)path[search.count].place.possible)
+            xi_die("a run isn't as before: what does the test keep outside of its stack and x_memory?");
     }
 }
 
-/* Adds the schedules below the option that was taken to those of its choice. */
-static void add(struct choice *choice, const double *counts)
+/* Adds the schedules below what was taken to those of the newest choice. */
+static void add(const double *counts)
 {
-    int by = !is_every && action_of(choice) != DEFAULT;
+    const struct schedule_choice *newest = &path[search.count - 1];
+    double *sum = extras[search.count - 1].counts;
+    size_t by = !is_every && newest->taken < newest->place.possible;
 
-    for (int n = by; n <= choice->left && n < (int)width(); n++)
-        choice->counts[n] += counts[n - by];
+    for (size_t n = by; n < width(); n++)
+        sum[n] += counts[n - by];
+}
+
+/* The next step back. If it makes the state of the newest choice known, stores the numbers of schedules below it. */
+static uint32_t step_back(void)
+{
+    const struct extra *extra = &extras[search.count - 1];
+    struct schedule_choice newest = path[search.count - 1];
+    struct schedule_known *entry;
+    bool is_new;
+    uint32_t step;
+
+    if (4 * known_count >= 3 * room)
+        enlarge();
+    entry = &table[index_of(&newest.place.key)];
+    is_new = !entry->key.one;
+    step = schedule_search_back(&search, path, MOST_CHOICES, table, room);
+    if (step > SCHEDULE_REMOVED)
+        xi_die("the search has an answer that is none");
+    if (step == SCHEDULE_REMOVED && entry->key.one && entry->left == newest.left) {
+        known_count += is_new;
+        memcpy(table_counts + (size_t)(entry - table) * width(), extra->counts, width() * sizeof *extra->counts);
+    }
+    return step;
 }
 
 /* Goes back to the newest choice that has another option, and takes it. Returns false if there is none: then `counts`
  * has the numbers of all schedules. */
-static bool backward(const double *below, double *counts)
+static bool backward(double *counts)
 {
-    memset(counts, 0, (DEEPEST + 1) * sizeof *counts);
-    memcpy(counts, below, width() * sizeof *counts);
-    for (; top; top--) {
-        struct choice *choice = &choices[top - 1];
-        add(choice, counts);
-        if (choice->option < choice->count) {
-            choice->option++;
-            left = depth;
+    while (search.count) {
+        size_t newest = search.count - 1;
+        add(counts);
+        if (step_back() == SCHEDULE_ANOTHER) {
             return_to_newest();
-            retake(choice);
+            take_newest();
             return true;
         }
-        if (xi_saves && !choice->fails)
-            know(choice->key, choice->left, choice->counts);
-        memcpy(counts, choice->counts, sizeof choice->counts);
+        memcpy(counts, extras[newest].counts, width() * sizeof *counts);
     }
+    if (schedule_search_back(&search, path, MOST_CHOICES, table, room) != SCHEDULE_ENDED)
+        xi_die("the search has an answer that is none");
     return false;
 }
 
@@ -323,24 +310,21 @@ void xi_keep(struct found *found)
 
 /* Tries all schedules of up to this number of deviations, or EVERY schedule, up to one that fails, or until there are
  * more states than `most_states`: then `schedules` is 0. With `finds_all`, goes on after one that fails. */
-void xi_explore(int given_depth, bool with_holds, bool finds_all, size_t most_states, struct found *found)
+void xi_explore(int depth, bool with_holds, bool finds_all, size_t most_states, struct found *found)
 {
     double counts[DEEPEST + 1];
-    const double *below;
 
     memset(found, 0, offsetof(struct found, is_silent));
-    is_every = given_depth == EVERY, depth = left = is_every ? 1 : given_depth, has_holds = with_holds;
-    goes_on = finds_all;
-    free(table), table = NULL, room = known_count = 0, most_known = most_states, top = 0;
-    entry = sizeof(struct known) + width() * sizeof(double);
+    is_every = depth == EVERY, has_holds = with_holds, goes_on = finds_all;
+    begin(depth);
     xi_begin(false);
     xi_next_place();
-    while ((below = forward(found)) != NULL && known_count <= most_known && !xi_stopped())
-        if (!backward(below, counts)) {
+    while (forward(found, counts) && known_count + search.count <= most_states && !xi_stopped())
+        if (!backward(counts)) {
             for (size_t n = 0; n < width(); n++)
                 found->schedules += counts[n];
             found->is_complete = true;
             break;
         }
-    found->states = known_count;
+    found->states = known_count + search.count;
 }

@@ -14,6 +14,9 @@
 #include <sys/mman.h>
 #ifdef __x86_64__
 #include <immintrin.h>
+#elif defined(__aarch64__)
+#include <arm_neon.h>
+#include <sys/auxv.h>
 #endif
 
 #define ARENA ((char *)0x200000000000)
@@ -187,34 +190,78 @@ static struct digest portable(const char *at, size_t blocks, uint64_t seed)
 }
 
 #ifdef __x86_64__
-__attribute__((target("aes,sse4.1"))) static struct digest by_aes(const char *at, size_t blocks, uint64_t seed)
+#define BY_AES __attribute__((target("aes,sse4.1")))
+typedef __m128i vector;
+
+BY_AES static inline vector load(const void *at)
 {
-    const __m128i key = _mm_set_epi64x((int64_t)0x9E3779B97F4A7C15, (int64_t)0xD1B54A32D192ED03);
-    __m128i a = _mm_set1_epi64x((int64_t)seed), b = _mm_set1_epi64x((int64_t)(seed ^ 0x5851F42D4C957F2D));
-    __m128i c = _mm_xor_si128(a, key), d = _mm_aesenc_si128(b, key);
+    return _mm_loadu_si128(at);
+}
+
+/* A round of AES of the exclusive or of two vectors */
+BY_AES static inline vector mix(vector one, vector two, vector key)
+{
+    return _mm_aesenc_si128(_mm_xor_si128(one, two), key);
+}
+
+static bool has_aes(void)
+{
+    return __builtin_cpu_supports("aes") && __builtin_cpu_supports("sse4.1");
+}
+#elif defined(__aarch64__)
+#define BY_AES __attribute__((target("+crypto")))
+typedef uint8x16_t vector;
+
+BY_AES static inline vector load(const void *at)
+{
+    return vld1q_u8(at);
+}
+
+BY_AES static inline vector mix(vector one, vector two, vector key)
+{
+    return veorq_u8(vaesmcq_u8(vaeseq_u8(one, two)), key);
+}
+
+static bool has_aes(void)
+{
+    return getauxval(AT_HWCAP) & HWCAP_AES;
+}
+#endif
+
+#ifdef BY_AES
+/* Words from which the digest of blocks begins */
+struct start {
+    uint64_t key[2], a[2], b[2], zero[2];
+};
+
+BY_AES static struct digest by_aes(const char *at, size_t blocks, uint64_t seed)
+{
+    const uint64_t other = seed ^ 0x5851F42D4C957F2D;
+    const struct start start = { { 0xD1B54A32D192ED03, 0x9E3779B97F4A7C15 }, { seed, seed }, { other, other }, { 0, 0 } };
+    const vector key = load(start.key), zero = load(start.zero);
+    vector a = load(start.a), b = load(start.b), c = mix(a, key, zero), d = mix(b, zero, key);
+    struct digest digest;
 
     for (; blocks--; at += BLOCK) {
-        a = _mm_aesenc_si128(_mm_xor_si128(a, _mm_loadu_si128((const __m128i *)at)), key);
-        b = _mm_aesenc_si128(_mm_xor_si128(b, _mm_loadu_si128((const __m128i *)(at + 16))), key);
-        c = _mm_aesenc_si128(_mm_xor_si128(c, _mm_loadu_si128((const __m128i *)(at + 32))), key);
-        d = _mm_aesenc_si128(_mm_xor_si128(d, _mm_loadu_si128((const __m128i *)(at + 48))), key);
+        a = mix(a, load(at), key), b = mix(b, load(at + 16), key);
+        c = mix(c, load(at + 32), key), d = mix(d, load(at + 48), key);
     }
-    a = _mm_aesenc_si128(_mm_aesenc_si128(_mm_xor_si128(a, _mm_aesenc_si128(b, key)), key), key);
-    c = _mm_aesenc_si128(_mm_aesenc_si128(_mm_xor_si128(c, _mm_aesenc_si128(d, key)), key), key);
-    a = _mm_aesenc_si128(_mm_aesenc_si128(_mm_xor_si128(a, c), key), key);
-    return (struct digest){ (uint64_t)_mm_extract_epi64(a, 0), (uint64_t)_mm_extract_epi64(a, 1) };
+    a = mix(mix(a, mix(b, zero, key), key), zero, key), c = mix(mix(c, mix(d, zero, key), key), zero, key);
+    a = mix(mix(a, c, key), zero, key);
+    memcpy(&digest, &a, sizeof digest);
+    return digest;
 }
 #endif
 
 /* The digest of blocks of 64 bytes */
 static struct digest digest_of(const char *at, size_t blocks, uint64_t seed)
 {
-#ifdef __x86_64__
-    static int has_aes = -1;
+#ifdef BY_AES
+    static int aes = -1;
 
-    if (has_aes < 0)
-        has_aes = __builtin_cpu_supports("aes") && __builtin_cpu_supports("sse4.1");
-    if (has_aes)
+    if (aes < 0)
+        aes = has_aes();
+    if (aes)
         return by_aes(at, blocks, seed);
 #endif
     return portable(at, blocks, seed);

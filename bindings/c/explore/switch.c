@@ -1,7 +1,8 @@
 /* The test runs on a stack of its own, and changes places with the explorer.
  *
- * On x86-64, the registers that a function keeps are pushed to the stack that is left, so the used part of the stack
- * is all that must be saved. On other processors, ucontext keeps them elsewhere, and no state is saved.
+ * On x86-64 and on aarch64, the registers that a function keeps are pushed to the stack that is left, so the used part
+ * of the stack is all that must be saved. xi_switch ends with a jump: a return would be predicted to go to the caller.
+ * On other processors, ucontext keeps the registers elsewhere, and no state is saved.
  */
 #define _GNU_SOURCE
 #include "inside.h"
@@ -57,12 +58,24 @@ void xi_clear_stack(void)
         memset((char *)test_top - size, 0, size);
 }
 
-#ifdef __x86_64__
+#if defined(__x86_64__) || defined(__aarch64__)
 static void *explorer_top;
 void xi_switch(void **from, void *to);
+#ifdef __x86_64__
+enum { FRAME = 8, RETURN = 6 }; /* words that xi_switch pushes, and which of them is the address to go on at */
 __asm__(".text\n.type xi_switch, @function\nxi_switch:\n push %rbp\n push %rbx\n push %r12\n push %r13\n push %r14\n"
         " push %r15\n mov %rsp,(%rdi)\n mov %rsi,%rsp\n pop %r15\n pop %r14\n pop %r13\n pop %r12\n pop %rbx\n"
-        " pop %rbp\n ret\n.size xi_switch, .-xi_switch\n");
+        " pop %rbp\n pop %rcx\n jmp *%rcx\n.size xi_switch, .-xi_switch\n");
+#else
+enum { FRAME = 20, RETURN = 1 };
+__asm__(".text\n.type xi_switch, %function\nxi_switch:\n stp x29, x30, [sp, #-160]!\n stp x19, x20, [sp, #16]\n"
+        " stp x21, x22, [sp, #32]\n stp x23, x24, [sp, #48]\n stp x25, x26, [sp, #64]\n stp x27, x28, [sp, #80]\n"
+        " stp d8, d9, [sp, #96]\n stp d10, d11, [sp, #112]\n stp d12, d13, [sp, #128]\n stp d14, d15, [sp, #144]\n"
+        " mov x9, sp\n str x9, [x0]\n mov sp, x1\n ldp x19, x20, [sp, #16]\n ldp x21, x22, [sp, #32]\n"
+        " ldp x23, x24, [sp, #48]\n ldp x25, x26, [sp, #64]\n ldp x27, x28, [sp, #80]\n ldp d8, d9, [sp, #96]\n"
+        " ldp d10, d11, [sp, #112]\n ldp d12, d13, [sp, #128]\n ldp d14, d15, [sp, #144]\n"
+        " ldp x29, x30, [sp], #160\n br x30\n.size xi_switch, .-xi_switch\n");
+#endif
 
 static void first(void)
 {
@@ -72,12 +85,12 @@ static void first(void)
 
 void xi_start(void (*function)(void))
 {
-    uint64_t *top = (uint64_t *)(end_of_stack() - 64);
+    uint64_t *top = (uint64_t *)(end_of_stack() - 64) - FRAME;
 
     begins_with = function;
-    memset(top - 8, 0, 64 + 64);
-    top[-2] = (uint64_t)(uintptr_t)first; /* after six registers, xi_switch returns to it */
-    test_top = top - 8;
+    memset(top, 0, FRAME * sizeof *top + 64);
+    top[RETURN] = (uint64_t)(uintptr_t)first;
+    test_top = top;
 }
 
 void xi_to_test(void)

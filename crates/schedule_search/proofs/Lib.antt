@@ -1,0 +1,6 @@
+mod Laws
+mod Lists
+mod Passing
+mod Paths
+mod Steps
+mod Tried

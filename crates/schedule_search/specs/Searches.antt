@@ -1,0 +1,85 @@
+-- What a search knows. A path is the choices of a run, the newest one first.
+use Rattle.std.specs.Prelude.{◌≡◌, ◌<◌, ◌≤◌, true, ◌+◌, ◌∷◌, [], ℕ, List, None, Some, nat_lt, if◌then◌else◌, ◌⊎◌, length, reverse}
+use Rattle.std.specs.Prelude.{slice_set, take, All}
+use Rattle.schedule_search.specs.declared.path.Choice.{Choice}
+use Rattle.schedule_search.specs.declared.path.Key.{Key}
+use Rattle.schedule_search.specs.declared.path.Known.{Known}
+use Rattle.schedule_search.specs.declared.path.Place.{Place}
+use Rattle.schedule_search.specs.declared.search.Search.{Search}
+use Rattle.schedule_search.specs.Tests.{AllPass, MayTake, Test, left_after}
+
+-- the path in the first choices of a slice
+abbrev pub path_of : ℕ → List Choice → List Choice
+path_of count choices = reverse (take count choices)
+
+-- the run of a path
+abbrev pub run_of : List Choice → List ℕ
+run_of [] = []
+run_of (choice ∷ path) = choice.taken ∷ run_of path
+
+-- how much the deviations may cost after a path
+abbrev pub left_of : ℕ → ℕ → List Choice → ℕ
+left_of cost depth [] = depth
+left_of cost depth (choice ∷ path) = left_after cost choice.left choice.place.possible choice.taken
+
+-- the first choice at a place: the first deviation, if it doesn't cost too much, and else none
+abbrev pub first_choice : ℕ → ℕ → Place → Choice
+first_choice cost left place =
+    record { place = place; left = left; taken = if nat_lt left cost then place.possible else 0 }
+
+abbrev pub next_choice : Choice → Choice
+next_choice choice = record choice { taken = choice.taken + 1 }
+
+-- A choice is made after a run, and all schedules pass that take a smaller number here.
+pub record IsTried (test : Test) (cost : ℕ) (choice : Choice) (run : List ℕ) : Type 0 where
+  pub place : test.at run ≡ Some choice.place
+  pub may : MayTake cost choice.left choice.place.possible choice.taken
+  pub before : (number : ℕ) → number < choice.taken → MayTake cost choice.left choice.place.possible number
+      → AllPass test cost (left_after cost choice.left choice.place.possible number) (number ∷ run)
+
+-- It is so at each choice of a path.
+abbrev pub AreTried : Test → ℕ → ℕ → List Choice → Type 0
+AreTried test cost depth [] = Unit {0}
+AreTried test cost depth (choice ∷ path) =
+    IsTried test cost choice (run_of path) × (choice.left ≡ left_of cost depth path) × AreTried test cost depth path
+
+-- From each place with the key of an entry, all schedules pass whose deviations cost at most what the entry says.
+abbrev pub IsTrueKnown : Test → ℕ → Known → Type 0
+IsTrueKnown test cost entry =
+    0 < entry.key.one → (run : List ℕ) (place : Place) → test.at run ≡ Some place → place.key ≡ entry.key
+    → AllPass test cost entry.left run
+
+abbrev pub AreKnown : Test → ℕ → List Known → Type 0
+AreKnown test cost known = All (IsTrueKnown test cost) known
+
+-- What holds of a search between two calls, as long as no schedule has failed.
+pub record IsSearch (test : Test) (search : Search) (choices : List Choice) (table : List Known) : Type 0 where
+  pub fits : search.count ≤ length choices
+  pub tried : AreTried test search.cost search.depth (path_of search.count choices)
+  pub known : AreKnown test search.cost table
+  pub none_failed : search.failing ≡ 0
+
+-- the run of the path of a search
+abbrev pub run_in : Search → List Choice → List ℕ
+run_in search choices = run_of (path_of search.count choices)
+
+-- All schedules pass that begin with the path of a search.
+abbrev pub BelowPass : Test → Search → List Choice → Type 0
+BelowPass test search choices =
+    AllPass test search.cost (left_of search.cost search.depth (path_of search.count choices)) (run_in search choices)
+
+abbrev pub known_of : Key → ℕ → Known
+known_of key left = record { key = key; left = left }
+
+-- whether an entry says that all schedules from this state pass whose deviations cost at most `left`
+abbrev pub IsKnownBy : Known → Key → ℕ → Type 0
+IsKnownBy entry key left = (0 < key.one) × (entry.key ≡ key) × (left ≤ entry.left)
+
+-- A table has no new entry but this one.
+abbrev pub HasOneMore : List Known → Known → List Known → Type 0
+HasOneMore old entry new = (new ≡ old) ⊎ ((at : ℕ) × (new ≡ slice_set old at entry))
+
+-- A run that has ended, and passes, is the only schedule that begins with it.
+abbrev pub RunsPass : Type 0
+RunsPass =
+    (test : Test) (cost left : ℕ) (run : List ℕ) → test.at run ≡ None → test.passes run ≡ true → AllPass test cost left run

@@ -1,0 +1,46 @@
+-- Tests, their schedules, and what it means that all of them pass.
+use Rattle.std.specs.Prelude.{◌≡◌, ◌<◌, ◌≤◌, true, ◌-◌, ◌∷◌, [], ℕ, Bool, List, Option, None, Some, nat_lt, if◌then◌else◌, ◌⊎◌}
+use Rattle.schedule_search.specs.declared.path.Place.{Place}
+
+-- What a test does. A run is the numbers of what was taken at its places, the newest one first.
+pub record Test : Type 0 where
+  -- the place to which a run comes after these numbers; none if it has ended
+  pub at : List ℕ → Option Place
+  -- whether a run that has ended passes
+  pub passes : List ℕ → Bool
+
+-- A number below `possible` is a deviation, which has a cost. The number `possible` is none, and may always be taken.
+abbrev pub MayTake : ℕ → ℕ → ℕ → ℕ → Type 0
+MayTake cost left possible number = (number ≡ possible) ⊎ ((number < possible) × (cost ≤ left))
+
+-- how much the deviations may cost after this number was taken
+abbrev pub left_after : ℕ → ℕ → ℕ → ℕ → ℕ
+left_after cost left possible number = if nat_lt number possible then left - cost else left
+
+-- The run that begins with a run, and takes these numbers, the first one first.
+abbrev pub played : List ℕ → List ℕ → List ℕ
+played run [] = run
+played run (number ∷ later) = played (number ∷ run) later
+
+-- After a run, these numbers are a schedule up to the end of the test, whose deviations cost at most `left`.
+abbrev pub IsSchedule : Test → ℕ → ℕ → List ℕ → List ℕ → Type 0
+IsSchedule test cost left run [] = test.at run ≡ None
+IsSchedule test cost left run (number ∷ later) =
+    (place : Place) × ((test.at run ≡ Some place) × MayTake cost left place.possible number
+    × IsSchedule test cost (left_after cost left place.possible number) (number ∷ run) later)
+
+-- All schedules that begin with a run, and whose later deviations cost at most `left`, pass.
+abbrev pub AllPass : Test → ℕ → ℕ → List ℕ → Type 0
+AllPass test cost left run = (later : List ℕ) → IsSchedule test cost left run later → test.passes (played run later) ≡ true
+
+-- From now on, the test does the same after both runs.
+abbrev pub IsSame : Test → List ℕ → List ℕ → Type 0
+IsSame test run other =
+    (later : List ℕ) → (test.at (played run later) ≡ test.at (played other later))
+    × (test.passes (played run later) ≡ test.passes (played other later))
+
+-- Places with equal keys are equal states: from then on, the test does the same.
+abbrev pub EqualKeys : Test → Type 0
+EqualKeys test =
+    (run other : List ℕ) (one two : Place) → test.at run ≡ Some one → test.at other ≡ Some two → 0 < one.key.one
+    → one.key ≡ two.key → IsSame test run other

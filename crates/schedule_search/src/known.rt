@@ -1,0 +1,59 @@
+//! The table of known states.
+
+ghost use Rattle.std.specs.Prelude.{◌≡◌, ◌≤◌, ◌<◌, ◌⊎◌, ℕ, length, slice_index_or, true};
+ghost use Rattle.schedule_search.specs.Searches.{AreKnown, HasOneMore, IsKnownBy, known_of};
+ghost use Rattle.schedule_search.specs.Tests.{Test};
+ghost use Rattle.schedule_search.specs.declared.path.Known.{Known};
+
+use crate::path::{Key, Known};
+
+/// The index of the entry of a key, or else of an empty one, into which it may be put. If there is neither, the number
+/// of entries.
+pub fn find(known: &[Known], key: Key) -> usize
+    ensures within { result ≤ length known.now }
+    ensures found { (none : Known) → result < length known.now
+        → ((slice_index_or known.now result none).key.one ≡ 0) ⊎ ((slice_index_or known.now result none).key ≡ key) }
+{
+    let size = known.len();
+    if size == 0 {
+        return 0;
+    }
+    let mut at = (key.one % size as u64) as usize;
+    for _ in 0..size {
+        let there = known[at].key;
+        if there.one == 0 || (there.one == key.one && there.two == key.two) {
+            return at;
+        }
+        at = if at + 1 < size { at + 1 } else { 0 };
+    }
+    size
+}
+
+/// Whether an entry says that all schedules from a state pass whose deviations cost at most `left`.
+pub(crate) fn is_known(entry: Known, key: Key, left: u32) -> bool
+    ensures { result ≡ true → IsKnownBy entry key left }
+{
+    key.one > 0 && entry.key.one == key.one && entry.key.two == key.two && left <= entry.left
+}
+
+/// Notes that all schedules from a state pass whose deviations cost at most `left`. Does nothing if the table is full.
+pub(crate) fn note(known: &mut [Known], key: Key, left: u32)
+    ensures { HasOneMore known.old (known_of key left) known.new }
+{
+    let at = find(known, key);
+    if at < known.len() {
+        known[at] = Known { key, left };
+    }
+}
+
+/// Notes all entries of a table in another one.
+pub fn grow(from: &[Known], known: &mut [Known])
+    ensures { (test : Test) (cost : ℕ) → AreKnown test cost from.now → AreKnown test cost known.old
+        → AreKnown test cost known.new }
+{
+    for entry in from {
+        if entry.key.one > 0 {
+            note(known, entry.key, entry.left);
+        }
+    }
+}

@@ -1,0 +1,87 @@
+//! Choices, and the path of them.
+
+ghost use Rattle.std.specs.Prelude.{◌≡◌, ◌+◌, ◌-◌, ◌<◌, ◌≤◌, length};
+ghost use Rattle.schedule_search.specs.Searches.{first_choice, left_of, next_choice, path_of};
+ghost use Rattle.schedule_search.specs.Tests.{left_after};
+
+/// The digest of a state. If `one` is 0, the state isn't known.
+#[repr(C)]
+#[derive(Clone, Copy)]
+pub struct Key {
+    pub one: u64,
+    pub two: u64,
+}
+
+/// A place of a run: its state, and the number of deviations that are possible there.
+#[repr(C)]
+#[derive(Clone, Copy)]
+pub struct Place {
+    pub key: Key,
+    pub possible: u32,
+}
+
+/// What is taken at a place of a run.
+#[repr(C)]
+#[derive(Clone, Copy)]
+pub struct Choice {
+    pub place: Place,
+    /// How much the deviations may cost from here on.
+    pub left: u32,
+    /// The number of the deviation. `possible`: none.
+    pub taken: u32,
+}
+
+/// A state from which all schedules pass whose deviations cost at most `left`. If `key.one` is 0, there is none.
+#[repr(C)]
+#[derive(Clone, Copy)]
+pub struct Known {
+    pub key: Key,
+    pub left: u32,
+}
+
+/// How much the deviations may cost after a choice.
+pub(crate) fn after(cost: u32, choice: Choice) -> u32
+    ensures { result ≡ left_after cost choice.left choice.place.possible choice.taken }
+{
+    if choice.taken >= choice.place.possible {
+        return choice.left;
+    }
+    if choice.left < cost {
+        return 0;
+    }
+    choice.left - cost
+}
+
+/// How much the deviations may cost after a path.
+pub(crate) fn left(depth: u32, cost: u32, path: &[Choice], count: usize) -> u32
+    requires { count ≤ length path.now }
+    ensures { result ≡ left_of cost depth (path_of count path.now) }
+{
+    if count == 0 {
+        return depth;
+    }
+    after(cost, path[count - 1])
+}
+
+/// The first choice at a place.
+pub(crate) fn first(cost: u32, left: u32, place: Place) -> Choice
+    ensures { result ≡ first_choice cost left place }
+{
+    Choice {
+        place,
+        left,
+        taken: if left < cost { place.possible } else { 0 },
+    }
+}
+
+/// The next choice at a place that has one.
+pub(crate) fn next(choice: Choice) -> Choice
+    requires { choice.taken < choice.place.possible }
+    ensures { result ≡ next_choice choice }
+{
+    Choice {
+        place: choice.place,
+        left: choice.left,
+        taken: choice.taken + 1,
+    }
+}

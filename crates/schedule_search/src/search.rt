@@ -1,0 +1,138 @@
+//! A search, and the steps of it that its caller makes.
+
+ghost use Rattle.std.specs.List.{Any};
+ghost use Rattle.std.specs.Prelude.{◌≡◌, ◌<◌, ◌≤◌, ◌∷◌, [], None, Some, length};
+ghost use Rattle.schedule_search.specs.Orders.{next_path};
+ghost use Rattle.schedule_search.specs.Searches.{BelowPass, IsKnownBy, IsSearch, first_choice, left_of, path_of};
+ghost use Rattle.schedule_search.specs.Searches.{run_in};
+ghost use Rattle.schedule_search.specs.declared.path.Choice.{Choice};
+ghost use Rattle.schedule_search.specs.Tests.{AllPass, EqualKeys, Test};
+
+use crate::known::{find, is_known, note};
+use crate::path::{Choice, Key, Known, Place, first, left, next};
+
+/// A search of the schedules whose deviations cost at most `depth`.
+#[repr(C)]
+#[derive(Clone, Copy)]
+pub struct Search {
+    pub depth: u32,
+    /// What a deviation costs: 1, or 0 if there may be any number of them.
+    pub cost: u32,
+    /// The number of choices in the path.
+    pub count: usize,
+    /// The number of choices, from the first one, after which a schedule has failed.
+    pub failing: usize,
+}
+
+/// What is done at a place.
+pub enum Met {
+    /// The newest choice of the path is taken.
+    Goes,
+    /// All that follows passes.
+    Passes,
+    /// The path has no room.
+    Full,
+}
+
+/// What is done after all that follows a path was tried.
+pub enum Step {
+    /// The newest choice of the path, which has changed, is taken.
+    Another,
+    /// There is one choice less, and all that follows the path was tried.
+    Removed,
+    /// The search has come to its end.
+    Ended,
+}
+
+/// A search that begins, with nothing known.
+pub fn begin(depth: u32, cost: u32, path: &[Choice], known: &mut [Known]) -> Search
+    ensures search { (test : Test) → IsSearch test result path.now known.new }
+    ensures begins { result ≡ record { depth = depth; cost = cost; count = 0; failing = 0 } }
+{
+    for entry in known.iter_mut() {
+        *entry = Known {
+            key: Key { one: 0, two: 0 },
+            left: 0,
+        };
+    }
+    Search {
+        depth,
+        cost,
+        count: 0,
+        failing: 0,
+    }
+}
+
+/// The run of the path comes to a place: what to do there.
+pub fn meet(search: &mut Search, path: &mut [Choice], known: &[Known], place: Place) -> Met
+    ensures search { (test : Test) → IsSearch test search.old path.old known.now
+        → test.at (run_in search.old path.old) ≡ Some place → IsSearch test search.new path.new known.now }
+    ensures passes { (test : Test) → IsSearch test search.old path.old known.now
+        → test.at (run_in search.old path.old) ≡ Some place → result ≡ Met.Passes
+        → BelowPass test search.new path.new }
+    ensures goes { result ≡ Met.Goes → path_of search.new.count path.new
+        ≡ first_choice search.old.cost (left_of search.old.cost search.old.depth (path_of search.old.count path.old)) place
+        ∷ path_of search.old.count path.old }
+    ensures same { result ≡ Met.Passes → (search.new ≡ search.old) × (path.new ≡ path.old) }
+    ensures full { result ≡ Met.Full → length path.old ≤ search.old.count }
+    ensures known { result ≡ Met.Passes → Any (λ entry. IsKnownBy entry place.key
+        (left_of search.old.cost search.old.depth (path_of search.old.count path.old))) known.now }
+    ensures kept { (search.new.depth ≡ search.old.depth) × (search.new.cost ≡ search.old.cost) }
+{
+    if search.count >= path.len() {
+        return Met::Full;
+    }
+    let most = left(search.depth, search.cost, path, search.count);
+    let at = find(known, place.key);
+    if at < known.len() && is_known(known[at], place.key, most) {
+        return Met::Passes;
+    }
+    path[search.count] = first(search.cost, most, place);
+    search.count += 1;
+    Met::Goes
+}
+
+/// All schedules that begin with the path were tried: what to do next.
+pub fn back(search: &mut Search, path: &mut [Choice], known: &mut [Known]) -> Step
+    ensures search { (test : Test) → IsSearch test search.old path.old known.old → EqualKeys test
+        → BelowPass test search.old path.old → IsSearch test search.new path.new known.new }
+    ensures removed { (test : Test) → IsSearch test search.old path.old known.old → EqualKeys test
+        → BelowPass test search.old path.old → result ≡ Step.Removed → BelowPass test search.new path.new }
+    ensures ended { (test : Test) → IsSearch test search.old path.old known.old → BelowPass test search.old path.old
+        → result ≡ Step.Ended → AllPass test search.old.cost search.old.depth [] }
+    ensures another { search.old.count ≤ length path.old → result ≡ Step.Another
+        → next_path (path_of search.old.count path.old) ≡ Some (path_of search.new.count path.new) }
+    ensures fewer { search.old.count ≤ length path.old → result ≡ Step.Removed
+        → next_path (path_of search.old.count path.old) ≡ next_path (path_of search.new.count path.new) }
+    ensures last { search.old.count ≤ length path.old → result ≡ Step.Ended
+        → next_path (path_of search.old.count path.old) ≡ None }
+    ensures shorter { search.old.count ≤ length path.old → result ≡ Step.Removed
+        → (choice : Choice) × (path_of search.old.count path.old ≡ choice ∷ path_of search.new.count path.new) }
+    ensures failing { 0 < search.old.count → search.old.count ≤ search.old.failing → result ≡ Step.Removed
+        → (known.new ≡ known.old) × (search.new.failing ≡ search.new.count) }
+    ensures kept { (search.new.depth ≡ search.old.depth) × (search.new.cost ≡ search.old.cost) }
+{
+    if search.count == 0 || search.count > path.len() {
+        return Step::Ended;
+    }
+    let count = search.count - 1;
+    let choice = path[count];
+    if choice.taken < choice.place.possible {
+        path[count] = next(choice);
+        return Step::Another;
+    }
+    search.count = count;
+    if search.failing > count {
+        search.failing = count;
+    } else {
+        note(known, choice.place.key, choice.left);
+    }
+    Step::Removed
+}
+
+/// The run of the path has failed: after none of its choices do all schedules pass.
+pub fn fail(search: &mut Search)
+    ensures { search.new ≡ record search.old { failing = search.old.count } }
+{
+    search.failing = search.count;
+}
