@@ -17,6 +17,7 @@ import shutil
 import subprocess
 import sys
 import tempfile
+from functools import partial
 
 TOP = os.path.dirname(os.path.dirname(os.path.abspath(__file__)))
 DRIVERS = os.path.join(TOP, "examples", "drivers")
@@ -24,6 +25,7 @@ EXAMPLES = os.path.join(TOP, "examples", "library")
 sys.dont_write_bytecode = True
 sys.path += [DRIVERS, os.path.join(TOP, "bindings", "python")]
 import adapter  # noqa: E402
+import large_driver  # noqa: E402
 import nic82540em  # noqa: E402
 import sweep  # noqa: E402
 from bench import Bench  # noqa: E402
@@ -338,6 +340,7 @@ def drivers(library):
             found[place] = failed and failed[:2]
         library.check(f"the driver {name}, in process and served", found["in process"], found["served"])
     sweep.Adapter = adapter.Adapter
+    large_driver.all_cases(library.check, "in process", partial(nic82540em.Adapter, library.shared), "right", "queue")
 
 
 # Examples

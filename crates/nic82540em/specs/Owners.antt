@@ -9,8 +9,8 @@ use Rattle.std.specs.Global.{Global}
 use Rattle.std.specs.Prelude.{[], ◌∷◌, List, None}
 use Rattle.std_heap.specs.contracts.GlobalAllocator.TheImpl.{ghosts}
 use Rattle.adapter.specs.Registers.{new_adapter}
-use Rattle.linked_adapter.specs.contracts.linked_adapter.LinkedAdapter.{the_row}
-use Rattle.linked_adapter.specs.declared.linked_adapter.LinkedAdapter.{LinkedAdapter}
+use Rattle.played_adapter.specs.contracts.player.PlayedAdapter.{the_row}
+use Rattle.played_adapter.specs.declared.player.PlayedAdapter.{PlayedAdapter}
 use Rattle.mdic_phy.specs.declared.phy.Link.TheVariants.{Never}
 
 -- a full owner owns a box, and an empty one has the null pointer
@@ -22,7 +22,7 @@ abbrev pub value_coded : Coded the_row.Denot
 value_coded = the_row.coded
 
 -- what an empty owner has for its value
-abbrev pub no_adapter : LinkedAdapter
+abbrev pub no_adapter : PlayedAdapter
 no_adapter = record {
   machine = record { world = record { memory = []; adapter = new_adapter [] Never }; reported = false };
   address = None;

@@ -1,25 +1,27 @@
 //! An 82540EM and its host's memory as a C library: `bindings/c/nic82540em.h` declares these calls.
 //!
-//! Each call is one of `linked_adapter`'s [`LinkedAdapter`](linked_adapter::LinkedAdapter), on an adapter that C's
-//! program keeps in a handle. A handle is made with zeros. If it holds no adapter, a call returns 0, `false` or
-//! `0xFFFFFFFF`, and changes nothing.
+//! Each call is one of `played_adapter`'s [`PlayedAdapter`], on an adapter that C's program keeps in a handle. A handle
+//! is made with zeros. If it holds no adapter, a call returns 0, `false` or `0xFFFFFFFF`, and changes nothing.
 #![tactic(auto)]
 
+mod calls;
 mod handle;
+mod numbers;
 mod owner;
+mod possible;
 
 ghost use Rattle.std.specs.Prelude.{◌≡◌, IfSome, false, length, true};
 ghost use Rattle.adapter.specs.Registers.{answer_at};
 ghost use Rattle.bus.specs.Digests.{digest_of};
 ghost use Rattle.bus.specs.Machines.{is_asserted};
 ghost use Rattle.bus.specs.declared.event.Access.TheVariants.{Reads, Writes};
-ghost use Rattle.linked_adapter.specs.Digests.{state_digest_of};
-ghost use Rattle.linked_adapter.specs.LinkedAdapters.{Accessed, AnswersArrival, AnswersInterleave, AnswersLoad};
-ghost use Rattle.linked_adapter.specs.LinkedAdapters.{AnswersSchedule, AnswersStep, AnswersStore, AnswersTaking};
-ghost use Rattle.linked_adapter.specs.LinkedAdapters.{IsCopy, IsNew, Settles, TellsPossible};
+ghost use Rattle.nic82540em.specs.Calls.{Accessed, AnswersArrival, AnswersInterleave, AnswersLoad, AnswersSchedule};
+ghost use Rattle.nic82540em.specs.Calls.{AnswersStep, AnswersStore, IsNew, Settles, TellsPossible};
+ghost use Rattle.nic82540em.specs.Digests.{state_digest_of};
+ghost use Rattle.played_adapter.specs.Playing.{AnswersTaking, IsCopy};
 
 pub use handle::Nic;
-use linked_adapter::{AdapterOptions, LinkedAdapter, REFUSED};
+pub use numbers::{AdapterOptions, REFUSED};
 use std::alloc::Global;
 
 /// Makes a new adapter in a handle that holds none. Returns `false`, and changes nothing, if the handle holds an
@@ -36,7 +38,7 @@ pub extern "C" fn nic82540em_new(alloc: Global, nic: &mut Nic, options: &Adapter
     if nic.held {
         return false;
     }
-    let Some(adapter) = LinkedAdapter::new(alloc, options) else {
+    let Some(adapter) = calls::new(alloc, options) else {
         return false;
     };
     let Ok(adapter) = Box::new(alloc, adapter) else {
@@ -74,7 +76,7 @@ pub extern "C" fn nic82540em_read(alloc: Global, nic: &mut Nic, offset: u32) -> 
         return 0;
     }
     let mut adapter = nic.owner.take(alloc);
-    let answer = adapter.read(offset);
+    let answer = calls::read(&mut adapter, offset);
     nic.owner.put(adapter);
     answer
 }
@@ -92,7 +94,7 @@ pub extern "C" fn nic82540em_write(alloc: Global, nic: &mut Nic, offset: u32, va
         return;
     }
     let mut adapter = nic.owner.take(alloc);
-    adapter.write(offset, value);
+    calls::write(&mut adapter, offset, value);
     nic.owner.put(adapter);
 }
 
@@ -115,7 +117,7 @@ pub extern "C" fn nic82540em_load(
         return false;
     }
     let mut adapter = nic.owner.take(alloc);
-    let answer = adapter.load(address, into);
+    let answer = calls::load(&mut adapter, address, into);
     nic.owner.put(adapter);
     answer
 }
@@ -133,13 +135,12 @@ pub extern "C" fn nic82540em_store(alloc: Global, nic: &mut Nic, address: u64, b
         return false;
     }
     let mut adapter = nic.owner.take(alloc);
-    let answer = adapter.store(address, bytes);
+    let answer = calls::store(&mut adapter, address, bytes);
     nic.owner.put(adapter);
     answer
 }
 
-/// Makes the adapter take the step with this number. Returns the number of the outcome, or `0xFFFFFFFF` if no step has
-/// this number.
+/// Makes the adapter take the step with this number. Returns the outcome's number, or `0xFFFFFFFF` if there is no step.
 #[unsafe(no_mangle)]
 pub extern "C" fn nic82540em_step(alloc: Global, nic: &mut Nic, number: u32) -> u32
     requires sound { nic.old.owner.full ≡ nic.old.held }
@@ -152,7 +153,7 @@ pub extern "C" fn nic82540em_step(alloc: Global, nic: &mut Nic, number: u32) -> 
         return REFUSED;
     }
     let mut adapter = nic.owner.take(alloc);
-    let answer = adapter.step(number);
+    let answer = calls::step(&mut adapter, number);
     nic.owner.put(adapter);
     answer
 }
@@ -170,7 +171,7 @@ pub extern "C" fn nic82540em_arrive(alloc: Global, nic: &mut Nic, frame: &[u8]) 
         return REFUSED;
     }
     let mut adapter = nic.owner.take(alloc);
-    let answer = adapter.arrive(frame);
+    let answer = calls::arrive(&mut adapter, frame);
     nic.owner.put(adapter);
     answer
 }
@@ -208,7 +209,7 @@ pub extern "C" fn nic82540em_line(alloc: Global, nic: &mut Nic) -> bool
         return false;
     }
     let mut adapter = nic.owner.take(alloc);
-    let answer = adapter.line();
+    let answer = adapter.machine.line();
     nic.owner.put(adapter);
     answer
 }
@@ -226,7 +227,7 @@ pub extern "C" fn nic82540em_settle(alloc: Global, nic: &mut Nic) -> u64
         return 0;
     }
     let mut adapter = nic.owner.take(alloc);
-    let answer = adapter.settle();
+    let answer = calls::settle(&mut adapter);
     nic.owner.put(adapter);
     answer
 }
@@ -246,7 +247,7 @@ pub extern "C" fn nic82540em_interleave(alloc: Global, nic: &mut Nic, count: u32
         return false;
     }
     let mut adapter = nic.owner.take(alloc);
-    let answer = adapter.interleave(count, seed);
+    let answer = calls::interleave(&mut adapter, count, seed);
     nic.owner.put(adapter);
     answer
 }
@@ -265,7 +266,7 @@ pub extern "C" fn nic82540em_accesses(alloc: Global, nic: &mut Nic) -> u64
         return 0;
     }
     let mut adapter = nic.owner.take(alloc);
-    let answer = adapter.accesses();
+    let answer = adapter.accesses;
     nic.owner.put(adapter);
     answer
 }
@@ -284,7 +285,7 @@ pub extern "C" fn nic82540em_waiting_received(alloc: Global, nic: &mut Nic) -> u
         return 0;
     }
     let adapter = nic.owner.take(alloc);
-    let answer = u32::from(adapter.waiting().received);
+    let answer = u32::from(adapter.machine.waiting().received);
     nic.owner.put(adapter);
     answer
 }
@@ -303,7 +304,7 @@ pub extern "C" fn nic82540em_waiting_transmit(alloc: Global, nic: &mut Nic) -> u
         return 0;
     }
     let adapter = nic.owner.take(alloc);
-    let answer = u32::from(adapter.waiting().transmit);
+    let answer = u32::from(adapter.machine.waiting().transmit);
     nic.owner.put(adapter);
     answer
 }
@@ -327,7 +328,7 @@ pub extern "C" fn nic82540em_schedule(
         return false;
     }
     let mut adapter = nic.owner.take(alloc);
-    let answer = adapter.schedule(access, number);
+    let answer = calls::schedule(&mut adapter, access, number);
     nic.owner.put(adapter);
     answer
 }
@@ -347,7 +348,7 @@ pub extern "C" fn nic82540em_peek(alloc: Global, nic: &mut Nic, offset: u32, int
         return false;
     }
     let adapter = nic.owner.take(alloc);
-    *into = adapter.peek(offset);
+    *into = adapter.machine.value(offset);
     nic.owner.put(adapter);
     true
 }
@@ -366,7 +367,7 @@ pub extern "C" fn nic82540em_possible(alloc: Global, nic: &mut Nic) -> u32
         return 0;
     }
     let adapter = nic.owner.take(alloc);
-    let answer = adapter.possible();
+    let answer = possible::possible(&adapter);
     nic.owner.put(adapter);
     answer
 }
@@ -384,7 +385,7 @@ pub extern "C" fn nic82540em_ticks(alloc: Global, nic: &mut Nic, on: bool)
         return;
     }
     let mut adapter = nic.owner.take(alloc);
-    adapter.ticks(on);
+    adapter.ticks = on;
     nic.owner.put(adapter);
 }
 
@@ -401,7 +402,7 @@ pub extern "C" fn nic82540em_recount(alloc: Global, nic: &mut Nic, accesses: u64
         return;
     }
     let mut adapter = nic.owner.take(alloc);
-    adapter.recount(accesses);
+    adapter.accesses = accesses;
     nic.owner.put(adapter);
 }
 
@@ -419,7 +420,7 @@ pub extern "C" fn nic82540em_digest(alloc: Global, nic: &mut Nic) -> u64
         return 0;
     }
     let adapter = nic.owner.take(alloc);
-    let answer = adapter.digest();
+    let answer = adapter.machine.digest();
     nic.owner.put(adapter);
     answer
 }
@@ -439,7 +440,7 @@ pub extern "C" fn nic82540em_state_digest(alloc: Global, nic: &mut Nic, seed: u6
         return 0;
     }
     let adapter = nic.owner.take(alloc);
-    let answer = adapter.state_digest(seed);
+    let answer = calls::state_digest(&adapter, seed);
     nic.owner.put(adapter);
     answer
 }
@@ -464,7 +465,7 @@ pub extern "C" fn nic82540em_copy(alloc: Global, nic: &mut Nic, into: &mut Nic) 
     let adapter = nic.owner.take(alloc);
     let copied = adapter.copy();
     nic.owner.put(adapter);
-    let Some(copied) = copied else {
+    let Ok(copied) = copied else {
         return false;
     };
     let Ok(copied) = Box::new(alloc, copied) else {
@@ -475,8 +476,7 @@ pub extern "C" fn nic82540em_copy(alloc: Global, nic: &mut Nic, into: &mut Nic) 
     true
 }
 
-/// Stores the address of the first byte of the host's memory in `into`, if memory has a byte. Returns the size of
-/// memory in bytes.
+/// Stores the address of the first byte of memory in `into`, if memory has a byte. Returns memory's size in bytes.
 #[unsafe(no_mangle)]
 pub extern "C" fn nic82540em_memory(alloc: Global, nic: &mut Nic, into: &mut *const u8) -> u64
     requires sound { nic.old.owner.full ≡ nic.old.held }
@@ -494,7 +494,7 @@ pub extern "C" fn nic82540em_memory(alloc: Global, nic: &mut Nic, into: &mut *co
     if let Some(address) = adapter.address {
         *into = address;
     }
-    let size = adapter.memory_size();
+    let size = adapter.machine.size();
     nic.owner.put(adapter);
     size
 }

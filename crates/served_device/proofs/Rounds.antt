@@ -1,30 +1,16 @@
 -- Rounds of steps.
-use Rattle.std.proofs.Common.{◌≡◌, ◌+◌, ◌<◌, ◌≤◌, ◌++◌, [], ◌∷◌}
+use Rattle.std.proofs.Common.{◌≡◌, ◌+◌, ◌<◌, ◌++◌, [], ◌∷◌}
 use Rattle.std.proofs.Common.{ℕ, Bool, true, false, List, Option, ap, arith, length, length-append, nat_lt}
 use Rattle.std.proofs.Common.{cond, refl, subst, sym}
 use Rattle.std.specs.Prelude.{All, sum}
 use Rattle.std.proofs.lemmas.Bool.Decides.{nat_tests}
 use Rattle.std.proofs.lemmas.List.Elements.{All-append, All-cons, All-nil}
 use Rattle.std.proofs.lemmas.List.Sums.{sum_by-append}
-use Rattle.adapter.specs.declared.outcome.Outcome.{Outcome}
-use Rattle.adapter.specs.declared.outcome.Outcome.TheVariants.{Took, Put, WireFull, Part, Moved, Done, Delivered, Ticked, Nothing, Fault}
-use Rattle.served_device.specs.Devices.{Round, Settles, with_last}
+use Rattle.played_adapter.specs.Playing.{with_last}
+use Rattle.served_device.specs.Devices.{Round, Settles}
 use Rattle.server_output.specs.Order.{InOrder, Tells}
-use Rattle.served_device.specs.Outcomes.{moved_by}
 use Rattle.served_device.specs.declared.device.Device.{Device}
 use Rattle.server_output.proofs.Writing.{tells_more, tells_none, tells_so}
-
-pub moved_little : (outcome : Outcome (Unit {0})) → moved_by outcome ≤ 1
-moved_little Took = omega arith
-moved_little (Put unit) = omega arith
-moved_little WireFull = omega arith
-moved_little Part = omega arith
-moved_little Moved = omega arith
-moved_little Done = omega arith
-moved_little (Delivered unit fate) = omega arith
-moved_little Ticked = omega arith
-moved_little Nothing = omega arith
-moved_little Fault = omega arith
 
 -- Rounds that each did something were played, and this many steps did something.
 pub record BusyRounds (count moved : ℕ) (a b : Device) (before now : Option (List ℕ)) : Type 0 where

@@ -4,7 +4,8 @@ use Rattle.std.proofs.Common.{subst, sym}
 use Rattle.std.specs.Prelude.{Err, IsErr, Ok, Result}
 use Rattle.adapter.specs.declared.step.StepKind.{StepKind}
 use Rattle.adapter.specs.declared.outcome.Outcome.{Outcome}
-use Rattle.served_device.specs.Devices.{Events, Happened, Plays, Prints, Round, Steps, TellsEvents, round}
+use Rattle.played_adapter.specs.Playing.{round}
+use Rattle.served_device.specs.Devices.{Events, Happened, Plays, Prints, Round, Steps, TellsEvents}
 use Rattle.served_device.specs.Happenings.{Happening}
 use Rattle.server_output.specs.Order.{InOrder, Tells, TellsPart, WritesPart}
 use Rattle.server_output.specs.Texts.{Text}

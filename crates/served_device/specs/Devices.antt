@@ -1,13 +1,13 @@
 -- What happens to the served adapter and its memory, and what is printed (our choice).
 use Rattle.std.specs.Prelude.{◌≡◌, ◌+◌, ◌++◌, ◌<◌, ◌≤◌, [], ◌∷◌}
-use Rattle.std.specs.Prelude.{ℕ, Bool, List, All, Option, Some, None, Result, Ok, Err, if◌then◌else◌, length, map, nat_lt, sum, take}
+use Rattle.std.specs.Prelude.{ℕ, Bool, List, All, Option, Some, None, Result, Ok, Err, if◌then◌else◌, length, map, sum, take}
 use Rattle.adapter.specs.Outcomes.{framed}
 use Rattle.adapter.specs.State.{AdapterState}
 use Rattle.adapter.specs.World.{World}
 use Rattle.adapter.specs.declared.outcome.Outcome.{Outcome}
 use Rattle.adapter.specs.declared.outcome.Outcome.TheVariants.{Fault}
 use Rattle.adapter.specs.declared.step.StepKind.{StepKind}
-use Rattle.adapter.specs.declared.step.StepKind.TheVariants.{TxTake, TxPut, RxData, RxDone, EepromTick, PhyTick}
+use Rattle.adapter.specs.declared.step.StepKind.TheVariants.{TxPut}
 use Rattle.tx_engine.specs.Transmitter.{Queued}
 use Rattle.engine_faults.specs.Faults.{fault_if_any}
 use Rattle.engine_faults.specs.declared.engine_fault.EngineFault.{EngineFault}
@@ -16,7 +16,8 @@ use Rattle.bus.specs.Trails.{Occurs}
 use Rattle.bus.specs.declared.event.Event.TheVariants as event
 use Rattle.served_device.specs.Happenings.{Happening, Stepped, event_of, faults_of, put_by, said_of, shown_of}
 use Rattle.server_output.specs.Order.{InOrder, Tells, TellsPart}
-use Rattle.served_device.specs.Outcomes.{moved_by}
+use Rattle.played_adapter.specs.Outcomes.{moved_by}
+use Rattle.played_adapter.specs.Playing.{round, with_last}
 use Rattle.server_output.specs.Texts.{Text, line_moved, said_log, step_said}
 use Rattle.served_device.specs.declared.device.Device.{Device}
 
@@ -38,9 +39,12 @@ keeping frames faults device = record device {
 
 -- It happens, and is printed: a line of the log, what is printed of it if events are printed, and a change of the interrupt line.
 pub record Prints (happening : Happening) (a b : Device) (text : Text) : Type 0 where
+  -- it can happen
   pub occurs : Occurs (event_of happening) a.machine.world
+  -- the device afterwards
   pub after : b
       ≡ told (keeping (put_by happening) (faults_of happening) (record a { machine = after_event (event_of happening) a.machine }))
+  -- what is printed
   pub text_is : text ≡ said_log a.log (said_of happening)
       ++ (shown_of a.events happening ++ line_moved a.machine.reported b.machine.reported)
 
@@ -81,31 +85,26 @@ to_put kind wire_free adapter = if wire_free then next_put kind adapter else []
 
 -- A step of this kind is played, and is counted if it does something.
 pub record Plays (kind : StepKind) (a b : Device × ℕ) (text : Text) : Type 0 where
+  -- the step's outcome
   pub outcome : Outcome (Unit {0})
+  -- it is played, and printed
   pub steps : Steps kind outcome a.0 b.0 text
+  -- one more, if it did something
   pub count : b.1 ≡ a.1 + moved_by outcome
-
--- the kinds of a round, each once
-abbrev pub round : List StepKind
-round = TxTake ∷ TxPut ∷ RxData ∷ RxDone ∷ EepromTick ∷ PhyTick ∷ []
 
 -- A round of steps is played, and this many do something.
 abbrev pub Round : (moved : ℕ) → Device → Device → Text → Type 0
 Round moved a b text = InOrder Plays round (a, 0) (b, moved) text
 
--- the maximum number of rounds of a settle
-abbrev pub most_rounds : ℕ
-most_rounds = 131072
-
--- rounds that do something, and then one that does nothing unless the maximum is reached
-abbrev pub with_last : (most : ℕ) → (busy : List ℕ) → List ℕ
-with_last most busy = if nat_lt (length busy) most then busy ++ 0 ∷ [] else busy
-
 -- Rounds are played until one does nothing, up to a maximum. This many steps do something.
 pub record Settles (most moved : ℕ) (a b : Device) (text : Text) : Type 0 where
   -- for each round that does something, the number of its steps that do something
   pub busy : List ℕ
+  -- each round but a last one did something
   pub each : All (λ here. 0 < here) busy
+  -- at most so many rounds did
   pub few : length busy ≤ most
+  -- the rounds, one after the other
   pub plays : InOrder Round (with_last most busy) a b text
+  -- the steps that did something, of all rounds
   pub moved_is : moved ≡ sum busy

@@ -7,6 +7,7 @@ use Rattle.engine_faults.specs.declared.engine_fault.EngineFault.{EngineFault}
 use Rattle.rx_engine.specs.declared.arrival.Fate.{Fate}
 use Rattle.server_output.specs.Texts.{Text, arrive_said, arrived_line, fault_line, frame_line}
 
+-- what happens to a device, with what the log says of it
 pub data Happening : Type 0 where
   -- an access or an arrival, and what the log says of it
   Logged : Event → (said : Text) → Happening
@@ -15,6 +16,7 @@ pub data Happening : Type 0 where
   -- the arrival of an offered frame
   Arrived : (frame : List ℕ) → Fate → Happening
 
+-- the event of the adapter and its memory
 abbrev pub event_of : Happening → Event
 event_of (Logged event said) = event
 event_of (Stepped event said faults) = event
@@ -43,5 +45,6 @@ event_lines (Logged event said) = []
 event_lines (Stepped event said faults) = flat_map frame_line (past_of_event event).put ++ flat_map fault_line faults
 event_lines (Arrived frame fate) = arrived_line fate frame
 
+-- the lines about an event, if events are printed
 abbrev pub shown_of : (events : Bool) → Happening → Text
 shown_of events happening = if events then event_lines happening else []

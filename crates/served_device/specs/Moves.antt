@@ -22,6 +22,7 @@ step_action kinds.RxDone = RxDone
 step_action kinds.EepromTick = EepromTick
 step_action kinds.PhyTick = PhyTick
 
+-- a step of this kind, played by itself
 abbrev pub play_step : StepKind → Move
 play_step kind = Play (Step kind)
 
@@ -39,10 +40,12 @@ moves_of Arrive = Play Arrival ∷ []
 moves_of HoldEeprom = []
 moves_of HoldPhy = []
 
+-- whether the EEPROM gets no tick
 abbrev pub holds_eeprom : Action → Bool
 holds_eeprom HoldEeprom = true
 holds_eeprom _ = false
 
+-- whether the PHY gets no tick
 abbrev pub holds_phy : Action → Bool
 holds_phy HoldPhy = true
 holds_phy _ = false

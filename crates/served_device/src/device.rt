@@ -1,11 +1,11 @@
 // The served adapter, and the lines that it prints.
 
 ghost use Rattle.std.specs.Prelude.{◌≡◌, ◌++◌, ◌≤◌, [], IfOk, OnOk, flat_map, if◌then◌else◌};
-ghost use Rattle.served_device.specs.Outcomes.{moved_by};
 
 use adapter::{Fate, Outcome, StepKind};
 use bus::Machine;
 use engine_faults::{EngineFault, fault_of};
+use played_adapter::{ROUND, moved_by};
 use server_output::{
     AnswerError, Faults, Frames, arrived_line, event_text, fate_word, frame_line, kind_word,
     outcome_word, push_fault_line, say,
@@ -13,20 +13,6 @@ use server_output::{
 use server_requests::Payload;
 use std::alloc::{AllocError, Global};
 use std::io::Write;
-
-/// The maximum number of rounds that `settle` plays (our choice). It is more than the descriptors of a ring and the
-/// ticks of a link.
-pub const MOST_ROUNDS: u32 = 131_072;
-
-/// The kinds of steps, each once, in the order of a round.
-const ROUND: [StepKind; 6] = [
-    StepKind::TxTake,
-    StepKind::TxPut,
-    StepKind::RxData,
-    StepKind::RxDone,
-    StepKind::EepromTick,
-    StepKind::PhyTick,
-];
 
 /// An adapter and its memory, and the state of what is printed.
 #[derive(Drop)]
@@ -43,16 +29,6 @@ pub struct Device {
     pub put: Frames,
     /// The faults that stopped an engine while events weren't printed, and that weren't fetched yet.
     pub faults: Faults,
-}
-
-/// 1 if a step with this outcome did something, else 0.
-fn moved_by(outcome: Outcome<()>) -> u64
-    ensures { result ≡ moved_by outcome }
-{
-    match outcome {
-        Outcome::Nothing | Outcome::WireFull => 0,
-        _ => 1,
-    }
 }
 
 impl Clone for Device {

@@ -7,8 +7,8 @@ mod choices;
 mod device;
 mod moves;
 
-pub use choices::{Choice, KINDS, choice_numbered, did, kind_numbered};
-pub use device::{Device, MOST_ROUNDS};
+pub use choices::{Choice, choice_numbered};
+pub use device::Device;
 pub use moves::{
     Move, eeprom_is_held, phy_is_held, push_all, push_default, round_word, step_action,
 };

@@ -11,7 +11,8 @@ use Rattle.served_device.specs.Devices.{Prints}
 use Rattle.served_device.specs.Happenings.{Arrived, Happening, event_of}
 use Rattle.served_session.specs.Sessions.{Chosen, ComesBefore, Draws, Interleaves, Makes, OldestArrives, Takes}
 use Rattle.served_session.specs.Sessions.{before_of, is_memory, is_register, meeting, meets_registers, noting}
-use Rattle.served_device.specs.Draws.{drawn, drawn_count}
+use Rattle.played_adapter.specs.Draws.{drawn_count}
+use Rattle.served_device.specs.Choices.{drawn}
 use Rattle.served_session.specs.Sessions.{place_in, place_with, target_at, target_of, write_to}
 use Rattle.access_names.specs.Names.{target_text}
 use Rattle.access_names.specs.declared.target.Target.{Target}

@@ -15,7 +15,8 @@ use Rattle.server_output.specs.Texts.{Text}
 use Rattle.server_requests.specs.declared.request.Request.{Request as AnyRequest}
 use Rattle.served_device.proofs.Stopping.{events_in_order, events_none, events_of_steps, events_one, events_so, events_then, stopped_after}
 use Rattle.served_device.specs.Devices.{Events, Happened, Prints, TellsEvents, told}
-use Rattle.served_device.specs.Draws.{drawn, drawn_count}
+use Rattle.played_adapter.specs.Draws.{drawn_count}
+use Rattle.served_device.specs.Choices.{drawn}
 use Rattle.served_device.specs.Happenings.{Arrived}
 use Rattle.served_device.specs.Moves.{round_word}
 use Rattle.served_device.specs.declared.choices.Choice.{Choice}

@@ -25,11 +25,12 @@ use Rattle.rx_engine.specs.declared.arrival.Fate.{Fate}
 use Rattle.adapter.specs.declared.step.StepKind.{StepKind}
 use Rattle.adapter.specs.declared.step.StepKind.TheVariants.{EepromTick, PhyTick}
 use Rattle.served_device.specs.Devices.{Happened, Prints, Settles, Steps, told}
-use Rattle.served_device.specs.Draws.{drawn, drawn_count}
+use Rattle.played_adapter.specs.Draws.{drawn_count}
+use Rattle.served_device.specs.Choices.{drawn}
 use Rattle.served_device.specs.Happenings.{Arrived}
 use Rattle.served_device.specs.Moves.{default_moves, holds_eeprom, holds_phy, moves_of, round_word, step_action}
 use Rattle.server_output.specs.Order.{Both, InOrder, Joins, Tells, TellsPart, Times}
-use Rattle.served_device.specs.Outcomes.{did}
+use Rattle.played_adapter.specs.Outcomes.{did}
 use Rattle.server_output.specs.Texts.{Text, line_moved, said_log}
 use Rattle.served_device.specs.declared.device.Device.{Device}
 use Rattle.served_device.specs.declared.choices.Choice.{Choice}
@@ -47,7 +48,9 @@ use Rattle.server_requests.specs.declared.refusal.Refusal.TheVariants as refusal
 
 -- Something happens to the device, and nothing else changes.
 pub record OnDevice (Happens : Device → Device → Text → Type 0) (a b : Session) (text : Text) : Type 0 where
+  -- what happens to the device
   pub happens : Happens a.device b.device text
+  -- nothing changes but the device
   pub after : b ≡ record a { device = b.device }
 
 -- Whether a schedule is played.
@@ -92,6 +95,7 @@ place_with (Some registers) in_memory address count =
     else Err refusals.Address
 place_with None in_memory address count = if in_memory then Ok Memory else Err refusals.Address
 
+-- the place of these bytes in a register or in memory, if they have one
 abbrev pub place_in : Session → (address count : ℕ) → Result Place Refusal
 place_in session address count = place_with (registers_of session.function) (is_memory session address count) address count
 
@@ -109,8 +113,11 @@ Takes Memory address bytes device = address + length bytes ≤ length device.mac
 
 -- An offered frame arrives, and those after it still wait.
 pub record FrameArrives (frame : List ℕ) (later : List (List ℕ)) (a b : Session) (text : Text) : Type 0 where
+  -- its fate
   pub fate : Fate
+  -- it arrives, and is printed
   pub prints : Prints (Arrived frame fate) a.device b.device text
+  -- it waits no longer
   pub after : b ≡ record a { device = b.device; offered = later }
 
 -- The oldest of these frames arrives, if there is one.
@@ -118,6 +125,7 @@ abbrev pub OldestArrives : (offered : List (List ℕ)) → Session → Session �
 OldestArrives [] a b text = (b ≡ a) × (text ≡ [])
 OldestArrives (frame ∷ later) a b text = FrameArrives frame later a b text
 
+-- The oldest offered frame arrives, if there is one.
 abbrev pub NextArrives : Session → Session → Text → Type 0
 NextArrives a b text = OldestArrives a.offered a b text
 
@@ -134,15 +142,22 @@ noting false action session = session
 
 -- A step is played, and noted if it does something.
 pub record StepPlayed (kind : StepKind) (a b : Session) (text : Text) : Type 0 where
+  -- its outcome
   pub outcome : Outcome (Unit {0})
+  -- the device after it
   pub device : Device
+  -- it is played, and printed
   pub steps : Steps kind outcome a.device device text
+  -- it is noted if it did something
   pub after : b ≡ noting (did outcome) (step_action kind) (record a { device = device })
 
 -- The oldest offered frame arrives, and is noted, if there is one.
 pub record ArrivalPlayed (a b : Session) (text : Text) : Type 0 where
+  -- the session after it
   pub arrived : Session
+  -- the oldest offered frame arrives
   pub arrives : NextArrives a arrived text
+  -- it is noted if there was one
   pub after : b ≡ noting (not (length a.offered == 0)) Arrive arrived
 
 -- A choice is played.
@@ -195,6 +210,7 @@ ComesBefore before target a b text =
     Joins (λ middle first. InOrder Makes (access_moves before name a) (meeting before name a) middle first)
     (λ middle rest. Interleaves middle b rest) text
 
+-- A request that begins a round plays what is due before it; another request plays nothing.
 abbrev pub RoundBeginsWith : Option Text → Session → Session → Text → Type 0
 RoundBeginsWith (Some word) a b text = InOrder Makes (request_moves word a) (meeting Request word a) b text
 RoundBeginsWith None a b text = (b ≡ a) × (text ≡ [])

@@ -4,8 +4,9 @@ ghost use Rattle.std.specs.Prelude.{◌≡◌};
 
 use crate::session::Session;
 use adapter::StepKind;
+use played_adapter::{KINDS, did, kind_numbered};
 use rand_core::utils::NextWord;
-use served_device::{Choice, KINDS, choice_numbered, did, kind_numbered, step_action};
+use served_device::{Choice, choice_numbered, step_action};
 use server_output::AnswerError;
 use std::alloc::Global;
 use std::io::Write;
@@ -18,7 +19,8 @@ impl Session {
     ghost use Rattle.served_device.specs.Devices.{TellsEvents};
     ghost use Rattle.served_session.specs.Sessions.{AllArrive, ArrivalPlayed, Chosen, Interleaves, NextArrives, Paced};
     ghost use Rattle.served_session.specs.Sessions.{StepPlayed, TellsRounds};
-    ghost use Rattle.served_device.specs.Draws.{drawn, drawn_count, drawn_kind};
+    ghost use Rattle.played_adapter.specs.Draws.{drawn_count, drawn_kind};
+    ghost use Rattle.served_device.specs.Choices.{drawn};
 
     /// The kind of steps that the next word of the generator chooses.
     fn draw_kind(&mut self) -> StepKind

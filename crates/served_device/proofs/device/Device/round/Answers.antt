@@ -2,9 +2,10 @@ use Rattle.std.proofs.Common.{◌≡◌, ◌+◌, ◌++◌, ◌∷◌, [], List,
 use Rattle.std.proofs.lemmas.List.{take_more}
 use Rattle.adapter.specs.declared.step.StepKind.{StepKind}
 use Rattle.adapter.specs.declared.step.StepKind.TheVariants.{TxTake}
-use Rattle.served_device.specs.Devices.{Plays, Steps, round}
+use Rattle.played_adapter.specs.Playing.{round}
+use Rattle.served_device.specs.Devices.{Plays, Steps}
 use Rattle.server_output.specs.Order.{InOrder, Tells}
-use Rattle.served_device.proofs.Rounds.{moved_little}
+use Rattle.played_adapter.proofs.Rounds.{moved_little}
 use Rattle.served_device.proofs.Stopping.{events_of_plays, events_stop, stopped_after}
 use Rattle.server_output.proofs.Writing.{tells_more, tells_none, tells_so}
 use Rattle.served_device.proofs.device.Device.round.Goals as goal

@@ -1,5 +1,6 @@
 use Rattle.std.proofs.Common.{◌≤◌, take}
-use Rattle.served_device.specs.Devices.{Plays, round}
+use Rattle.played_adapter.specs.Playing.{round}
+use Rattle.served_device.specs.Devices.{Plays}
 use Rattle.server_output.specs.Order.{InOrder, Tells}
 use Rattle.served_device.proofs.device.Device.round.Given as goal
 

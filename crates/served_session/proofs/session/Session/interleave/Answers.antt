@@ -2,7 +2,8 @@ use Rattle.std.proofs.Common.{◌≡◌, ◌∙◌, ℕ, ap, arith, replicate, s
 use Rattle.served_device.specs.Devices.{Happened}
 use Rattle.server_output.specs.Order.{Tells, TellsPart, Times}
 use Rattle.served_session.specs.Sessions.{Chosen, Draws}
-use Rattle.served_device.specs.Draws.{drawn, drawn_count}
+use Rattle.played_adapter.specs.Draws.{drawn_count}
+use Rattle.served_device.specs.Choices.{drawn}
 use Rattle.served_device.specs.declared.device.Device.{Device}
 use Rattle.served_device.specs.declared.choices.Choice.{Choice}
 use Rattle.served_session.specs.declared.session.Session.{Session}

@@ -1,4 +1,0 @@
-pub mod Playing
-pub mod Rounds
-pub mod Schedules
-pub mod Works

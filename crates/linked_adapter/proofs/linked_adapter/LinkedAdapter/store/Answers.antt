@@ -1,8 +1,0 @@
-use Rattle.std.proofs.Common.{arith, length, rules}
-use Rattle.linked_adapter.proofs.Playing.{still_fits}
-use Rattle.linked_adapter.proofs.linked_adapter.LinkedAdapter.store.Goals as goal
-
-pub store-requires : goal.store-requires
-store-requires c =
-    let fits = still_fits c.args.self.now c.prepare.new.self c.args.address (length c.args.bytes.now) (search rules) c.prepare.ensures in
-    omega arith

@@ -1,4 +1,0 @@
-pub mod Digests
-pub mod Order
-pub mod Numbers
-pub mod LinkedAdapters

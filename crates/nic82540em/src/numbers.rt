@@ -1,0 +1,89 @@
+// Numbers that stand for options, kinds of steps, outcomes and fates in calls from C (our choice).
+
+ghost use Rattle.std.specs.Prelude.{◌≡◌};
+ghost use Rattle.nic82540em.specs.Numbers as numbers;
+
+use adapter::{Fate, Outcome, StepKind};
+use mdic_phy::Link;
+use played_adapter::{KINDS, kind_numbered};
+
+/// The number that a call returns if it refuses the number of a step.
+pub const REFUSED: u32 = 0xFFFF_FFFF;
+
+/// The greatest number of ticks until the link is up.
+const MOST_TICKS: u32 = 65_535;
+
+/// What a new adapter is made of.
+#[repr(C)]
+#[derive(Clone, Copy)]
+pub struct AdapterOptions {
+    /// The size of memory in bytes.
+    pub memory: u64,
+    /// The number of ticks of the PHY from the start of negotiation until the link is up, at most 65,535. 0: never.
+    pub link: u32,
+    /// PBA.RXA, the receive part of the packet buffer in kilobytes: an even number from 2 to 48.
+    pub receive_kilobytes: u32,
+    /// The Ethernet address in the EEPROM.
+    pub address: [u8; 6],
+}
+
+/// The link with this number.
+pub(crate) fn link_with(number: u32) -> Option<Link>
+    ensures { result ≡ numbers.link_with number }
+{
+    if number == 0 {
+        return Some(Link::Never);
+    }
+    if number > MOST_TICKS {
+        return None;
+    }
+    Some(Link::After(number as u16))
+}
+
+/// Whether PBA.RXA may have this value.
+pub(crate) fn is_receive_share(kilobytes: u32) -> bool
+    ensures { result ≡ numbers.is_receive_share kilobytes }
+{
+    kilobytes % 2 == 0 && 2 <= kilobytes && kilobytes <= 48
+}
+
+/// The kind of steps with this number, if there is one.
+pub(crate) fn kind_with(number: u32) -> Option<StepKind>
+    ensures { result ≡ numbers.kind_with number }
+{
+    if number < KINDS {
+        return Some(kind_numbered(number));
+    }
+    None
+}
+
+/// The number of an outcome.
+pub(crate) fn outcome_number(outcome: Outcome<()>) -> u32
+    ensures { result ≡ numbers.outcome_number outcome }
+{
+    match outcome {
+        Outcome::Nothing => 0,
+        Outcome::Took => 1,
+        Outcome::Put(_) => 2,
+        Outcome::WireFull => 3,
+        Outcome::Part => 4,
+        Outcome::Moved => 5,
+        Outcome::Done => 6,
+        Outcome::Ticked => 7,
+        Outcome::Fault => 8,
+        Outcome::Delivered(_, _) => 9,
+    }
+}
+
+/// The number of a fate.
+pub(crate) fn fate_number(fate: Fate) -> u32
+    ensures { result ≡ numbers.fate_number fate }
+{
+    match fate {
+        Fate::Off => 0,
+        Fate::Illegal => 1,
+        Fate::Filtered => 2,
+        Fate::Missed => 3,
+        Fate::Stored => 4,
+    }
+}

@@ -1,0 +1,54 @@
+-- What happens and is told, in parts.
+use Rattle.std.proofs.Common.{◌≡◌, ◌++◌, ◌∙◌, ◌∷◌, [], ℕ, List, ap, false, length, refl}
+use Rattle.bus.specs.Machines.{MachineState, after_event}
+use Rattle.bus.specs.Trails.{Occurs}
+use Rattle.bus.specs.declared.event.Access.{Access}
+use Rattle.bus.specs.declared.event.Event.{Event}
+use Rattle.bus.specs.declared.event.Event.TheVariants.{Accesses}
+use Rattle.played_adapter.specs.Order.{Composes, Tells}
+use Rattle.played_adapter.specs.Playing.{Accessed, AnswersLoad, Happens, HappensAlone, Prepares, Reports, after, has_bytes, line_of}
+use Rattle.played_adapter.specs.Playing.{reported}
+use Rattle.played_adapter.specs.Told.{Told}
+use Rattle.played_adapter.specs.Told as told
+use Rattle.played_adapter.specs.declared.player.PlayedAdapter.{PlayedAdapter}
+use Rattle.played_adapter.proofs.Telling.{tells_both}
+
+module _ {O : Type 0} (heard : O → O → List Told → Type 0) (laws : Composes heard) where
+  -- It happened, and was told; then the line was reported.
+  pub happened : (one : Event) (of_it of_that : List Told) (a next m b : PlayedAdapter) (before now end : O)
+      → Occurs one a.machine.world → m ≡ next → heard before now of_it → of_it ≡ of_that → Tells heard now end (Reports m b)
+      → Tells heard before end (Happens one of_that next a b)
+  happened one of_it of_that a next m b before now end occurs state tells same reports = record {
+    told = of_it ++ reports.told;
+    holds = record {
+      occurs = occurs;
+      after = reports.holds.0 ∙ ap reported state;
+      told_is = ap (λ (list : List Told). list ++ reports.told) same
+          ∙ ap (λ (list : List Told). of_that ++ list) (reports.holds.1 ∙ ap line_of state);
+    };
+    hears = laws.joins before now end of_it reports.told tells reports.hears;
+  }
+
+  -- An access happened after the steps before it.
+  pub accessed : (access : Access) (a middle b : PlayedAdapter) (machine : MachineState) (before now later end : O)
+      → Tells heard before now (Prepares a middle) → Occurs (Accesses access) middle.machine.world
+      → machine ≡ after_event (Accesses access) middle.machine → heard now later (told.Accessed access ∷ [])
+      → Tells heard later end (Reports (record middle { machine = machine }) b) → Tells heard before end (Accessed access a b)
+  accessed access a middle b machine before now later end prepares occurs state tells reports =
+      tells_both heard laws (Prepares a) (λ m. HappensAlone access m b) middle before now end prepares
+      (happened (Accesses access) _ (told.Accessed access ∷ []) middle (after (Accesses access) middle) _ b now later end occurs
+      (ap (λ (m : MachineState). record middle { machine = m }) state) tells refl reports)
+
+  -- No bytes are loaded.
+  pub not_loaded : (address : ℕ) (bytes : List ℕ) (a : PlayedAdapter) (before : O) → false ≡ has_bytes a address (length bytes)
+      → Tells heard before before (AnswersLoad address bytes bytes false a a)
+  not_loaded address bytes a before is = record {
+    told = [];
+    holds = record {
+      range = is;
+      accessed = λ yes. absurd (cc);
+      loaded = λ yes. absurd (cc);
+      refused = λ no. (refl, refl, refl);
+    };
+    hears = laws.stays before;
+  }

@@ -1,0 +1,45 @@
+use Rattle.std.proofs.Common.{◌≡◌, ◌+◌, ◌++◌, ◌∷◌, [], List, ap, arith, get_or, subst, sym, take}
+use Rattle.std.proofs.lemmas.List.{take_all, take_more}
+use Rattle.adapter.specs.declared.step.StepKind.{StepKind}
+use Rattle.adapter.specs.declared.step.StepKind.TheVariants.{TxTake}
+use Rattle.played_adapter.specs.Playing.{Plays, Steps}
+use Rattle.played_adapter.specs.Order.{InOrder, Tells}
+use Rattle.played_adapter.proofs.Rounds.{moved_little}
+use Rattle.played_adapter.proofs.Telling.{tells_more, tells_none, tells_so}
+use Rattle.played_adapter.proofs.player.PlayedAdapter.play.Goals as goal
+
+pub loop-kind-init : goal.loop-kind-init
+loop-kind-init g c = record {
+  plays = tells_none Plays g.O.Observer.heard g.met.O.Observer.composes (c.args.self.now, 0) c.args.observer.now;
+  few = omega arith;
+}
+
+pub loop-kind-preserved : goal.loop-kind-preserved
+loop-kind-preserved g c =
+    let heard = g.O.Observer.heard in
+    let i = c.loop-kind.kind-index in
+    let all = c.args.kinds.now in
+    let kind : StepKind = get_or all i TxTake in
+    let outcome = c.step-outcome.result in
+    let more = c.loop-kind.moved + c.moved_by-moved.result in
+    let plays = tells_so heard (Steps kind outcome c.loop-kind.self c.step-outcome.new.self)
+    (Plays kind (c.loop-kind.self, c.loop-kind.moved) (c.step-outcome.new.self, more)) c.loop-kind.observer c.step-outcome.new.observer
+    (λ told steps. record { outcome = outcome; steps = steps; count = ap (◌+◌ c.loop-kind.moved) c.moved_by-moved.ensures })
+    c.step-outcome.ensures in
+    let kinds : take i all ++ kind ∷ [] ≡ take (i + 1) all = sym (take_more all i TxTake c.loop-kind-test.true) in
+    record {
+      plays = subst
+          (λ (ks : List StepKind). Tells heard c.args.observer.now c.step-outcome.new.observer
+          (InOrder Plays ks (c.args.self.now, 0) (c.step-outcome.new.self, more))) kinds
+          (tells_more Plays heard g.met.O.Observer.composes (take i all) kind (c.args.self.now, 0)
+          (c.loop-kind.self, c.loop-kind.moved) (c.step-outcome.new.self, more)
+          c.args.observer.now c.loop-kind.observer c.step-outcome.new.observer c.loop-kind.invariant.plays plays);
+      few = omega (arith, c.moved_by-moved.ensures, moved_little outcome);
+    }
+
+pub returns-clause-plays : goal.returns-clause-plays
+returns-clause-plays g c =
+    subst
+    (λ (ks : List StepKind). Tells g.O.Observer.heard c.args.observer.now c.loop-kind.observer
+    (InOrder Plays ks (c.args.self.now, 0) (c.loop-kind.self, c.loop-kind.moved)))
+    (take_all c.loop-kind.kind-index c.args.kinds.now c.loop-kind-test.false) c.loop-kind.invariant.plays

@@ -1,0 +1,15 @@
+-- What the words of a generator choose (our choice; its 32-bit words are those of rand_pcg's Lcg64Xsh32).
+use Rattle.std.specs.Prelude.{◌==◌, ◌+◌, ◌%◌, ℕ, if◌then◌else◌}
+use Rattle.rand_pcg.specs.Lcg.{Lcg}
+use Rattle.rand_pcg.specs.Pcg.{pcg32}
+use Rattle.adapter.specs.declared.step.StepKind.{StepKind}
+use Rattle.played_adapter.specs.Kinds.{kind_numbered}
+
+-- the kind of a step
+abbrev pub drawn_kind : Lcg → StepKind × Lcg
+drawn_kind generator = let word = pcg32 generator in (kind_numbered (word.0 % 6), word.1)
+
+-- the number of steps before an access, up to a maximum; no word is used if the maximum is 0
+abbrev pub drawn_count : (most : ℕ) → Lcg → ℕ × Lcg
+drawn_count most generator =
+    if most == 0 then (0, generator) else (let word = pcg32 generator in (word.0 % (most + 1), word.1))

@@ -1,0 +1,302 @@
+-- What is played on an adapter, and what an observer is told of it (our choice).
+use denote.RawPtr.{Ptr}
+use Rattle.std.specs.Prelude.{◌≡◌, ◌+◌, ◌++◌, ◌<◌, ◌≤◌, [], ◌∷◌, ℕ, Bool, false, true, List, Option, None, All}
+use Rattle.std.specs.Prelude.{drop, if◌then◌else◌, length, min, nat_le, nat_lt, sum}
+use Rattle.rand_core.specs.Pcg32Seed.{pcg32_seed}
+use Rattle.rand_pcg.specs.Pcg.{pcg32_of_seed}
+use Rattle.adapter.specs.Outcomes.{FrameOutcome, framed, put_by}
+use Rattle.adapter.specs.State.{AdapterState}
+use Rattle.adapter.specs.World.{World}
+use Rattle.adapter.specs.declared.outcome.Outcome.{Outcome}
+use Rattle.adapter.specs.declared.outcome.Outcome.TheVariants.{Fault, Nothing, Put, WireFull}
+use Rattle.adapter.specs.declared.step.StepKind.{StepKind}
+use Rattle.adapter.specs.declared.step.StepKind.TheVariants.{EepromTick, PhyTick, RxData, RxDone, TxPut, TxTake}
+use Rattle.bus.specs.LivelyBuses.{most_accesses}
+use Rattle.bus.specs.Machines.{after_event, is_asserted}
+use Rattle.bus.specs.Trails.{Occurs}
+use Rattle.bus.specs.declared.event.Access.{Access}
+use Rattle.bus.specs.declared.event.Access.TheVariants.{Loads, Stores}
+use Rattle.bus.specs.declared.event.Event.{Event}
+use Rattle.bus.specs.declared.event.Event.TheVariants as event
+use Rattle.dma_memory.specs.HostMemory.{bytes_at}
+use Rattle.engine_faults.specs.Faults.{fault_if_any}
+use Rattle.engine_faults.specs.declared.engine_fault.EngineFault.{EngineFault}
+use Rattle.rx_engine.specs.declared.arrival.Fate.{Fate}
+use Rattle.tx_engine.specs.Transmitter.{Queued}
+use Rattle.played_adapter.specs.Draws.{drawn_count, drawn_kind}
+use Rattle.played_adapter.specs.Order.{InOrder, Joins, Times}
+use Rattle.played_adapter.specs.Outcomes.{moved_by}
+use Rattle.played_adapter.specs.Told.{Arrived, Line, Stepped, Told}
+use Rattle.played_adapter.specs.Told as tell
+use Rattle.played_adapter.specs.declared.player.PlayedAdapter.{PlayedAdapter}
+use Rattle.played_adapter.specs.declared.scheduling.ScheduledStep.{ScheduledStep}
+
+-- A new adapter.
+
+-- an empty wire of 64 frames, no steps before accesses, and no access so far; the address of memory is any
+unfoldable pub new_player : (memory : List ℕ) → AdapterState → Option Ptr → PlayedAdapter
+new_player memory adapter address = record {
+  machine = record { world = record { memory = memory; adapter = adapter }; reported = is_asserted adapter };
+  address = address;
+  wire = record { capacity = 64; frames = [] };
+  generator = pcg32_of_seed (pcg32_seed 16 0);
+  most_steps = 0;
+  scheduled = record { items = []; capacity = 4096 };
+  accesses = 0;
+  ticks = false;
+}
+
+-- A copy of an adapter: only the address of its memory differs, and the level of its interrupt line at the last report.
+pub record IsCopy (a copy : PlayedAdapter) : Type 0 where
+  -- the same adapter and the same memory
+  pub world : copy.machine.world ≡ a.machine.world
+  -- all else is the same, too
+  pub same : copy ≡ record a { machine = copy.machine; address = copy.address }
+
+-- What happens.
+
+-- the adapter after the level of its interrupt line was told
+abbrev pub reported : PlayedAdapter → PlayedAdapter
+reported a = record a { machine = record a.machine { reported = is_asserted a.machine.world.adapter } }
+
+-- a change of the interrupt line, if it is one
+abbrev pub line_told : (was is : Bool) → List Told
+line_told false true = Line true ∷ []
+line_told true false = Line false ∷ []
+line_told true true = []
+line_told false false = []
+
+-- the change of the interrupt line since it was told, if it is one
+abbrev pub line_of : PlayedAdapter → List Told
+line_of a = line_told a.machine.reported (is_asserted a.machine.world.adapter)
+
+-- A change of the interrupt line is told.
+abbrev pub Reports : PlayedAdapter → PlayedAdapter → List Told → Type 0
+Reports a b told = (b ≡ reported a) × (told ≡ line_of a)
+
+-- It happens, and leads to the next state. This is told of it, and then a change of the interrupt line.
+pub record Happens (one : Event) (of_it : List Told) (next : PlayedAdapter) (a b : PlayedAdapter) (told : List Told) : Type 0 where
+  -- it can happen in this state
+  pub occurs : Occurs one a.machine.world
+  -- then the level of the line counts as told
+  pub after : b ≡ reported next
+  -- it is told, and then the change of the line
+  pub told_is : told ≡ of_it ++ line_of next
+
+-- after an event that puts no frame
+abbrev pub after : Event → PlayedAdapter → PlayedAdapter
+after one a = record a { machine = after_event one a.machine }
+
+-- A frame arrives, and has this fate.
+abbrev pub Arrives : (frame : List ℕ) → Fate → PlayedAdapter → PlayedAdapter → List Told → Type 0
+Arrives frame fate a b told = Happens (event.Arrives frame fate) (Arrived frame fate ∷ []) (after (event.Arrives frame fate) a) a b told
+
+-- Steps.
+
+-- the wire has room while fewer frames wait on it than it holds
+abbrev pub has_room : PlayedAdapter → Bool
+has_room a = nat_lt (length a.wire.frames) a.wire.capacity
+
+-- a step of this kind with this outcome
+abbrev pub step_of : StepKind → Outcome (Unit {0}) → PlayedAdapter → Event
+step_of kind outcome a = event.Steps kind (has_room a) (framed outcome a.machine.world.adapter)
+
+-- the frame that is put next, the oldest of a packet buffer, if there is one
+abbrev pub next_frames : List Queued → List (List ℕ)
+next_frames [] = []
+next_frames (queued ∷ later) = queued.frame ∷ []
+
+-- after a step; a frame that it put waits on the wire after the others
+abbrev pub after_step : StepKind → Outcome (Unit {0}) → PlayedAdapter → PlayedAdapter
+after_step kind outcome a = record a {
+  machine = after_event (step_of kind outcome a) a.machine;
+  wire = record a.wire { frames = a.wire.frames ++ put_by (framed outcome a.machine.world.adapter) };
+}
+
+-- the fault that a step is, if it is one, in the world after it
+abbrev pub fault_told : StepKind → Outcome (Unit {0}) → World → Option EngineFault
+fault_told kind Fault world = fault_if_any kind world
+fault_told kind outcome world = None
+
+-- A step of this kind is played, with this outcome.
+abbrev pub Steps : StepKind → Outcome (Unit {0}) → PlayedAdapter → PlayedAdapter → List Told → Type 0
+Steps kind outcome a b told =
+    Happens (step_of kind outcome a)
+    (Stepped kind (framed outcome a.machine.world.adapter) (fault_told kind outcome (after_step kind outcome a).machine.world) ∷ [])
+    (after_step kind outcome a) a b told
+
+-- the outcome of a step that puts, with this room on the wire
+abbrev pub expected : (wire_free : Bool) → List Queued → FrameOutcome
+expected wire_free [] = Nothing
+expected true (queued ∷ later) = Put queued.frame
+expected false (queued ∷ later) = WireFull
+
+-- A step of this kind is played, and is counted if it does something.
+pub record Plays (kind : StepKind) (a b : PlayedAdapter × ℕ) (told : List Told) : Type 0 where
+  -- the outcome of the step
+  pub outcome : Outcome (Unit {0})
+  -- the step is played
+  pub steps : Steps kind outcome a.0 b.0 told
+  -- the number of steps that did something
+  pub count : b.1 ≡ a.1 + moved_by outcome
+
+-- The wire.
+
+-- the oldest of these frames; no bytes if there is none
+abbrev pub front_of : List (List ℕ) → List ℕ
+front_of [] = []
+front_of (frame ∷ later) = frame
+
+-- the oldest frame is off the wire
+abbrev pub without_front : PlayedAdapter → PlayedAdapter
+without_front a = record a { wire = record a.wire { frames = drop 1 a.wire.frames } }
+
+-- The oldest frame is taken into a buffer, if it fits: the buffer before and after, and the number that is answered.
+pub record AnswersTaking (old new : List ℕ) (answer : ℕ) (a b : PlayedAdapter) : Type 0 where
+  -- the length of the oldest frame, 0 if there is none
+  pub length_is : answer ≡ length (front_of a.wire.frames)
+  -- If it fits, it is at the beginning of the buffer, and off the wire.
+  pub bytes : answer ≤ length old → new ≡ front_of a.wire.frames ++ drop answer old
+  pub taken : answer ≤ length old → b ≡ without_front a
+  -- Otherwise nothing changed.
+  -- the buffer
+  pub same_bytes : length old < answer → new ≡ old
+  -- and the wire
+  pub same : length old < answer → b ≡ a
+
+-- Rounds.
+
+-- the kinds of a round, each once
+abbrev pub round : List StepKind
+round = TxTake ∷ TxPut ∷ RxData ∷ RxDone ∷ EepromTick ∷ PhyTick ∷ []
+
+-- A round of steps is played, and this many do something.
+abbrev pub Round : (moved : ℕ) → PlayedAdapter → PlayedAdapter → List Told → Type 0
+Round moved a b told = InOrder Plays round (a, 0) (b, moved) told
+
+-- the maximum number of rounds of a settle
+abbrev pub most_rounds : ℕ
+most_rounds = 131072
+
+-- rounds that do something, and then one that does nothing unless the maximum is reached
+abbrev pub with_last : (most : ℕ) → (busy : List ℕ) → List ℕ
+with_last most busy = if nat_lt (length busy) most then busy ++ 0 ∷ [] else busy
+
+-- Rounds are played until one does nothing, up to a maximum. This many steps do something.
+pub record Settles (most moved : ℕ) (a b : PlayedAdapter) (told : List Told) : Type 0 where
+  -- for each round that does something, the number of its steps that do something
+  pub busy : List ℕ
+  -- each of these numbers is above 0
+  pub each : All (λ here. 0 < here) busy
+  -- the maximum isn't exceeded
+  pub few : length busy ≤ most
+  -- these rounds are played, in order
+  pub plays : InOrder Round (with_last most busy) a b told
+  -- all steps that do something
+  pub moved_is : moved ≡ sum busy
+
+-- Steps before an access.
+
+-- the ticks before an access: a step of the EEPROM, and one of the PHY
+abbrev pub both_ticks : List StepKind
+both_ticks = EepromTick ∷ PhyTick ∷ []
+
+-- The ticks are played, if they are on.
+abbrev pub Ticks : PlayedAdapter → PlayedAdapter → List Told → Type 0
+Ticks a b told = (moved : ℕ) × InOrder Plays (if a.ticks then both_ticks else []) (a, 0) (b, moved) told
+
+-- the steps at the front of a schedule that are due before an access: their numbers aren't greater
+abbrev pub due : (access : ℕ) → List ScheduledStep → List ScheduledStep
+due access [] = []
+due access (step ∷ later) = if nat_le step.access access then step ∷ due access later else []
+
+-- the steps that are due before the next access
+abbrev pub due_in : PlayedAdapter → List ScheduledStep
+due_in a = due a.accesses a.scheduled.items
+
+-- the step at the front of the schedule no longer waits
+abbrev pub without_next : PlayedAdapter → PlayedAdapter
+without_next a = record a { scheduled = record a.scheduled { items = drop 1 a.scheduled.items } }
+
+-- A step of the schedule is played, and no longer waits.
+abbrev pub PlaysScheduled : ScheduledStep → PlayedAdapter → PlayedAdapter → List Told → Type 0
+PlaysScheduled step a b told = (outcome : Outcome (Unit {0})) × Steps step.kind outcome (without_next a) b told
+
+-- A step is added at the end of the schedule, if the schedule has room.
+pub record AnswersSchedule (access : ℕ) (kind : StepKind) (answer : Bool) (a b : PlayedAdapter) : Type 0 where
+  -- whether the schedule has room
+  pub range : answer ≡ nat_lt (length a.scheduled.items) a.scheduled.capacity
+  -- if it has, the step is the last of the schedule
+  pub taken : answer ≡ true → b ≡ record a {
+    scheduled = record a.scheduled { items = a.scheduled.items ++ record { access = access; kind = kind } ∷ [] };
+  }
+  -- if not, nothing changes
+  pub refused : answer ≡ false → b ≡ a
+
+-- after the generator chose a kind of steps
+abbrev pub chosen : PlayedAdapter → PlayedAdapter
+chosen a = record a { generator = (drawn_kind a.generator).1 }
+
+-- A step of the kind that the generator's next word chooses is played.
+abbrev pub DrawsStep : PlayedAdapter → PlayedAdapter → List Told → Type 0
+DrawsStep a b told = (outcome : Outcome (Unit {0})) × Steps (drawn_kind a.generator).0 outcome (chosen a) b told
+
+-- The generator chooses a number of steps, and then the kind of each. The steps are played.
+abbrev pub Interleaves : PlayedAdapter → PlayedAdapter → List Told → Type 0
+Interleaves a b told =
+    Times DrawsStep (drawn_count a.most_steps a.generator).0 (record a { generator = (drawn_count a.most_steps a.generator).1 }) b told
+
+-- an access is counted
+abbrev pub counted : PlayedAdapter → PlayedAdapter
+counted a = record a { accesses = min (a.accesses + 1) most_accesses }
+
+-- The steps that the generator chooses are played, and the access is counted.
+abbrev pub Draws : PlayedAdapter → PlayedAdapter → List Told → Type 0
+Draws a b told = (drawn : PlayedAdapter) × Interleaves a drawn told × (b ≡ counted drawn)
+
+-- The ticks are played, if they are on, then the steps of the schedule that are due, and then the steps that the generator chooses. The
+-- access is counted.
+abbrev pub Prepares : PlayedAdapter → PlayedAdapter → List Told → Type 0
+Prepares a b told =
+    Joins (Ticks a) (λ ticked later. Joins (InOrder PlaysScheduled (due_in ticked) ticked) (λ waited rest. Draws waited b rest) later) told
+
+-- Accesses.
+
+-- The access happens, and is told.
+abbrev pub HappensAlone : Access → PlayedAdapter → PlayedAdapter → List Told → Type 0
+HappensAlone access a b told =
+    Happens (event.Accesses access) (tell.Accessed access ∷ []) (after (event.Accesses access) a) a b told
+
+-- The steps before an access are played, and then the access happens.
+abbrev pub Accessed : Access → PlayedAdapter → PlayedAdapter → List Told → Type 0
+Accessed access a b told = Joins (Prepares a) (λ middle rest. HappensAlone access middle b rest) told
+
+-- memory contains this many bytes from an address on
+abbrev pub has_bytes : PlayedAdapter → (address count : ℕ) → Bool
+has_bytes a address count = nat_le (address + count) (length a.machine.world.memory)
+
+-- Bytes are loaded into a buffer, if memory contains them: the buffer before and after, and the answer.
+pub record AnswersLoad (address : ℕ) (old new : List ℕ) (answer : Bool) (a b : PlayedAdapter) (told : List Told) : Type 0 where
+  -- whether memory contains the bytes
+  pub range : answer ≡ has_bytes a address (length old)
+  -- if it does, the access happens,
+  pub accessed : answer ≡ true → Accessed (Loads address (length old)) a b told
+  -- and the buffer has the bytes
+  pub loaded : answer ≡ true → new ≡ bytes_at b.machine.world.memory address (length old)
+  -- if not, nothing happens
+  pub refused : answer ≡ false → (new ≡ old) × (b ≡ a) × (told ≡ [])
+
+-- Bytes are stored, if memory contains their places.
+pub record AnswersStore (address : ℕ) (bytes : List ℕ) (answer : Bool) (a b : PlayedAdapter) (told : List Told) : Type 0 where
+  -- whether memory contains their places
+  pub range : answer ≡ has_bytes a address (length bytes)
+  -- if it does, the access happens
+  pub accessed : answer ≡ true → Accessed (Stores address bytes) a b told
+  -- if not, nothing happens
+  pub refused : answer ≡ false → (b ≡ a) × (told ≡ [])
+
+-- An access without steps before it happens alone.
+abbrev pub QuietAccessesAreExact : Type 0
+QuietAccessesAreExact =
+    (access : Access) (a b : PlayedAdapter) (told : List Told) → a.ticks ≡ false → a.most_steps ≡ 0 → due_in a ≡ [] → Accessed access a b told
+    → HappensAlone access (counted a) b told

@@ -1,0 +1,18 @@
+-- What an observer is told (our choice).
+use Rattle.std.specs.Prelude.{ℕ, Bool, List, Option}
+use Rattle.adapter.specs.Outcomes.{FrameOutcome}
+use Rattle.adapter.specs.declared.step.StepKind.{StepKind}
+use Rattle.bus.specs.declared.event.Access.{Access}
+use Rattle.engine_faults.specs.declared.engine_fault.EngineFault.{EngineFault}
+use Rattle.rx_engine.specs.declared.arrival.Fate.{Fate}
+
+-- one thing that an observer is told
+pub data Told : Type 0 where
+  -- a step, its outcome, and its fault if it is one
+  Stepped : StepKind → FrameOutcome → Option EngineFault → Told
+  -- a frame that arrived, and its fate
+  Arrived : (frame : List ℕ) → Fate → Told
+  -- an access
+  Accessed : Access → Told
+  -- the new level of the interrupt line
+  Line : (level : Bool) → Told

@@ -1,0 +1,77 @@
+// The steps before an access that the generator draws.
+
+ghost use Rattle.std.specs.Prelude.{◌≡◌};
+ghost use Rattle.rand_core.specs.Pcg32Seed.{pcg32_seed};
+ghost use Rattle.rand_pcg.specs.Pcg.{pcg32_of_seed};
+ghost use Rattle.played_adapter.specs.Draws.{drawn_count, drawn_kind};
+ghost use Rattle.played_adapter.specs.Kinds as kinds;
+ghost use Rattle.played_adapter.specs.Order.{Tells};
+ghost use Rattle.played_adapter.specs.Playing.{Interleaves};
+
+use crate::observer::Observer;
+use crate::player::PlayedAdapter;
+use adapter::StepKind;
+use rand_core::SeedableRng;
+use rand_core::utils::NextWord;
+use rand_pcg::Lcg64Xsh32;
+
+/// The number of kinds of steps.
+pub const KINDS: u32 = 6;
+
+/// The kind of steps with this number, below 6.
+pub fn kind_numbered(number: u32) -> StepKind
+    ensures { result ≡ kinds.kind_numbered number }
+{
+    match number {
+        0 => StepKind::TxTake,
+        1 => StepKind::TxPut,
+        2 => StepKind::RxData,
+        3 => StepKind::RxDone,
+        4 => StepKind::EepromTick,
+        _ => StepKind::PhyTick,
+    }
+}
+
+impl PlayedAdapter {
+    /// From now on, up to `most` steps are played before each access. A generator with this seed draws them. With 0,
+    /// no steps are played.
+    pub fn interleave(&mut self, most: u16, seed: u64)
+        ensures { self.new ≡ record self.old { generator = pcg32_of_seed (pcg32_seed 16 seed); most_steps = most } }
+    {
+        self.generator = Lcg64Xsh32::seed_from_u64(seed);
+        self.most_steps = most;
+    }
+
+    /// The kind of steps that the next word of the generator chooses.
+    fn draw_kind(&mut self) -> StepKind
+        ensures kind { result ≡ (drawn_kind self.old.generator).0 }
+        ensures state { self.new ≡ record self.old { generator = (drawn_kind self.old.generator).1 } }
+    {
+        let word: u32 = self.generator.next_word();
+        kind_numbered(word % KINDS)
+    }
+
+    /// The number of steps that the next word of the generator chooses. Takes no word if the maximum is 0.
+    fn draw_count(&mut self) -> u64
+        ensures count { result ≡ (drawn_count self.old.most_steps self.old.generator).0 }
+        ensures state { self.new ≡
+            record self.old { generator = (drawn_count self.old.most_steps self.old.generator).1 } }
+    {
+        if self.most_steps == 0 {
+            return 0;
+        }
+        let word: u32 = self.generator.next_word();
+        u64::from(word) % (u64::from(self.most_steps) + 1)
+    }
+
+    /// Plays the steps before an access that the generator chooses.
+    pub(crate) fn interleave_steps<O: Observer>(&mut self, observer: &mut O)
+        ensures { Tells O.heard observer.old observer.new (Interleaves self.old self.new) }
+    {
+        let count = self.draw_count();
+        for _step in 0..count {
+            let kind = self.draw_kind();
+            self.step(kind, observer);
+        }
+    }
+}

@@ -1,0 +1,92 @@
+// Who is told what happens.
+
+ghost use Rattle.std.specs.Prelude.{◌≤◌, ◌∷◌, [], List, length};
+ghost use Rattle.adapter.specs.Outcomes.{with_frame};
+ghost use Rattle.bus.specs.declared.event.Access.TheVariants.{Loads, Reads, Stores, Writes};
+ghost use Rattle.descriptors.specs.Frames.{longest_frame};
+ghost use Rattle.played_adapter.specs.Order.{Composes};
+ghost use Rattle.played_adapter.specs.Told as told;
+ghost use Rattle.played_adapter.specs.Told.{Told};
+
+use adapter::{Fate, Outcome, StepKind};
+use engine_faults::EngineFault;
+
+/// Is told what happens to an adapter, in order. Bytes are lent to it; it must copy those that it needs later.
+pub trait Observer {
+    /// Between these two of its states, it was told exactly this list, in order.
+    ghost heard: { Self → Self → List Told → Type 0 };
+
+    /// A step had this outcome. If it put a frame, `frame` is this frame. If it is a fault, `fault` is its reason.
+    fn stepped(
+        &mut self,
+        kind: StepKind,
+        outcome: Outcome<()>,
+        frame: &[u8],
+        fault: Option<EngineFault>,
+    )
+        requires fits { length frame.now ≤ longest_frame }
+        ensures { heard self.old self.new (told.Stepped kind (with_frame frame.now outcome) fault ∷ []) };
+
+    /// A frame arrived, and had this fate.
+    fn arrived(&mut self, frame: &[u8], fate: Fate)
+        ensures { heard self.old self.new (told.Arrived frame.now fate ∷ []) };
+
+    /// The register at an offset was read as this value.
+    fn read(&mut self, offset: u32, value: u32)
+        ensures { heard self.old self.new (told.Accessed (Reads offset value) ∷ []) };
+
+    /// The register at an offset was written with this value.
+    fn written(&mut self, offset: u32, value: u32)
+        ensures { heard self.old self.new (told.Accessed (Writes offset value) ∷ []) };
+
+    /// These bytes were loaded from an address on.
+    fn loaded(&mut self, address: u64, bytes: &[u8])
+        ensures { heard self.old self.new (told.Accessed (Loads address (length bytes.now)) ∷ []) };
+
+    /// These bytes were stored from an address on.
+    fn stored(&mut self, address: u64, bytes: &[u8])
+        ensures { heard self.old self.new (told.Accessed (Stores address bytes.now) ∷ []) };
+
+    /// The interrupt line has this level now.
+    fn line(&mut self, level: bool)
+        ensures { heard self.old self.new (told.Line level ∷ []) };
+
+    /// From a state to itself it was told nothing, and what it was told in two consecutive intervals it was told in
+    /// both together.
+    ghost composes: { Composes heard };
+}
+
+/// An observer that keeps nothing.
+#[derive(Clone, Copy, Debug, PartialEq, Eq, Drop)]
+pub struct Nobody;
+
+impl Observer for Nobody {
+    ghost use Rattle.std.specs.Prelude.{⊤};
+
+    ghost heard = { λ before after told. ⊤ };
+
+    ghost composes = { record {
+      stays = λ a. tt;
+      joins = λ a b c first later one two. tt;
+    } };
+
+    fn stepped(
+        &mut self,
+        _kind: StepKind,
+        _outcome: Outcome<()>,
+        _frame: &[u8],
+        _fault: Option<EngineFault>,
+    ) {}
+
+    fn arrived(&mut self, _frame: &[u8], _fate: Fate) {}
+
+    fn read(&mut self, _offset: u32, _value: u32) {}
+
+    fn written(&mut self, _offset: u32, _value: u32) {}
+
+    fn loaded(&mut self, _address: u64, _bytes: &[u8]) {}
+
+    fn stored(&mut self, _address: u64, _bytes: &[u8]) {}
+
+    fn line(&mut self, _level: bool) {}
+}

@@ -1,0 +1,61 @@
+// Steps that are played before accesses with given numbers.
+
+ghost use Rattle.std.specs.Prelude.{◌≡◌, IfSome, None, slice_get};
+ghost use Rattle.played_adapter.specs.Order.{InOrder, Tells};
+ghost use Rattle.played_adapter.specs.Playing.{AnswersSchedule, PlaysScheduled, due_in, without_next};
+
+use crate::observer::Observer;
+use crate::player::PlayedAdapter;
+use adapter::StepKind;
+
+/// The number of steps that may wait for their accesses (our choice).
+pub(crate) const MOST_SCHEDULED: usize = 4096;
+
+/// A step that waits for an access.
+#[derive(Clone, Copy)]
+pub struct ScheduledStep {
+    /// The number of the access. The first access has number 0.
+    pub access: u64,
+    /// The kind of the step.
+    pub kind: StepKind,
+}
+
+impl PlayedAdapter {
+    /// Adds a step of this kind to the end of the schedule. It is played before the access with number `access`, after
+    /// the steps that come before it in the schedule.
+    ///
+    /// If 4,096 steps wait, returns `false` and changes nothing.
+    pub fn schedule(&mut self, access: u64, kind: StepKind) -> bool
+        ensures { AnswersSchedule access kind result self.old self.new }
+    {
+        self.scheduled
+            .try_push_back(ScheduledStep { access, kind })
+            .is_ok()
+    }
+
+    /// The next step of the schedule, if it is due before the next access. It no longer waits.
+    fn take_due(&mut self) -> Option<ScheduledStep>
+        ensures step { result ≡ slice_get (due_in self.old) 0 }
+        ensures state { IfSome result (λ step. self.new ≡ without_next self.old) }
+        ensures none { result ≡ None → self.new ≡ self.old }
+    {
+        let Some(front) = self.scheduled.front() else {
+            return None;
+        };
+        let step = *front;
+        if step.access > self.accesses {
+            return None;
+        }
+        self.scheduled.pop_front();
+        Some(step)
+    }
+
+    /// Plays the steps of the schedule that are due before the next access.
+    pub(crate) fn play_scheduled<O: Observer>(&mut self, observer: &mut O)
+        ensures { Tells O.heard observer.old observer.new (InOrder PlaysScheduled (due_in self.old) self.old self.new) }
+    {
+        while let Some(step) = self.take_due() {
+            self.step(step.kind, observer);
+        }
+    }
+}

@@ -1,0 +1,168 @@
+// Steps, arrivals, and rounds of steps.
+
+ghost use Rattle.std.specs.Prelude.{◌≡◌, ◌≤◌, ◌∷◌, [], None, length};
+ghost use Rattle.adapter.specs.declared.step.StepKind.TheVariants.{TxPut};
+ghost use Rattle.bus.specs.Trails.{Occurs};
+ghost use Rattle.played_adapter.specs.Order.{InOrder, Tells};
+ghost use Rattle.played_adapter.specs.Outcomes as outcomes;
+ghost use Rattle.played_adapter.specs.Playing.{Arrives, Plays, Reports, Round, Settles, Steps, after_step, expected};
+ghost use Rattle.played_adapter.specs.Playing.{fault_told, has_room, step_of};
+ghost use Rattle.played_adapter.specs.Told as told;
+
+use crate::observer::Observer;
+use crate::player::PlayedAdapter;
+use adapter::{Fate, Outcome, StepKind};
+use engine_faults::{EngineFault, fault_of};
+
+/// The maximum number of rounds that `settle` plays (our choice). It is more than the descriptors of a ring and the
+/// ticks of a link.
+pub const MOST_ROUNDS: u32 = 131_072;
+
+/// The kinds of steps, each once, in the order of a round.
+pub const ROUND: [StepKind; 6] = [
+    StepKind::TxTake,
+    StepKind::TxPut,
+    StepKind::RxData,
+    StepKind::RxDone,
+    StepKind::EepromTick,
+    StepKind::PhyTick,
+];
+
+/// Whether a step with this outcome did something.
+pub fn did(outcome: Outcome<()>) -> bool
+    ensures { result ≡ outcomes.did outcome }
+{
+    !matches!(outcome, Outcome::Nothing | Outcome::WireFull)
+}
+
+/// 1 if a step with this outcome did something, else 0.
+pub fn moved_by(outcome: Outcome<()>) -> u64
+    ensures { result ≡ outcomes.moved_by outcome }
+{
+    match outcome {
+        Outcome::Nothing | Outcome::WireFull => 0,
+        _ => 1,
+    }
+}
+
+impl PlayedAdapter {
+    /// Tells a change of the interrupt line.
+    #[inline(always)]
+    pub(crate) fn report<O: Observer>(&mut self, observer: &mut O)
+        ensures { Tells O.heard observer.old observer.new (Reports self.old self.new) }
+    {
+        if let Some(level) = self.machine.report_line() {
+            observer.line(level);
+        }
+    }
+
+    /// The fault that a step was, if it was one.
+    fn fault_told(&self, kind: StepKind, outcome: Outcome<()>) -> Option<EngineFault>
+        ensures { result ≡ fault_told kind outcome self.now.machine.world }
+    {
+        match outcome {
+            Outcome::Fault => fault_of(&self.machine, kind),
+            _ => None,
+        }
+    }
+
+    /// Makes the adapter take a step. A frame that it puts waits on the wire.
+    #[inline(always)]
+    fn take_step(&mut self, kind: StepKind) -> Outcome<()>
+        ensures occurs { Occurs (step_of kind result self.old) self.old.machine.world }
+        ensures state { self.new ≡ after_step kind result self.old }
+    {
+        let wire_free = self.has_room();
+        if wire_free && kind == StepKind::TxPut {
+            self.put_oldest();
+        }
+        self.machine.step(kind, wire_free)
+    }
+
+    /// Tells the step that puts the oldest frame on the wire, before the step: the frame is lent to the observer.
+    #[inline(always)]
+    fn tell_put<O: Observer>(&self, observer: &mut O)
+        ensures { O.heard observer.old observer.new (told.Stepped TxPut
+            (expected (has_room self.now) self.now.machine.world.adapter.transmitter.buffer) None ∷ []) }
+    {
+        let Some(frame) = self.machine.to_put() else {
+            observer.stepped(StepKind::TxPut, Outcome::Nothing, &[], None);
+            return;
+        };
+        if self.has_room() {
+            observer.stepped(StepKind::TxPut, Outcome::Put(()), frame, None);
+        } else {
+            observer.stepped(StepKind::TxPut, Outcome::WireFull, &[], None);
+        }
+    }
+
+    /// Puts the oldest frame on the wire.
+    fn put<O: Observer>(&mut self, observer: &mut O) -> Outcome<()>
+        ensures { Tells O.heard observer.old observer.new (Steps TxPut result self.old self.new) }
+    {
+        self.tell_put(observer);
+        let outcome = self.take_step(StepKind::TxPut);
+        self.report(observer);
+        outcome
+    }
+
+    /// Makes the adapter take a step. The wire has room for a frame until 64 frames wait on it.
+    pub fn step<O: Observer>(&mut self, kind: StepKind, observer: &mut O) -> Outcome<()>
+        ensures { Tells O.heard observer.old observer.new (Steps kind result self.old self.new) }
+    {
+        if let StepKind::TxPut = kind {
+            return self.put(observer);
+        }
+        let outcome = self.take_step(kind);
+        let fault = self.fault_told(kind, outcome);
+        observer.stepped(kind, outcome, &[], fault);
+        self.report(observer);
+        outcome
+    }
+
+    /// Delivers a frame to the adapter. Returns the frame's fate.
+    pub fn arrive<O: Observer>(&mut self, frame: &[u8], observer: &mut O) -> Fate
+        ensures { Tells O.heard observer.old observer.new (Arrives frame.now result self.old self.new) }
+    {
+        let fate = self.machine.arrive(frame);
+        observer.arrived(frame, fate);
+        self.report(observer);
+        fate
+    }
+
+    /// Plays steps of these kinds, in order. Returns the number of steps that did something.
+    pub(crate) fn play<O: Observer>(&mut self, kinds: &[StepKind], observer: &mut O) -> u64
+        ensures plays { Tells O.heard observer.old observer.new (InOrder Plays kinds.now (self.old, 0) (self.new, result)) }
+        ensures few { result ≤ length kinds.now }
+    {
+        let mut moved = 0;
+        for kind in kinds {
+            let outcome = self.step(*kind, observer);
+            moved += moved_by(outcome);
+        }
+        moved
+    }
+
+    /// Plays a round of steps, one of each kind. Returns the number of steps that did something.
+    fn round<O: Observer>(&mut self, observer: &mut O) -> u64
+        ensures plays { Tells O.heard observer.old observer.new (Round result self.old self.new) }
+        ensures few { result ≤ 6 }
+    {
+        self.play(&ROUND, observer)
+    }
+
+    /// Plays rounds of steps until one does nothing, up to a maximum. Returns the number of steps that did something.
+    pub fn settle<O: Observer>(&mut self, most: u32, observer: &mut O) -> u64
+        ensures { Tells O.heard observer.old observer.new (Settles most result self.old self.new) }
+    {
+        let mut all = 0;
+        for _round in 0..most {
+            let moved = self.round(observer);
+            if moved == 0 {
+                return all;
+            }
+            all += moved;
+        }
+        all
+    }
+}

@@ -1,0 +1,49 @@
+// The wire: the frames that the adapter put, and that nobody has taken.
+
+ghost use Rattle.std.specs.Prelude.{◌≡◌, ◌<◌, ◌++◌, length};
+ghost use Rattle.played_adapter.specs.Playing.{AnswersTaking, has_room, next_frames};
+
+use crate::player::PlayedAdapter;
+
+/// The number of frames that fit on the wire (our choice).
+pub const WIRE_FRAMES: u8 = 64;
+
+impl PlayedAdapter {
+    /// Whether the wire has room for a frame: until 64 frames wait on it.
+    #[inline(always)]
+    pub(crate) fn has_room(&self) -> bool
+        ensures { result ≡ has_room self.now }
+    {
+        self.wire.len() < self.wire.capacity()
+    }
+
+    /// Copies the frame that the adapter puts next, if there is one, to the end of the wire, which has room.
+    pub(crate) fn put_oldest(&mut self)
+        requires { length self.old.wire.frames < self.old.wire.capacity }
+        ensures { self.new ≡ record self.old {
+          wire = record self.old.wire {
+            frames = self.old.wire.frames ++ next_frames self.old.machine.world.adapter.transmitter.buffer;
+          };
+        } }
+    {
+        if let Some(frame) = self.machine.to_put() {
+            self.wire.push(frame);
+        }
+    }
+
+    /// Takes the oldest frame off the wire, if it fits into `into`. Returns its length in bytes, or 0 if no frame
+    /// waits. If the length is greater than that of `into`, the frame stays, and nothing changed.
+    pub fn take_put(&mut self, into: &mut [u8]) -> usize
+        ensures { AnswersTaking into.old into.new result self.old self.new }
+    {
+        let Some(frame) = self.wire.front() else {
+            return 0;
+        };
+        let count = frame.len();
+        if count <= into.len() {
+            into[..count].copy_from_slice(frame);
+            self.wire.pop();
+        }
+        count
+    }
+}
