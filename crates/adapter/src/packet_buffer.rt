@@ -29,7 +29,7 @@ const TXA_SHIFT: u32 = 16;
 
 /// PBA, the packet buffer allocation register: the kilobytes of the receive part, RXA, an even
 /// number from 2 to 48 (our choice).
-#[derive(Clone, Copy, Debug, PartialEq, Eq)]
+#[derive(Clone, Copy)]
 pub(crate) struct PacketBufferAllocation {
     receive_kilobytes: u32,
 }

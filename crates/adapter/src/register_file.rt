@@ -21,7 +21,7 @@ const WORD_BITS: u32 = 16;
 const ADDRESS_VALID: u32 = 1 << 31;
 
 /// The registers that a reset sets, all but PBA and those of the PHY. The filter has RCTL and VET, too.
-#[derive(Clone, Debug, Drop)]
+#[derive(Clone, Drop)]
 pub(crate) struct RegisterFile {
     pub(crate) ctrl: Ctrl,
     pub(crate) eerd: Eerd,

@@ -2,7 +2,8 @@
 use Rattle.std.proofs.Common.{◌++◌, ℕ, List, Option, refl}
 use Rattle.std.specs.Prelude.{Err, Ok, Result}
 use Rattle.adapter_server.specs.Answers.{Answered, SettlesAll, SettlesUntil, TellsAnswer}
-use Rattle.served_device.specs.Devices.{Settles, TellsEvents, most_rounds}
+use Rattle.played_adapter.specs.Playing.{most_rounds}
+use Rattle.served_device.specs.Devices.{Settles, TellsEvents}
 use Rattle.server_output.specs.Order.{Says, Tells}
 use Rattle.served_session.specs.Sessions.{AllArrive, OnDevice}
 use Rattle.server_output.specs.Texts.{Text}

@@ -11,7 +11,7 @@ use crate::small_answers::{
 };
 use crate::snapshot::Server;
 use adapter::StepKind;
-use served_device::MOST_ROUNDS;
+use played_adapter::MOST_ROUNDS;
 use served_session::Session;
 use server_output::{AnswerError, fate_word, outcome_word, refuse, say, say_number, say_word};
 use server_requests::{NextLine, Refusal, Request, Stop, read_line};

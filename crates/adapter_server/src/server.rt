@@ -14,7 +14,7 @@ use schedule_player::Player;
 use server_output::{AnswerError, send};
 use server_requests::{MOST_LINE_BYTES, NextLine, next_line};
 use std::alloc::Global;
-use std::io::{Read, Write};
+use std::io::{BufRead, Write};
 
 /// Answers a line, and flushes the answer.
 fn answer_and_send<W: Write>(
@@ -33,7 +33,7 @@ fn answer_and_send<W: Write>(
 
 /// Reads the input line by line, and answers each line before it reads the next.
 #[tactic(auto, using(crate::proofs::ServedLines::never_read))]
-fn serve_lines<R: Read, W: Write>(
+fn serve_lines<R: BufRead, W: Write>(
     server: &mut Server,
     alloc: Global,
     input: &mut R,
@@ -60,8 +60,7 @@ fn serve_lines<R: Read, W: Write>(
 /// Serves an adapter: reads requests from `input`, one a line, and answers each on `output`. Flushes `output` after
 /// each answer, before it reads more. Returns at the end of the input.
 ///
-/// It reads the input byte by byte, so pass a reader with a buffer. Pass a writer with a buffer too: each answer is
-/// flushed as a whole.
+/// Pass a writer with a buffer: each answer is flushed as a whole.
 ///
 /// Each line is answered. A line that isn't a request is refused. So is a line of more than 131,200 bytes, which is
 /// skipped to its end.
@@ -79,7 +78,7 @@ fn serve_lines<R: Read, W: Write>(
 /// the next answer may follow: a beginning of the text of some events, in the order in which they happened, or of the
 /// whole answer. That these are the events of the next line isn't proved.
 #[tactic(auto, using(crate::proofs::ServedLines::never_read))]
-pub fn serve<R: Read + Drop, W: Write>(
+pub fn serve<R: BufRead + Drop, W: Write>(
     alloc: Global,
     options: &ServeOptions,
     player: Option<Player>,

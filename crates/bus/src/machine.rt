@@ -61,6 +61,7 @@ impl Machine {
     }
 
     /// Makes the adapter take a step. `wire_free` says whether the wire has room for a frame.
+    #[inline(always)]
     pub fn step(&mut self, kind: StepKind, wire_free: bool) -> Outcome<()>
         ensures occurs { Occurs (Steps kind wire_free (framed result self.old.world.adapter)) self.old.world }
         ensures state { self.new

@@ -37,7 +37,9 @@ goes-without_drops adds drops begin end (one ∷ later) none =
       λ goes.
           let middle : goes.0 ≡ begin ++ adds one =
           sym (append-nil goes.0) ∙ ap (λ (list : List (List ℕ)). goes.0 ++ list) (sym parts.0) ∙ sym goes.1 in
-          (rest goes.0).0 goes.2 ∙ ap (λ (list : List (List ℕ)). list ++ flat_map adds later) middle ∙ append_assoc begin (adds one) (flat_map adds later),
+          (rest goes.0).0 goes.2
+          ∙ ap (λ (list : List (List ℕ)). list ++ flat_map adds later) middle
+          ∙ append_assoc begin (adds one) (flat_map adds later),
       λ same. (
         begin ++ adds one,
         sym (append-nil (begin ++ adds one)) ∙ ap (λ (list : List (List ℕ)). (begin ++ adds one) ++ list) (sym parts.0),

@@ -287,8 +287,10 @@ access-receives groups (Stores address bytes) w leaves = receives-none groups w.
 -- a write of RDT or TDT is such an access
 pub tails-leave_reception : (offset value : ℕ) → (offset ≡ RDT) ⊎ (offset ≡ TDT) → LeavesReception (Writes offset value)
 tails-leave_reception offset value is = elim is [
-  | inl receive ↦ subst (λ (o : ℕ). IfSome (register_at o) IsNotOfReception) (sym receive) (at_offset IsNotOfReception (Receive Tail) tt tt)
-  | inr transmit ↦ subst (λ (o : ℕ). IfSome (register_at o) IsNotOfReception) (sym transmit) (at_offset IsNotOfReception (Transmit Tail) tt tt)
+  | inl receive ↦
+      subst (λ (o : ℕ). IfSome (register_at o) IsNotOfReception) (sym receive) (at_offset IsNotOfReception (Receive Tail) tt tt)
+  | inr transmit ↦
+      subst (λ (o : ℕ). IfSome (register_at o) IsNotOfReception) (sym transmit) (at_offset IsNotOfReception (Transmit Tail) tt tt)
 ]
 
 -- Trails.

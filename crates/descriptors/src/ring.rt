@@ -47,7 +47,8 @@ impl Ring {
         requires { index < count_of self.now }
         ensures { result ≡ next_of self.now index }
     {
-        ((index as u32 + 1) % self.count()) as u16
+        let next = index as u32 + 1;
+        if next == self.count() { 0 } else { next as u16 }
     }
 
     /// How many slots it is from one slot on to another.
@@ -56,8 +57,11 @@ impl Ring {
         requires to_slot { to < count_of self.now }
         ensures { result ≡ distance_of self.now from to }
     {
-        let count = self.count();
-        (to as u32 + count - from as u32) % count
+        if from <= to {
+            to as u32 - from as u32
+        } else {
+            to as u32 + self.count() - from as u32
+        }
     }
 
     /// Where the descriptor of a slot stands in memory, or `None` exactly where that is no address of 64 bits:

@@ -100,6 +100,7 @@ impl Network {
     }
 
     /// Plays a tick by itself, in no call. The observer is told its outcome, with this number of accesses.
+    #[inline(always)]
     pub fn play<O: Observer>(&mut self, tick: Tick, accesses: u64, observer: &mut O)
         requires room { 0 < O.room_left observer.old }
         ensures plays { PlaysNoted O.Observer tick accesses (watched self.old.stations observer.old)

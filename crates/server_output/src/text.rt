@@ -70,7 +70,11 @@ fn push_parts(text: &mut Vec<u8>, parts: &[&[u8]]) -> Result<(), AllocError>
 fn joined(alloc: Global, parts: &[&[u8]]) -> Result<Vec<u8>, AllocError>
     ensures { IfOk result (λ text. text.items ≡ texts.joined parts.now) }
 {
-    let mut text = Vec::new(alloc);
+    let mut length: usize = 0;
+    for part in parts {
+        length = length.saturating_add(part.len());
+    }
+    let mut text = Vec::with_capacity(alloc, length)?;
     push_parts(&mut text, parts)?;
     Ok(text)
 }

@@ -1,6 +1,9 @@
 -- What std says of parsed numbers, by the test of a text.
 use Rattle.std.proofs.Common.{◌≡◌, ◌<◌, ◌^◌, ℕ, Bool, true, false, List, [], ◌∷◌, Option, Some, None, cond, length, refl, sym}
-use Rattle.std.proofs.Common.{ap, ◌∙◌}
+use Rattle.std.proofs.Common.{ap, arith, get_or, subst, suc, take, zero, ◌∙◌, ◌+◌, ◌*◌, ◌≤◌}
+use Rattle.std.proofs.lemmas.Int.Digits.{digits_value_more}
+use Rattle.std.proofs.lemmas.List.{take_all}
+use Rattle.std.proofs.lemmas.Str.Parse.{digits_value-take-le}
 use Rattle.std.specs.Bool.{Decides}
 use Rattle.std.specs.List.{list_all}
 use Rattle.std.specs.Option.{SomeIff}
@@ -31,3 +34,50 @@ same-number radix text (Some n) h =
     ap Some (h.1) ∙ sym (ap (λ b. cond b (Some (digits_value radix text)) None) ((number radix text).1 h.0))
 same-number radix text None h =
     none-number (are_digits radix text) (digits_value radix text) (λ yes. h ((number radix text).0 yes))
+
+pub no_digits : (radix : ℕ) (text : List ℕ) → length text ≡ 0 → None ≡ digits_in radix text
+no_digits radix text none = same-number radix text None (λ h. absurd (omega (arith, none, h.0.0)))
+
+digit_there : (radix : ℕ) (text : List ℕ) (i : ℕ) → AllDigits radix text → i < length text → digit_value (get_or text i 0) < radix
+digit_there radix [] i all below = absurd (omega (arith, below))
+digit_there radix (c ∷ cs) zero all below = all.0
+digit_there radix (c ∷ cs) (suc i) all below = digit_there radix cs i all.1 (omega (arith, below))
+
+-- a byte that is no digit
+pub bad_digit : (radix : ℕ) (text : List ℕ) (i : ℕ) → i < length text → ¬ (digit_value (get_or text i 0) < radix)
+    → None ≡ digits_in radix text
+bad_digit radix text i below bad = same-number radix text None (λ h. bad (digit_there radix text i h.0.1 below))
+
+-- digits whose number has more than 64 bits
+pub overflows : (radix : ℕ) (text : List ℕ) (i value : ℕ) → 2 ≤ radix → i < length text → value ≡ digits_value radix (take i text)
+    → 2 ^ 64 ≤ value * radix + digit_value (get_or text i 0) → None ≡ digits_in radix text
+overflows radix text i value low below is large =
+    let more : digits_value radix (take (i + 1) text) ≡ value * radix + digit_value (get_or text i 0) = digits_value_more radix text i below
+    ∙ ap (λ (n : ℕ). n * radix + digit_value (get_or text i 0)) (sym is) in
+    let least = digits_value-take-le radix text (i + 1) (omega (arith, low)) in
+    same-number radix text None (λ h. absurd (omega (arith, more, large, least, h.1)))
+
+digits_next : (radix : ℕ) (text : List ℕ) (i : ℕ) → AllDigits radix (take i text) → i < length text → digit_value (get_or text i 0) < radix
+    → AllDigits radix (take (suc i) text)
+digits_next radix [] i all below digit = absurd (omega (arith, below))
+digits_next radix (c ∷ cs) zero all below digit = (digit, tt)
+digits_next radix (c ∷ cs) (suc i) all below digit = (all.0, digits_next radix cs i all.1 (omega (arith, below)) digit)
+
+pub digits_more : (radix : ℕ) (text : List ℕ) (i : ℕ) → AllDigits radix (take i text) → i < length text
+    → digit_value (get_or text i 0) < radix → AllDigits radix (take (i + 1) text)
+digits_more radix text i all below digit =
+    let next : suc i ≡ i + 1 = omega arith in
+    subst (λ (k : ℕ). AllDigits radix (take k text)) next (digits_next radix text i all below digit)
+
+pub value_more : (radix : ℕ) (text : List ℕ) (i value digit : ℕ) → i < length text → value ≡ digits_value radix (take i text)
+    → digit ≡ digit_value (get_or text i 0) → value * radix + digit ≡ digits_value radix (take (i + 1) text)
+value_more radix text i value digit below is digit_is =
+    ap (λ (n : ℕ). n * radix + digit) is ∙ ap (λ (n : ℕ). digits_value radix (take i text) * radix + n) digit_is
+    ∙ sym (digits_value_more radix text i below)
+
+pub all_digits : (radix : ℕ) (text : List ℕ) (i value : ℕ) → length text ≤ i → 0 < length text → AllDigits radix (take i text)
+    → value ≡ digits_value radix (take i text) → value < 2 ^ 64 → Some value ≡ digits_in radix text
+all_digits radix text i value end some all is small =
+    let whole : take i text ≡ text = take_all i text end in
+    let same : value ≡ digits_value radix text = is ∙ ap (digits_value radix) whole in
+    same-number radix text (Some value) (((some, subst (AllDigits radix) whole all), omega (arith, sym same, small)), same)

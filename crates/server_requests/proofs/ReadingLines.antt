@@ -1,25 +1,25 @@
--- Bytes that are read one by one, up to the end of a line.
-use Rattle.std.proofs.Common.{◌≡◌, ◌≢◌, ◌+◌, ◌<◌, ◌≤◌, ◌++◌, ◌==◌, ℕ, zero, suc, Bool, true, false, List, [], ◌∷◌, Option, Some, None, cond}
-use Rattle.std.proofs.Common.{length, min, take, nat_lt, not, append_assoc, arith, inl, inr, lit<, ◌⊎◌, refl, sym, ap, subst, ◌∙◌}
+-- Lines that are read part by part.
+use Rattle.std.proofs.Common.{◌≡◌, ◌≢◌, ◌+◌, ◌-◌, ◌<◌, ◌≤◌, ◌++◌, ◌==◌, ◌||◌, ℕ, zero, suc, Bool, true, false}
+use Rattle.std.proofs.Common.{List, [], ◌∷◌, Option, Some, None, cond}
+use Rattle.std.proofs.Common.{All, length, min, take, nat_lt, append_assoc, arith, inl, inr, lit<, ◌⊎◌, refl, sym, ap, subst, ◌∙◌}
 use Rattle.std.proofs.lemmas.Bool.Decides.{nat_tests}
-use Rattle.std.proofs.lemmas.List.{append-nil, length-append, length-take, take_all}
-use Rattle.std.specs.Io.KnownBytes.{Keeps}
+use Rattle.std.proofs.lemmas.List.{append-nil, length-append, length-take, take_all, take_min, take_more}
+use Rattle.std.proofs.Math.Seq.{take-append-add}
+use Rattle.std.proofs.lemmas.List.Elements.{All-head, All-tail}
+use Rattle.std.specs.Prelude.{slice_index}
+use Rattle.std.specs.Io.KnownBytes.{Consumes, Keeps}
 use Rattle.server_requests.specs.Lines.{behind_line, first_line, is_feed, lines_of, most_line_bytes, with_front}
-use Rattle.server_requests.specs.LinesRead.{AtEnd, BothKnown, GivesByte, IsLong, IsNextLine, IsWhole, kept_as}
+use Rattle.server_requests.specs.LinesRead.{Adds, AtEnd, BothKnown, Ends, GoesOn, IsLong, IsNextLine, IsWhole, TakesPart, kept_as}
 use Rattle.server_requests.specs.Texts.{Text}
 use Rattle.server_requests.specs.declared.line_reader.NextLine.TheVariants.{End}
+use Rattle.server_requests.specs.declared.line_reader.Part.TheVariants as parts
 
--- These bytes were read, none of which ends a line.
-pub record GoesOn (got old new : List ℕ) : Type 0 where
-  pub all : old ≡ got ++ new
-  pub first : first_line old ≡ got ++ first_line new
-  pub behind : behind_line old ≡ behind_line new
-
-pub record Got (line : Text) (is_long : Bool) (before now : Option (List ℕ)) : Type 0 where
+-- These bytes of a line were read; the line keeps the first of them, and is long if it has no room for all.
+pub record Reads (line : Text) (is_long : Bool) (old new : List ℕ) : Type 0 where
   pub got : List ℕ
   pub kept : line ≡ take most_line_bytes got
   pub long : is_long ≡ nat_lt most_line_bytes (length got)
-  pub goes : BothKnown before now (GoesOn got)
+  pub goes : GoesOn got old new
 
 pub known_same : (before : Option (List ℕ)) (Holds : List ℕ → List ℕ → Type 0) → ((bytes : List ℕ) → Holds bytes bytes)
     → BothKnown before before Holds
@@ -33,63 +33,139 @@ known_then (Some a) None after P Q R joins one two = absurd one
 known_then (Some a) (Some b) None P Q R joins one two = absurd two
 known_then (Some a) (Some b) (Some c) P Q R joins one two = joins a b c one two
 
--- a byte that is read after reads that returned none is the next byte
-pub gives_kept : (byte : Option ℕ) (before now after : Option (List ℕ)) → Keeps before now → GivesByte byte now after
-    → GivesByte byte before after
-gives_kept (Some byte) None now after keeps gives = tt
-gives_kept (Some byte) (Some a) None after keeps gives = absurd keeps
-gives_kept (Some byte) (Some a) (Some b) None keeps gives = absurd gives
-gives_kept (Some byte) (Some a) (Some b) (Some c) keeps gives = sym keeps ∙ gives
-gives_kept None None now after keeps gives = tt
-gives_kept None (Some a) None after keeps gives = absurd keeps
-gives_kept None (Some a) (Some b) None keeps gives = absurd gives
-gives_kept None (Some a) (Some b) (Some c) keeps gives = record { none = sym keeps ∙ gives.none; still = gives.still }
+pub reads_none : (before : Option (List ℕ)) → BothKnown before before (Reads [] false)
+reads_none before = known_same before (Reads [] false)
+    (λ bytes. record { got = []; kept = refl; long = refl; goes = record { all = refl; first = refl; behind = refl } })
 
-pub got_none : (before : Option (List ℕ)) → Got [] false before before
-got_none before = record {
-  got = [];
-  kept = refl;
-  long = refl;
-  goes = known_same before (GoesOn []) (λ bytes. record { all = refl; first = refl; behind = refl });
+-- what is read after reads that returned nothing
+pub reads_kept : (line : Text) (is_long : Bool) (before now after : Option (List ℕ)) → BothKnown before now (Reads line is_long)
+    → Keeps now after → BothKnown before after (Reads line is_long)
+reads_kept line is_long None now after reads keeps = tt
+reads_kept line is_long (Some a) None after reads keeps = absurd reads
+reads_kept line is_long (Some a) (Some b) None reads keeps = absurd keeps
+reads_kept line is_long (Some a) (Some b) (Some c) reads keeps = subst (Reads line is_long a) (sym keeps) reads
+
+-- Bytes without an LF go on with a line, and an LF ends it.
+
+no_feed : (byte : ℕ) → byte ≢ 10 → is_feed byte ≡ false
+no_feed byte other = grind (arith, nat_tests)
+
+goes_byte : (byte : ℕ) (bytes later : List ℕ) → is_feed byte ≡ false → GoesOn bytes (bytes ++ later) later
+    → GoesOn (byte ∷ bytes) (byte ∷ (bytes ++ later)) later
+goes_byte byte bytes later other goes = record {
+  all = refl;
+  first = ap (λ (feed : Bool). cond feed [] (byte ∷ first_line (bytes ++ later))) other ∙ ap (λ (bs : List ℕ). byte ∷ bs) goes.first;
+  behind = ap (λ (feed : Bool). cond feed (bytes ++ later) (behind_line (bytes ++ later))) other ∙ goes.behind;
 }
 
-goes_more : (byte : ℕ) (got a b c : List ℕ) → is_feed byte ≡ false → GoesOn got a b → b ≡ byte ∷ c → GoesOn (got ++ byte ∷ []) a c
-goes_more byte got a b c other goes is = record {
-  all = goes.all ∙ ap (λ (bs : List ℕ). got ++ bs) is ∙ sym (append_assoc got (byte ∷ []) c);
-  first = goes.first ∙ ap (λ (bs : List ℕ). got ++ first_line bs) is
-      ∙ ap (λ (feed : Bool). got ++ (cond feed [] (byte ∷ first_line c))) other ∙ sym (append_assoc got (byte ∷ []) (first_line c));
-  behind = goes.behind ∙ ap behind_line is ∙ ap (λ (feed : Bool). cond feed c (behind_line c)) other;
+pub goes_without : (bytes later : List ℕ) → All (λ byte. byte ≢ 10) bytes → GoesOn bytes (bytes ++ later) later
+goes_without [] later all = record { all = refl; first = refl; behind = refl }
+goes_without (byte ∷ bytes) later all =
+    goes_byte byte bytes later (no_feed byte (All-head (λ b. b ≢ 10) byte bytes all))
+    (goes_without bytes later (All-tail (λ b. b ≢ 10) byte bytes all))
+
+none_behind : (got b : List ℕ) → got ++ b ≡ [] → b ≡ []
+none_behind [] b none = none
+none_behind (x ∷ got) b none = cc
+
+pub goes_then : (got bytes a b c : List ℕ) → GoesOn got a b → GoesOn bytes b c → GoesOn (got ++ bytes) a c
+goes_then got bytes a b c one two = record {
+  all = one.all ∙ ap (λ (bs : List ℕ). got ++ bs) two.all ∙ sym (append_assoc got bytes c);
+  first = one.first ∙ ap (λ (bs : List ℕ). got ++ bs) two.first ∙ sym (append_assoc got bytes (first_line c));
+  behind = one.behind ∙ two.behind;
 }
 
-push_in : (a b : Bool) (x byte : ℕ) (kept all : List ℕ) → b ≡ a → cond a (kept ++ byte ∷ []) kept ≡ all
-    → cond b (x ∷ (kept ++ byte ∷ [])) (x ∷ kept) ≡ x ∷ all
-push_in true b x byte kept all e same = ap (λ (t : Bool). cond t (x ∷ (kept ++ byte ∷ [])) (x ∷ kept)) e ∙ ap (λ (k : List ℕ). x ∷ k) same
-push_in false b x byte kept all e same = ap (λ (t : Bool). cond t (x ∷ (kept ++ byte ∷ [])) (x ∷ kept)) e ∙ ap (λ (k : List ℕ). x ∷ k) same
+pub goes_end : (got bytes a b c : List ℕ) → GoesOn got a b → Ends bytes b c → Ends (got ++ bytes) a c
+goes_end got bytes a b c one two = record {
+  some = λ none. two.some (none_behind got b (sym one.all ∙ none));
+  first = one.first ∙ ap (λ (bs : List ℕ). got ++ bs) two.first;
+  rest = two.rest ∙ sym one.behind;
+}
 
-less_suc : (m n : ℕ) → nat_lt (suc m) (suc n) ≡ nat_lt m n
-less_suc m n = grind (arith, nat_tests)
+-- an LF after bytes without one
+pub ends_at : (bytes later : List ℕ) → All (λ byte. byte ≢ 10) bytes → Ends bytes (bytes ++ 10 ∷ later) later
+ends_at bytes later all =
+    let goes = goes_without bytes (10 ∷ later) all in
+    record {
+      some = λ none. some_list later (none_behind bytes (10 ∷ later) none);
+      first = goes.first ∙ append-nil bytes;
+      rest = sym goes.behind;
+    }
+  where
+    some_list : (later : List ℕ) → 10 ∷ later ≡ [] → ⊥
+    some_list later none = cc
 
-taken_none : (n : ℕ) → take {A = ℕ} n [] ≡ []
-taken_none zero = refl
-taken_none (suc n) = refl
+-- What is kept of a line.
 
-some_room : (most : ℕ) → nat_lt 0 (suc most) ≡ true
-some_room most = grind (arith, nat_tests)
+take_again : (most : ℕ) (got bytes : List ℕ) → take most (take most got ++ bytes) ≡ take most (got ++ bytes)
+take_again zero got bytes = refl
+take_again (suc most) [] bytes = refl
+take_again (suc most) (x ∷ got) bytes = ap (λ (k : List ℕ). x ∷ k) (take_again most got bytes)
 
-keep_more : (most : ℕ) (got : List ℕ) (byte : ℕ) → cond (nat_lt (length (take most got)) most) (take most got ++ byte ∷ []) (take most got)
-    ≡ take most (got ++ byte ∷ [])
-keep_more zero got byte = refl
-keep_more (suc most) [] byte =
-    ap (λ (t : Bool). cond t (byte ∷ []) []) (some_room most) ∙ ap (λ (k : List ℕ). byte ∷ k) (sym (taken_none most))
-keep_more (suc most) (x ∷ got) byte =
-    push_in (nat_lt (length (take most got)) most) (nat_lt (suc (length (take most got))) (suc most)) x byte (take most got)
-    (take most (got ++ byte ∷ [])) (less_suc (length (take most got)) most) (keep_more most got byte)
+has_room : (most room line bytes : ℕ) → line ≤ most → room ≡ most - line → nat_lt room bytes ≡ nat_lt most (line + bytes)
+has_room most room line bytes fits is = grind (arith, nat_tests)
 
--- a line is read to its end
-pub record IsDone (got old new : List ℕ) : Type 0 where
-  pub some : old ≢ []
-  pub first : first_line old ≡ got
-  pub rest : new ≡ behind_line old
+-- bytes that are appended as far as there is room
+pub adds_front : (line line' bytes : List ℕ) (room count : ℕ) → length line ≤ most_line_bytes → room ≡ most_line_bytes - length line
+    → count ≡ min room (length bytes) → line' ≡ line ++ take count bytes → Adds (nat_lt room (length bytes)) bytes line line'
+adds_front line line' bytes room count fits room_is count_is is =
+    let whole : length line + room ≡ most_line_bytes = omega (arith, fits, room_is) in
+    record {
+      kept = is ∙ ap (λ (n : ℕ). line ++ take n bytes) count_is ∙ ap (λ (l : List ℕ). line ++ l) (take_min room bytes)
+          ∙ sym (take-append-add line bytes room) ∙ ap (λ (n : ℕ). take n (line ++ bytes)) whole;
+      long = has_room most_line_bytes room (length line) (length bytes) fits room_is;
+    }
+
+longer : (is_long more : Bool) (most all kept added both : ℕ) → is_long ≡ nat_lt most all → more ≡ nat_lt most (kept + added)
+    → kept ≡ min most all → both ≡ all + added → (is_long || more) ≡ nat_lt most both
+longer true true most all kept added both long is_more is_kept is_both = grind (arith, nat_tests)
+longer true false most all kept added both long is_more is_kept is_both = grind (arith, nat_tests)
+longer false true most all kept added both long is_more is_kept is_both = grind (arith, nat_tests)
+longer false false most all kept added both long is_more is_kept is_both = grind (arith, nat_tests)
+
+-- Both parts together are kept as one.
+pub keeps_both : (line line' : Text) (is_long more : Bool) (got bytes : List ℕ) → line ≡ take most_line_bytes got
+    → is_long ≡ nat_lt most_line_bytes (length got) → Adds more bytes line line'
+    → (line' ≡ take most_line_bytes (got ++ bytes)) × ((is_long || more) ≡ nat_lt most_line_bytes (length (got ++ bytes)))
+keeps_both line line' is_long more got bytes kept long adds = (
+  adds.kept ∙ ap (λ (l : Text). take most_line_bytes (l ++ bytes)) kept ∙ take_again most_line_bytes got bytes,
+  longer is_long more most_line_bytes (length got) (length line) (length bytes) (length (got ++ bytes)) long adds.long
+      (ap length kept ∙ length-take most_line_bytes got) (length-append got bytes),
+)
+
+pub reads_more : (line line' : Text) (is_long more : Bool) (before now after : Option (List ℕ))
+    → BothKnown before now (Reads line is_long) → BothKnown now after (TakesPart (parts.More more) line line')
+    → BothKnown before after (Reads line' (is_long || more))
+reads_more line line' is_long more before now after reads takes =
+    known_then before now after (Reads line is_long) (TakesPart (parts.More more) line line') (Reads line' (is_long || more))
+    (λ a b c one two.
+    let both = keeps_both line line' is_long more one.got two.0 one.kept one.long two.2 in
+    record { got = one.got ++ two.0; kept = both.0; long = both.1; goes = goes_then one.got two.0 a b c one.goes two.1 }) reads takes
+
+-- what a reader showed of a line, and the bytes of it that were read
+pub part_more : (a b : Option (List ℕ)) (line line' : Text) (is_long : Bool) (bytes : List ℕ) → All (λ byte. byte ≢ 10) bytes
+    → Consumes a b bytes → Adds is_long bytes line line' → BothKnown a b (TakesPart (parts.More is_long) line line')
+part_more None b line line' is_long bytes all consumes adds = tt
+part_more (Some a) None line line' is_long bytes all consumes adds = absurd consumes
+part_more (Some a) (Some b) line line' is_long bytes all consumes adds =
+    (bytes, subst (λ (old : List ℕ). GoesOn bytes old b) (sym consumes) (goes_without bytes b all), adds)
+
+with_feed : (shown : List ℕ) (count : ℕ) → count < length shown → slice_index shown count ≡ 10
+    → take (count + 1) shown ≡ take count shown ++ 10 ∷ []
+with_feed shown count below feed = take_more shown count 0 below ∙ ap (λ (byte : ℕ). take count shown ++ byte ∷ []) feed
+
+pub part_last : (a b : Option (List ℕ)) (line line' : Text) (is_long : Bool) (shown : List ℕ) (count : ℕ) → count < length shown
+    → slice_index shown count ≡ 10 → All (λ byte. byte ≢ 10) (take count shown) → Consumes a b (take (count + 1) shown)
+    → Adds is_long (take count shown) line line' → BothKnown a b (TakesPart (parts.Last is_long) line line')
+part_last None b line line' is_long shown count below feed all consumes adds = tt
+part_last (Some a) None line line' is_long shown count below feed all consumes adds = absurd consumes
+part_last (Some a) (Some b) line line' is_long shown count below feed all consumes adds =
+    let bytes = take count shown in
+    let is : a ≡ bytes ++ 10 ∷ b = consumes ∙ ap (λ (bs : List ℕ). bs ++ b) (with_feed shown count below feed)
+    ∙ append_assoc bytes (10 ∷ []) b in
+    (bytes, subst (λ (old : List ℕ). Ends bytes old b) (sym is) (ends_at bytes b all), adds)
+
+-- Whole lines.
 
 more_than : (most n : ℕ) → true ≡ nat_lt most n → most < n
 more_than most n e = grind (arith, nat_tests)
@@ -97,9 +173,52 @@ more_than most n e = grind (arith, nat_tests)
 at_most : (most n : ℕ) → false ≡ nat_lt most n → n ≤ most
 at_most most n e = grind (arith, nat_tests)
 
-some_behind : (got a : List ℕ) (byte : ℕ) (c : List ℕ) → a ≡ got ++ byte ∷ c → a ≢ []
-some_behind [] a byte c is none = cc
-some_behind (x ∷ got) a byte c is none = cc
+-- A line was read, and its first bytes are kept.
+record Done (line : Text) (is_long : Bool) (old new : List ℕ) : Type 0 where
+  got : List ℕ
+  kept : line ≡ take most_line_bytes got
+  long : is_long ≡ nat_lt most_line_bytes (length got)
+  ends : Ends got old new
+
+known_as : (before after : Option (List ℕ)) (P Q : List ℕ → List ℕ → Type 0) → ((a b : List ℕ) → P a b → Q a b)
+    → BothKnown before after P → BothKnown before after Q
+known_as None after P Q is holds = tt
+known_as (Some a) None P Q is holds = absurd holds
+known_as (Some a) (Some b) P Q is holds = is a b holds
+
+is_line : (line : Text) (is_long : Bool) (before after : Option (List ℕ)) → BothKnown before after (Done line is_long)
+    → IsNextLine (kept_as is_long) line before after
+is_line line true before after done =
+    known_as before after (Done line true) IsLong
+    (λ a c one. record {
+      some = one.ends.some;
+      long = omega (arith, ap length one.ends.first, more_than most_line_bytes (length one.got) one.long);
+      rest = one.ends.rest;
+    }) done
+is_line line false before after done =
+    known_as before after (Done line false) (IsWhole line)
+    (λ a c one.
+    let few : length one.got ≤ most_line_bytes = at_most most_line_bytes (length one.got) one.long in
+    record {
+      some = one.ends.some;
+      short = omega (arith, ap length one.ends.first, few);
+      line_is = one.kept ∙ take_all most_line_bytes one.got few ∙ sym one.ends.first;
+      rest = one.ends.rest;
+    }) done
+
+pub reads_last : (line line' : Text) (is_long more : Bool) (before now after : Option (List ℕ))
+    → BothKnown before now (Reads line is_long) → BothKnown now after (TakesPart (parts.Last more) line line')
+    → IsNextLine (kept_as (is_long || more)) line' before after
+reads_last line line' is_long more before now after reads takes =
+    is_line line' (is_long || more) before after
+    (known_then before now after (Reads line is_long) (TakesPart (parts.Last more) line line') (Done line' (is_long || more))
+    (λ a b c one two.
+    let both = keeps_both line line' is_long more one.got two.0 one.kept one.long two.2 in
+    record { got = one.got ++ two.0; kept = both.0; long = both.1; ends = goes_end one.got two.0 a b c one.goes two.1 }) reads takes)
+
+taken_none : (n : ℕ) → take {A = ℕ} n [] ≡ []
+taken_none zero = refl
+taken_none (suc n) = refl
 
 none_taken : (most : ℕ) (got : List ℕ) → 0 < most → length (take most got) ≡ 0 → got ≡ []
 none_taken most [] some e = refl
@@ -110,85 +229,35 @@ some_front : (most : ℕ) (line got a b : List ℕ) → 0 < length line → line
 some_front most line [] a b some kept all none = absurd (omega (arith, ap length (kept ∙ taken_none most)))
 some_front most line (x ∷ got) a b some kept all none = cc
 
-not_less : (pushed : Bool) (most kept all more : ℕ) → pushed ≡ nat_lt kept most → kept ≡ min most all → more ≡ all + 1
-    → not pushed ≡ nat_lt most more
-not_less true most kept all more push least one = grind (arith, nat_tests)
-not_less false most kept all more push least one = grind (arith, nat_tests)
+-- The input is at its end after the bytes of a last line,
+pub reads_rest : (line line' : Text) (is_long : Bool) (before now after : Option (List ℕ)) → 0 < length line'
+    → BothKnown before now (Reads line is_long) → BothKnown now after (TakesPart parts.None line line')
+    → IsNextLine (kept_as is_long) line' before after
+reads_rest line line' is_long before now after some reads takes =
+    is_line line' is_long before after
+    (known_then before now after (Reads line is_long) (TakesPart parts.None line line') (Done line' is_long)
+    (λ a b c one two. record {
+      got = one.got;
+      kept = two.1 ∙ one.kept;
+      long = one.long;
+      ends = record {
+        some = some_front most_line_bytes line' one.got a b some (two.1 ∙ one.kept) one.goes.all;
+        first = one.goes.first ∙ ap (λ (bs : List ℕ). one.got ++ first_line bs) two.0.none ∙ append-nil one.got;
+        rest = two.0.still ∙ sym (one.goes.behind ∙ ap behind_line two.0.none);
+      };
+    }) reads takes)
 
-long_more : (most : ℕ) (got : List ℕ) (byte : ℕ) (pushed : Bool) → pushed ≡ nat_lt (length (take most got)) most
-    → not pushed ≡ nat_lt most (length (got ++ byte ∷ []))
-long_more most got byte pushed push =
-    not_less pushed most (length (take most got)) (length got) (length (got ++ byte ∷ [])) push (length-take most got)
-    (length-append got (byte ∷ []))
-
-pub got_more : (byte : ℕ) (line line' : Text) (is_long pushed : Bool) (before now after : Option (List ℕ))
-    → Got line is_long before now → GivesByte (Some byte) now after → is_feed byte ≡ false
-    → pushed ≡ nat_lt (length line) most_line_bytes → line' ≡ cond pushed (line ++ byte ∷ []) line → Got line' (not pushed) before after
-got_more byte line line' is_long pushed before now after got gives other push is =
-    let same : pushed ≡ nat_lt (length (take most_line_bytes got.got)) most_line_bytes = push
-    ∙ ap (λ (l : Text). nat_lt (length l) most_line_bytes) got.kept in
-    record {
-      got = got.got ++ byte ∷ [];
-      kept = is ∙ ap (λ (l : Text). cond pushed (l ++ byte ∷ []) l) got.kept
-          ∙ ap (λ (t : Bool). cond t (take most_line_bytes got.got ++ byte ∷ []) (take most_line_bytes got.got)) same
-          ∙ keep_more most_line_bytes got.got byte;
-      long = long_more most_line_bytes got.got byte pushed same;
-      goes = known_then before now after (GoesOn got.got) (λ old new. old ≡ byte ∷ new) (GoesOn (got.got ++ byte ∷ []))
-          (λ a b c goes is. goes_more byte got.got a b c other goes is) got.goes gives;
-    }
-
-line_then : (is_long : Bool) (line : Text) (got : List ℕ) (before now after : Option (List ℕ)) (Q : List ℕ → List ℕ → Type 0)
-    → line ≡ take most_line_bytes got → is_long ≡ nat_lt most_line_bytes (length got)
-    → ((a b c : List ℕ) → GoesOn got a b → Q b c → IsDone got a c)
-    → BothKnown before now (GoesOn got) → BothKnown now after Q → IsNextLine (kept_as is_long) line before after
-line_then true line got before now after Q kept long done goes gives =
-    known_then before now after (GoesOn got) Q IsLong
-    (λ a b c one two.
-    let is = done a b c one two in
-    record { some = is.some; long = omega (arith, ap length is.first, more_than most_line_bytes (length got) long); rest = is.rest }) goes
-    gives
-line_then false line got before now after Q kept long done goes gives =
-    known_then before now after (GoesOn got) Q (IsWhole line)
-    (λ a b c one two.
-    let is = done a b c one two in
-    let few : length got ≤ most_line_bytes = at_most most_line_bytes (length got) long in
-    record {
-      some = is.some;
-      short = omega (arith, ap length is.first, few);
-      line_is = kept ∙ take_all most_line_bytes got few ∙ sym is.first;
-      rest = is.rest;
-    }) goes gives
-
-pub got_line : (line : Text) (is_long : Bool) (byte : ℕ) (before now after : Option (List ℕ)) → is_feed byte ≡ true
-    → Got line is_long before now → GivesByte (Some byte) now after → IsNextLine (kept_as is_long) line before after
-got_line line is_long byte before now after feed got gives =
-    line_then is_long line got.got before now after (λ old new. old ≡ byte ∷ new) got.kept got.long
-    (λ a b c goes is. record {
-      some = some_behind got.got a byte c (goes.all ∙ ap (λ (bs : List ℕ). got.got ++ bs) is);
-      first = goes.first ∙ ap (λ (bs : List ℕ). got.got ++ first_line bs) is
-          ∙ ap (λ (t : Bool). got.got ++ (cond t [] (byte ∷ first_line c))) feed ∙ append-nil got.got;
-      rest = sym (goes.behind ∙ ap behind_line is ∙ ap (λ (t : Bool). cond t c (behind_line c)) feed);
-    }) got.goes gives
-
-pub got_last : (line : Text) (is_long : Bool) (before now after : Option (List ℕ)) → 0 < length line
-    → Got line is_long before now → GivesByte None now after → IsNextLine (kept_as is_long) line before after
-got_last line is_long before now after some got gives =
-    line_then is_long line got.got before now after AtEnd got.kept got.long
-    (λ a b c goes end. record {
-      some = some_front most_line_bytes line got.got a b some got.kept goes.all;
-      first = goes.first ∙ ap (λ (bs : List ℕ). got.got ++ first_line bs) end.none ∙ append-nil got.got;
-      rest = end.still ∙ sym (goes.behind ∙ ap behind_line end.none);
-    }) got.goes gives
-
-pub got_end : (line : Text) (is_long : Bool) (before now after : Option (List ℕ)) → length line ≡ 0
-    → Got line is_long before now → GivesByte None now after → IsNextLine End line before after
-got_end line is_long before now after none got gives =
-    known_then before now after (GoesOn got.got) AtEnd AtEnd
-    (λ a b c goes end. record {
-      none = goes.all ∙ ap (λ (bs : List ℕ). bs ++ b) (none_taken most_line_bytes got.got (lit< tt) (ap length (sym got.kept) ∙ none))
-          ∙ end.none;
-      still = end.still;
-    }) got.goes gives
+-- or after none.
+pub reads_end : (line line' : Text) (is_long : Bool) (before now after : Option (List ℕ)) → length line' ≡ 0
+    → BothKnown before now (Reads line is_long) → BothKnown now after (TakesPart parts.None line line')
+    → IsNextLine End line' before after
+reads_end line line' is_long before now after none reads takes =
+    known_then before now after (Reads line is_long) (TakesPart parts.None line line') AtEnd
+    (λ a b c one two. record {
+      none = one.goes.all ∙ ap (λ (bs : List ℕ). bs ++ b)
+          (none_taken most_line_bytes one.got (lit< tt) (ap length (sym (two.1 ∙ one.kept)) ∙ none)) ∙ two.0.none;
+      still = two.0.still;
+    }) reads takes
 
 -- Lines.
 
@@ -211,12 +280,6 @@ lines_some bytes some =
       | inl none ↦ absurd (some none)
       | inr lines ↦ lines
     ]
-
-pub feed_yes : (byte : ℕ) → byte ≡ 10 → is_feed byte ≡ true
-feed_yes byte e = ap is_feed e
-
-pub feed_no : (byte : ℕ) → ¬ (byte ≡ 10) → is_feed byte ≡ false
-feed_no byte other = grind (arith, nat_tests)
 
 pub empty_yes : (n m : ℕ) → (n == 0) ≡ true → n ≡ m → m ≡ 0
 empty_yes n m e same = grind (arith, nat_tests)

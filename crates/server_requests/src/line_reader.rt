@@ -1,12 +1,11 @@
 // Reads lines from any reader.
 
-ghost use Rattle.std.specs.Prelude.{◌≡◌, ◌≤◌, ◌++◌, ◌∷◌, [], IfOk, OnErr, OnOk, if◌then◌else◌, length, nat_lt};
-ghost use Rattle.std.specs.Prelude.{vec_capacity};
+ghost use Rattle.std.specs.Prelude.{◌≡◌, ◌≢◌, ◌<◌, ◌≤◌, All, IfOk, OnErr, OnOk, length, slice_index, take, vec_capacity};
 ghost use Rattle.std.specs.Io.KnownBytes.{Keeps};
-ghost use Rattle.server_requests.specs.LinesRead.{GivesByte, IsNextLine, kept_as};
+ghost use Rattle.server_requests.specs.LinesRead.{Adds, BothKnown, IsNextLine, TakesPart, kept_as};
 
 use std::io;
-use std::io::{ErrorKind, Read};
+use std::io::{BufRead, ErrorKind};
 
 /// The maximum number of bytes of a line without its end (our choice): room for a `write` of 65,536 bytes.
 pub const MOST_LINE_BYTES: usize = 131_200;
@@ -40,56 +39,83 @@ fn kept_as(is_long: bool) -> NextLine
     }
 }
 
-/// Appends a byte to a line if there is room. Returns whether there was.
-fn push_byte(line: &mut Vec<u8>, byte: u8) -> bool
-    requires { MOST_LINE_BYTES ≤ vec_capacity line.old }
-    ensures pushed { result ≡ nat_lt (length line.old.items) MOST_LINE_BYTES }
-    ensures items { line.new.items ≡ (if result then line.old.items ++ byte ∷ [] else line.old.items) }
+/// The bytes of a line that a reader holds.
+#[derive(Clone, Copy)]
+enum Part {
+    /// The input is at its end.
+    None,
+    /// Bytes after which the line goes on. If it is long, a byte of them had no room.
+    More { is_long: bool },
+    /// The last bytes of the line. If it is long, a byte of them had no room.
+    Last { is_long: bool },
+}
+
+/// Appends bytes to a line, as far as there is room. Returns whether a byte had no room.
+fn push_bytes(line: &mut Vec<u8>, bytes: &[u8]) -> bool
+    requires room { MOST_LINE_BYTES ≤ vec_capacity line.old }
+    requires fits { length line.old.items ≤ MOST_LINE_BYTES }
+    ensures added { Adds result bytes.now line.old.items line.new.items }
     ensures room { MOST_LINE_BYTES ≤ vec_capacity line.new }
+    ensures fits { length line.new.items ≤ MOST_LINE_BYTES }
 {
-    if line.len() >= MOST_LINE_BYTES {
-        return false;
-    }
-    line.push(byte).unwrap();
-    true
+    let room = MOST_LINE_BYTES - line.len();
+    let is_long = room < bytes.len();
+    let front = &bytes[..room.min(bytes.len())];
+    line.extend_from_slice(front).unwrap();
+    is_long
 }
 
-/// Reads the next byte of a reader, once. Returns `None` at its end.
-fn try_byte<R: Read>(reader: &mut R) -> io::Result<Option<u8>>
-    ensures ok { IfOk result (λ byte. GivesByte byte (R.remaining reader.old) (R.remaining reader.new)) }
-    ensures err { OnErr result (Keeps (R.remaining reader.old) (R.remaining reader.new)) }
+/// The number of bytes before the first line feed, or of all bytes if there is none.
+fn length_before_feed(bytes: &[u8]) -> usize
+    ensures bound { result ≤ length bytes.now }
+    ensures before { All (λ byte. byte ≢ LINE_FEED) (take result bytes.now) }
+    ensures feed { result < length bytes.now → slice_index bytes.now result ≡ LINE_FEED }
 {
-    let mut byte = [0; 1];
-    match reader.read(&mut byte) {
-        Ok(0) => Ok(None),
-        Ok(_) => Ok(Some(byte[0])),
-        Err(error) => Err(error),
-    }
-}
-
-/// Reads the next byte of a reader. Returns `None` at its end. Tries again after an interrupted read, up to 2^64 - 1
-/// times.
-fn next_byte<R: Read>(reader: &mut R) -> Result<Option<u8>, ReadFailed>
-    ensures { IfOk result (λ byte. GivesByte byte (R.remaining reader.old) (R.remaining reader.new)) }
-{
-    for _turn in 0..u64::MAX {
-        match try_byte(reader) {
-            Ok(byte) => return Ok(byte),
-            Err(error) => if error.kind() != ErrorKind::Interrupted {
-                return Err(ReadFailed);
-            },
+    let mut count = 0;
+    while count < bytes.len() {
+        if bytes[count] == LINE_FEED {
+            return count;
         }
+        count += 1;
     }
-    Err(ReadFailed)
+    count
+}
+
+/// Reads what a reader holds of a line, and appends it as far as there is room. Skips the line feed.
+fn take_part<R: BufRead>(reader: &mut R, line: &mut Vec<u8>) -> io::Result<Part>
+    requires room { MOST_LINE_BYTES ≤ vec_capacity line.old }
+    requires fits { length line.old.items ≤ MOST_LINE_BYTES }
+    ensures ok { IfOk result (λ part. BothKnown (R.remaining reader.old) (R.remaining reader.new)
+        (TakesPart part line.old.items line.new.items)) }
+    ensures err { OnErr result (Keeps (R.remaining reader.old) (R.remaining reader.new)) }
+    ensures unchanged { OnErr result (line.new.items ≡ line.old.items) }
+    ensures room { MOST_LINE_BYTES ≤ vec_capacity line.new }
+    ensures fits { length line.new.items ≤ MOST_LINE_BYTES }
+{
+    let held = match reader.fill_buf() {
+        Ok(held) => held,
+        Err(error) => return Err(error),
+    };
+    if held.is_empty() {
+        return Ok(Part::None);
+    }
+    let count = length_before_feed(held);
+    let is_long = push_bytes(line, &held[..count]);
+    if count == held.len() {
+        reader.consume(count);
+        return Ok(Part::More { is_long });
+    }
+    reader.consume(count + 1);
+    Ok(Part::Last { is_long })
 }
 
 /// Replaces `line` by the next line, without its end. Keeps the beginning of one that is too long, and skips the rest.
-/// Reads byte by byte: the reader should have a buffer. `line` needs room for [`MOST_LINE_BYTES`], and keeps it.
+/// `line` needs room for [`MOST_LINE_BYTES`], and keeps it.
 ///
 /// # Errors
 ///
-/// A read failed and wasn't interrupted, or the line has 2^64 - 1 bytes.
-pub fn next_line<R: Read>(reader: &mut R, line: &mut Vec<u8>) -> Result<NextLine, ReadFailed>
+/// A read failed and wasn't interrupted, or 2^64 - 1 reads didn't reach the end of the line.
+pub fn next_line<R: BufRead>(reader: &mut R, line: &mut Vec<u8>) -> Result<NextLine, ReadFailed>
     requires { MOST_LINE_BYTES ≤ vec_capacity line.old }
     ensures next { IfOk result
         (λ next. IsNextLine next line.new.items (R.remaining reader.old) (R.remaining reader.new)) }
@@ -97,18 +123,19 @@ pub fn next_line<R: Read>(reader: &mut R, line: &mut Vec<u8>) -> Result<NextLine
 {
     line.clear();
     let mut is_long = false;
-    for _count in 0..u64::MAX {
-        let Some(byte) = next_byte(reader)? else {
-            return Ok(if line.is_empty() {
+    for _turn in 0..u64::MAX {
+        match take_part(reader, line) {
+            Ok(Part::None) => return Ok(if line.is_empty() {
                 NextLine::End
             } else {
                 kept_as(is_long)
-            });
-        };
-        if byte == LINE_FEED {
-            return Ok(kept_as(is_long));
+            }),
+            Ok(Part::More { is_long: more }) => is_long |= more,
+            Ok(Part::Last { is_long: more }) => return Ok(kept_as(is_long | more)),
+            Err(error) => if error.kind() != ErrorKind::Interrupted {
+                return Err(ReadFailed);
+            },
         }
-        is_long = !push_byte(line, byte);
     }
     Err(ReadFailed)
 }

@@ -17,15 +17,21 @@ pub(crate) const MOST_BYTES: u64 = 65_536;
 const HEXADECIMAL: u32 = 16;
 
 /// The number of 64 bits that digits of this radix spell, if there is nothing else.
+#[tactic(auto, using(crate::proofs::Numbers::bad_digit, crate::proofs::Numbers::overflows))]
 fn digits_of(text: &str, radix: u32) -> Option<u64>
     requires low { 2 ≤ radix }
     requires high { radix ≤ 36 }
     ensures { result ≡ digits_in radix text.now }
 {
-    if text.starts_with('+') {
-        return None;
+    let bytes = text.as_bytes();
+    let mut value: u64 = 0;
+    for byte in bytes {
+        let digit = char::from(*byte).to_digit(radix)?;
+        value = value
+            .checked_mul(u64::from(radix))?
+            .checked_add(u64::from(digit))?;
     }
-    u64::from_str_radix(text, radix).ok()
+    if bytes.is_empty() { None } else { Some(value) }
 }
 
 /// The number of 64 bits that a word spells: decimal digits, or hexadecimal digits after `0x`.

@@ -29,7 +29,20 @@ impl<'a, 't, O: Observer> LentBus<'a, 't, O> {
     ghost use Rattle.stations.specs.Retelling.{Finished, Prepared};
 
     /// Plays the next group of ticks, and counts the access after it.
+    #[inline(always)]
     pub(crate) fn prepare(&mut self)
+        ensures { Prepared self.old self.new }
+    {
+        if self.ticks.is_empty() {
+            self.accesses = self.accesses.saturating_add(1);
+            return;
+        }
+        self.prepare_group();
+    }
+
+    /// As [`prepare`](LentBus::prepare), if there are ticks.
+    #[inline(never)]
+    fn prepare_group(&mut self)
         ensures { Prepared self.old self.new }
     {
         let accesses = self.accesses;
@@ -40,7 +53,19 @@ impl<'a, 't, O: Observer> LentBus<'a, 't, O> {
     }
 
     /// Plays the ticks that are left, after the call's last access, and skips each `Go`.
+    #[inline(always)]
     pub fn finish(&mut self)
+        ensures { Finished self.old self.new }
+    {
+        if self.ticks.is_empty() {
+            return;
+        }
+        self.finish_ticks();
+    }
+
+    /// As [`finish`](LentBus::finish), if there are ticks.
+    #[inline(never)]
+    fn finish_ticks(&mut self)
         ensures { Finished self.old self.new }
     {
         self.stations

@@ -15,6 +15,7 @@ use adapter::{Outcome, StepKind};
 
 impl Stations {
     /// Plays a tick. The observer is told its outcome, with the number of accesses that the call made before it.
+    #[inline(always)]
     pub fn play<O: Observer>(&mut self, tick: Tick, accesses: u64, observer: &mut O)
         requires room { 0 < O.room_left observer.old }
         ensures { PlaysNoted O.Observer tick accesses (watched self.old observer.old)
@@ -29,6 +30,7 @@ impl Stations {
 
     /// A host's adapter takes a step. If there is no such host, the outcome is `Nothing`. Other stations change only if
     /// the step is TxPut: the frame then waits at the other ends of the wire.
+    #[inline(always)]
     fn play_step<O: Observer>(
         &mut self,
         host: usize,
@@ -55,6 +57,7 @@ impl Stations {
     }
 
     /// A host's adapter puts its oldest frame onto the wire, if each other end has room. The frame then waits there.
+    #[inline(never)]
     fn put<O: Observer>(&mut self, host: usize, accesses: u64, observer: &mut O)
         requires there { host < length self.old }
         requires room { 0 < O.room_left observer.old }
@@ -78,6 +81,7 @@ impl Stations {
     }
 
     /// The oldest frame that waits at a host's end is delivered.
+    #[inline(never)]
     fn deliver<O: Observer>(&mut self, host: usize, accesses: u64, observer: &mut O)
         requires room { 0 < O.room_left observer.old }
         ensures { PlaysNoted O.Observer (tick.Deliver host) accesses (watched self.old observer.old)
@@ -98,6 +102,7 @@ impl Stations {
     }
 
     /// Plays the ticks up to the next `Go`, and returns those after it.
+    #[inline(never)]
     pub(crate) fn play_group<'t, O: Observer>(
         &mut self,
         ticks: &'t [Tick],
@@ -122,6 +127,7 @@ impl Stations {
     }
 
     /// Plays all ticks but each `Go`. The observer is told each outcome, with this number of accesses.
+    #[inline(never)]
     pub fn play_rest<O: Observer>(&mut self, ticks: &[Tick], accesses: u64, observer: &mut O)
         requires room { length ticks.now ≤ O.room_left observer.old }
         ensures { PlaysTicks O.Observer (without_go is_go ticks.now) accesses (watched self.old observer.old)

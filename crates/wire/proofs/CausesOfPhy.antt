@@ -34,7 +34,8 @@ none-told = (record { link_changed = false; access_complete = false }, refl)
 
 -- two ticks record what one could
 union-told : (a b c d : Bool)
-    → union (causes_told (record { link_changed = a; access_complete = b })) (causes_told (record { link_changed = c; access_complete = d }))
+    → union (causes_told (record { link_changed = a; access_complete = b }))
+    (causes_told (record { link_changed = c; access_complete = d }))
     ≡ causes_told (record { link_changed = a || c; access_complete = b || d })
 union-told true true true true = refl
 union-told true true true false = refl

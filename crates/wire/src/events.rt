@@ -105,6 +105,7 @@ fn ending_of(answer: HostAnswer<usize>) -> (Answer<()>, usize)
 }
 
 /// A call for a host that isn't there: its ticks are played.
+#[inline(never)]
 fn no_host<O: RunObserver>(network: &mut Network, event: &Event, ticks: &[Tick], observer: &mut O)
     requires answer { O.ready observer.old event.now }
     requires room { length ticks.now ≤ O.room_left observer.old }
@@ -149,6 +150,7 @@ pub(crate) fn make_call<O: RunObserver>(
 /// # Errors
 ///
 /// Only if memory for these frames is refused. Then nothing has changed.
+#[inline(never)]
 pub(crate) fn make_reset<O: RunObserver>(
     network: &mut Network,
     alloc: Global,
@@ -184,6 +186,7 @@ pub(crate) fn make_reset<O: RunObserver>(
 ///
 /// The network would play `Go` to the same outcome. But there it counts as an atomic step of its own, and in a reply it
 /// is none.
+#[inline(always)]
 pub(crate) fn tick<O: RunObserver>(
     network: &mut Network,
     event: &Event,

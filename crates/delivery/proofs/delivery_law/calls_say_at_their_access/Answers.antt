@@ -3,4 +3,10 @@ use Rattle.delivery.proofs.ToldByNumber.{told-by_number}
 use Rattle.delivery.proofs.delivery_law.calls_say_at_their_access.Goals as goal
 
 pub returns : goal.returns
-returns c = record { between = around_ticks; nothing = told-around_nothing; access = told-at_access; none = told-at_end; numbers = told-by_number }
+returns c = record {
+  between = around_ticks;
+  nothing = told-around_nothing;
+  access = told-at_access;
+  none = told-at_end;
+  numbers = told-by_number;
+}

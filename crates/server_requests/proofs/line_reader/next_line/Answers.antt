@@ -1,46 +1,73 @@
-use Rattle.std.proofs.Common.{◌∙◌, ℕ, Option, arith, subst, sym}
-use Rattle.server_requests.specs.LinesRead.{GivesByte, IsNextLine}
+use Rattle.std.proofs.Common.{Bool, false, ap, arith, length, subst, sym, ◌∙◌}
+use Rattle.server_requests.specs.LinesRead.{BothKnown, IsNextLine, TakesPart}
+use Rattle.server_requests.specs.Texts.{Text}
 use Rattle.server_requests.specs.declared.line_reader.NextLine.{NextLine}
-use Rattle.server_requests.proofs.ReadingLines.{empty_no, empty_yes, feed_no, feed_yes, got_end, got_last, got_line, got_more}
+use Rattle.server_requests.specs.declared.line_reader.Part.{Part}
+use Rattle.server_requests.proofs.ReadingLines.{Reads, empty_no, empty_yes, reads_end, reads_kept, reads_last, reads_more, reads_none}
+use Rattle.server_requests.proofs.ReadingLines.{reads_rest}
+use Rattle.server_requests.proofs.line_reader.next_line.Goals.{in-Ok-More, in-Err+else-ne}
 use Rattle.server_requests.proofs.line_reader.next_line.Goals as goal
+
+pub loop-turn-init : goal.loop-turn-init
+loop-turn-init g c =
+    let now = g.R.Read.remaining c.args.reader.now in
+    record {
+      room = omega (arith, c.clear.ensures.capacity, c.requires);
+      fits = omega (arith, ap length c.clear.ensures.items);
+      got = subst (λ (line : Text). BothKnown now now (Reads line false)) (sym c.clear.ensures.items) (reads_none now);
+    }
 
 pub returns-then-is_empty-clause-next : goal.returns-then-is_empty-clause-next
 returns-then-is_empty-clause-next g c =
     let left = g.R.Read.remaining in
-    got_end c.loop-count.line.items c.loop-count.is_long (left c.args.reader.now) (left c.loop-count.reader) (left c.next_byte.new.reader)
-    (empty_yes _ _ (sym c.is_empty.ensures ∙ c.if-is_empty.true) (omega (arith, c.loop-count.line.ok.0))) c.loop-count.invariant.got
-    (subst (λ (byte : Option ℕ). GivesByte byte (left c.loop-count.reader) (left c.next_byte.new.reader)) c.in_default.is
-    c.in_ok-byte.ensures)
+    let new = c.take_part.new.line in
+    let takes = subst (λ (part : Part). BothKnown (left c.loop-turn.reader) (left c.take_part.new.reader)
+    (TakesPart part c.loop-turn.line.items new.items)) c.in-Ok-None.field-0-is c.in-Ok-None.ensures.ok in
+    reads_end c.loop-turn.line.items new.items c.loop-turn.is_long (left c.args.reader.now) (left c.loop-turn.reader)
+    (left c.take_part.new.reader) (empty_yes _ _ (sym c.is_empty.ensures ∙ c.if-is_empty.true) (omega (arith, new.ok.0)))
+    c.loop-turn.invariant.got takes
 
 pub returns-else-is_empty-clause-next : goal.returns-else-is_empty-clause-next
 returns-else-is_empty-clause-next g c =
     let left = g.R.Read.remaining in
-    subst (λ (next : NextLine). IsNextLine next c.loop-count.line.items (left c.args.reader.now) (left c.next_byte.new.reader))
-    (sym c.kept_as.ensures)
-    (got_last c.loop-count.line.items c.loop-count.is_long (left c.args.reader.now) (left c.loop-count.reader) (left c.next_byte.new.reader)
-    (empty_no _ _ (sym c.is_empty.ensures ∙ c.if-is_empty.false) (omega (arith, c.loop-count.line.ok.0))) c.loop-count.invariant.got
-    (subst (λ (byte : Option ℕ). GivesByte byte (left c.loop-count.reader) (left c.next_byte.new.reader)) c.in_default.is
-    c.in_ok-byte.ensures))
+    let new = c.take_part.new.line in
+    let takes = subst (λ (part : Part). BothKnown (left c.loop-turn.reader) (left c.take_part.new.reader)
+    (TakesPart part c.loop-turn.line.items new.items)) c.in-Ok-None.field-0-is c.in-Ok-None.ensures.ok in
+    subst (λ (next : NextLine). IsNextLine next new.items (left c.args.reader.now) (left c.take_part.new.reader)) (sym c.kept_as.ensures)
+    (reads_rest c.loop-turn.line.items new.items c.loop-turn.is_long (left c.args.reader.now) (left c.loop-turn.reader)
+    (left c.take_part.new.reader) (empty_no _ _ (sym c.is_empty.ensures ∙ c.if-is_empty.false) (omega (arith, new.ok.0)))
+    c.loop-turn.invariant.got takes)
 
-pub returns-then-byte-eq-LINE_FEED-clause-next : goal.returns-then-byte-eq-LINE_FEED-clause-next
-returns-then-byte-eq-LINE_FEED-clause-next g c =
+pub returns-in-Ok-Last-clause-next : goal.returns-in-Ok-Last-clause-next
+returns-in-Ok-Last-clause-next g c =
     let left = g.R.Read.remaining in
-    subst (λ (next : NextLine). IsNextLine next c.loop-count.line.items (left c.args.reader.now) (left c.next_byte.new.reader))
-    (sym c.kept_as-then-byte-eq-LINE_FEED.ensures)
-    (got_line c.loop-count.line.items c.loop-count.is_long c.in-Some.byte (left c.args.reader.now) (left c.loop-count.reader)
-    (left c.next_byte.new.reader) (feed_yes c.in-Some.byte c.if-byte-eq-LINE_FEED.true) c.loop-count.invariant.got
-    (subst (λ (byte : Option ℕ). GivesByte byte (left c.loop-count.reader) (left c.next_byte.new.reader)) c.in-Some.is
-    c.in_ok-byte.ensures))
+    let new = c.take_part.new.line in
+    let last = c.in-Ok-Last in
+    let takes = subst (λ (part : Part). BothKnown (left c.loop-turn.reader) (left c.take_part.new.reader)
+    (TakesPart part c.loop-turn.line.items new.items)) last.field-0-is last.ensures.ok in
+    subst (λ (next : NextLine). IsNextLine next new.items (left c.args.reader.now) (left c.take_part.new.reader))
+    (sym c.kept_as-in-Ok-Last.ensures)
+    (reads_last c.loop-turn.line.items new.items c.loop-turn.is_long last.more (left c.args.reader.now) (left c.loop-turn.reader)
+    (left c.take_part.new.reader) c.loop-turn.invariant.got takes)
 
-pub loop-count-preserved : goal.loop-count-preserved
-loop-count-preserved g c =
+pub loop-turn-preserved : goal.loop-turn-preserved
+loop-turn-preserved g c =
     let left = g.R.Read.remaining in
-    let push = c.push_byte-is_long in
+    let now = left c.args.reader.now in
+    let mid = left c.loop-turn.reader in
+    let after = left c.take_part.new.reader in
+    let old = c.loop-turn.line.items in
+    let new = c.take_part.new.line.items in
+    let is_long = c.loop-turn.is_long in
     record {
-      room = push.ensures.room;
-      got = got_more c.in-Some.byte c.loop-count.line.items push.new.line.items c.loop-count.is_long push.result (left c.args.reader.now)
-          (left c.loop-count.reader) (left c.next_byte.new.reader) c.loop-count.invariant.got
-          (subst (λ (byte : Option ℕ). GivesByte byte (left c.loop-count.reader) (left c.next_byte.new.reader)) c.in-Some.is
-          c.in_ok-byte.ensures)
-          (feed_no c.in-Some.byte c.if-byte-eq-LINE_FEED.false) push.ensures.pushed push.ensures.items;
+      room = c.take_part.ensures.room;
+      fits = c.take_part.ensures.fits;
+      got = elim c.match-take_part.branch [
+        | in-Ok-More w ↦ subst (λ (long : Bool). BothKnown now after (Reads new long)) (sym w.is_long-is)
+            (reads_more old new is_long w.in-Ok-More.more now mid after c.loop-turn.invariant.got
+            (subst (λ (part : Part). BothKnown mid after (TakesPart part old new)) w.in-Ok-More.field-0-is w.in-Ok-More.ensures.ok))
+        | in-Err+else-ne w ↦ subst (λ (long : Bool). BothKnown now after (Reads new long)) (sym w.is_long-is)
+            (subst (λ (items : Text). BothKnown now after (Reads items is_long)) (sym w.in-Err.ensures.unchanged)
+            (reads_kept old is_long now mid after c.loop-turn.invariant.got w.in-Err.ensures.err))
+      ];
     }

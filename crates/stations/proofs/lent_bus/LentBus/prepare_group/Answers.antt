@@ -1,6 +1,6 @@
 use Rattle.std.proofs.Common.{arith}
 use Rattle.stations.proofs.Lengths.{length-stays}
-use Rattle.stations.proofs.lent_bus.LentBus.prepare.Goals as goal
+use Rattle.stations.proofs.lent_bus.LentBus.prepare_group.Goals as goal
 
 pub invariant_of-self : goal.invariant_of-self
 invariant_of-self g c =
