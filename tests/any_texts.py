@@ -68,7 +68,7 @@ FRAMES = 6, [FRAME, "00", FRAME.upper(), "f" * 3036, "f" * 3038, "ff" * 4000, "f
 BAD_TICKS = ["go:a", "Go", "txtake", ":a", "tick:a", "rxdata:", "rxdata:a:b", "phy:f", "/"]
 PATHS = 4, [TRACE, f"./{TRACE}", f"outdir/../{TRACE}", "-", "/", "outdir", "missing.pcap", "s.scenario", "bad.pcap", "/dev/null", "\0", "x" * 300]
 HOST_OPTIONS = {
-    "rx": (2, ["8", "16", "12", "264", "65536"]), "tx": (3, ["8", "256", "64", "0", "264", "65536"]), "buffers": (2, ["16", "4096", "15", "4097", "65536"]),
+    "rx": (2, ["8", "16", "12", "4104", "65536"]), "tx": (3, ["8", "4096", "64", "0", "4104", "65536"]), "buffers": (2, ["16", "8192", "15", "8193", "65536"]),
     "rxa": (3, ["2", "48", "6", "50", "3", "256"]), "link": (2, ["1", "2000", "2001", "0", "never", "65536", "Never"]), "promiscuous": (1, [""]),
     "other": (1, ["", "8"])}
 # Lines that are made long: how they begin, and what then fills them.
@@ -85,11 +85,11 @@ def fed_fault(bench, path, given):
     try:
         mode = os.stat(bench.path(path)).st_mode
     except (OSError, ValueError):
-        return 3, OPEN
+        return 3, f"{OPEN}: {path}"
     if stat.S_ISDIR(mode):
         return 3, READ
     if not stat.S_ISREG(mode):
-        return 3, OPEN
+        return 3, f"{OPEN}: {path}"
     fault = TraceRead(bench.get(path)).fault
     return fault and (1, fault)
 
@@ -104,9 +104,9 @@ def answer(bench, text, given=b"", options=()):
         fault = fed_fault(bench, path, given if path not in scenario.traces[:place] else b"")
         if fault:
             return *fault, [], []
-    files, is_stuck = scenario.files("--wires" in options)
-    if is_stuck:
-        return 3, OPEN, files, []
+    files, stuck = scenario.files("--wires" in options)
+    if stuck:
+        return 3, f"{OPEN}: outdir/{stuck}", files, []
     fault = scenario.plan_fault()
     return (1, fault, files, []) if fault else (0, None, files, [host.encode() for host in scenario.hosts])
 
@@ -129,7 +129,7 @@ def runs(bench, met, name, text, given=b"", options=()):
     held = held_bytes(path)
     told = [COUNTS.sub(b"", line) for line in ran.stdout.splitlines()]
     if fault:
-        met.add(fault.split(": ", 1)[1] if fault.startswith("line ") else fault)
+        met.add(fault.split(": ", 1)[1] if fault.startswith("line ") else OPEN if fault.startswith(OPEN) else fault)
         wanted = (status, refusal(fault), [], {file: b"" for file in files})
     else:
         wanted = (status, b"", hosts, {file: FILE_HEADER for file in files})
@@ -243,7 +243,7 @@ def each_word(bench, met):
     lines += [f"host f {address} w" for address in ADDRESSES[1]] + [f"host f 02:00:00:00:00:06 {wire}" for wire in WIRES[1]]
     lines += [f"{host} {option} {value}" for option, (_, values) in HOST_OPTIONS.items() for value in values]
     lines += [f"{host} {option} {values[0]} {option} {values[0]}" for option, (_, values) in HOST_OPTIONS.items()]
-    lines += [f"{host} rx {rx} buffers {buffers}" for rx in (248, 256, 264) for buffers in (rx - 1, rx, rx + 1)]
+    lines += [f"{host} rx {rx} buffers {buffers}" for rx in (4088, 4096, 4104) for buffers in (rx - 1, rx, rx + 1)]
     lines += [f"{kind} a {group}" for kind in ("group", "join", "leave") for group in GROUPS[1]]
     lines += [f"vlan a {vlan}" for vlan in VLANS[1]] + [f"socket a {word}" for word in ETHER_TYPES[1]]
     lines += [f"send a {frame}" for frame in FRAMES[1]] + [f"recv a {number}" for number in NUMBERS[1]] + [f"feed a {path}" for path in PATHS[1]]

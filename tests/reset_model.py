@@ -21,7 +21,7 @@ class Host:
     """A host with its adapter."""
 
     def __init__(self, rx=8, tx=8, buffers=16, rxa=48, sockets=(None,)):
-        self.rx, self.tx, self.rxa = rx, tx, rxa
+        self.rx, self.tx, self.buffers, self.rxa = rx, tx, buffers, rxa
         self.sockets = sockets  # for each socket, the EtherType of its frames, or None for all
         self.queues = [[] for _ in sockets]
         self.pool = buffers  # the number of free buffers
@@ -39,6 +39,7 @@ class Host:
         self.is_on = self.sends = False
         self.causes = self.mpc = 0
         self.buffered, self.moved = [], 0  # the receive packet buffer, and the bytes of its oldest frame that were moved
+        self.used = 0  # the bytes of the receive packet buffer that its frames take
         self.offered, self.piece, self.finished = 0, None, []  # receive slots; a piece is its size, and its frame if it is the last
         self.ring, self.taken = [], []  # frames that are offered for sending, and those in the transmit packet buffer
 
@@ -57,8 +58,10 @@ class Host:
         self.ring.append(frame.ljust(SMALLEST, b"\0"))
         self.counts["accepted"] += 1
 
-    def interrupt(self):
+    def interrupt(self, between=lambda: None):
+        """Handles an interrupt; `between` is played just after the read of ICR."""
         causes, self.causes = self.causes, 0
+        between()
         if not causes & HANDLED:
             return
         self.missed, self.mpc = self.missed + self.mpc, 0
@@ -100,11 +103,12 @@ class Host:
         self.counts["reached"] += 1
         if not self.is_on:
             self.given_up[2] += 1
-        elif sum(map(cost, self.buffered)) + cost(frame) > self.rxa * 1024:
+        elif self.used + cost(frame) > self.rxa * 1024:
             self.mpc += 1
             self.causes |= RXO
         else:
             self.buffered.append(frame)
+            self.used += cost(frame)
             self.counts["stored"] += 1
 
     def rxdata(self):
@@ -118,6 +122,7 @@ class Host:
         if is_last:
             self.moved = 0
             self.buffered.pop(0)
+            self.used -= cost(frame)
         self.offered -= 1
         if 2 * self.offered == self.rx:
             self.causes |= RXDMT0

@@ -164,16 +164,16 @@ class Scenario:
             self.traces.append(words[1])
 
     def files(self, has_wires):
-        """The files of sockets, and of wires if they are asked for, that are created; and whether one of them can't be."""
+        """The files of sockets, and of wires if they are asked for, that are created; and the one that can't be, or None."""
         hosts = self.hosts.values()
         names = [f"{host.name}.{place}.pcap" for host in hosts for place in range(len(host.has["socket"]))]
         names += [f"{wire}.pcap" for wire in dict.fromkeys(host.wire for host in hosts)] if has_wires else []
         made = []
-        for name in map(str.encode, names):
-            if b"/" in name or b"\0" in name or len(name) > MOST_FILE_NAME:
-                return made, True
-            made.append(name)
-        return made, False
+        for name in names:
+            if "/" in name or "\0" in name or len(name.encode()) > MOST_FILE_NAME:
+                return made, name
+            made.append(name.encode())
+        return made, None
 
     def plan_fault(self):
         """The first reason to reject the hosts, or None."""
@@ -196,8 +196,8 @@ class Scenario:
 def is_configured(host):
     """Whether the options, groups and VLANs of a host are valid."""
     rx, tx, buffers, rxa, link = (host.options[word] for word in OPTIONS)
-    rings = all(count % 8 == 0 and 8 <= count <= 256 for count in (rx, tx))
-    room = rx <= buffers <= 4096 and rxa % 2 == 0 and 2 <= rxa <= 48 and link != 0
+    rings = all(count % 8 == 0 and 8 <= count <= 4096 for count in (rx, tx))
+    room = rx <= buffers <= 8192 and rxa % 2 == 0 and 2 <= rxa <= 48 and link != 0
     return rings and room and all(first % 2 for first in host.has["group"]) and all(vlan <= 4095 for vlan in host.has["vlan"])
 
 

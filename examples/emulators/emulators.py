@@ -42,6 +42,8 @@ class Emulator:
 
     # The most times that something is waited for, and the most frames that arrive at once
     WAITS, MOST = 1000, 10
+    # Bytes of memory that a driver may use
+    memory = MEMORY
     # What to do if the program isn't there
     ADVICE = ""
 
@@ -136,8 +138,9 @@ class Emulator:
 class Serve(Emulator):
     """The adapter of `nicbench serve`. It takes steps when it is asked to, and random ones with `interleave`."""
 
-    def __init__(self, program, seed=0, interleave=0, registers=0xFEB00000, image=None):
-        words = shlex.split(program) + ["serve", "--memory", str(MEMORY), "--registers", hex(registers), "--seed", str(seed)]
+    def __init__(self, program, seed=0, interleave=0, registers=0xFEB00000, image=None, memory=MEMORY):
+        self.memory = memory
+        words = shlex.split(program) + ["serve", "--memory", str(memory), "--registers", hex(registers), "--seed", str(seed)]
         if image is None:
             super().__init__(words + ["--address", ADDRESS], registers)
         else:

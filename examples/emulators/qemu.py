@@ -22,7 +22,7 @@ sys.dont_write_bytecode = True
 HERE = os.path.dirname(os.path.abspath(__file__))
 sys.path.insert(0, HERE)
 
-from emulators import ICR, MEMORY, Missing, Qemu, Serve  # noqa: E402
+from emulators import ICR, Missing, Qemu, Serve  # noqa: E402
 from traces import read_trace, write_trace  # noqa: E402
 
 PROGRAM = os.path.join(HERE, "..", "..", "nicbench")
@@ -52,7 +52,7 @@ def drawn(seed, count):
 def drive(program, words, emulator, wire, log=None):
     """Runs `nicbench drive` with these words. Its requests go to the emulator, and the answers back. Before each read of ICR,
     frames arrive. Returns its exit status, its standard error and the number of its requests."""
-    words = shlex.split(program) + ["drive", "--registers", hex(emulator.registers), "--memory", str(MEMORY), *words]
+    words = shlex.split(program) + ["drive", "--registers", hex(emulator.registers), "--memory", str(emulator.memory), *words]
     driver = subprocess.Popen(words, stdin=subprocess.PIPE, stdout=subprocess.PIPE, stderr=subprocess.PIPE, bufsize=0)
     asks = f"readl {emulator.registers + ICR:#018x}\n"
     count = 0

@@ -22,11 +22,11 @@ const VLAN_NUMBERS: u16 = 4096;
 /// The configuration with which an adapter is initialized.
 #[derive(Clone, Debug, Drop, PartialEq, Eq)]
 pub struct Config {
-    /// The number of receive descriptors: a multiple of 8 from 8 to 256.
+    /// The number of receive descriptors: a multiple of 8 from 8 to 4,096.
     pub rx: u16,
-    /// The number of transmit descriptors: a multiple of 8 from 8 to 256.
+    /// The number of transmit descriptors: a multiple of 8 from 8 to 4,096.
     pub tx: u16,
-    /// The number of receive buffers: from `rx` to 4,096.
+    /// The number of receive buffers: from `rx` to 8,192.
     pub buffers: u16,
     /// The size in kilobytes of the packet buffer for received frames (PBA.RXA): even, from 2 to 48.
     pub rxa: u8,

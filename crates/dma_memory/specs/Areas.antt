@@ -4,9 +4,12 @@ use Rattle.dma_memory.specs.HostMemory.{bytes_at, LiesIn}
 
 -- so many bytes from an address on
 pub record Area : Type 0 where
+  -- the address of the first byte
   pub address : ℕ
+  -- the number of bytes
   pub size : ℕ
 
+-- the area of this address and size
 abbrev pub area_at : ℕ → ℕ → Area
 area_at address size = record { address = address; size = size }
 
@@ -24,15 +27,21 @@ AreApart a b = (a.address + a.size ≤ b.address) ⊎ (b.address + b.size ≤ a.
 
 -- the first area begins and ends within the second
 pub record IsInside (inner outer : Area) : Type 0 where
+  -- it doesn't begin before the second area
   pub from : outer.address ≤ inner.address
+  -- it doesn't end after the second area
   pub to : inner.address + inner.size ≤ outer.address + outer.size
 
 -- these areas lie in memory, and any two of them are apart
 pub record AreSeparate (memory : List ℕ) (areas : List Area) : Type 0 where
+  -- each lies in memory
   pub lie : All (λ area. LiesIn memory area.address area.size) areas
+  -- any two have no byte in common
   pub apart : AllPairs AreApart areas
 
 -- of memory at most this area has changed
 pub record ChangesOnly (memory memory' : List ℕ) (area : Area) : Type 0 where
+  -- memory keeps its size
   pub size : length memory' ≡ length memory
+  -- every area apart from this one has the same bytes as before
   pub others : (other : Area) → AreApart area other → bytes_in memory' other ≡ bytes_in memory other

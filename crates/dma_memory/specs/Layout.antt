@@ -5,26 +5,37 @@ use Rattle.dma_memory.specs.Areas.{Area, area_at, AreApart}
 
 -- How many descriptors the receive ring and the transmit ring have, and how many receive buffers there are.
 pub record Counts : Type 0 where
+  -- the descriptors of the receive ring
   pub rx : ℕ
+  -- the descriptors of the transmit ring
   pub tx : ℕ
+  -- the receive buffers
   pub buffers : ℕ
 
 -- A ring has a multiple of 8 descriptors, as its length in bytes is a multiple of 128 ("13.4.27 Receive Descriptor
--- Length"), here from 8 to 256 (our choice).
+-- Length"), here from 8 to 4,096 (our choice).
 pub record IsRingSize (n : ℕ) : Type 0 where
+  -- a multiple of 8
   pub eights : n % 8 ≡ 0
+  -- at least 8
   pub least : 8 ≤ n
-  pub most : n ≤ 256
+  -- at most 4,096
+  pub most : n ≤ 4096
 
--- There is a buffer for each receive descriptor at least, and there are 4,096 at most (our choice).
+-- There is a buffer for each receive descriptor at least, and there are 8,192 at most (our choice).
 pub record IsBufferCount (rx buffers : ℕ) : Type 0 where
+  -- a buffer for each receive descriptor
   pub least : rx ≤ buffers
-  pub most : buffers ≤ 4096
+  -- at most 8,192
+  pub most : buffers ≤ 8192
 
 -- What a layout has room for (our choice).
 pub record IsAllowed (counts : Counts) : Type 0 where
+  -- of the receive ring
   pub rx : IsRingSize counts.rx
+  -- of the transmit ring
   pub tx : IsRingSize counts.tx
+  -- of the receive buffers
   pub buffers : IsBufferCount counts.rx counts.buffers
 
 -- How many bytes a descriptor has ("3.2.3 Receive Descriptor Format", "3.3.3 Legacy Transmit Descriptor Format").

@@ -21,10 +21,10 @@ pub const RECEIVE_BUFFER_BYTES: u64 = 256;
 pub const RING_STEP: u16 = 8;
 
 /// The most descriptors of a ring (our choice).
-pub const MOST_DESCRIPTORS: u16 = 256;
+pub const MOST_DESCRIPTORS: u16 = 4096;
 
 /// The most receive buffers of a layout (our choice).
-pub const MOST_BUFFERS: u16 = 4096;
+pub const MOST_BUFFERS: u16 = 8192;
 
 /// The address of the receive ring (our choice).
 const RECEIVE_RING: u64 = 0;
@@ -32,10 +32,10 @@ const RECEIVE_RING: u64 = 0;
 /// Why [`Layout::of`] refuses.
 #[derive(Clone, Copy, Debug, PartialEq, Eq, Error)]
 pub enum LayoutError {
-    /// A ring's number of descriptors isn't a multiple of 8 from 8 to 256.
+    /// A ring's number of descriptors isn't a multiple of 8 from 8 to 4,096.
     #[error("E2 RingSize")]
     RingSize,
-    /// There are fewer receive buffers than receive descriptors, or more than 4,096.
+    /// There are fewer receive buffers than receive descriptors, or more than 8,192.
     #[error("E3 BufferCount")]
     BufferCount,
 }
@@ -82,8 +82,8 @@ impl Layout {
     ///
     /// # Errors
     ///
-    /// E2 [`RingSize`](LayoutError::RingSize) exactly where `rx` or `tx` isn't a multiple of 8 from 8 to 256, and
-    /// otherwise E3 [`BufferCount`](LayoutError::BufferCount) exactly where `buffers` is below `rx` or above 4,096.
+    /// E2 [`RingSize`](LayoutError::RingSize) exactly where `rx` or `tx` isn't a multiple of 8 from 8 to 4,096, and
+    /// otherwise E3 [`BufferCount`](LayoutError::BufferCount) exactly where `buffers` is below `rx` or above 8,192.
     pub fn of(rx: u16, tx: u16, buffers: u16) -> Result<Layout, LayoutError>
         ensures allowed { IsOk result ↔ IsAllowed (record { rx = rx; tx = tx; buffers = buffers }) }
         ensures counts { IfOk result (λ layout. layout ≡ record { rx = rx; tx = tx; buffers = buffers }) }
@@ -160,8 +160,8 @@ impl Layout {
     pub fn size(&self) -> u64
         ensures end { result ≡ size_of self.now }
 
-        // Rings of 256 and 4,096 receive buffers need the most.
-        ensures most { result ≤ 1581056 }
+        // Rings of 4,096 and 8,192 receive buffers need the most.
+        ensures most { result ≤ 10616832 }
     {
         self.first_receive_buffer() + RECEIVE_BUFFER_BYTES * u64::from(self.buffers)
     }
@@ -169,7 +169,7 @@ impl Layout {
     /// The address of the first transmit buffer.
     fn first_transmit_buffer(&self) -> u64
         ensures start { result ≡ start_of self.now (TransmitBuffer 0) }
-        ensures most { result ≤ 8192 }
+        ensures most { result ≤ 131072 }
     {
         let rings_end = self.transmit_ring() + DESCRIPTOR_BYTES * u64::from(self.tx);
         rings_end.next_multiple_of(TRANSMIT_BUFFER_BYTES)
@@ -178,7 +178,7 @@ impl Layout {
     /// The address of the first receive buffer.
     fn first_receive_buffer(&self) -> u64
         ensures start { result ≡ start_of self.now (ReceiveBuffer 0) }
-        ensures most { result ≤ 532480 }
+        ensures most { result ≤ 8519680 }
     {
         self.first_transmit_buffer() + TRANSMIT_BUFFER_BYTES * u64::from(self.tx)
     }

@@ -1,0 +1,96 @@
+"""`nicbench drive` with rings of 4,096 descriptors on `nicbench serve`: both rings are filled, and wrap. Sizes that aren't valid are rejected."""
+
+import os
+import sys
+
+TOP = os.path.dirname(os.path.dirname(os.path.abspath(__file__)))
+sys.path.append(os.path.join(TOP, "examples", "emulators"))
+from emulators import RDH, RDT, Serve  # noqa: E402
+from qemu import Wire, drawn, drive  # noqa: E402
+from traces import read_trace, write_trace  # noqa: E402
+
+SLOTS, BUFFERS = 4096, 8192
+IMS, RDBAL, RDLEN, TDBAL, TDLEN, TDT = 0xD0, 0x2800, 0x2808, 0x3800, 0x3808, 0x3818
+# The memory of the greatest rings, and of rings of 8 with 16 buffers
+GREATEST, LEAST = 10_616_832, 22_528
+# Frames each way: more than a ring has slots
+FRAMES = 4400
+STEPS = 3
+
+
+def rings_of(rx, tx, buffers):
+    return ["--rx", str(rx), "--tx", str(tx), "--buffers", str(buffers)]
+
+
+class Bursts(Serve):
+    """An adapter that takes steps only while it is initialized, and when frames arrive: as many as the ring has slots, at once."""
+
+    MOST = SLOTS
+
+    def __init__(self, program, memory):
+        self.written, self.sends, self.is_up, self.dry = {}, 0, False, []
+        super().__init__(program, 1, STEPS, memory=memory)
+
+    def ask(self, request):
+        """Notes what the initialization writes, and how many frames are offered for sending before the first frame arrives."""
+        word, *rest = request.split()
+        offset = int(rest[0], 0) - self.registers if word in ("readl", "writel") else None
+        if word == "writel" and not self.is_up:
+            self.written[offset] = int(rest[1], 0)
+        self.sends += word == "writel" and offset == TDT and self.is_up and not self.dry
+        answer = super().ask(request)
+        if word == "writel" and offset == IMS:
+            self.is_up = True
+            self.expect_ok("interleave 0")
+        return answer
+
+    def arrive_all(self, frames):
+        """Frames arrive and are moved to memory, a few hundred at a time. Notes whether the ring has run dry."""
+        told = []
+        for at in range(0, len(frames), 30):
+            told += super().arrive_all(frames[at:at + 30])
+        head, tail = (self.number(f"readl {self.registers + offset:#x}")[0] for offset in (RDH, RDT))
+        self.dry.append(head == tail)
+        return told
+
+
+def frames_of(seed, slots):
+    """Frames of 60 bytes for each slot of a ring, and then frames of all lengths."""
+    frames = list(drawn(seed, FRAMES * slots // SLOTS))
+    return [frame[:60] for frame in frames[:slots - 1]] + frames[slots - 1:]
+
+
+def exchange(bench, slots, words, memory):
+    """The driver and an adapter fill both rings."""
+    to_send, arriving = frames_of(2, slots), frames_of(3, slots)
+    write_trace(bench.path("send.pcap"), to_send)
+    wire, adapter = Wire(arriving), Bursts(bench.program, memory)
+    words = ["--send", bench.path("send.pcap"), "--receive", bench.path("receive.pcap"), "--expect", str(len(arriving)), *words]
+    try:
+        status, errors, _ = drive(bench.program, words, adapter, wire)
+    finally:
+        adapter.close()
+    name = f"drive with rings of {slots}"
+    bench.check(name, (status, errors), (0, f"sent {len(to_send)} illegal 0 received {len(arriving)} missed 0 exact\n"))
+    bench.check(f"{name}: registers", [adapter.written.get(offset) for offset in (RDBAL, RDLEN, RDT, TDBAL, TDLEN)],
+                [0, 16 * slots, slots - 1, 16 * slots, 16 * slots])
+    bench.check(f"{name}: both rings are full", (adapter.sends, adapter.dry[:1]), (slots - 1, [True]))
+    bench.check(f"{name}: sent", wire.sent == to_send, True)
+    bench.check(f"{name}: received", read_trace(bench.path("receive.pcap")) == arriving, True)
+
+
+def rejected(bench):
+    """Sizes of rings that aren't valid, or for which memory is too small: no request is written."""
+    for rx, tx, buffers, memory in [(SLOTS, SLOTS, BUFFERS, GREATEST - 1), (SLOTS + 8, SLOTS, BUFFERS, 1 << 24), (SLOTS, SLOTS + 8, BUFFERS, 1 << 24),
+                                    (SLOTS, SLOTS, SLOTS - 1, 1 << 24), (SLOTS, SLOTS, BUFFERS + 1, 1 << 24), (12, 8, 16, 1 << 20), (8, 0, 16, 1 << 20),
+                                    (8, 8, 16, LEAST - 1)]:
+        words = [*rings_of(rx, tx, buffers), "--memory", str(memory)]
+        bench.check(f"drive {words}: its requests", bench.drives(f"drive {words}", [], 1, "E46 Init: E15 Config", *words), [])
+    for slots, buffers, memory in [(SLOTS, BUFFERS, GREATEST), (8, 16, LEAST)]:
+        words = [*rings_of(slots, slots, buffers), "--memory", str(memory)]
+        bench.check(f"drive {words}: its requests", len(bench.drives(f"drive {words}", [], 3, "E66 Read", *words)), 1)
+
+
+def all_cases(bench):
+    rejected(bench)
+    exchange(bench, SLOTS, rings_of(SLOTS, SLOTS, BUFFERS), 1 << 24)
