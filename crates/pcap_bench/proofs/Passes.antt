@@ -10,6 +10,7 @@ use Rattle.descriptors.specs.Frames.{padded, is_sendable}
 use Rattle.pcap_trace.specs.Devices.{AppendsFront, Grows}
 use Rattle.pcap_trace.specs.Format.{Timed, packet_of, written}
 use Rattle.pcap_trace.proofs.Flushed.{flushed_front}
+use Rattle.pcap_trace.specs.declared.unit.Unit.{Unit}
 use Rattle.pcap_trace.proofs.Packets.{written-push}
 use Rattle.pcap_bench.specs.Passing.{Filter, Fate, illegal, filtered, kept, IsFate, HaveFates, is_illegal, is_filtered, is_kept, kept_from}
 use Rattle.pcap_bench.specs.Passing.{StopsAmong, WritesKept}
@@ -59,9 +60,10 @@ HaveFates-same keeps others (f ∷ fs) [] both right = right
 HaveFates-same keeps others (f ∷ fs) (t ∷ ts) both right =
     (IsFate-same keeps others f t both right.0, HaveFates-same keeps others fs ts both right.1)
 
-pub WritesKept-same : (keeps others : Filter) (frames : List (List ℕ)) (counts : PassCounts) (before after : Option (List ℕ))
-    → ((g : List ℕ) → keeps g ↔ others g) → WritesKept keeps frames counts before after → WritesKept others frames counts before after
-WritesKept-same keeps others frames counts before after both all = record {
+pub WritesKept-same : (unit : Unit) (keeps others : Filter) (frames : List (List ℕ)) (counts : PassCounts) (before after : Option (List ℕ))
+    → ((g : List ℕ) → keeps g ↔ others g) → WritesKept unit keeps frames counts before after
+    → WritesKept unit others frames counts before after
+WritesKept-same unit keeps others frames counts before after both all = record {
   fates = all.fates;
   right = HaveFates-same keeps others frames all.fates both all.right;
   went = all.went;
@@ -71,9 +73,9 @@ WritesKept-same keeps others frames counts before after both all = record {
   written_is = all.written_is;
 }
 
-pub StopsAmong-same : (keeps others : Filter) (frames : List (List ℕ)) (before after : Option (List ℕ))
-    → ((g : List ℕ) → keeps g ↔ others g) → StopsAmong keeps frames before after → StopsAmong others frames before after
-StopsAmong-same keeps others frames before after both stops = record {
+pub StopsAmong-same : (unit : Unit) (keeps others : Filter) (frames : List (List ℕ)) (before after : Option (List ℕ))
+    → ((g : List ℕ) → keeps g ↔ others g) → StopsAmong unit keeps frames before after → StopsAmong unit others frames before after
+StopsAmong-same unit keeps others frames before after both stops = record {
   count = stops.count;
   fates = stops.fates;
   right = HaveFates-same keeps others (take stops.count frames) stops.fates both stops.right;
@@ -83,23 +85,24 @@ StopsAmong-same keeps others frames before after both stops = record {
 -- ---- the loop of a call
 
 -- These frames are done, and the others are left; what was written, and what waits, is what is kept of the first.
-pub record SoFar (keeps : Filter) (frames rest : List (List ℕ)) (next dropped turned_away out : ℕ)
+pub record SoFar (unit : Unit) (keeps : Filter) (frames rest : List (List ℕ)) (next dropped turned_away out : ℕ)
     (before after : Option (List ℕ)) : Type 0 where
   pub done : List (List ℕ)
   pub parts : frames ≡ done ++ rest
   pub fates : List Fate
   pub right : HaveFates keeps done fates
-  pub went : Appends before after (written (kept_from 0 done fates))
+  pub went : Appends before after (written unit (kept_from 0 done fates))
   pub next_is : next ≡ length done
   pub illegal_is : dropped ≡ count_by is_illegal fates
   pub filtered_is : turned_away ≡ count_by is_filtered fates
   pub written_is : out ≡ count_by is_kept fates
   pub sum : dropped + turned_away + out ≡ next
 
-pub SoFar-start : (keeps : Filter) (frames rest : List (List ℕ)) (dropped turned_away out : ℕ) (before after : Option (List ℕ))
-    → rest ≡ frames → dropped ≡ 0 → turned_away ≡ 0 → out ≡ 0 → Appends before after (written [])
-    → SoFar keeps frames rest 0 dropped turned_away out before after
-SoFar-start keeps frames rest dropped turned_away out before after all d t o went = record {
+pub SoFar-start : (unit : Unit) (keeps : Filter) (frames rest : List (List ℕ)) (dropped turned_away out : ℕ)
+    (before after : Option (List ℕ))
+    → rest ≡ frames → dropped ≡ 0 → turned_away ≡ 0 → out ≡ 0 → Appends before after (written unit [])
+    → SoFar unit keeps frames rest 0 dropped turned_away out before after
+SoFar-start unit keeps frames rest dropped turned_away out before after all d t o went = record {
   done = [];
   parts = sym all;
   fates = [];
@@ -118,16 +121,16 @@ more_parts : (frames done left rest : List (List ℕ)) (f : List ℕ) → left �
 more_parts frames done left rest f first parts =
     parts ∙ ap (λ (x : List (List ℕ)). done ++ x) first ∙ sym (append_assoc done (f ∷ []) rest)
 
-pub SoFar-illegal : (keeps : Filter) (frames left rest : List (List ℕ)) (f : List ℕ) (next dropped turned_away out : ℕ)
+pub SoFar-illegal : (unit : Unit) (keeps : Filter) (frames left rest : List (List ℕ)) (f : List ℕ) (next dropped turned_away out : ℕ)
     (before after : Option (List ℕ)) → left ≡ f ∷ rest → is_sendable f ≡ false
-    → SoFar keeps frames left next dropped turned_away out before after
-    → SoFar keeps frames rest (next + 1) (dropped + 1) turned_away out before after
-SoFar-illegal keeps frames left rest f next dropped turned_away out before after first bad s = record {
+    → SoFar unit keeps frames left next dropped turned_away out before after
+    → SoFar unit keeps frames rest (next + 1) (dropped + 1) turned_away out before after
+SoFar-illegal unit keeps frames left rest f next dropped turned_away out before after first bad s = record {
   done = s.done ++ f ∷ [];
   parts = more_parts frames s.done left rest f first s.parts;
   fates = s.fates ++ illegal ∷ [];
   right = HaveFates-push keeps s.done s.fates f illegal s.right bad;
-  went = subst (λ (x : List Timed). Appends before after (written x))
+  went = subst (λ (x : List Timed). Appends before after (written unit x))
       (sym (kept_from-push keeps 0 s.done s.fates f illegal s.right ∙ append-nil (kept_from 0 s.done s.fates))) s.went;
   next_is = omega (arith, s.next_is, length-append s.done (f ∷ []));
   illegal_is = omega (arith, s.illegal_is, count_by-push is_illegal s.fates illegal);
@@ -136,16 +139,16 @@ SoFar-illegal keeps frames left rest f next dropped turned_away out before after
   sum = omega (arith, s.sum);
 }
 
-pub SoFar-filtered : (keeps : Filter) (frames left rest : List (List ℕ)) (f : List ℕ) (next dropped turned_away out : ℕ)
+pub SoFar-filtered : (unit : Unit) (keeps : Filter) (frames left rest : List (List ℕ)) (f : List ℕ) (next dropped turned_away out : ℕ)
     (before after : Option (List ℕ)) → left ≡ f ∷ rest → is_sendable f ≡ true → (keeps (padded f) → ⊥)
-    → SoFar keeps frames left next dropped turned_away out before after
-    → SoFar keeps frames rest (next + 1) dropped (turned_away + 1) out before after
-SoFar-filtered keeps frames left rest f next dropped turned_away out before after first good away s = record {
+    → SoFar unit keeps frames left next dropped turned_away out before after
+    → SoFar unit keeps frames rest (next + 1) dropped (turned_away + 1) out before after
+SoFar-filtered unit keeps frames left rest f next dropped turned_away out before after first good away s = record {
   done = s.done ++ f ∷ [];
   parts = more_parts frames s.done left rest f first s.parts;
   fates = s.fates ++ filtered ∷ [];
   right = HaveFates-push keeps s.done s.fates f filtered s.right (good, away);
-  went = subst (λ (x : List Timed). Appends before after (written x))
+  went = subst (λ (x : List Timed). Appends before after (written unit x))
       (sym (kept_from-push keeps 0 s.done s.fates f filtered s.right ∙ append-nil (kept_from 0 s.done s.fates))) s.went;
   next_is = omega (arith, s.next_is, length-append s.done (f ∷ []));
   illegal_is = omega (arith, s.illegal_is, count_by-push is_illegal s.fates filtered);
@@ -154,12 +157,12 @@ SoFar-filtered keeps frames left rest f next dropped turned_away out before afte
   sum = omega (arith, s.sum);
 }
 
-pub SoFar-kept : (keeps : Filter) (frames left rest : List (List ℕ)) (f : List ℕ) (next dropped turned_away out : ℕ)
+pub SoFar-kept : (unit : Unit) (keeps : Filter) (frames left rest : List (List ℕ)) (f : List ℕ) (next dropped turned_away out : ℕ)
     (before mid after : Option (List ℕ)) → left ≡ f ∷ rest → is_sendable f ≡ true → keeps (padded f)
-    → SoFar keeps frames left next dropped turned_away out before mid
-    → Appends mid after (packet_of (record { time = next; frame = padded f }))
-    → SoFar keeps frames rest (next + 1) dropped turned_away (out + 1) before after
-SoFar-kept keeps frames left rest f next dropped turned_away out before mid after first good keep s went =
+    → SoFar unit keeps frames left next dropped turned_away out before mid
+    → Appends mid after (packet_of unit (record { time = next; frame = padded f }))
+    → SoFar unit keeps frames rest (next + 1) dropped turned_away (out + 1) before after
+SoFar-kept unit keeps frames left rest f next dropped turned_away out before mid after first good keep s went =
     let ts = kept_from 0 s.done s.fates in
     let t : Timed = record { time = next; frame = padded f } in
     let now : kept_of (0 + length s.done) f kept ≡ t ∷ [] = ap (λ (k : ℕ). kept_of k f kept) (omega (arith, s.next_is)) in
@@ -170,8 +173,8 @@ SoFar-kept keeps frames left rest f next dropped turned_away out before mid afte
       parts = more_parts frames s.done left rest f first s.parts;
       fates = s.fates ++ kept ∷ [];
       right = HaveFates-push keeps s.done s.fates f kept s.right (good, keep);
-      went = subst (Appends before after) (sym (ap written all ∙ written-push ts t))
-          (Appends-trans before mid after (written ts) (packet_of t) s.went went);
+      went = subst (Appends before after) (sym (ap (written unit) all ∙ written-push unit ts t))
+          (Appends-trans before mid after (written unit ts) (packet_of unit t) s.went went);
       next_is = omega (arith, s.next_is, length-append s.done (f ∷ []));
       illegal_is = omega (arith, s.illegal_is, count_by-push is_illegal s.fates kept);
       filtered_is = omega (arith, s.filtered_is, count_by-push is_filtered s.fates kept);
@@ -182,20 +185,21 @@ SoFar-kept keeps frames left rest f next dropped turned_away out before mid afte
 -- ---- the end
 
 -- a front of what waits went out
-pub SoFar-stops : (keeps : Filter) (frames rest : List (List ℕ)) (next dropped turned_away out : ℕ) (before mid after : Option (List ℕ))
-    (waiting : List ℕ)
-    → Grows before mid → SoFar keeps frames rest next dropped turned_away out before (append_known mid waiting)
-    → AppendsFront mid after waiting → StopsAmong keeps frames before after
-SoFar-stops keeps frames rest next dropped turned_away out before mid after waiting grown s went =
+pub SoFar-stops : (unit : Unit) (keeps : Filter) (frames rest : List (List ℕ)) (next dropped turned_away out : ℕ)
+    (before mid after : Option (List ℕ)) (waiting : List ℕ)
+    → Grows before mid → SoFar unit keeps frames rest next dropped turned_away out before (append_known mid waiting)
+    → AppendsFront mid after waiting → StopsAmong unit keeps frames before after
+SoFar-stops unit keeps frames rest next dropped turned_away out before mid after waiting grown s went =
     let first : take (length s.done) frames ≡ s.done = ap (take (length s.done)) s.parts ∙ take_at s.done rest (length s.done) refl in
     record {
       count = length s.done;
       fates = s.fates;
       right = subst (λ (x : List (List ℕ)). HaveFates keeps x s.fates) (sym first) s.right;
-      went = subst (λ (x : List (List ℕ)). AppendsFront before after (written (kept_from 0 x s.fates))) (sym first)
-          (flushed_front before mid after waiting (written (kept_from 0 s.done s.fates)) grown s.went went);
+      went = subst (λ (x : List (List ℕ)). AppendsFront before after (written unit (kept_from 0 x s.fates))) (sym first)
+          (flushed_front before mid after waiting (written unit (kept_from 0 s.done s.fates)) grown s.went went);
     }
 
 -- nothing was written
-pub StopsAmong-start : (keeps : Filter) (frames : List (List ℕ)) (before : Option (List ℕ)) → StopsAmong keeps frames before before
-StopsAmong-start keeps frames before = record { count = 0; fates = []; right = tt; went = (0, Appends-nil before) }
+pub StopsAmong-start : (unit : Unit) (keeps : Filter) (frames : List (List ℕ)) (before : Option (List ℕ))
+    → StopsAmong unit keeps frames before before
+StopsAmong-start unit keeps frames before = record { count = 0; fates = []; right = tt; went = (0, Appends-nil before) }

@@ -1,9 +1,10 @@
 -- What becomes of the frames of a trace that pass a filter on their way through a ring. (our choice)
-use Rattle.std.specs.Prelude.{◌≡◌, ◌+◌, ℕ, List, [], ◌∷◌, length, take, Bool, true, false, Option, count_by}
+use Rattle.std.specs.Prelude.{◌≡◌, ◌+◌, ℕ, List, [], ◌∷◌, length, take, Bool, true, false, ⊤, Option, count_by}
 use Rattle.std.specs.Io.KnownBytes.{Appends}
 use Rattle.descriptors.specs.Frames.{padded, is_sendable}
 use Rattle.pcap_trace.specs.Devices.{AppendsFront}
 use Rattle.pcap_trace.specs.Format.{Timed, written}
+use Rattle.pcap_trace.specs.declared.unit.Unit.{Unit}
 use Rattle.pcap_bench.specs.declared.counts.PassCounts.{PassCounts}
 use Rattle.pcap_bench.specs.declared.program_error.PassError.{PassError}
 use Rattle.pcap_bench.specs.declared.program_error.PassError.TheVariants.{Memory, Write}
@@ -14,6 +15,7 @@ Filter = List ℕ → Type 0
 
 -- ---- the fate of each frame
 
+-- what becomes of a frame: its size is illegal, the filter rejects it, or it is written
 pub data Fate : Type 0 where
   illegal : Fate
   filtered : Fate
@@ -27,21 +29,24 @@ IsFate keeps frame kept = (is_sendable frame ≡ true) × keeps (padded frame)
 
 -- Each frame has its fate.
 abbrev pub HaveFates : Filter → List (List ℕ) → List Fate → Type 0
-HaveFates keeps [] [] = Unit {0}
+HaveFates keeps [] [] = ⊤
 HaveFates keeps [] (t ∷ ts) = ⊥
 HaveFates keeps (f ∷ fs) [] = ⊥
 HaveFates keeps (f ∷ fs) (t ∷ ts) = IsFate keeps f t × HaveFates keeps fs ts
 
+-- whether its size is illegal
 abbrev pub is_illegal : Fate → Bool
 is_illegal illegal = true
 is_illegal filtered = false
 is_illegal kept = false
 
+-- whether the filter rejects it
 abbrev pub is_filtered : Fate → Bool
 is_filtered illegal = false
 is_filtered filtered = true
 is_filtered kept = false
 
+-- whether it is written
 abbrev pub is_kept : Fate → Bool
 is_kept illegal = false
 is_kept filtered = false
@@ -57,22 +62,34 @@ kept_from n (f ∷ fs) (kept ∷ ts) = record { time = n; frame = padded f } ∷
 
 -- ---- the call
 
--- What was written is the written form of the frames that are kept, and each fate is counted.
-pub record WritesKept (keeps : Filter) (frames : List (List ℕ)) (counts : PassCounts) (before after : Option (List ℕ)) : Type 0 where
+-- What was written is the written form, in this unit, of the frames that are kept, and each fate is counted.
+pub record WritesKept (unit : Unit) (keeps : Filter) (frames : List (List ℕ)) (counts : PassCounts) (before after : Option (List ℕ))
+    : Type 0 where
+  -- the fate of each frame
   pub fates : List Fate
+  -- each frame has the right fate
   pub right : HaveFates keeps frames fates
-  pub went : Appends before after (written (kept_from 0 frames fates))
+  -- the frames kept were written, padded, each with its number
+  pub went : Appends before after (written unit (kept_from 0 frames fates))
+  -- all frames are counted
   pub read_is : counts.read ≡ length frames
+  -- and those of illegal sizes
   pub illegal_is : counts.illegal ≡ count_by is_illegal fates
+  -- and those that the filter rejects
   pub filtered_is : counts.filtered ≡ count_by is_filtered fates
+  -- and those written
   pub written_is : counts.written ≡ count_by is_kept fates
 
 -- What was written is a beginning of the written form of those that are kept among the first frames.
-pub record StopsAmong (keeps : Filter) (frames : List (List ℕ)) (before after : Option (List ℕ)) : Type 0 where
+pub record StopsAmong (unit : Unit) (keeps : Filter) (frames : List (List ℕ)) (before after : Option (List ℕ)) : Type 0 where
+  -- so many frames were looked at
   pub count : ℕ
+  -- their fates
   pub fates : List Fate
+  -- each has the right fate
   pub right : HaveFates keeps (take count frames) fates
-  pub went : AppendsFront before after (written (kept_from 0 (take count frames) fates))
+  -- a beginning of what is to be written of them was written
+  pub went : AppendsFront before after (written unit (kept_from 0 (take count frames) fates))
 
 -- Want of memory comes before anything is written; a failed write is counted by the sink.
 abbrev pub StopsBy : PassError → Option (List ℕ) → Option (List ℕ) → ℕ → ℕ → Type 0

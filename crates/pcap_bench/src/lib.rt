@@ -14,8 +14,8 @@ pub use command_line::PassFilter;
 pub use counts::PassCounts;
 pub use passing::pass;
 pub use pcap_trace::{
-    DeviceError, Frames, Iter, ReadError, ReaderSource, Sink, SliceSource, Source, Trace, VecSink,
-    WriteError, WriterSink,
+    DeviceError, Frames, Iter, ReadError, ReaderSource, Sink, SliceSource, Source, Trace, Unit,
+    VecSink, WriteError, WriterSink,
 };
 pub use printing::print_pass;
 pub use program_error::{PassError, ProgramError};

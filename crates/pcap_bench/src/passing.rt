@@ -15,7 +15,7 @@ use crate::lane::ReceiveLane;
 use crate::program_error::PassError;
 use command_line::PassFilter;
 use descriptors::{LONGEST_SENDABLE, SHORTEST_SENDABLE};
-use pcap_trace::{RecordWriter, Sink, Trace, WriteError};
+use pcap_trace::{RecordWriter, Sink, Trace, Unit, WriteError};
 use std::alloc::Global;
 
 /// Whether a frame can be sent: whether it has 14 to 1,518 bytes.
@@ -29,6 +29,7 @@ fn is_sendable(frame: &[u8]) -> bool
 fn write_received<W: Sink>(
     lane: &mut ReceiveLane,
     writer: &mut RecordWriter,
+    unit: Unit,
     sink: &mut W,
     number: u64,
 ) -> Result<(), WriteError>
@@ -37,14 +38,14 @@ fn write_received<W: Sink>(
     requires finished { HasFrame lane.old (slot_bytes lane.old) }
     ensures ok { OnOk result
         (Appends (append_known (W.taken sink.old) writer.old) (append_known (W.taken sink.new) writer.new)
-        (packet_of (record { time = number; frame = slot_bytes lane.old }))) }
+        (packet_of unit (record { time = number; frame = slot_bytes lane.old }))) }
     ensures grows { OnOk result (Grows (W.taken sink.old) (W.taken sink.new)) }
     ensures err { OnErr result (AppendsFront (W.taken sink.old) (W.taken sink.new) writer.old) }
     ensures failures { CountsFailures result (W.failures sink.old) (W.failures sink.new) }
     ensures waiting { OnOk result (IsWaiting lane.new) }
     ensures filter { OnOk result (lane.new.adapter.filter ≡ lane.old.adapter.filter) }
 {
-    writer.write(sink, number, lane.received())?;
+    writer.write(sink, unit, number, lane.received())?;
     lane.offer();
     Ok(())
 }
@@ -55,14 +56,15 @@ fn pass_frames<W: Sink>(
     lane: &mut ReceiveLane,
     writer: &mut RecordWriter,
     trace: &Trace,
+    unit: Unit,
     sink: &mut W,
 ) -> Result<PassCounts, WriteError>
     requires countable { W.failures sink.old < u64.MAX }
     requires waiting { IsWaiting lane.old }
-    requires begun { writer.old ≡ file_header }
-    ensures ok { IfOk result (λ counts. WritesKept (Passes (filter_of lane.old.adapter.filter)) trace.now.frames counts
-        (W.taken sink.old) (W.taken sink.new)) }
-    ensures err { OnErr result (StopsAmong (Passes (filter_of lane.old.adapter.filter)) trace.now.frames
+    requires begun { writer.old ≡ file_header unit }
+    ensures ok { IfOk result (λ counts. WritesKept unit (Passes (filter_of lane.old.adapter.filter)) trace.now.frames
+        counts (W.taken sink.old) (W.taken sink.new)) }
+    ensures err { OnErr result (StopsAmong unit (Passes (filter_of lane.old.adapter.filter)) trace.now.frames
         (W.taken sink.old) (W.taken sink.new)) }
     ensures failures { CountsFailures result (W.failures sink.old) (W.failures sink.new) }
 {
@@ -82,7 +84,7 @@ fn pass_frames<W: Sink>(
             counts.filtered += 1;
             continue;
         }
-        write_received(lane, writer, sink, number)?;
+        write_received(lane, writer, unit, sink, number)?;
         counts.written += 1;
     }
     writer.flush(sink)?;
@@ -92,7 +94,7 @@ fn pass_frames<W: Sink>(
 /// Puts each frame of a trace that can be sent on the wire of an adapter, padded to 60 bytes by zeros; those that its
 /// receive filter passes come through a receive ring of 8 descriptors in a host's memory, and are written from there,
 /// each with its number among the frames of the trace (from 0; packets that were captured in part don't count) as its
-/// time in microseconds.
+/// time in microseconds, which is written in `unit`.
 ///
 /// Frames below 14 or above 1,518 bytes are counted as illegal; of the others, the filter is asked of the padded
 /// frame. It has the options' address as its one exact address, the number of the options' group (RCTL.MO 00) as the
@@ -108,19 +110,21 @@ pub fn pass<W: Sink>(
     alloc: Global,
     trace: &Trace,
     filter: &PassFilter,
+    unit: Unit,
     sink: &mut W,
 ) -> Result<PassCounts, PassError>
     requires countable { W.failures sink.old < u64.MAX }
     requires vlan { HasVlanNumber filter.now }
     ensures ok { IfOk result
-        (λ counts. WritesKept (KeptBy filter.now) trace.now.frames counts (W.taken sink.old) (W.taken sink.new)) }
+        (λ counts. WritesKept unit (KeptBy filter.now) trace.now.frames counts (W.taken sink.old) (W.taken sink.new)) }
     ensures quiet { OnOk result (W.failures sink.new ≡ W.failures sink.old) }
-    ensures err { OnErr result (StopsAmong (KeptBy filter.now) trace.now.frames (W.taken sink.old) (W.taken sink.new)) }
+    ensures err { OnErr result
+        (StopsAmong unit (KeptBy filter.now) trace.now.frames (W.taken sink.old) (W.taken sink.new)) }
     ensures fault { IfErr result
         (λ e. StopsBy e (W.taken sink.old) (W.taken sink.new) (W.failures sink.old) (W.failures sink.new)) }
 {
     let mut lane = ReceiveLane::new(alloc, filter)?;
-    let mut writer = RecordWriter::new(alloc)?;
-    let counts = pass_frames(&mut lane, &mut writer, trace, sink)?;
+    let mut writer = RecordWriter::new(alloc, unit)?;
+    let counts = pass_frames(&mut lane, &mut writer, trace, unit, sink)?;
     Ok(counts)
 }

@@ -5,6 +5,7 @@ use Rattle.std.specs.Io.KnownBytes.{Appends, append_known}
 use Rattle.std.proofs.KnownBytes.{Appends-nil, Appends-trans}
 use Rattle.std.proofs.lemmas.List.{length-append, take_at}
 use Rattle.pcap_trace.specs.Devices.{AppendsFront, Grows}
+use Rattle.pcap_trace.specs.declared.unit.Unit.{Unit}
 use Rattle.pcap_trace.specs.Format.{file_header, written}
 use Rattle.pcap_trace.proofs.Sent.{AppendsFront-longer, take-past}
 
@@ -51,16 +52,19 @@ pub Grows-more : (a b c : Option (List ℕ)) → Grows a b → Grows b c → Gro
 Grows-more a b c g h = (g.0 ++ h.0, Appends-trans a b c g.0 h.0 g.1 h.1)
 
 -- the file header waits
-pub header_waits : (a : Option (List ℕ)) (waiting : List ℕ) → waiting ≡ file_header → Appends a (append_known a waiting) (written [])
-header_waits a waiting is = subst (λ (w : List ℕ). Appends a (append_known a w) (written [])) (sym is) (waits a file_header)
+pub header_waits : (unit : Unit) (a : Option (List ℕ)) (waiting : List ℕ) → waiting ≡ file_header unit
+    → Appends a (append_known a waiting) (written unit [])
+header_waits unit a waiting is = subst (λ (w : List ℕ). Appends a (append_known a w) (written unit [])) (sym is)
+    (waits a (file_header unit))
 
 -- These bytes went out, or the last of them wait.
 pub record GoesOut (before now : Option (List ℕ)) (waiting bytes : List ℕ) : Type 0 where
   pub grown : Grows before now
   pub went : Appends before (append_known now waiting) bytes
 
-pub goes-header : (a : Option (List ℕ)) (waiting : List ℕ) → waiting ≡ file_header → GoesOut a a waiting (written [])
-goes-header a waiting is = record { grown = Grows-none a; went = header_waits a waiting is }
+pub goes-header : (unit : Unit) (a : Option (List ℕ)) (waiting : List ℕ) → waiting ≡ file_header unit
+    → GoesOut a a waiting (written unit [])
+goes-header unit a waiting is = record { grown = Grows-none a; went = header_waits unit a waiting is }
 
 pub goes-more : (a b d : Option (List ℕ)) (waiting later bytes more : List ℕ) → GoesOut a b waiting bytes
     → Appends (append_known b waiting) (append_known d later) more → Grows b d → GoesOut a d later (bytes ++ more)

@@ -1,8 +1,19 @@
 -- What is left of a source after a read, and after two uses.
 use Rattle.std.proofs.Common.{◌≡◌, ◌++◌, ◌∙◌, ℕ, List, [], Option, Some, None, ap, sym, refl}
-use Rattle.std.proofs.lemmas.List.{append_assoc}
+use Rattle.std.proofs.lemmas.List.{append-nil, append_assoc}
 use Rattle.std.specs.Io.KnownBytes.{Consumes, Keeps}
 use Rattle.pcap_trace.specs.Devices.{Receives, Uses}
+
+-- no read
+none_consumed : (a : Option (List ℕ)) → Consumes a a []
+none_consumed None = tt
+none_consumed (Some xs) = refl
+
+pub received_none : (held : List ℕ) (a : Option (List ℕ)) → Receives held held a a
+received_none held a = ([], sym (append-nil held), none_consumed a)
+
+pub uses_none : (a : Option (List ℕ)) → Uses a a
+uses_none a = record { used = []; consumes = none_consumed a }
 
 -- a read that failed
 pub uses_kept : (a b : Option (List ℕ)) → Keeps a b → Uses a b

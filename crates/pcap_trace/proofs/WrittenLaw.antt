@@ -9,71 +9,84 @@ use Rattle.byteorder.specs.Endian.{little_number, little_bytes}
 use Rattle.byteorder.specs.Numbers.{little_number-reads_back}
 use Rattle.pcap_trace.specs.declared.header.Endianness.{Endianness}
 use Rattle.pcap_trace.specs.declared.header.Endianness.TheVariants.{Little}
-use Rattle.pcap_trace.specs.Format.{number_in, Packet, Timed, complete, captured_length, original_length, packet_bytes, IsPacket}
+use Rattle.pcap_trace.specs.declared.unit.Unit.{Unit}
+use Rattle.pcap_trace.specs.declared.unit.Unit.TheVariants.{Micros, Nanos}
+use Rattle.pcap_trace.specs.Format.{number_in, is_magic, Packet, Timed, complete, captured_length, original_length, packet_bytes, IsPacket}
 use Rattle.pcap_trace.specs.Format.{is_partial, frames_of, skipped_of, ending_of, IsTraceIn, file_header, packet_header, packet_of, written}
 use Rattle.pcap_trace.specs.Format.{frame_of, IsShort, WrittenIsTrace, WrittenIsNoOther}
 use Rattle.pcap_trace.proofs.Orders.{number_first, one_order}
 use Rattle.pcap_trace.proofs.Unique.{body_unique}
 
 -- the packet that a frame is written as
-abbrev written_packet : Timed → Packet
-written_packet t = record { header = packet_header t.time (length t.frame); captured = t.frame }
+abbrev written_packet : Unit → Timed → Packet
+written_packet unit t = record { header = packet_header unit t.time (length t.frame); captured = t.frame }
 
-packets-written : (ts : List Timed) → flat_map packet_bytes (map written_packet ts) ≡ flat_map packet_of ts
-packets-written [] = refl
-packets-written (t ∷ ts) = flat_map-cons packet_bytes (written_packet t) (map written_packet ts)
-    ∙ ap (λ (x : List ℕ). packet_of t ++ x) (packets-written ts) ∙ sym (flat_map-cons packet_of t ts)
+packets-written : (unit : Unit) (ts : List Timed)
+    → flat_map packet_bytes (map (written_packet unit) ts) ≡ flat_map (packet_of unit) ts
+packets-written unit [] = refl
+packets-written unit (t ∷ ts) = flat_map-cons packet_bytes (written_packet unit t) (map (written_packet unit) ts)
+    ∙ ap (λ (x : List ℕ). packet_of unit t ++ x) (packets-written unit ts) ∙ sym (flat_map-cons (packet_of unit) t ts)
 
-captured_length-written : (time len : ℕ) → len < 2 ^ 32 → captured_length little_number (packet_header time len) ≡ len
+captured_length-written : (unit : Unit) (time len : ℕ) → len < 2 ^ 32 → captured_length little_number (packet_header unit time len) ≡ len
 unfolding packet_header
-captured_length-written time len fits = little_number-reads_back 4 len (little_bytes 4 len) fits
+captured_length-written unit time len fits = little_number-reads_back 4 len (little_bytes 4 len) fits
 
-original_length-written : (time len : ℕ) → len < 2 ^ 32 → original_length little_number (packet_header time len) ≡ len
+original_length-written : (unit : Unit) (time len : ℕ) → len < 2 ^ 32 → original_length little_number (packet_header unit time len) ≡ len
 unfolding packet_header
-original_length-written time len fits = little_number-reads_back 4 len [] fits
+original_length-written unit time len fits = little_number-reads_back 4 len [] fits
 
-packet-whole : (t : Timed) → IsShort t → IsPacket little_number (written_packet t)
+packet-whole : (unit : Unit) (t : Timed) → IsShort t → IsPacket little_number (written_packet unit t)
 unfolding packet_header
-packet-whole t short = record
-    { header_length = refl; captured_is = sym (captured_length-written t.time (length t.frame) (omega arith)); short_enough = short }
+packet-whole unit t short = record
+    { header_length = refl; captured_is = sym (captured_length-written unit t.time (length t.frame) (omega arith)); short_enough = short }
 
-packets-whole : (ts : List Timed) → AllByRecursion IsShort ts → AllByRecursion (IsPacket little_number) (map written_packet ts)
-packets-whole [] short = tt
-packets-whole (t ∷ ts) short = (packet-whole t short.0, packets-whole ts short.1)
+packets-whole : (unit : Unit) (ts : List Timed) → AllByRecursion IsShort ts
+    → AllByRecursion (IsPacket little_number) (map (written_packet unit) ts)
+packets-whole unit [] short = tt
+packets-whole unit (t ∷ ts) short = (packet-whole unit t short.0, packets-whole unit ts short.1)
 
-packet-kept : (t : Timed) → IsShort t → is_partial little_number (written_packet t) ≡ false
-packet-kept t short =
-    let a = captured_length-written t.time (length t.frame) (omega arith) in
-    let b = original_length-written t.time (length t.frame) (omega arith) in
+packet-kept : (unit : Unit) (t : Timed) → IsShort t → is_partial little_number (written_packet unit t) ≡ false
+packet-kept unit t short =
+    let a = captured_length-written unit t.time (length t.frame) (omega arith) in
+    let b = original_length-written unit t.time (length t.frame) (omega arith) in
     le-ltb _ _ (omega (arith, a, b))
 
-frames_of-written : (ts : List Timed) → AllByRecursion IsShort ts → map frame_of ts ≡ frames_of little_number (map written_packet ts)
-frames_of-written [] short = refl
-frames_of-written (t ∷ ts) short = rw (packet-kept t short.0) (ap (λ (fs : List (List ℕ)). t.frame ∷ fs) (frames_of-written ts short.1))
+frames_of-written : (unit : Unit) (ts : List Timed) → AllByRecursion IsShort ts
+    → map frame_of ts ≡ frames_of little_number (map (written_packet unit) ts)
+frames_of-written unit [] short = refl
+frames_of-written unit (t ∷ ts) short =
+    rw (packet-kept unit t short.0) (ap (λ (fs : List (List ℕ)). t.frame ∷ fs) (frames_of-written unit ts short.1))
 
-skipped_of-written : (ts : List Timed) → AllByRecursion IsShort ts → 0 ≡ skipped_of little_number (map written_packet ts)
-skipped_of-written [] short = refl
-skipped_of-written (t ∷ ts) short = rw (packet-kept t short.0) (skipped_of-written ts short.1)
+skipped_of-written : (unit : Unit) (ts : List Timed) → AllByRecursion IsShort ts
+    → 0 ≡ skipped_of little_number (map (written_packet unit) ts)
+skipped_of-written unit [] short = refl
+skipped_of-written unit (t ∷ ts) short = rw (packet-kept unit t short.0) (skipped_of-written unit ts short.1)
+
+-- both first words are magic numbers
+magic_is-written : (unit : Unit) → is_magic (little_number 4 (file_header unit)) ≡ true
+unfolding file_header
+magic_is-written Micros = refl
+magic_is-written Nanos = refl
 
 pub found : WrittenIsTrace
 unfolding file_header
-found ts short = (
+found unit ts short = (
   Little,
   (
     record {
-      long_enough = omega (arith, length-append file_header (flat_map packet_of ts));
-      magic_is = refl;
+      long_enough = omega (arith, length-append (file_header unit) (flat_map (packet_of unit) ts));
+      magic_is = magic_is-written unit;
       major_is = refl;
       minor_is = refl;
       link_type_is = refl;
     },
     record {
-      packets = map written_packet ts;
+      packets = map (written_packet unit) ts;
       rest = [];
-      parts = sym (append-nil (flat_map packet_bytes (map written_packet ts)) ∙ packets-written ts);
-      whole = packets-whole ts short;
-      frames_are = frames_of-written ts short;
-      skipped_are = skipped_of-written ts short;
+      parts = sym (append-nil (flat_map packet_bytes (map (written_packet unit) ts)) ∙ packets-written unit ts);
+      whole = packets-whole unit ts short;
+      frames_are = frames_of-written unit ts short;
+      skipped_are = skipped_of-written unit ts short;
       ends = refl;
     },
   ),
@@ -85,10 +98,10 @@ complete_uncut false e = refl
 
 pub no_other : WrittenIsNoOther
 unfolding file_header found
-no_other ts frames skipped cut short t =
-    let is_little : t.0 ≡ Little = one_order (written ts) t.0 Little t.1.0.magic_is refl in
-    let moved : IsTraceIn little_number (written ts) frames skipped cut = subst
-    (λ (o : Endianness). IsTraceIn (number_in o) (written ts) frames skipped cut) is_little t.1 in
-    let same = body_unique little_number (number_first Little) (drop 24 (written ts)) frames (map frame_of ts) skipped 0
-    (ending_of cut) complete moved.1 (found ts short).1.1 in
+no_other unit ts frames skipped cut short t =
+    let is_little : t.0 ≡ Little = one_order (written unit ts) t.0 Little t.1.0.magic_is (found unit ts short).1.0.magic_is in
+    let moved : IsTraceIn little_number (written unit ts) frames skipped cut = subst
+    (λ (o : Endianness). IsTraceIn (number_in o) (written unit ts) frames skipped cut) is_little t.1 in
+    let same = body_unique little_number (number_first Little) (drop 24 (written unit ts)) frames (map frame_of ts) skipped 0
+    (ending_of cut) complete moved.1 (found unit ts short).1.1 in
     (same.0, same.1, complete_uncut cut same.2)

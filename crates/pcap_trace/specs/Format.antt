@@ -1,10 +1,12 @@
 -- The trace files of libpcap, version 2.4 (pcap-savefile): a file header, packets, and perhaps the beginning of one more packet.
-use Rattle.std.specs.Prelude.{◌≡◌, ◌==◌, ◌||◌, ◌<◌, ◌≤◌, ◌+◌, ◌/◌, ◌%◌, ◌^◌, ◌⊎◌, ◌++◌, ℕ, suc, List, [], ◌∷◌, length, drop, Bool, true}
-use Rattle.std.specs.Prelude.{false, IsTrue, nat_lt, if◌then◌else◌, map}
+use Rattle.std.specs.Prelude.{◌≡◌, ◌==◌, ◌||◌, ◌<◌, ◌≤◌, ◌+◌, ◌*◌, ◌/◌, ◌%◌, ◌^◌, ◌⊎◌, ◌++◌, ℕ, suc, List, [], ◌∷◌, length, drop}
+use Rattle.std.specs.Prelude.{Bool, true, false, IsTrue, nat_lt, if◌then◌else◌, map}
 use Rattle.std.specs.List.{flat_map, AllByRecursion}
 use Rattle.byteorder.specs.Endian.{big_number, little_number, little_bytes}
 use Rattle.pcap_trace.specs.declared.header.Endianness.{Endianness}
 use Rattle.pcap_trace.specs.declared.header.Endianness.TheVariants.{Big, Little}
+use Rattle.pcap_trace.specs.declared.unit.Unit.{Unit}
+use Rattle.pcap_trace.specs.declared.unit.Unit.TheVariants.{Micros, Nanos}
 
 -- A byte order: the number in the first n bytes of a list.
 abbrev pub Order : Type 0
@@ -119,7 +121,9 @@ IsTrace bytes frames skipped cut = (order : Endianness) × IsTraceIn (number_in 
 
 -- a frame with its time, a number of microseconds
 pub record Timed : Type 0 where
+  -- its time in microseconds
   pub time : ℕ
+  -- its bytes
   pub frame : List ℕ
 
 abbrev pub frame_of : Timed → List ℕ
@@ -129,32 +133,43 @@ frame_of t = t.frame
 abbrev pub timed : ℕ × List ℕ → Timed
 timed p = record { time = p.0; frame = p.1 }
 
--- little-endian, microseconds, version 2.4, snapshot length 65,535, Ethernet
-unfoldable pub file_header : List ℕ
-file_header = little_bytes 4 microseconds_magic ++ little_bytes 2 2 ++ little_bytes 2 4 ++ little_bytes 4 0 ++ little_bytes 4 0
+-- the first word of a trace whose times have this unit
+abbrev pub magic_of : Unit → ℕ
+magic_of Micros = microseconds_magic
+magic_of Nanos = nanoseconds_magic
+
+-- what a time in microseconds has beyond whole seconds, in this unit
+abbrev pub fraction_of : Unit → ℕ → ℕ
+fraction_of Micros time = time % 1000000
+fraction_of Nanos time = time % 1000000 * 1000
+
+-- little-endian, with times in this unit, version 2.4, snapshot length 65,535, Ethernet
+unfoldable pub file_header : Unit → List ℕ
+file_header unit = little_bytes 4 (magic_of unit) ++ little_bytes 2 2 ++ little_bytes 2 4 ++ little_bytes 4 0 ++ little_bytes 4 0
     ++ little_bytes 4 65535 ++ little_bytes 4 1
 
--- seconds (their low 32 bits), microseconds, and the length twice
-unfoldable pub packet_header : ℕ → ℕ → List ℕ
-packet_header time len = little_bytes 4 (time / 1000000 % 2 ^ 32) ++ little_bytes 4 (time % 1000000) ++ little_bytes 4 len
+-- seconds (their low 32 bits), the fraction in this unit, and the length twice
+unfoldable pub packet_header : Unit → ℕ → ℕ → List ℕ
+packet_header unit time len = little_bytes 4 (time / 1000000 % 2 ^ 32) ++ little_bytes 4 (fraction_of unit time) ++ little_bytes 4 len
     ++ little_bytes 4 len
 
-abbrev pub packet_of : Timed → List ℕ
-packet_of t = packet_header t.time (length t.frame) ++ t.frame
+-- a packet: its header, and then the frame
+abbrev pub packet_of : Unit → Timed → List ℕ
+packet_of unit t = packet_header unit t.time (length t.frame) ++ t.frame
 
 -- the written form of frames with their times
-abbrev pub written : List Timed → List ℕ
-written ts = file_header ++ flat_map packet_of ts
+abbrev pub written : Unit → List Timed → List ℕ
+written unit ts = file_header unit ++ flat_map (packet_of unit) ts
 
 abbrev pub IsShort : Timed → Type 0
 IsShort t = length t.frame ≤ most_captured
 
 -- What is written is a trace of exactly these frames: none skipped, not cut.
 abbrev pub WrittenIsTrace : Type 0
-WrittenIsTrace = (ts : List Timed) → AllByRecursion IsShort ts → IsTrace (written ts) (map frame_of ts) 0 false
+WrittenIsTrace = (unit : Unit) (ts : List Timed) → AllByRecursion IsShort ts → IsTrace (written unit ts) (map frame_of ts) 0 false
 
 -- And it is a trace of no others.
 abbrev pub WrittenIsNoOther : Type 0
 WrittenIsNoOther =
-    (ts : List Timed) (frames : List (List ℕ)) (skipped : ℕ) (cut : Bool)
-    → AllByRecursion IsShort ts → IsTrace (written ts) frames skipped cut → (frames ≡ map frame_of ts) × (skipped ≡ 0) × (cut ≡ false)
+    (unit : Unit) (ts : List Timed) (frames : List (List ℕ)) (skipped : ℕ) (cut : Bool)
+    → AllByRecursion IsShort ts → IsTrace (written unit ts) frames skipped cut → (frames ≡ map frame_of ts) × (skipped ≡ 0) × (cut ≡ false)

@@ -113,8 +113,27 @@ impl Block {
     /// # Errors
     ///
     /// [`DeviceError`] where the source fails.
-    #[tactic(auto, using(crate::proofs::Uses::uses_received))]
+    #[tactic(auto, using(crate::proofs::Uses::received_none, crate::proofs::Uses::uses_none))]
+    #[inline(always)]
     pub fn fill<S: Source>(&mut self, source: &mut S, want: usize) -> Result<(), DeviceError>
+        requires countable { S.failures source.old < u64.MAX }
+        requires room { want ≤ ROOM }
+        ensures received { OnOk result (Receives self.old self.new (S.left source.old) (S.left source.new)) }
+        ensures used { Uses (S.left source.old) (S.left source.new) }
+        ensures filled { OnOk result ((want ≤ length self.new) ⊎ IsAtEnd (S.left source.new)) }
+        ensures limit { OnOk result (length self.new + S.most source.new ≤ length self.old + S.most source.old) }
+        ensures failures { CountsFailures result (S.failures source.old) (S.failures source.new) }
+    {
+        if want <= self.end - self.start {
+            return Ok(());
+        }
+        self.fill_slowly(source, want)
+    }
+
+    /// [`fill`](Block::fill) if bytes are missing. A function of its own, so that `fill` can be inlined.
+    #[tactic(auto, using(crate::proofs::Uses::uses_received))]
+    #[inline(never)]
+    fn fill_slowly<S: Source>(&mut self, source: &mut S, want: usize) -> Result<(), DeviceError>
         requires countable { S.failures source.old < u64.MAX }
         requires room { want ≤ ROOM }
         ensures received { OnOk result (Receives self.old self.new (S.left source.old) (S.left source.new)) }

@@ -16,6 +16,7 @@ mod memory;
 mod packet;
 mod reading;
 mod trace;
+mod unit;
 mod writer;
 mod writing;
 
@@ -26,5 +27,6 @@ pub use frames::{Frames, Iter};
 pub use law::written_is_trace;
 pub use memory::{SliceSource, VecSink};
 pub use trace::Trace;
+pub use unit::Unit;
 pub use writer::RecordWriter;
 pub use writing::write_all;

@@ -1,8 +1,9 @@
 //! The headers of a trace file and of its packets, as they are written (libpcap, "pcap-savefile", File Header and
 //! Packet Header).
 ghost use Rattle.std.specs.Prelude.{◌≡◌};
-ghost use Rattle.pcap_trace.specs.Format.{file_header, packet_header};
+ghost use Rattle.pcap_trace.specs.Format.{file_header, fraction_of, magic_of, packet_header};
 
+use crate::unit::Unit;
 use byteorder::{ByteOrder, LittleEndian};
 
 /// Bytes of a file header.
@@ -32,13 +33,37 @@ pub const ETHERNET: u32 = 1;
 /// Microseconds of a second.
 const MICROSECONDS: u64 = 1_000_000;
 
-/// The file header that traces are written with.
+/// Nanoseconds of a microsecond.
+const NANOSECONDS: u64 = 1_000;
+
+/// The first word of a trace whose times have this unit.
+fn magic_of(unit: Unit) -> u32
+    ensures { result ≡ magic_of unit }
+{
+    match unit {
+        Unit::Micros => MICROSECONDS_MAGIC,
+        Unit::Nanos => NANOSECONDS_MAGIC,
+    }
+}
+
+/// What a time in microseconds has beyond whole seconds, in this unit.
+fn fraction_of(unit: Unit, time: u64) -> u32
+    ensures { result ≡ fraction_of unit time }
+{
+    let fraction = time % MICROSECONDS;
+    match unit {
+        Unit::Micros => fraction as u32,
+        Unit::Nanos => (fraction * NANOSECONDS) as u32,
+    }
+}
+
+/// The file header that traces with this unit are written with.
 #[tactic(auto, unfolding(crate::specs::Format::file_header))]
-pub fn file_header() -> [u8; FILE_HEADER]
-    ensures { result ≡ file_header }
+pub fn file_header(unit: Unit) -> [u8; FILE_HEADER]
+    ensures { result ≡ file_header unit }
 {
     let mut header = [0; FILE_HEADER];
-    LittleEndian::write_u32(&mut header, MICROSECONDS_MAGIC);
+    LittleEndian::write_u32(&mut header, magic_of(unit));
     LittleEndian::write_u16(&mut header[4..], MAJOR);
     LittleEndian::write_u16(&mut header[6..], MINOR);
     LittleEndian::write_u32(&mut header[16..], SNAPSHOT_LENGTH);
@@ -48,12 +73,12 @@ pub fn file_header() -> [u8; FILE_HEADER]
 
 /// The packet header of a frame of so many bytes, at a time in microseconds.
 #[tactic(auto, unfolding(crate::specs::Format::packet_header))]
-pub fn packet_header(time: u64, length: u32) -> [u8; PACKET_HEADER]
-    ensures { result ≡ packet_header time length }
+pub fn packet_header(unit: Unit, time: u64, length: u32) -> [u8; PACKET_HEADER]
+    ensures { result ≡ packet_header unit time length }
 {
     let mut header = [0; PACKET_HEADER];
     LittleEndian::write_u32(&mut header, (time / MICROSECONDS % (1 << 32)) as u32);
-    LittleEndian::write_u32(&mut header[4..], (time % MICROSECONDS) as u32);
+    LittleEndian::write_u32(&mut header[4..], fraction_of(unit, time));
     LittleEndian::write_u32(&mut header[8..], length);
     LittleEndian::write_u32(&mut header[12..], length);
     header

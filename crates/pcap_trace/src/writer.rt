@@ -7,6 +7,7 @@ ghost use Rattle.pcap_trace.specs.Format.{file_header, packet_of};
 use crate::device::Sink;
 use crate::fault::WriteError;
 use crate::packet::{PACKET_HEADER, file_header, packet_header};
+use crate::unit::Unit;
 use crate::writing::write_all;
 use std::alloc::{AllocError, Global};
 use std::marker::Model;
@@ -14,8 +15,8 @@ use std::marker::Model;
 /// Bytes that go to the sink at once.
 const BLOCK: usize = 65_536;
 
-/// Writes a trace packet by packet: little-endian, times in microseconds, version 2.4, snapshot length 65,535, link
-/// type Ethernet (libpcap, "pcap-savefile").
+/// Writes a trace packet by packet: little-endian, times in a [`Unit`], version 2.4, snapshot length 65,535, link
+/// type Ethernet (libpcap, "pcap-savefile"). All packets of a trace are to have the unit of its file header.
 ///
 /// What waits for the sink stands in a block of 64 KiB, whose memory is made with it. A contract sees it as the bytes
 /// that wait. The last ones go out by [`RecordWriter::flush`].
@@ -40,20 +41,20 @@ impl RecordWriter {
     /// # Errors
     ///
     /// Want of memory alone.
-    pub fn new(alloc: Global) -> Result<RecordWriter, AllocError>
-        ensures { IfOk result (λ w. w ≡ file_header) }
+    pub fn new(alloc: Global, unit: Unit) -> Result<RecordWriter, AllocError>
+        ensures { IfOk result (λ w. w ≡ file_header unit) }
     {
         let mut block = Vec::with_capacity(alloc, BLOCK)?;
-        block.extend_from_slice(&file_header())?;
+        block.extend_from_slice(&file_header(unit))?;
         Ok(RecordWriter { block })
     }
 
     /// Begins another trace: the file header waits, and nothing else. What waited before is gone.
-    pub fn begin(&mut self)
-        ensures { self.new ≡ file_header }
+    pub fn begin(&mut self, unit: Unit)
+        ensures { self.new ≡ file_header unit }
     {
         self.block.clear();
-        self.block.extend_from_slice(&file_header()).unwrap();
+        self.block.extend_from_slice(&file_header(unit)).unwrap();
     }
 
     /// Appends the packet of a frame of at most 1,518 bytes, at a time in microseconds. Where the block has no room
@@ -66,6 +67,7 @@ impl RecordWriter {
     pub fn write<W: Sink>(
         &mut self,
         sink: &mut W,
+        unit: Unit,
         time: u64,
         frame: &[u8],
     ) -> Result<(), WriteError>
@@ -73,7 +75,7 @@ impl RecordWriter {
         requires short { length frame.now ≤ 1518 }
         ensures ok { OnOk result
             (Appends (append_known (W.taken sink.old) self.old) (append_known (W.taken sink.new) self.new)
-            (packet_of (record { time = time; frame = frame.now }))) }
+            (packet_of unit (record { time = time; frame = frame.now }))) }
         ensures grows { OnOk result (Grows (W.taken sink.old) (W.taken sink.new)) }
         ensures err { OnErr result (AppendsFront (W.taken sink.old) (W.taken sink.new) self.old) }
         ensures kept { OnErr result (self.new ≡ self.old) }
@@ -82,18 +84,18 @@ impl RecordWriter {
         if BLOCK - PACKET_HEADER - frame.len() < self.block.len() {
             self.flush(sink)?;
         }
-        self.append(time, frame);
+        self.append(unit, time, frame);
         Ok(())
     }
 
     /// Appends a packet, for which there is room.
-    fn append(&mut self, time: u64, frame: &[u8])
+    fn append(&mut self, unit: Unit, time: u64, frame: &[u8])
         requires short { length frame.now ≤ 1518 }
         requires room { length self.old + 16 + length frame.now ≤ 65536 }
-        ensures { self.new ≡ self.old ++ packet_of (record { time = time; frame = frame.now }) }
+        ensures { self.new ≡ self.old ++ packet_of unit (record { time = time; frame = frame.now }) }
     {
         self.block
-            .extend_from_slice(&packet_header(time, frame.len() as u32))
+            .extend_from_slice(&packet_header(unit, time, frame.len() as u32))
             .unwrap();
         self.block.extend_from_slice(frame).unwrap();
     }

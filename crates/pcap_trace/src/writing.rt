@@ -8,6 +8,7 @@ use crate::device::Sink;
 use crate::fault::WriteError;
 use crate::packet::{file_header, packet_header};
 use crate::trace::Trace;
+use crate::unit::Unit;
 use descriptors::Frame;
 
 /// Writes all of a slice to a sink, in as many writes as it takes.
@@ -30,36 +31,42 @@ pub fn write_all<W: Sink>(sink: &mut W, bytes: &[u8]) -> Result<(), WriteError>
 }
 
 /// Writes a packet.
-fn write_packet<W: Sink>(sink: &mut W, packet: &(u64, Frame)) -> Result<(), WriteError>
+fn write_packet<W: Sink>(sink: &mut W, unit: Unit, packet: &(u64, Frame)) -> Result<(), WriteError>
     requires { W.failures sink.old < u64.MAX }
-    ensures ok { OnOk result (Appends (W.taken sink.old) (W.taken sink.new) (packet_of (timed packet.now))) }
-    ensures err { OnErr result (AppendsFront (W.taken sink.old) (W.taken sink.new) (packet_of (timed packet.now))) }
+    ensures ok { OnOk result (Appends (W.taken sink.old) (W.taken sink.new) (packet_of unit (timed packet.now))) }
+    ensures err { OnErr result
+        (AppendsFront (W.taken sink.old) (W.taken sink.new) (packet_of unit (timed packet.now))) }
     ensures failures { CountsFailures result (W.failures sink.old) (W.failures sink.new) }
 {
     let (time, frame) = packet;
-    write_all(sink, &packet_header(*time, frame.len() as u32))?;
+    write_all(sink, &packet_header(unit, *time, frame.len() as u32))?;
     write_all(sink, frame.as_slice())
 }
 
 impl Trace {
-    /// Writes a trace file of these frames, each with its time, a number of microseconds: libpcap version 2.4 (its
-    /// manual page "pcap-savefile"), little-endian, snapshot length 65,535, link type Ethernet, both lengths of a
-    /// packet the frame's, of the seconds the low 32 bits. It takes no memory, and hands the sink two slices a
-    /// packet; [`RecordWriter`] writes large blocks.
+    /// Writes a trace file of these frames, each with its time, a number of microseconds, which the file has in this
+    /// unit: libpcap version 2.4 (its manual page "pcap-savefile"), little-endian, snapshot length 65,535, link type
+    /// Ethernet, both lengths of a packet the frame's, of the seconds the low 32 bits. It takes no memory, and hands
+    /// the sink two slices a packet; [`RecordWriter`] writes large blocks.
     ///
     /// # Errors
     ///
     /// E67 [`Write`](WriteError::Write) where the sink fails; then a beginning of the file's bytes went out.
-    pub fn write<W: Sink>(sink: &mut W, packets: &[(u64, Frame)]) -> Result<(), WriteError>
+    pub fn write<W: Sink>(
+        sink: &mut W,
+        unit: Unit,
+        packets: &[(u64, Frame)],
+    ) -> Result<(), WriteError>
         requires { W.failures sink.old < u64.MAX }
-        ensures ok { OnOk result (Appends (W.taken sink.old) (W.taken sink.new) (written (map timed packets.now))) }
+        ensures ok { OnOk result
+            (Appends (W.taken sink.old) (W.taken sink.new) (written unit (map timed packets.now))) }
         ensures err { OnErr result
-            (AppendsFront (W.taken sink.old) (W.taken sink.new) (written (map timed packets.now))) }
+            (AppendsFront (W.taken sink.old) (W.taken sink.new) (written unit (map timed packets.now))) }
         ensures failures { CountsFailures result (W.failures sink.old) (W.failures sink.new) }
     {
-        write_all(sink, &file_header())?;
+        write_all(sink, &file_header(unit))?;
         for packet in packets {
-            write_packet(sink, packet)?;
+            write_packet(sink, unit, packet)?;
         }
         Ok(())
     }

@@ -1,14 +1,14 @@
 //! The calls of `pcap_trace` that read and write traces.
 
-ghost use Rattle.std.specs.Prelude.{◌≡◌, ◌<◌, ◌≤◌, IfSome, OnErr, OnOk, length, map};
+ghost use Rattle.std.specs.Prelude.{◌≡◌, ◌<◌, ◌≤◌, IfOk, IfSome, OnErr, OnOk, length, map};
 ghost use Rattle.std.specs.Io.KnownBytes.{Appends, IsAtEnd, append_known};
 ghost use Rattle.pcap_trace.specs.Devices.{AppendsFront, CountsFailures, Grows, Uses};
-ghost use Rattle.pcap_trace.specs.Format.{packet_of, timed, written};
+ghost use Rattle.pcap_trace.specs.Format.{file_header, packet_of, timed, written};
 ghost use Rattle.pcap_trace.specs.Reading.{IsAnswer, IsOnlyAnswer, TellsFailure};
 
 use descriptors::Frame;
-use pcap_trace::{ReadError, RecordWriter, Sink, Source, Trace, WriteError};
-use std::alloc::Global;
+use pcap_trace::{ReadError, RecordWriter, Sink, Source, Trace, Unit, WriteError};
+use std::alloc::{AllocError, Global};
 
 /// A twin of [`Trace::read`].
 pub fn read_trace<S: Source>(alloc: Global, source: &mut S) -> Result<Trace, ReadError>
@@ -26,23 +26,36 @@ pub fn read_trace<S: Source>(alloc: Global, source: &mut S) -> Result<Trace, Rea
 }
 
 /// A twin of [`Trace::write`].
-pub fn write_trace<W: Sink>(sink: &mut W, packets: &[(u64, Frame)]) -> Result<(), WriteError>
+pub fn write_trace<W: Sink>(
+    sink: &mut W,
+    unit: Unit,
+    packets: &[(u64, Frame)],
+) -> Result<(), WriteError>
     requires { W.failures sink.old < u64.MAX }
-    ensures ok { OnOk result (Appends (W.taken sink.old) (W.taken sink.new) (written (map timed packets.now))) }
+    ensures ok { OnOk result
+        (Appends (W.taken sink.old) (W.taken sink.new) (written unit (map timed packets.now))) }
     ensures err { OnErr result
-        (AppendsFront (W.taken sink.old) (W.taken sink.new) (written (map timed packets.now))) }
+        (AppendsFront (W.taken sink.old) (W.taken sink.new) (written unit (map timed packets.now))) }
     ensures failures { CountsFailures result (W.failures sink.old) (W.failures sink.new) }
 {
-    match Trace::write(sink, packets) {
+    match Trace::write(sink, unit, packets) {
         Ok(()) => Ok(()),
         Err(error) => Err(error),
     }
+}
+
+/// A twin of [`RecordWriter::new`].
+pub fn new_writer(alloc: Global, unit: Unit) -> Result<RecordWriter, AllocError>
+    ensures { IfOk result (λ w. w ≡ file_header unit) }
+{
+    RecordWriter::new(alloc, unit)
 }
 
 /// A twin of [`RecordWriter::write`].
 pub fn write_record<W: Sink>(
     writer: &mut RecordWriter,
     sink: &mut W,
+    unit: Unit,
     time: u64,
     frame: &[u8],
 ) -> Result<(), WriteError>
@@ -50,11 +63,11 @@ pub fn write_record<W: Sink>(
     requires short { length frame.now ≤ 1518 }
     ensures ok { OnOk result
         (Appends (append_known (W.taken sink.old) writer.old) (append_known (W.taken sink.new) writer.new)
-        (packet_of (record { time = time; frame = frame.now }))) }
+        (packet_of unit (record { time = time; frame = frame.now }))) }
     ensures grows { OnOk result (Grows (W.taken sink.old) (W.taken sink.new)) }
     ensures err { OnErr result (AppendsFront (W.taken sink.old) (W.taken sink.new) writer.old) }
     ensures kept { OnErr result (writer.new ≡ writer.old) }
     ensures failures { CountsFailures result (W.failures sink.old) (W.failures sink.new) }
 {
-    writer.write(sink, time, frame)
+    writer.write(sink, unit, time, frame)
 }

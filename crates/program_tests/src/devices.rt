@@ -3,26 +3,26 @@ ghost use Rattle.std.specs.Prelude.{◌≡◌, ◌<◌};
 
 use descriptors::Frame;
 use pcap_trace::{
-    DeviceError, ReadError, ReaderSource, RecordWriter, Sink, Source, Trace, VecSink, WriteError,
-    WriterSink, written_is_trace,
+    DeviceError, ReadError, ReaderSource, RecordWriter, Sink, Source, Trace, Unit, VecSink,
+    WriteError, WriterSink, written_is_trace,
 };
 use std::alloc::Global;
 use std::io;
 use std::test::Fail;
 
-/// Writes a trace of two frames of 60 bytes, which has 176 bytes.
+/// Writes a trace of two frames of 60 bytes, with times in microseconds, which has 176 bytes.
 fn record<W: Sink>(writer: &mut RecordWriter, sink: &mut W) -> Result<(), WriteError>
     requires { W.failures sink.old < u64.MAX }
 {
-    writer.write(sink, 0, &[0xA5; 60])?;
-    writer.write(sink, 1_000_001, &[0x5A; 60])?;
+    writer.write(sink, Unit::Micros, 0, &[0xA5; 60])?;
+    writer.write(sink, Unit::Micros, 1_000_001, &[0x5A; 60])?;
     writer.flush(sink)
 }
 
 /// That trace.
 fn two_frames(alloc: Global) -> Result<VecSink, Fail> {
     let mut sink = VecSink::new(alloc);
-    record(&mut RecordWriter::new(alloc)?, &mut sink)?;
+    record(&mut RecordWriter::new(alloc, Unit::Micros)?, &mut sink)?;
     Ok(sink)
 }
 
@@ -61,11 +61,11 @@ fn writers_of_the_system(rt: HostRuntime) -> Result<(), Fail> {
     let whole = two_frames(rt.alloc())?;
     let mut text = Vec::new(rt.alloc());
     let mut sink = WriterSink::new(&mut text);
-    record(&mut RecordWriter::new(rt.alloc())?, &mut sink)?;
+    record(&mut RecordWriter::new(rt.alloc(), Unit::Micros)?, &mut sink)?;
     assert!(rt; text.as_slice() == whole.bytes());
     let mut room = [0; 100];
     let mut sink = WriterSink::new(&mut room[..]);
-    let answer = record(&mut RecordWriter::new(rt.alloc())?, &mut sink);
+    let answer = record(&mut RecordWriter::new(rt.alloc(), Unit::Micros)?, &mut sink);
     assert_eq!(rt; (answer, sink.failures()), (Err(WriteError::Write), 1));
     assert!(rt; whole.bytes().starts_with(&room));
     Ok(())
@@ -78,7 +78,7 @@ fn the_greatest_time(rt: HostRuntime) -> Result<(), Fail> {
     let mut packets = Vec::new(rt.alloc());
     packets.push((u64::MAX, Frame::from_slice(&[])))?;
     let mut sink = VecSink::new(rt.alloc());
-    Trace::write(&mut sink, &packets)?;
+    Trace::write(&mut sink, Unit::Micros, &packets)?;
     let wanted = [
         0xED, 0xB5, 0xA0, 0xF7, 0xBF, 0x6A, 0x08, 0, 0, 0, 0, 0, 0, 0, 0, 0,
     ];
@@ -91,5 +91,20 @@ fn a_device_that_failed_has_a_text_and_the_law_can_be_called(rt: HostRuntime) ->
     let text = format!(in rt.alloc(); "{DeviceError}")?;
     assert!(rt; text.as_str() == "the device failed");
     written_is_trace();
+    Ok(())
+}
+
+/// A second and a microsecond, in nanoseconds.
+#[test]
+fn nanoseconds(rt: HostRuntime) -> Result<(), Fail> {
+    let mut packets = Vec::new(rt.alloc());
+    packets.push((1_000_001, Frame::from_slice(&[])))?;
+    let mut sink = VecSink::new(rt.alloc());
+    Trace::write(&mut sink, Unit::Nanos, &packets)?;
+    let header = [
+        0x4D, 0x3C, 0xB2, 0xA1, 2, 0, 4, 0, 0, 0, 0, 0, 0, 0, 0, 0, 0xFF, 0xFF, 0, 0, 1, 0, 0, 0,
+    ];
+    let packet = [1, 0, 0, 0, 0xE8, 3, 0, 0, 0, 0, 0, 0, 0, 0, 0, 0];
+    assert!(rt; sink.bytes().starts_with(&header) && sink.bytes().ends_with(&packet));
     Ok(())
 }

@@ -2,7 +2,7 @@
 
 use descriptors::Frame;
 use pcap_bench::Frames;
-use pcap_trace::{Trace, WriterSink};
+use pcap_trace::{Trace, Unit, WriterSink};
 use std::alloc::{AllocError, Global};
 
 /// A frame of 60 bytes with its number.
@@ -30,7 +30,7 @@ fn calls_that_write_take_no_memory(rt: HostRuntime) {
     };
     let mut room = [0; 100];
     let mut sink = WriterSink::new(&mut room[..]);
-    assert!(rt; Trace::write(&mut sink, &packets).is_ok());
+    assert!(rt; Trace::write(&mut sink, Unit::Micros, &packets).is_ok());
     assert!(rt; room.ends_with(&[0xA5; 60]));
     let mut room = [0; 200];
     let mut sink = WriterSink::new(&mut room[..]);

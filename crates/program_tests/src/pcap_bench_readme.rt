@@ -1,6 +1,6 @@
 //! The code of a README, word for word.
 
-use pcap_bench::{Frames, PassFilter, Trace, VecSink, pass, print_pass};
+use pcap_bench::{Frames, PassFilter, Trace, Unit, VecSink, pass, print_pass};
 use std::test::Fail;
 
 #[test]
@@ -19,7 +19,7 @@ fn the_code_of_the_readme_of_pcap_bench(rt: HostRuntime) -> Result<(), Fail> {
         ..PassFilter::default()
     };
     let mut sink = VecSink::new(rt.alloc());
-    let counts = pass(rt.alloc(), &trace, &filter, &mut sink)?;
+    let counts = pass(rt.alloc(), &trace, &filter, Unit::Micros, &mut sink)?;
     // A file header, a packet header and the frame, padded to 60 bytes.
     assert_eq!(rt; sink.bytes().len(), 24 + 16 + 60);
     let mut printed = VecSink::new(rt.alloc());

@@ -1,15 +1,15 @@
 //! The code of a README, word for word.
 
-use pcap_trace::{RecordWriter, SliceSource, Trace, VecSink};
+use pcap_trace::{RecordWriter, SliceSource, Trace, Unit, VecSink};
 use std::test::Fail;
 
 #[test]
 fn the_code_of_the_readme_of_pcap_trace(rt: HostRuntime) -> Result<(), Fail> {
     // Two frames are written, with their times in microseconds.
     let mut sink = VecSink::new(rt.alloc());
-    let mut writer = RecordWriter::new(rt.alloc())?;
-    writer.write(&mut sink, 0, &[0xFF; 60])?;
-    writer.write(&mut sink, 1, &[0xAA; 64])?;
+    let mut writer = RecordWriter::new(rt.alloc(), Unit::Micros)?;
+    writer.write(&mut sink, Unit::Micros, 0, &[0xFF; 60])?;
+    writer.write(&mut sink, Unit::Micros, 1, &[0xAA; 64])?;
     writer.flush(&mut sink)?;
     assert_eq!(rt; sink.bytes().len(), 24 + 76 + 80);
     // They are read again, from a source that may be cut.

@@ -2,7 +2,7 @@
 
 use adapter_server::{ServeError, ServeOptions, serve};
 use std::io;
-use std::io::Read;
+use std::io::{BufReader, Read};
 use std::test::Fail;
 
 /// A reader of which every other read is interrupted, and which fails where its text ends.
@@ -28,10 +28,11 @@ impl io::Read for Failing<'_> {
 #[test]
 fn interrupted_reads_are_tried_again_and_others_end_it(rt: HostRuntime) -> Result<(), Fail> {
     let options = ServeOptions::new();
-    let input = Failing {
+    let failing = Failing {
         text: b"line\nendianness\nli",
         is_interrupted: false,
     };
+    let input = BufReader::new(rt.alloc(), failing)?;
     let mut output = Vec::new(rt.alloc());
     let ended = serve(rt.alloc(), &options, None, input, &mut output);
     assert!(rt; ended.err() == Some(ServeError::Read));

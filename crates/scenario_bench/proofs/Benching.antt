@@ -7,6 +7,7 @@ use Rattle.std.proofs.lemmas.List.{length-append, length-map}
 use Rattle.std.proofs.lemmas.Option.{slice_get-map, slice_get_within}
 use Rattle.packet_socket.specs.HostState.{HostState}
 use Rattle.pcap_trace.specs.Format.{Timed}
+use Rattle.pcap_trace.specs.declared.unit.Unit.{Unit}
 use Rattle.stations.specs.Stations.{world_at}
 use Rattle.network_plan.specs.declared.plan.HostPlan.{HostPlan}
 use Rattle.host_calls.specs.Networks.{IsHost}
@@ -37,7 +38,7 @@ use Rattle.scenario.specs.declared.command.Command.{Command}
 use Rattle.pcap_trace.specs.declared.fault.WriteError.{WriteError}
 use Rattle.scenario_bench.specs.declared.tally.Tally.{Tally}
 use Rattle.scenario_bench.proofs.Told.{noted-lists, number_told, tally_of}
-use Rattle.scenario_bench.proofs.ToldAnswers.{absent_told, lines_told, refused_told, same_names}
+use Rattle.scenario_bench.proofs.ToldAnswers.{lines_told, refusals_told, same_names}
 use Rattle.stations.proofs.Places.{same-places}
 
 -- Summaries, in order.
@@ -203,8 +204,7 @@ tells_as hosts plans b told is tells = subst (λ (hs : List HostPlan). TellTalli
 -- a summary is that of the record, with these summaries of hosts
 pub record IsOfPlay (play : Play) (told : List HostSummary) (summary : Summary) : Type 0 where
   pub hosts : summary.hosts.items ≡ told
-  pub refused : summary.refused ≡ play.record.log.refused
-  pub absent : summary.absent ≡ play.record.log.absent
+  pub refusals : summary.refusals ≡ play.record.log.refusals
   pub events : summary.events ≡ play.record.log.lines
 
 module _ (scenario : Scenario) (traces : List (List (List ℕ))) (puts : Option (List PutFrame)) (events : Bool) (play : Play)
@@ -241,46 +241,47 @@ module _ (scenario : Scenario) (traces : List (List (List ℕ))) (puts : Option 
         entries = entries;
         are = has.played.noted.logged.are;
         tells = record {
-          refused = of_play.refused ∙ ap (λ (log : RunLog). log.refused) log-is ∙ refused_told 0 entries (new_log names events);
-          absent = of_play.absent ∙ ap (λ (log : RunLog). log.absent) log-is ∙ absent_told 0 entries (new_log names events);
+          refusals = of_play.refusals ∙ ap (λ (log : RunLog). log.refusals) log-is ∙ refusals_told 0 entries (new_log names events);
           lines = ap (option_map (λ (log : LogState). log.text)) (of_play.events ∙ ap (λ (log : RunLog). log.lines) log-is)
               ∙ lines_told events names entries
               ∙ ap (λ (all : List (List ℕ)). if events then Some (lines_from all 0 entries) else None) (same_names plans);
         };
       }
 
-  pub texts_written : {old new : List SinkState} → (count : ℕ) → count ≡ length (sockets_from 0 (hosts_of plans))
-      → AreWritten count (map frames_given play.record.sockets.items) old new
-      → AreWritten (length (texts_of plays_in)) (texts_of plays_in) old new
-  texts_written {old} {new} count counts wrote =
+  pub texts_written : (unit : Unit) → {old new : List SinkState} → (count : ℕ) → count ≡ length (sockets_from 0 (hosts_of plans))
+      → AreWritten unit count (map frames_given play.record.sockets.items) old new
+      → AreWritten unit (length (texts_of plays_in)) (texts_of plays_in) old new
+  texts_written unit {old} {new} count counts wrote =
       let all : count ≡ length (texts_of plays_in) = counts
       ∙ sym (length-map (sockets_from 0 (hosts_of plans)) (λ (place : ℕ × ℕ). given_from place.0 place.1 0 has.played.acts)) in
-      subst (λ (n : ℕ). AreWritten n (texts_of plays_in) old new) all
-      (subst (λ (texts : List (List Timed)). AreWritten count texts old new)
+      subst (λ (n : ℕ). AreWritten unit n (texts_of plays_in) old new) all
+      (subst (λ (texts : List (List Timed)). AreWritten unit count texts old new)
       (texts_are plans said has.first play has.begins has.played) wrote)
 
-  pub texts_failed : {old new : List SinkState} → (failed : ℕ) × AreWrittenUpTo failed (map frames_given play.record.sockets.items) old new
-      → (failed : ℕ) × AreWrittenUpTo failed (texts_of plays_in) old new
-  texts_failed {old} {new} wrote = (
+  pub texts_failed : (unit : Unit) → {old new : List SinkState}
+      → (failed : ℕ) × AreWrittenUpTo unit failed (map frames_given play.record.sockets.items) old new
+      → (failed : ℕ) × AreWrittenUpTo unit failed (texts_of plays_in) old new
+  texts_failed unit {old} {new} wrote = (
     wrote.0,
-    subst (λ (texts : List (List Timed)). AreWrittenUpTo wrote.0 texts old new)
+    subst (λ (texts : List (List Timed)). AreWrittenUpTo unit wrote.0 texts old new)
         (texts_are plans said has.first play has.begins has.played) wrote.1,
   )
 
-  pub benched : {old new : List SinkState} → {summary : Summary} → IsOfPlay play hosts summary → (count : ℕ)
-      → count ≡ length (sockets_from 0 (hosts_of plans)) → AreWritten count (map frames_given play.record.sockets.items) old new
-      → Benches scenario traces events summary old new
-  benched of_play count counts wrote = record {
+  pub benched : (unit : Unit) → {old new : List SinkState} → {summary : Summary} → IsOfPlay play hosts summary → (count : ℕ)
+      → count ≡ length (sockets_from 0 (hosts_of plans)) → AreWritten unit count (map frames_given play.record.sockets.items) old new
+      → Benches unit scenario traces events summary old new
+  benched unit of_play count counts wrote = record {
     plays = plays_in;
-    texts = texts_written count counts wrote;
+    texts = texts_written unit count counts wrote;
     tells = hosts_told of_play;
     answers = run_told of_play;
   }
 
-  pub bench_failed : {old new : List SinkState} → (error : BenchError) (why : WriteError) → error ≡ errors.Write why
-      → (failed : ℕ) × AreWrittenUpTo failed (map frames_given play.record.sockets.items) old new → Stops scenario traces error old new
-  bench_failed {old} {new} error why is wrote =
-      subst (λ (e : BenchError). Stops scenario traces e old new) (sym is) (plays_in, texts_failed wrote)
+  pub bench_failed : (unit : Unit) → {old new : List SinkState} → (error : BenchError) (why : WriteError) → error ≡ errors.Write why
+      → (failed : ℕ) × AreWrittenUpTo unit failed (map frames_given play.record.sockets.items) old new
+      → Stops unit scenario traces error old new
+  bench_failed unit {old} {new} error why is wrote =
+      subst (λ (e : BenchError). Stops unit scenario traces e old new) (sym is) (plays_in, texts_failed unit wrote)
 
 -- Nothing was written.
 

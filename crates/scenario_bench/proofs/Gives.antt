@@ -6,6 +6,7 @@ use Rattle.std.specs.Io.KnownBytes.{Appends, append_known}
 use Rattle.std.specs.List.{AllByRecursion, flat_map}
 use Rattle.pcap_trace.specs.Devices.{AppendsFront, Grows}
 use Rattle.pcap_trace.specs.Format.{Timed, file_header, packet_of, timed, written}
+use Rattle.pcap_trace.specs.declared.unit.Unit.{Unit}
 use Rattle.pcap_trace.proofs.Flushed.{GoesOut, goes-ends, goes-header, goes-more, goes-stops}
 use Rattle.pcap_trace.proofs.Packets.{written-append, written-push}
 use Rattle.scenario_bench.specs.Given.{numbered_frame}
@@ -53,31 +54,33 @@ gives host socket number frame one numbers more frames others there asked is sam
 -- Writing.
 
 -- The first of these frames were written or wait, and these are left, with their numbers.
-pub record HasWritten (all : List Timed) (numbers : List ℕ) (frames : List (List ℕ)) (before now : Option (List ℕ)) (waiting : List ℕ)
+pub record HasWritten (unit : Unit) (all : List Timed) (numbers : List ℕ) (frames : List (List ℕ)) (before now : Option (List ℕ))
+    (waiting : List ℕ)
     : Type 0 where
   pub front : List Timed
   pub parts : all ≡ front ++ map timed (zip numbers frames)
   pub same : length numbers ≡ length frames
   pub short : AllByRecursion HasFrameSize frames
-  pub goes : GoesOut before now waiting (written front)
+  pub goes : GoesOut before now waiting (written unit front)
 
-pub writes-first : (all : List Timed) (numbers ns : List ℕ) (frames fs : List (List ℕ)) (before : Option (List ℕ)) (waiting : List ℕ)
+pub writes-first : (unit : Unit) (all : List Timed) (numbers ns : List ℕ) (frames fs : List (List ℕ)) (before : Option (List ℕ))
+    (waiting : List ℕ)
     → numbers ≡ ns → frames ≡ fs → all ≡ map timed (zip ns fs) → length ns ≡ length fs → AllByRecursion HasFrameSize fs
-    → waiting ≡ file_header → HasWritten all numbers frames before before waiting
-writes-first all numbers ns frames fs before waiting ns_are fs_are is same short begun = record {
+    → waiting ≡ file_header unit → HasWritten unit all numbers frames before before waiting
+writes-first unit all numbers ns frames fs before waiting ns_are fs_are is same short begun = record {
   front = [];
   parts = is ∙ sym (ap (λ (xs : List ℕ). map timed (zip xs frames)) ns_are ∙ ap (λ (xs : List (List ℕ)). map timed (zip ns xs)) fs_are);
   same = ap length ns_are ∙ same ∙ sym (ap length fs_are);
   short = subst (AllByRecursion HasFrameSize) (sym fs_are) short;
-  goes = goes-header before waiting begun;
+  goes = goes-header unit before waiting begun;
 }
 
-pub writes-more : (all : List Timed) (number : ℕ) (numbers ns : List ℕ) (frame : List ℕ) (frames fs : List (List ℕ))
+pub writes-more : (unit : Unit) (all : List Timed) (number : ℕ) (numbers ns : List ℕ) (frame : List ℕ) (frames fs : List (List ℕ))
     (before now later : Option (List ℕ)) (waiting more : List ℕ)
-    → ns ≡ number ∷ numbers → fs ≡ frame ∷ frames → HasWritten all ns fs before now waiting
-    → Appends (append_known now waiting) (append_known later more) (packet_of (numbered_frame number frame)) → Grows now later
-    → HasWritten all numbers frames before later more
-writes-more all number numbers ns frame frames fs before now later waiting more ns_are fs_are has went grown =
+    → ns ≡ number ∷ numbers → fs ≡ frame ∷ frames → HasWritten unit all ns fs before now waiting
+    → Appends (append_known now waiting) (append_known later more) (packet_of unit (numbered_frame number frame)) → Grows now later
+    → HasWritten unit all numbers frames before later more
+writes-more unit all number numbers ns frame frames fs before now later waiting more ns_are fs_are has went grown =
     let parts : all ≡ has.front ++ map timed (zip (number ∷ numbers) (frame ∷ frames)) = has.parts
     ∙ ap (λ (xs : List ℕ). has.front ++ map timed (zip xs fs)) ns_are
     ∙ ap (λ (xs : List (List ℕ)). has.front ++ map timed (zip (number ∷ numbers) xs)) fs_are in
@@ -87,23 +90,26 @@ writes-more all number numbers ns frame frames fs before now later waiting more 
       parts = parts ∙ sym (append_assoc has.front (numbered_frame number frame ∷ []) (map timed (zip numbers frames)));
       same = omega (arith, counts);
       short = (subst (AllByRecursion HasFrameSize) fs_are has.short).1;
-      goes = subst (GoesOut before later more) (sym (written-push has.front (numbered_frame number frame)))
-          (goes-more before now later waiting more (written has.front) (packet_of (numbered_frame number frame)) has.goes went grown);
+      goes = subst (GoesOut before later more) (sym (written-push unit has.front (numbered_frame number frame)))
+          (goes-more before now later waiting more (written unit has.front) (packet_of unit (numbered_frame number frame)) has.goes went
+          grown);
     }
 
-pub writes-stops : (all : List Timed) (numbers : List ℕ) (frames : List (List ℕ)) (before now later : Option (List ℕ)) (waiting : List ℕ)
-    → HasWritten all numbers frames before now waiting → AppendsFront now later waiting → AppendsFront before later (written all)
-writes-stops all numbers frames before now later waiting has front =
+pub writes-stops : (unit : Unit) (all : List Timed) (numbers : List ℕ) (frames : List (List ℕ)) (before now later : Option (List ℕ))
+    (waiting : List ℕ)
+    → HasWritten unit all numbers frames before now waiting → AppendsFront now later waiting → AppendsFront before later (written unit all)
+writes-stops unit all numbers frames before now later waiting has front =
     subst (λ (bytes : List ℕ). AppendsFront before later bytes)
-    (sym (ap written has.parts ∙ written-append has.front (map timed (zip numbers frames))))
-    (goes-stops before now later waiting (written has.front) (flat_map packet_of (map timed (zip numbers frames))) has.goes front)
+    (sym (ap (written unit) has.parts ∙ written-append unit has.front (map timed (zip numbers frames))))
+    (goes-stops before now later waiting (written unit has.front) (flat_map (packet_of unit) (map timed (zip numbers frames))) has.goes
+    front)
 
 none-more : (numbers : List ℕ) → suc (length numbers) ≡ 0 → ⊥
 none-more numbers same = omega (arith, same)
 
-pub writes-ends : (all : List Timed) (numbers : List ℕ) (before now later : Option (List ℕ)) (waiting : List ℕ)
-    → HasWritten all numbers [] before now waiting → Appends now later waiting → Appends before later (written all)
-writes-ends all [] before now later waiting has went =
-    subst (Appends before later) (sym (ap written (has.parts ∙ append-nil has.front)))
-    (goes-ends before now later waiting (written has.front) has.goes went)
-writes-ends all (number ∷ numbers) before now later waiting has went = absurd (none-more numbers has.same)
+pub writes-ends : (unit : Unit) (all : List Timed) (numbers : List ℕ) (before now later : Option (List ℕ)) (waiting : List ℕ)
+    → HasWritten unit all numbers [] before now waiting → Appends now later waiting → Appends before later (written unit all)
+writes-ends unit all [] before now later waiting has went =
+    subst (Appends before later) (sym (ap (written unit) (has.parts ∙ append-nil has.front)))
+    (goes-ends before now later waiting (written unit has.front) has.goes went)
+writes-ends unit all (number ∷ numbers) before now later waiting has went = absurd (none-more numbers has.same)

@@ -28,6 +28,7 @@ use Rattle.scenario_bench.specs.Tallies.{AreNoted}
 use Rattle.scenario_bench.specs.declared.bench_error.BenchError.{BenchError}
 use Rattle.scenario_bench.specs.declared.bench_error.BenchError.TheVariants as errors
 use Rattle.scenario_bench.specs.declared.play.Play.{Play}
+use Rattle.scenario_bench.specs.declared.summary.Refusals.{Refusals}
 use Rattle.scenario_bench.proofs.JoinedActs.{acts-ran, leads-drained, leads-join, leads-none, leads-ran}
 use Rattle.scenario_bench.proofs.NotedDrains.{noted_moves}
 use Rattle.scenario_bench.proofs.ResetsInOrder.{in_order}
@@ -71,6 +72,10 @@ played_lined said line a b has = record {
   leads = has.leads;
   noted = noted-lined has.acts line a b has.noted;
 }
+
+-- The refusals that commands asked for are other ones.
+pub played_counted : (said : List Said) (asked : Refusals) (a b : Play) → HasPlayed said a b → HasPlayed said a (record b { asked = asked })
+played_counted said asked a b has = record { acts = has.acts; are = has.are; leads = has.leads; noted = has.noted }
 
 pub stops_lined : (said : List Said) (line : ℕ) (a b : Play) (error : BenchError) → StopsWithin said (lined a line) b error
     → StopsWithin said a b error

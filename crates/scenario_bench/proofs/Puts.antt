@@ -12,6 +12,7 @@ use Rattle.std.proofs.lemmas.Option.{slice_get-get_or, slice_get-map}
 use Rattle.network_plan.specs.declared.plan.HostPlan.{HostPlan}
 use Rattle.pcap_trace.specs.Devices.{AppendsFront, Grows}
 use Rattle.pcap_trace.specs.Format.{Timed, file_header, packet_of, written}
+use Rattle.pcap_trace.specs.declared.unit.Unit.{Unit}
 use Rattle.pcap_trace.proofs.Flushed.{GoesOut, goes-header, goes-more, goes-stops}
 use Rattle.pcap_trace.proofs.Packets.{written-append, written-push}
 use Rattle.scenario.specs.SoFar.{Host, host_of_plan, hosts_of}
@@ -57,25 +58,26 @@ put_more puts info frame infos more bytes longer is all size more_is longer_is =
 -- Writing.
 
 -- The first frames of this wire were written or wait; these are left, and these are their bytes.
-pub record HasPut (hosts : List Host) (wire : List ℕ) (all : List PutFrame) (infos : List PutInfo) (bytes : List ℕ)
+pub record HasPut (unit : Unit) (hosts : List Host) (wire : List ℕ) (all : List PutFrame) (infos : List PutInfo) (bytes : List ℕ)
     (before now : Option (List ℕ)) (waiting : List ℕ) : Type 0 where
   pub front : List Timed
   pub parts : frames_on_wire hosts wire all ≡ front ++ frames_on_wire hosts wire (frames_from infos bytes)
   pub size : sum_by length_in infos ≡ length bytes
   pub short : AllByRecursion HasPutSize infos
-  pub goes : GoesOut before now waiting (written front)
+  pub goes : GoesOut before now waiting (written unit front)
 
 module _ (hosts : List Host) (wire : List ℕ) where
-  pub puts-first : (all : List PutFrame) (infos list : List PutInfo) (bytes slice : List ℕ) (before : Option (List ℕ)) (waiting : List ℕ)
+  pub puts-first : (unit : Unit) (all : List PutFrame) (infos list : List PutInfo) (bytes slice : List ℕ) (before : Option (List ℕ))
+      (waiting : List ℕ)
       → all ≡ frames_from infos bytes → list ≡ infos → slice ≡ bytes → sum_by length_in infos ≡ length bytes
-      → AllByRecursion HasPutSize infos → waiting ≡ file_header → HasPut hosts wire all list slice before before waiting
-  puts-first all infos list bytes slice before waiting is list_is slice_is size short begun = record {
+      → AllByRecursion HasPutSize infos → waiting ≡ file_header unit → HasPut unit hosts wire all list slice before before waiting
+  puts-first unit all infos list bytes slice before waiting is list_is slice_is size short begun = record {
     front = [];
     parts = ap (frames_on_wire hosts wire) (is ∙ sym (ap (λ (xs : List PutInfo). frames_from xs slice) list_is
         ∙ ap (frames_from infos) slice_is));
     size = ap (sum_by length_in) list_is ∙ size ∙ sym (ap length slice_is);
     short = subst (AllByRecursion HasPutSize) (sym list_is) short;
-    goes = goes-header before waiting begun;
+    goes = goes-header unit before waiting begun;
   }
 
   abbrev pub on-wire : PutInfo → Bool
@@ -121,30 +123,30 @@ module _ (hosts : List Host) (wire : List ℕ) where
       same-not false true e = cc
       same-not false false e = refl
 
-  pub puts-written : (all : List PutFrame) (info : PutInfo) (infos list : List PutInfo) (frame bytes rest : List ℕ)
+  pub puts-written : (unit : Unit) (all : List PutFrame) (info : PutInfo) (infos list : List PutInfo) (frame bytes rest : List ℕ)
       (before now later : Option (List ℕ)) (waiting more : List ℕ)
       → list ≡ info ∷ infos → frame ≡ take info.length bytes → rest ≡ drop info.length bytes → on-wire info ≡ true
-      → HasPut hosts wire all list bytes before now waiting
-      → Appends (append_known now waiting) (append_known later more) (packet_of (numbered_frame info.number frame)) → Grows now later
-      → HasPut hosts wire all infos rest before later more
-  puts-written all info infos list frame bytes rest before now later waiting more is frame_is rest_is on has went grown =
+      → HasPut unit hosts wire all list bytes before now waiting
+      → Appends (append_known now waiting) (append_known later more) (packet_of unit (numbered_frame info.number frame)) → Grows now later
+      → HasPut unit hosts wire all infos rest before later more
+  puts-written unit all info infos list frame bytes rest before now later waiting more is frame_is rest_is on has went grown =
       let one = numbered_frame info.number frame in
       record {
         front = has.front ++ one ∷ [];
         parts = next all info infos list frame bytes rest true has.front is frame_is rest_is on has.parts;
         size = left info infos list bytes rest is rest_is has.size;
         short = (subst (AllByRecursion HasPutSize) is has.short).1;
-        goes = subst (GoesOut before later more) (sym (written-push has.front one))
-            (goes-more before now later waiting more (written has.front) (packet_of one) has.goes went grown);
+        goes = subst (GoesOut before later more) (sym (written-push unit has.front one))
+            (goes-more before now later waiting more (written unit has.front) (packet_of unit one) has.goes went grown);
       }
 
-  pub puts-stops : (all : List PutFrame) (infos : List PutInfo) (bytes : List ℕ) (before now later : Option (List ℕ))
-      (waiting : List ℕ) → HasPut hosts wire all infos bytes before now waiting → AppendsFront now later waiting
-      → AppendsFront before later (written (frames_on_wire hosts wire all))
-  puts-stops all infos bytes before now later waiting has front =
+  pub puts-stops : (unit : Unit) (all : List PutFrame) (infos : List PutInfo) (bytes : List ℕ) (before now later : Option (List ℕ))
+      (waiting : List ℕ) → HasPut unit hosts wire all infos bytes before now waiting → AppendsFront now later waiting
+      → AppendsFront before later (written unit (frames_on_wire hosts wire all))
+  puts-stops unit all infos bytes before now later waiting has front =
       let rest = frames_on_wire hosts wire (frames_from infos bytes) in
-      subst (λ (bytes : List ℕ). AppendsFront before later bytes) (sym (ap written has.parts ∙ written-append has.front rest))
-      (goes-stops before now later waiting (written has.front) (flat_map packet_of rest) has.goes front)
+      subst (λ (bytes : List ℕ). AppendsFront before later bytes) (sym (ap (written unit) has.parts ∙ written-append unit has.front rest))
+      (goes-stops before now later waiting (written unit has.front) (flat_map (packet_of unit) rest) has.goes front)
 
 -- a wire's text
 pub wire_text_at : (hosts : List Host) (puts : List PutFrame) (wires : List (Bor (List ℕ))) (place : ℕ) (d : Bor (List ℕ))

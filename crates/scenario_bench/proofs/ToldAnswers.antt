@@ -11,44 +11,28 @@ use Rattle.scenario_bench.specs.EventLines.{place_at, text_of, tick_logged}
 use Rattle.scenario_bench.specs.EventLines.{told_in}
 use Rattle.scenario_bench.specs.EventLogView.{plan_name}
 use Rattle.scenario_bench.specs.Given.{next_number}
-use Rattle.scenario_bench.specs.RunLogs.{absent_behind, absent_by, act_logged, acts_in, log_heard, logged}
-use Rattle.scenario_bench.specs.RunLogs.{new_log, refused_behind, refused_by}
+use Rattle.scenario_bench.specs.RunLogs.{act_logged, acts_in, log_heard, logged, new_log, refusals_behind, refusals_by}
 use Rattle.scenario_bench.specs.declared.event_log.Place.{Place}
 use Rattle.scenario_bench.specs.declared.run_log.RunLog.{RunLog}
+use Rattle.scenario_bench.specs.declared.summary.Refusals.{Refusals}
 
 -- Refusals.
 
-refused-heard : (ticks : List TickTold) (log : RunLog) → (fold log_heard log ticks).refused ≡ log.refused
-refused-heard [] log = refl
-refused-heard (told ∷ ticks) log = refused-heard ticks (log_heard log told)
+refusals-heard : (ticks : List TickTold) (log : RunLog) → (fold log_heard log ticks).refusals ≡ log.refusals
+refusals-heard [] log = refl
+refusals-heard (told ∷ ticks) log = refusals-heard ticks (log_heard log told)
 
-refused-act : (place : Place) (act : Act) (log : RunLog) → (act_logged place act log).refused ≡ refused_by log.refused act
-refused-act place (Ran event reply) log =
-    ap (λ (n : ℕ). refused_behind n reply.answer) (refused-heard (told_in event reply) log)
-refused-act place (Drained host buffered given) log = refl
+refusals-act : (place : Place) (act : Act) (log : RunLog) → (act_logged place act log).refusals ≡ refusals_by log.refusals act
+refusals-act place (Ran event reply) log =
+    ap (λ (count : Refusals). refusals_behind count reply.answer) (refusals-heard (told_in event reply) log)
+refusals-act place (Drained host buffered given) log = refl
 
-pub refused_told : (number : ℕ) (entries : List (ℕ × Act)) (log : RunLog)
-    → (logged number entries log).refused ≡ fold refused_by log.refused (acts_in entries)
-refused_told number [] log = refl
-refused_told number (entry ∷ entries) log =
-    refused_told (next_number number) entries (act_logged (place_at number entry.0) entry.1 log)
-    ∙ ap (λ (n : ℕ). fold refused_by n (acts_in entries)) (refused-act (place_at number entry.0) entry.1 log)
-
-absent-heard : (ticks : List TickTold) (log : RunLog) → (fold log_heard log ticks).absent ≡ log.absent
-absent-heard [] log = refl
-absent-heard (told ∷ ticks) log = absent-heard ticks (log_heard log told)
-
-absent-act : (place : Place) (act : Act) (log : RunLog) → (act_logged place act log).absent ≡ absent_by log.absent act
-absent-act place (Ran event reply) log =
-    ap (λ (n : ℕ). absent_behind n reply.answer) (absent-heard (told_in event reply) log)
-absent-act place (Drained host buffered given) log = refl
-
-pub absent_told : (number : ℕ) (entries : List (ℕ × Act)) (log : RunLog)
-    → (logged number entries log).absent ≡ fold absent_by log.absent (acts_in entries)
-absent_told number [] log = refl
-absent_told number (entry ∷ entries) log =
-    absent_told (next_number number) entries (act_logged (place_at number entry.0) entry.1 log)
-    ∙ ap (λ (n : ℕ). fold absent_by n (acts_in entries)) (absent-act (place_at number entry.0) entry.1 log)
+pub refusals_told : (number : ℕ) (entries : List (ℕ × Act)) (log : RunLog)
+    → (logged number entries log).refusals ≡ fold refusals_by log.refusals (acts_in entries)
+refusals_told number [] log = refl
+refusals_told number (entry ∷ entries) log =
+    refusals_told (next_number number) entries (act_logged (place_at number entry.0) entry.1 log)
+    ∙ ap (λ (count : Refusals). fold refusals_by count (acts_in entries)) (refusals-act (place_at number entry.0) entry.1 log)
 
 -- Lines.
 

@@ -3,6 +3,7 @@ use Rattle.std.proofs.Common.{◌≡◌, ◌++◌, [], ℕ, Bool, List, Some, le
 use Rattle.std.proofs.lemmas.List.{length-map}
 use Rattle.network_plan.specs.declared.plan.HostPlan.{HostPlan}
 use Rattle.pcap_trace.specs.Format.{Timed}
+use Rattle.pcap_trace.specs.declared.unit.Unit.{Unit}
 use Rattle.pcap_trace.specs.declared.fault.WriteError.{WriteError}
 use Rattle.scenario.specs.SoFar.{Host, Said, hosts_of}
 use Rattle.scenario.specs.declared.command.Scenario.{Scenario}
@@ -50,49 +51,50 @@ module _ (scenario : Scenario) (traces : List (List (List ℕ))) (begun : List P
       ∙ ap (wire_texts (hosts_of list) (put_from 0 has.played.acts)) named
       ∙ ap (λ (ps : List HostPlan). wire_texts (hosts_of ps) (put_from 0 has.played.acts) (wire_names (hosts_of ps))) same
 
-  pub benched_wires : {sinks : BenchSinks} → {summary : Summary} → IsOfPlay play told summary → (count wires : ℕ) (list : List HostPlan)
+  pub benched_wires : (unit : Unit) → {sinks : BenchSinks} → {summary : Summary} → IsOfPlay play told summary
+      → (count wires : ℕ) (list : List HostPlan)
       (names : List (List ℕ)) (puts : List PutFrame)
-      → count ≡ length (sockets_from 0 hosts) → AreWritten count (map frames_given play.record.sockets.items) sinks.old sinks.new
+      → count ≡ length (sockets_from 0 hosts) → AreWritten unit count (map frames_given play.record.sockets.items) sinks.old sinks.new
       → wires ≡ length (wire_names hosts) → list ≡ scenario.plan.hosts.items → names ≡ wire_names (hosts_of list)
-      → play.record.puts ≡ Some puts → AreWritten wires (wire_texts (hosts_of list) puts names) sinks.wires_old sinks.wires_new
-      → BenchesWires scenario traces events summary sinks
-  benched_wires {sinks} of_play count wires list names puts counts wrote all same named recorded wires_wrote =
+      → play.record.puts ≡ Some puts → AreWritten unit wires (wire_texts (hosts_of list) puts names) sinks.wires_old sinks.wires_new
+      → BenchesWires unit scenario traces events summary sinks
+  benched_wires unit {sinks} of_play count wires list names puts counts wrote all same named recorded wires_wrote =
       let whole : wires ≡ length (wire_texts_of plays) = all
       ∙ sym (length-map (wire_names hosts) (λ (wire : List ℕ). frames_on_wire hosts wire (put_from 0 has.played.acts))) in
       record {
         plays = plays;
-        texts = texts_written scenario traces (Some begun) events play told has count counts wrote;
-        wires = subst (λ (n : ℕ). AreWritten n (wire_texts_of plays) sinks.wires_old sinks.wires_new) whole
-            (subst (λ (texts : List (List Timed)). AreWritten wires texts sinks.wires_old sinks.wires_new)
+        texts = texts_written scenario traces (Some begun) events play told has unit count counts wrote;
+        wires = subst (λ (n : ℕ). AreWritten unit n (wire_texts_of plays) sinks.wires_old sinks.wires_new) whole
+            (subst (λ (texts : List (List Timed)). AreWritten unit wires texts sinks.wires_old sinks.wires_new)
             (same-texts list names puts same named recorded) wires_wrote);
         tells = hosts_told scenario traces (Some begun) events play told has of_play;
         answers = run_told scenario traces (Some begun) events play told has of_play;
       }
 
   -- a socket's sink failed
-  pub socket_failed : {sinks : BenchSinks} → (error : BenchError) (why : WriteError) → error ≡ errors.Write why
-      → (failed : ℕ) × AreWrittenUpTo failed (map frames_given play.record.sockets.items) sinks.old sinks.new
-      → sinks.wires_new ≡ sinks.wires_old → StopsWires scenario traces error sinks
-  socket_failed {sinks} error why is wrote untouched =
-      subst (λ (e : BenchError). StopsWires scenario traces e sinks) (sym is)
-      (plays, inl (texts_failed scenario traces (Some begun) events play told has wrote, untouched))
+  pub socket_failed : (unit : Unit) → {sinks : BenchSinks} → (error : BenchError) (why : WriteError) → error ≡ errors.Write why
+      → (failed : ℕ) × AreWrittenUpTo unit failed (map frames_given play.record.sockets.items) sinks.old sinks.new
+      → sinks.wires_new ≡ sinks.wires_old → StopsWires unit scenario traces error sinks
+  socket_failed unit {sinks} error why is wrote untouched =
+      subst (λ (e : BenchError). StopsWires unit scenario traces e sinks) (sym is)
+      (plays, inl (texts_failed scenario traces (Some begun) events play told has unit wrote, untouched))
 
   -- a wire's sink failed
-  pub wire_failed : {sinks : BenchSinks} → (error : BenchError) (why : WriteError) (count : ℕ) (list : List HostPlan)
+  pub wire_failed : (unit : Unit) → {sinks : BenchSinks} → (error : BenchError) (why : WriteError) (count : ℕ) (list : List HostPlan)
       (names : List (List ℕ)) (puts : List PutFrame)
       → error ≡ errors.Write why → count ≡ length (sockets_from 0 hosts)
-      → AreWritten count (map frames_given play.record.sockets.items) sinks.old sinks.new
+      → AreWritten unit count (map frames_given play.record.sockets.items) sinks.old sinks.new
       → list ≡ scenario.plan.hosts.items → names ≡ wire_names (hosts_of list) → play.record.puts ≡ Some puts
-      → (failed : ℕ) × AreWrittenUpTo failed (wire_texts (hosts_of list) puts names) sinks.wires_old sinks.wires_new
-      → StopsWires scenario traces error sinks
-  wire_failed {sinks} error why count list names puts is counts wrote same named recorded stopped =
-      subst (λ (e : BenchError). StopsWires scenario traces e sinks) (sym is) (
+      → (failed : ℕ) × AreWrittenUpTo unit failed (wire_texts (hosts_of list) puts names) sinks.wires_old sinks.wires_new
+      → StopsWires unit scenario traces error sinks
+  wire_failed unit {sinks} error why count list names puts is counts wrote same named recorded stopped =
+      subst (λ (e : BenchError). StopsWires unit scenario traces e sinks) (sym is) (
         plays,
         inr (
-          texts_written scenario traces (Some begun) events play told has count counts wrote,
+          texts_written scenario traces (Some begun) events play told has unit count counts wrote,
           (
             stopped.0,
-            subst (λ (texts : List (List Timed)). AreWrittenUpTo stopped.0 texts sinks.wires_old sinks.wires_new)
+            subst (λ (texts : List (List Timed)). AreWrittenUpTo unit stopped.0 texts sinks.wires_old sinks.wires_new)
                 (same-texts list names puts same named recorded) stopped.1,
           ),
         ),

@@ -7,6 +7,7 @@ use Rattle.std.proofs.lemmas.Bool.Decides.{eqb_tells}
 use Rattle.std.proofs.lemmas.Option.{get_or_from_slice_get, slice_get-get_or, slice_get-map, slice_get_within}
 use Rattle.circular_buffer.proofs.Places.{slice_get-set_other, slice_get-set_same}
 use Rattle.pcap_trace.specs.Format.{Timed}
+use Rattle.pcap_trace.specs.declared.unit.Unit.{Unit}
 use Rattle.scenario_bench.specs.SocketLists.{SocketFrames, frames_given}
 use Rattle.scenario_bench.specs.Benches.{AreWritten, AreWrittenUpTo, FailsAmong, SinkState, TakesText}
 
@@ -26,33 +27,36 @@ one-of a b found is are = inside (sym is ∙ are)
     inside : Some a ≡ Some b → a ≡ b
     inside e = cc
 
-pub none_written : (texts : List (List Timed)) (old : List SinkState) → AreWritten 0 texts old old
-none_written texts old = record {
+pub none_written : (unit : Unit) (texts : List (List Timed)) (old : List SinkState) → AreWritten unit 0 texts old old
+none_written unit texts old = record {
   sinks = refl;
   whole = λ k text before after below. absurd (omega (arith, below));
   others = λ k past. refl;
 }
 
 -- what a sink is before its text, it was at first
-pub as_before : (place : ℕ) (texts : List (List Timed)) (old new : List SinkState) (now : SinkState) → AreWritten place texts old new
+pub as_before : (unit : Unit) (place : ℕ) (texts : List (List Timed)) (old new : List SinkState) (now : SinkState)
+    → AreWritten unit place texts old new
     → slice_get new place ≡ Some now → slice_get old place ≡ Some now
-as_before place texts old new now has there = sym (has.others place (omega arith)) ∙ there
+as_before unit place texts old new now has there = sym (has.others place (omega arith)) ∙ there
 
-pub one_written : (place : ℕ) (texts : List (List Timed)) (old new : List SinkState) (text : List Timed) (now later : SinkState)
-    → AreWritten place texts old new → slice_get texts place ≡ Some text → slice_get new place ≡ Some now → TakesText text now later
-    → AreWritten (place + 1) texts old (slice_set new place later)
-one_written place texts old new text now later has text_is there takes = record {
+pub one_written : (unit : Unit) (place : ℕ) (texts : List (List Timed)) (old new : List SinkState) (text : List Timed)
+    (now later : SinkState)
+    → AreWritten unit place texts old new → slice_get texts place ≡ Some text → slice_get new place ≡ Some now
+    → TakesText unit text now later → AreWritten unit (place + 1) texts old (slice_set new place later)
+one_written unit place texts old new text now later has text_is there takes = record {
   sinks = length-set new place later ∙ has.sinks;
   whole = λ k other before after below is was is_now. elim (eqb_tells k place) [
     | inl same ↦
         let text_same : text ≡ other = one-of text other (slice_get texts k) (ap (slice_get texts) same.1 ∙ text_is) is in
         let before_same : now ≡ before = one-of now before (slice_get old k)
-        (ap (slice_get old) same.1 ∙ as_before place texts old new now has there) was in
+        (ap (slice_get old) same.1 ∙ as_before unit place texts old new now has there) was in
         let after_same : later ≡ after = one-of later after (slice_get (slice_set new place later) k)
         (ap (slice_get (slice_set new place later)) same.1
         ∙ slice_get-set_same new place later (slice_get_within new place now there)) is_now in
-        subst (λ (t : List Timed). TakesText t before after) text_same
-        (subst (λ (b : SinkState). TakesText text b after) before_same (subst (λ (a : SinkState). TakesText text now a) after_same takes))
+        subst (λ (t : List Timed). TakesText unit t before after) text_same
+        (subst (λ (b : SinkState). TakesText unit text b after) before_same
+        (subst (λ (a : SinkState). TakesText unit text now a) after_same takes))
     | inr differ ↦ has.whole k other before after (omega (arith, below, differ.1)) is was
         (sym (slice_get-set_other new place k later differ.1) ∙ is_now)
   ];
@@ -60,21 +64,23 @@ one_written place texts old new text now later has text_is there takes = record 
       ∙ has.others k (omega (arith, past));
 }
 
-pub one_failed : (place : ℕ) (texts : List (List Timed)) (old new : List SinkState) (text : List Timed) (now later : SinkState)
-    → AreWritten place texts old new → slice_get texts place ≡ Some text → slice_get new place ≡ Some now → FailsAmong text now later
-    → AreWrittenUpTo place texts old (slice_set new place later)
-one_failed place texts old new text now later has text_is there fails = record {
+pub one_failed : (unit : Unit) (place : ℕ) (texts : List (List Timed)) (old new : List SinkState) (text : List Timed)
+    (now later : SinkState)
+    → AreWritten unit place texts old new → slice_get texts place ≡ Some text → slice_get new place ≡ Some now
+    → FailsAmong unit text now later → AreWrittenUpTo unit place texts old (slice_set new place later)
+one_failed unit place texts old new text now later has text_is there fails = record {
   sinks = length-set new place later ∙ has.sinks;
   there = slice_get_within texts place text text_is;
   whole = λ k other before after below is was is_now. has.whole k other before after below is was
       (sym (slice_get-set_other new place k later (λ same. absurd (omega (arith, same, below)))) ∙ is_now);
   fails = λ other before after is was is_now.
       let text_same : text ≡ other = one-of text other (slice_get texts place) text_is is in
-      let before_same : now ≡ before = one-of now before (slice_get old place) (as_before place texts old new now has there) was in
+      let before_same : now ≡ before = one-of now before (slice_get old place) (as_before unit place texts old new now has there) was in
       let after_same : later ≡ after = one-of later after (slice_get (slice_set new place later) place)
       (slice_get-set_same new place later (slice_get_within new place now there)) is_now in
-      subst (λ (t : List Timed). FailsAmong t before after) text_same
-      (subst (λ (b : SinkState). FailsAmong text b after) before_same (subst (λ (a : SinkState). FailsAmong text now a) after_same fails));
+      subst (λ (t : List Timed). FailsAmong unit t before after) text_same
+      (subst (λ (b : SinkState). FailsAmong unit text b after) before_same
+      (subst (λ (a : SinkState). FailsAmong unit text now a) after_same fails));
   others = λ k past. slice_get-set_other new place k later (λ same. absurd (omega (arith, same, past)))
       ∙ has.others k (omega (arith, past));
 }
@@ -99,31 +105,33 @@ module _ {S : Type 0} (taken : S → Option (List ℕ)) (failures : S → ℕ) w
       inside : (a b : SinkState) → Some a ≡ Some b → a ≡ b
       inside a b e = cc
 
-  pub still_countable : (most place : ℕ) (texts : List (List Timed)) (old new : List S) (now : S)
+  pub still_countable : (unit : Unit) (most place : ℕ) (texts : List (List Timed)) (old new : List S) (now : S)
       → All (λ (sink : S). failures sink < most) old
-      → AreWritten place texts (map state_of old) (map state_of new) → slice_get new place ≡ Some now → failures now < most
-  still_countable most place texts old new now countable has there =
+      → AreWritten unit place texts (map state_of old) (map state_of new) → slice_get new place ≡ Some now → failures now < most
+  still_countable unit most place texts old new now countable has there =
       found_as most (slice_get old place) now (λ sink is. subst (λ (s : S). failures s < most)
       (get_or_from_slice_get old place sink sink is) (countable place sink (slice_get_within old place sink is)))
       (sym (slice_get-map state_of old place)
-      ∙ as_before place texts (map state_of old) (map state_of new) (state_of now) has (at_place new place now there))
+      ∙ as_before unit place texts (map state_of old) (map state_of new) (state_of now) has (at_place new place now there))
 
-  pub sink_written : (place : ℕ) (texts : List (List Timed)) (old new : List S) (text : List Timed) (now later : S)
-      → AreWritten place texts (map state_of old) (map state_of new) → slice_get texts place ≡ Some text → slice_get new place ≡ Some now
-      → TakesText text (state_of now) (state_of later)
-      → AreWritten (place + 1) texts (map state_of old) (map state_of (slice_set new place later))
-  sink_written place texts old new text now later has text_is there takes =
-      subst (AreWritten (place + 1) texts (map state_of old)) (sym (map-set state_of new place later))
-      (one_written place texts (map state_of old) (map state_of new) text (state_of now) (state_of later) has text_is
+  pub sink_written : (unit : Unit) (place : ℕ) (texts : List (List Timed)) (old new : List S) (text : List Timed) (now later : S)
+      → AreWritten unit place texts (map state_of old) (map state_of new) → slice_get texts place ≡ Some text
+      → slice_get new place ≡ Some now
+      → TakesText unit text (state_of now) (state_of later)
+      → AreWritten unit (place + 1) texts (map state_of old) (map state_of (slice_set new place later))
+  sink_written unit place texts old new text now later has text_is there takes =
+      subst (AreWritten unit (place + 1) texts (map state_of old)) (sym (map-set state_of new place later))
+      (one_written unit place texts (map state_of old) (map state_of new) text (state_of now) (state_of later) has text_is
       (at_place new place now there) takes)
 
-  pub sink_failed : (place : ℕ) (texts : List (List Timed)) (old new : List S) (text : List Timed) (now later : S)
-      → AreWritten place texts (map state_of old) (map state_of new) → slice_get texts place ≡ Some text → slice_get new place ≡ Some now
-      → FailsAmong text (state_of now) (state_of later)
-      → AreWrittenUpTo place texts (map state_of old) (map state_of (slice_set new place later))
-  sink_failed place texts old new text now later has text_is there fails =
-      subst (AreWrittenUpTo place texts (map state_of old)) (sym (map-set state_of new place later))
-      (one_failed place texts (map state_of old) (map state_of new) text (state_of now) (state_of later) has text_is
+  pub sink_failed : (unit : Unit) (place : ℕ) (texts : List (List Timed)) (old new : List S) (text : List Timed) (now later : S)
+      → AreWritten unit place texts (map state_of old) (map state_of new) → slice_get texts place ≡ Some text
+      → slice_get new place ≡ Some now
+      → FailsAmong unit text (state_of now) (state_of later)
+      → AreWrittenUpTo unit place texts (map state_of old) (map state_of (slice_set new place later))
+  sink_failed unit place texts old new text now later has text_is there fails =
+      subst (AreWrittenUpTo unit place texts (map state_of old)) (sym (map-set state_of new place later))
+      (one_failed unit place texts (map state_of old) (map state_of new) text (state_of now) (state_of later) has text_is
       (at_place new place now there) fails)
 
 -- a socket's text

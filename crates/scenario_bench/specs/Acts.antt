@@ -40,8 +40,11 @@ act_of (Drained host buffered given) = Drains host
 
 -- A host was drained, and delivered these frames. This many were in its packet buffer before.
 pub record DrainRuns (old : NetworkState) (host buffered : ℕ) (given : List GivenFrame) (new : NetworkState) : Type 0 where
+  -- the frames in its receive packet buffer before
   pub buffer : buffered ≡ length (world_at old.stations host).adapter.receiver.buffer
+  -- how many steps the drain took
   pub steps : ℕ
+  -- what the drain did
   pub drains : NetworkDrains old host steps [] given new
 
 -- An act leads from one state of a network to the next.
@@ -56,7 +59,9 @@ ActsRun old (act ∷ acts) new = (middle : NetworkState) × ActRuns old act midd
 
 -- These acts were done in order.
 pub record ActsLead (old : NetworkState) (acts : List Act) (new : NetworkState) : Type 0 where
+  -- from each state to the next by one act
   pub states : ActsRun old acts new
+  -- there are as many hosts as before
   pub hosts : length new.hosts ≡ length old.hosts
   -- the equations of delivery, over all of them
   pub delivers : (k : ℕ) (h h' : HostState) → IsHost old k h → IsHost new k h'

@@ -37,6 +37,7 @@ paired [] outcomes = []
 paired (tick ∷ ticks) [] = []
 paired (tick ∷ ticks) (one ∷ outcomes) = tick_told tick one.accesses one.outcome ∷ paired ticks outcomes
 
+-- the ticks of an event, each with its outcome
 abbrev pub told_in : Event → Reply → List TickTold
 told_in event reply = paired (played_ticks event) reply.outcomes.list
 
@@ -46,6 +47,7 @@ act_line names place (Ran event reply) =
     event_line names place event reply.accesses reply.answer (flat_map (text_of names) (told_in event reply))
 act_line names place (Drained host buffered given) = drain_line names place host (length given)
 
+-- the number of an event, and that of its line
 abbrev pub place_at : (number line : ℕ) → Place
 place_at number line = record { number = number; line = line }
 
@@ -59,8 +61,11 @@ lines_from names number (entry ∷ entries) =
 
 -- the names of the hosts, what came of the ticks of the event that is played, and the lines of the events before it
 pub record LogState : Type 0 where
+  -- the names of the hosts
   pub names : List (List ℕ)
+  -- what came of the ticks of the event that is played
   pub outcomes : List ℕ
+  -- the lines of the events before it
   pub text : List ℕ
 
 abbrev pub no_lines : (names : List (List ℕ)) → LogState

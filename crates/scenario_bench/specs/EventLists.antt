@@ -57,6 +57,7 @@ abbrev pub words_from : (count : ℕ) → Lcg → List ℕ
 words_from zero generator = []
 words_from (suc count) generator = (pcg32 generator).0 ∷ words_from count (pcg32 generator).1
 
+-- the first words of PCG32 with this seed
 abbrev pub words_drawn : (count start : ℕ) → List ℕ
 words_drawn count start = words_from count (pcg32_of_seed (pcg32_seed 16 start))
 
@@ -64,6 +65,7 @@ words_drawn count start = words_from count (pcg32_of_seed (pcg32_seed 16 start))
 abbrev pub broadcast_of : (address : List ℕ) → List ℕ
 broadcast_of address = 0xFF ∷ 0xFF ∷ 0xFF ∷ 0xFF ∷ 0xFF ∷ 0xFF ∷ address ++ 0x88 ∷ 0xB5 ∷ []
 
+-- the address of the host with this number
 abbrev pub address_of : List Host → ℕ → List ℕ
 address_of hosts host = unwrap_or (option_map (λ (one : Host). address_bytes one.image) (slice_get hosts host)) []
 

@@ -31,6 +31,7 @@ name_at names host = unwrap_or (slice_get names host) []
 
 -- Ticks and their outcomes.
 
+-- the word for a step of an adapter
 abbrev pub step_word : StepKind → List ℕ
 step_word step.TxTake = codes " txtake:"
 step_word step.TxPut = codes " txput:"
@@ -39,11 +40,13 @@ step_word step.RxDone = codes " rxdone:"
 step_word step.EepromTick = codes " eeprom:"
 step_word step.PhyTick = codes " phy:"
 
+-- a tick, with the name of its host
 abbrev pub tick_text : (names : List (List ℕ)) → Tick → List ℕ
 tick_text names tick.Go = codes " go"
 tick_text names (tick.Step host kind) = step_word kind ++ name_at names host
 tick_text names (tick.Deliver host) = codes " deliver:" ++ name_at names host
 
+-- the word for a fate
 abbrev pub fate_word : Fate → List ℕ
 fate_word fate.Off = codes " off "
 fate_word fate.Illegal = codes " illegal "
@@ -70,6 +73,7 @@ told_text names tick accesses one = numbered (codes " @") accesses ++ tick_text 
 
 -- Events and their answers.
 
+-- an event, with the name of its host
 abbrev pub event_text : (names : List (List ℕ)) → Event → List ℕ
 event_text names (event.Send host frame ticks) = (codes " send " ++ name_at names host) ++ numbered (codes " ") (length frame.items)
 event_text names (event.Recv host socket ticks) = (codes " recv " ++ name_at names host) ++ numbered (codes " ") socket
@@ -79,16 +83,19 @@ event_text names (event.Join host group ticks) = codes " join " ++ name_at names
 event_text names (event.Leave host group ticks) = codes " leave " ++ name_at names host
 event_text names (event.Tick tick) = codes " tick"
 
+-- the result of a send
 abbrev pub sent_word : Result (Unit {0}) SendError → List ℕ
 sent_word (Ok u) = codes " ok"
 sent_word (Err send.TooShort) = codes " E20 TooShort"
 sent_word (Err send.TooLong) = codes " E21 TooLong"
 sent_word (Err send.RingFull) = codes " E22 RingFull"
 
+-- why no frame was received
 abbrev pub recv_word : RecvError → List ℕ
 recv_word recv.Empty = codes " E30 Empty"
 recv_word recv.NoSocket = codes " E31 NoSocket"
 
+-- the result of a join or a leave
 abbrev pub group_word : Result (Unit {0}) GroupError → List ℕ
 group_word (Ok u) = codes " ok"
 group_word (Err group.NotGroup) = codes " E23 NotGroup"
@@ -96,6 +103,7 @@ group_word (Err group.GroupsFull) = codes " E24 GroupsFull"
 group_word (Err group.NotJoined) = codes " E25 NotJoined"
 group_word (Err group.Joined) = codes " E26 Joined"
 
+-- what an interrupt handler did
 abbrev pub handled_text : Handled → List ℕ
 handled_text handled.NotMine = codes " notmine"
 handled_text (handled.Handled taken) = numbered (codes " handled ") taken

@@ -14,6 +14,7 @@ greatest_number = 2 ^ 64 - 1
 abbrev pub next_number : ℕ → ℕ
 next_number number = min (number + 1) greatest_number
 
+-- a frame whose time is this number
 abbrev pub numbered_frame : (number : ℕ) → List ℕ → Timed
 numbered_frame number frame = record { time = number; frame = frame }
 
@@ -27,6 +28,7 @@ given_from host socket number (act ∷ acts) =
 abbrev pub sockets_of_host : (host sockets : ℕ) → List (ℕ × ℕ)
 sockets_of_host host sockets = map (λ socket. (host, socket)) (range_with_len 0 sockets)
 
+-- the sockets of these hosts, each as the numbers of its host and of the socket
 abbrev pub sockets_from : (number : ℕ) → List Host → List (ℕ × ℕ)
 sockets_from number [] = []
 sockets_from number (host ∷ hosts) = sockets_of_host number (length host.sockets) ++ sockets_from (number + 1) hosts

@@ -60,6 +60,7 @@ StopsWithin said old new (errors.Run stopped) = HasPlayedFront said old new × (
 StopsWithin said old new errors.Memory = Unit {0}
 StopsWithin said old new (errors.Write error) = ⊥
 
+-- the frames of a trace
 abbrev pub frames_of : Trace → List (List ℕ)
 frames_of trace = trace.frames
 

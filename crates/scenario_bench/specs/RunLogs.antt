@@ -1,45 +1,59 @@
 -- What is recorded of the answers of a run (our choice).
-use Rattle.std.specs.Prelude.{◌≡◌, ◌∷◌, [], ℕ, Bool, List, Option, Some, None, Err, if◌then◌else◌, length, map, option_map}
+use Rattle.std.specs.Prelude.{◌≡◌, ◌+◌, ◌-◌, ◌∷◌, [], ℕ, Bool, List, Option, Some, None, Err, if◌then◌else◌, length, map, min}
+use Rattle.std.specs.Prelude.{option_map}
 use Rattle.std.specs.List.{fold}
 use Rattle.network_plan.specs.Answers.{FrameAnswer}
 use Rattle.network_plan.specs.declared.event.Event.{Event}
 use Rattle.network_plan.specs.declared.reply.Answer.TheVariants as answer
 use Rattle.packet_socket.specs.declared.receive.RecvError.TheVariants as recv
+use Rattle.scenario.specs.SoFar.{Draws, Said}
 use Rattle.stations.specs.ToldTicks.{TickTold}
 use Rattle.scenario_bench.specs.Acts.{Act, Drained, Ran}
 use Rattle.scenario_bench.specs.EventLines.{LogState, drain_logged, end_logged, no_lines, place_at, tick_logged, told_in}
-use Rattle.scenario_bench.specs.Given.{next_number}
+use Rattle.scenario_bench.specs.Given.{greatest_number, next_number}
 use Rattle.scenario_bench.specs.declared.event_log.Place.{Place}
 use Rattle.scenario_bench.specs.declared.record.Record.{Record}
 use Rattle.scenario_bench.specs.declared.run_log.RunLog.{RunLog}
+use Rattle.scenario_bench.specs.declared.summary.Refusals.{Refusals}
 
--- a send was refused
-abbrev pub refused_behind : ℕ → FrameAnswer → ℕ
-refused_behind count (answer.Sent (Err error)) = next_number count
-refused_behind count one = count
+-- nothing was refused
+abbrev pub no_refusals : Refusals
+no_refusals = record { sends = 0; groups = 0; sockets = 0 }
 
--- there is no such socket
-abbrev pub absent_behind : ℕ → FrameAnswer → ℕ
-absent_behind count (answer.Received (Err recv.NoSocket)) = next_number count
-absent_behind count one = count
+-- A send, a join or a leave was refused, or there is no such socket.
+abbrev pub refusals_behind : Refusals → FrameAnswer → Refusals
+refusals_behind count (answer.Sent (Err error)) = record count { sends = next_number count.sends }
+refusals_behind count (answer.Joined (Err error)) = record count { groups = next_number count.groups }
+refusals_behind count (answer.Left (Err error)) = record count { groups = next_number count.groups }
+refusals_behind count (answer.Received (Err recv.NoSocket)) = record count { sockets = next_number count.sockets }
+refusals_behind count one = count
 
--- the numbers of refusals after an act
-abbrev pub refused_by : ℕ → Act → ℕ
-refused_by count (Ran event reply) = refused_behind count reply.answer
-refused_by count (Drained host buffered given) = count
+-- the refusals after an act
+abbrev pub refusals_by : Refusals → Act → Refusals
+refusals_by count (Ran event reply) = refusals_behind count reply.answer
+refusals_by count (Drained host buffered given) = count
 
-abbrev pub absent_by : ℕ → Act → ℕ
-absent_by count (Ran event reply) = absent_behind count reply.answer
-absent_by count (Drained host buffered given) = count
+-- earlier refusals, and those between two counts
+abbrev pub with_later : (earlier before after : Refusals) → Refusals
+with_later earlier before after = record {
+  sends = min (earlier.sends + (after.sends - before.sends)) greatest_number;
+  groups = min (earlier.groups + (after.groups - before.groups)) greatest_number;
+  sockets = min (earlier.sockets + (after.sockets - before.sockets)) greatest_number;
+}
+
+-- The refusals that commands asked for, after this one. Events of `auto` are drawn.
+abbrev pub asked_after : (asked : Refusals) → Said → (before after : Refusals) → Refusals
+asked_after asked (Draws count start) before after = asked
+asked_after asked said before after = with_later asked before after
 
 -- A record of them.
 
 -- before the first event
 abbrev pub new_log : (names : List (List ℕ)) → (events : Bool) → RunLog
-new_log names events = record { refused = 0; absent = 0; lines = if events then Some (no_lines names) else None }
+new_log names events = record { refusals = no_refusals; lines = if events then Some (no_lines names) else None }
 
 abbrev pub answered_log : FrameAnswer → RunLog → RunLog
-answered_log one log = record log { refused = refused_behind log.refused one; absent = absent_behind log.absent one }
+answered_log one log = record log { refusals = refusals_behind log.refusals one }
 
 abbrev pub log_heard : RunLog → TickTold → RunLog
 log_heard log told = record log { lines = option_map (λ (lines : LogState). tick_logged lines told) log.lines }
@@ -63,6 +77,7 @@ logged number [] log = log
 logged number (entry ∷ entries) log =
     logged (next_number number) entries (act_logged (place_at number entry.0) entry.1 log)
 
+-- the acts without the numbers of their lines
 abbrev pub acts_in : List (ℕ × Act) → List Act
 acts_in entries = map (λ (entry : ℕ × Act). entry.1) entries
 

@@ -14,7 +14,7 @@ use Rattle.scenario.specs.SoFar.{Host}
 use Rattle.scenario_bench.specs.Acts.{Act}
 use Rattle.scenario_bench.specs.EventLines.{LogState, lines_from}
 use Rattle.scenario_bench.specs.Given.{greatest_number}
-use Rattle.scenario_bench.specs.RunLogs.{absent_by, acts_in, refused_by}
+use Rattle.scenario_bench.specs.RunLogs.{acts_in, no_refusals, refusals_by}
 use Rattle.scenario_bench.specs.declared.summary.GivenUp.{GivenUp as ResetsTold}
 use Rattle.scenario_bench.specs.declared.summary.HostSummary.{HostSummary}
 use Rattle.scenario_bench.specs.declared.summary.Summary.{Summary}
@@ -28,6 +28,7 @@ abbrev pub count_given : ℕ → Happening → ℕ
 count_given k (Given host socket frame) = if k == host then 1 else 0
 count_given k one = 0
 
+-- the number of frames that all sockets of a host returned
 abbrev pub all_given : ℕ → List Happening → ℕ
 all_given k happened = sum_by (count_given k) happened
 
@@ -52,32 +53,46 @@ resets_told k happened =
 
 -- The numbers of frames in the summary of the k-th host: that it accepted, put, that reached it, that it stored and returned.
 pub record TellsFrames (k : ℕ) (happened : List Happening) (told : HostSummary) : Type 0 where
+  -- the frames that the host accepted
   pub accepted : told.accepted ≡ as_told (length (accepted k happened))
+  -- the frames that its adapter put on the wire
   pub put : told.put ≡ as_told (length (put k happened))
+  -- the frames that reached it
   pub reached : told.reached ≡ as_told (length (reached k happened))
+  -- the frames that its adapter stored
   pub stored : told.stored ≡ as_told (length (stored k happened))
+  -- the frames that its sockets returned
   pub given : told.given ≡ as_told (all_given k happened)
+  -- the frames that its resets gave up
   pub resets : told.given_up ≡ resets_told k happened
 
 -- The summary of the k-th host: its name, the numbers of frames, and its counts.
 pub record TellsHost (k : ℕ) (plan : Host) (happened : List Happening) (host : HostState) (world : World) (told : HostSummary)
     : Type 0 where
+  -- its name
   pub name : string_bytes told.name ≡ plan.name
+  -- the numbers of frames
   pub frames : TellsFrames k happened told
+  -- the count of misses
   pub missed : told.missed ≡ counted host world
+  -- whether this count is exact
   pub exact : IsTrue told.exact ↔ IsExact host world
+  -- the frames without a socket
   pub unclaimed : told.unclaimed ≡ host.unclaimed
 
 -- The summaries of the hosts of the plan, in order.
 pub record TellsHosts (plans : List Host) (happened : List Happening) (network : NetworkState) (told : List HostSummary) : Type 0 where
+  -- one for each host
   pub count : length told ≡ length plans
+  -- each is that of its host
   pub each : (k : ℕ) (plan : Host) (host : HostState) (one : HostSummary) → slice_get plans k ≡ Some plan → IsHost network k host
       → slice_get told k ≡ Some one → TellsHost k plan happened host (world_at network.stations k) one
 
--- The answers of these acts, each with the number of its line in the scenario: how many sends were refused, how many recvs named a socket
--- that doesn't exist, and on request a line for each act.
+-- The answers of these acts, each with the number of its line in the scenario: how many calls were refused, and on request a line for each
+-- act.
 pub record TellsAnswers (plans : List Host) (events : Bool) (entries : List (ℕ × Act)) (told : Summary) : Type 0 where
-  pub refused : told.refused ≡ fold refused_by 0 (acts_in entries)
-  pub absent : told.absent ≡ fold absent_by 0 (acts_in entries)
+  -- how many calls were refused
+  pub refusals : told.refusals ≡ fold refusals_by no_refusals (acts_in entries)
+  -- the lines of events, if they are asked for
   pub lines : option_map (λ (log : LogState). log.text) told.events
       ≡ (if events then Some (lines_from (map (λ (plan : Host). plan.name) plans) 0 entries) else None)

@@ -76,6 +76,7 @@ impl EventLog {
     }
 
     /// Makes room for the line of an event with this many ticks.
+    #[inline(never)]
     pub(crate) fn reserve(&mut self, ticks: usize) -> Result<(), AllocError>
         ensures { self.new ≡ self.old }
     {
@@ -85,6 +86,7 @@ impl EventLog {
     }
 
     /// Records what came of a tick.
+    #[inline(never)]
     pub(crate) fn note(
         &mut self,
         tick: Tick,
@@ -106,6 +108,7 @@ impl EventLog {
     }
 
     /// Ends the line of an event.
+    #[inline(never)]
     pub(crate) fn end(
         &mut self,
         place: Place,

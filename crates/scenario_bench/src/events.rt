@@ -159,6 +159,7 @@ impl EventMemory {
     }
 
     /// Takes back the memory of an event that was run.
+    #[inline(always)]
     pub(crate) fn take_back(&mut self, event: Event) {
         match event {
             Event::Send { frame, .. } => self.frame = frame,

@@ -1,7 +1,7 @@
 //! The frames that a socket returned.
 
 use descriptors::LONGEST_LEGAL;
-use pcap_trace::{Frames, RecordWriter, Sink, WriteError};
+use pcap_trace::{Frames, RecordWriter, Sink, Unit, WriteError};
 use std::alloc::{AllocError, Global};
 use std::marker::Model;
 
@@ -85,24 +85,25 @@ impl GivenFrames {
         Ok(())
     }
 
-    /// Writes them as a trace. The number of each is its time in microseconds.
+    /// Writes them as a trace, with times in this unit. The number of each is its time in microseconds.
     pub(crate) fn write<W: Sink>(
         &self,
         writer: &mut RecordWriter,
+        unit: Unit,
         sink: &mut W,
     ) -> Result<(), WriteError>
         requires countable { W.failures sink.old < u64.MAX }
-        ensures ok { OnOk result (Appends (W.taken sink.old) (W.taken sink.new) (written self.now.frames)) }
-        ensures err { OnErr result (AppendsFront (W.taken sink.old) (W.taken sink.new) (written self.now.frames)) }
+        ensures ok { OnOk result (Appends (W.taken sink.old) (W.taken sink.new) (written unit self.now.frames)) }
+        ensures err { OnErr result (AppendsFront (W.taken sink.old) (W.taken sink.new) (written unit self.now.frames)) }
         ensures failures { CountsFailures result (W.failures sink.old) (W.failures sink.new) }
     {
-        writer.begin();
+        writer.begin(unit);
         let mut numbers = self.numbers.as_slice();
         for frame in self.frames.iter() {
             let Some((number, others)) = numbers.split_first() else {
                 break;
             };
-            writer.write(sink, *number, frame)?;
+            writer.write(sink, unit, *number, frame)?;
             numbers = others;
         }
         writer.flush(sink)

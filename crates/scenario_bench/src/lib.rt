@@ -26,5 +26,5 @@ pub use events::pieces_of;
 pub use play::{bench, bench_wires};
 pub use printing::print_summary;
 pub use socket_list::sockets;
-pub use summary::{GivenUp, HostSummary, Summary};
+pub use summary::{GivenUp, HostSummary, Refusals, Summary};
 pub use wire_list::wires;

@@ -1,6 +1,6 @@
 //! Plays a scenario.
 ghost use Rattle.std.specs.Prelude.{◌≡◌, ◌<◌, ◌≤◌, ◌∷◌, [], ℕ, All, Some, length, map, slice_get};
-ghost use Rattle.std.specs.Prelude.{IfErr, IfOk, None, OnErr, OnOk};
+ghost use Rattle.std.specs.Prelude.{IfErr, IfOk, IfSome, None, OnErr, OnOk};
 ghost use Rattle.std.specs.List.{flat_map};
 ghost use Rattle.packet_socket.specs.HostState.{HostState};
 ghost use Rattle.scenario.specs.SoFar.{Drains, event_of, hosts_of, said_of};
@@ -11,7 +11,7 @@ ghost use Rattle.scenario_bench.specs.Given.{sockets_from};
 ghost use Rattle.scenario_bench.specs.PlayedEvents.{Begins, HasPlayed, HasPlayedScenario, IsUnplayed, StopsAtPlan};
 ghost use Rattle.scenario_bench.specs.PlayedEvents.{StopsWithin, TellTallies, TellsTally, frames_of};
 ghost use Rattle.scenario_bench.specs.Puts.{wire_names};
-ghost use Rattle.scenario_bench.specs.RunLogs.{new_log};
+ghost use Rattle.scenario_bench.specs.RunLogs.{asked_after, new_log};
 ghost use Rattle.scenario_bench.specs.SocketLists.{frames_given};
 ghost use Rattle.scenario_bench.specs.WireBenches.{BenchesWires, StopsWires};
 ghost use Rattle.scenario_bench.specs.declared.tally.Tally.{Tally};
@@ -24,10 +24,10 @@ use crate::events::{EventMemory, pieces_of, set_behind_send};
 use crate::put::PutFrames;
 use crate::record::Record;
 use crate::run_log::RunLog;
-use crate::summary::{HostSummary, Summary};
+use crate::summary::{HostSummary, Refusals, Summary};
 use crate::wire_list::wires;
 use network_plan::{Event, HostPlan, Plan, Stopped};
-use pcap_trace::{RecordWriter, Sink, Trace, WriteError};
+use pcap_trace::{RecordWriter, Sink, Trace, Unit, WriteError};
 use rand_core::SeedableRng;
 use rand_core::utils::NextWord;
 use rand_pcg::Lcg64Xsh32;
@@ -43,12 +43,69 @@ fn line_at(lines: &[u64], place: usize) -> u64 {
     }
 }
 
+/// The events after the send of a fed frame from one host. They are made again only for a frame that arrives in another
+/// number of pieces.
+#[derive(Drop)]
+struct EventsAfterSend {
+    /// The number of pieces for which `list` is made; `None` before the first frame.
+    pieces: Option<usize>,
+    list: Vec<Event>,
+}
+
+impl EventsAfterSend {
+    /// No events.
+    fn new(alloc: Global) -> EventsAfterSend
+        ensures { result.pieces ≡ None }
+    {
+        EventsAfterSend {
+            pieces: None,
+            list: Vec::new(alloc),
+        }
+    }
+
+    /// Makes the events after the send of a frame that arrives in this number of pieces.
+    fn make(
+        &mut self,
+        alloc: Global,
+        plans: &[HostPlan],
+        sender: usize,
+        pieces: usize,
+    ) -> Result<(), AllocError>
+        requires before { IfSome self.old.pieces (λ made.
+            map event_of self.old.list.items ≡ lists.behind_send (hosts_of plans.now) sender made) }
+        ensures events { OnOk result
+            (map event_of self.new.list.items ≡ lists.behind_send (hosts_of plans.now) sender pieces) }
+        ensures made { OnOk result (self.new.pieces ≡ Some pieces) }
+    {
+        if let Some(made) = self.pieces
+            && made == pieces
+        {
+            return Ok(());
+        }
+        set_behind_send(alloc, plans, sender, pieces, &mut self.list)?;
+        self.pieces = Some(pieces);
+        Ok(())
+    }
+}
+
 /// Hosts on wires, the record of their run, and the room for the frames of a drain.
 #[derive(Drop)]
 struct Play {
     lan: Lan,
     record: Record,
     drained: DrainedFrames,
+    /// The calls of the commands so far that were refused, except those of events that were drawn.
+    asked: Refusals,
+}
+
+/// The refusals that commands asked for, after this one. `before` and `after` are all refusals before and after it.
+fn asked_after(asked: Refusals, command: &Command, before: Refusals, after: Refusals) -> Refusals
+    ensures { result ≡ asked_after asked (said_of command.now) before after }
+{
+    match command {
+        Command::Auto { .. } => asked,
+        _ => asked.with_later(before, after),
+    }
 }
 
 impl Play {
@@ -72,12 +129,12 @@ impl Play {
             lan,
             record,
             drained,
+            asked: Refusals::default(),
         })
     }
 
     /// Runs these events, and records what comes of them. If memory is refused before an event, the error has the
     /// number of events and drains that are recorded.
-    #[tactic(auto, using(crate::proofs::PlayedEvents::played))]
     #[inline(always)]
     fn run(&mut self, events: &[Event]) -> Result<(), BenchError>
         ensures ok { OnOk result (HasPlayed (map event_of events.now) self.old self.new) }
@@ -123,14 +180,14 @@ impl Play {
             (flat_map (lists.fed (hosts_of plans.now) host) trace.now.frames) self.old self.new) }
     {
         let mut memory = EventMemory::new(alloc);
-        let mut behind = Vec::new(alloc);
+        let mut behind = EventsAfterSend::new(alloc);
         for frame in trace.frames.iter() {
             let events = [memory.send_event(host, frame)?];
             self.run(&events)?;
             let [event] = events;
             memory.take_back(event);
-            set_behind_send(alloc, plans, host, pieces_of(frame.len()), &mut behind)?;
-            self.run(behind.as_slice())?;
+            behind.make(alloc, plans, host, pieces_of(frame.len()))?;
+            self.run(behind.list.as_slice())?;
         }
         Ok(())
     }
@@ -209,7 +266,9 @@ impl Play {
         let mut left = commands;
         while let Some((command, later)) = left.split_first() {
             self.record.line = line_at(lines, commands.len().saturating_sub(left.len()));
+            let before = self.record.log.refusals;
             self.command(alloc, plans, traces, command)?;
+            self.asked = asked_after(self.asked, command, before, self.record.log.refusals);
             left = later;
         }
         Ok(())
@@ -265,39 +324,41 @@ impl Play {
     /// The summary of the run, with these of the hosts.
     fn summary(self, hosts: Vec<HostSummary>) -> Summary
         ensures hosts { result.hosts ≡ hosts }
-        ensures refused { result.refused ≡ self.record.log.refused }
-        ensures absent { result.absent ≡ self.record.log.absent }
+        ensures refusals { result.refusals ≡ self.record.log.refusals }
+        ensures asked { result.asked ≡ self.asked }
         ensures events { result.events ≡ self.record.log.lines }
     {
+        let asked = self.asked;
         let record = self.record;
-        let RunLog {
-            refused,
-            absent,
-            lines,
-        } = record.log;
+        let RunLog { refusals, lines } = record.log;
         Summary {
             hosts,
-            refused,
-            absent,
+            refusals,
+            asked,
             events: lines,
         }
     }
 
     /// Writes to each sink the frames of its socket.
     #[tactic(auto, using(crate::proofs::Writing::none_written))]
-    fn write<W: Sink>(&self, writer: &mut RecordWriter, sinks: &mut [W]) -> Result<(), WriteError>
+    fn write<W: Sink>(
+        &self,
+        writer: &mut RecordWriter,
+        unit: Unit,
+        sinks: &mut [W],
+    ) -> Result<(), WriteError>
         requires sinks { length sinks.old ≡ length self.now.record.sockets.items }
         requires countable { All (λ (sink : W). W.failures sink < u64.MAX) sinks.old }
-        ensures ok { OnOk result (AreWritten (length sinks.old) (map frames_given self.now.record.sockets.items)
+        ensures ok { OnOk result (AreWritten unit (length sinks.old) (map frames_given self.now.record.sockets.items)
             (map (λ (s : W). record { taken = W.taken s; failures = W.failures s }) sinks.old)
             (map (λ (s : W). record { taken = W.taken s; failures = W.failures s }) sinks.new)) }
         ensures err { OnErr result ((failed : ℕ) ×
-            AreWrittenUpTo failed (map frames_given self.now.record.sockets.items)
+            AreWrittenUpTo unit failed (map frames_given self.now.record.sockets.items)
             (map (λ (s : W). record { taken = W.taken s; failures = W.failures s }) sinks.old)
             (map (λ (s : W). record { taken = W.taken s; failures = W.failures s }) sinks.new)) }
     {
         for index in 0..sinks.len() {
-            self.record.sockets[index].write(writer, &mut sinks[index])?;
+            self.record.sockets[index].write(writer, unit, &mut sinks[index])?;
         }
         Ok(())
     }
@@ -327,7 +388,8 @@ fn play_scenario(
 
 /// Plays a scenario: makes the network of its plan, and runs its events and drains in order. Then it writes to each
 /// sink the frames that its socket returned, as a trace (libpcap, "pcap-savefile"). The time of a frame is the number
-/// of its event or drain, in microseconds. Events and drains are numbered from 0, up to the greatest `u64`.
+/// of its event or drain, in microseconds, which is written in `unit`. Events and drains are numbered from 0, up to
+/// the greatest `u64`.
 ///
 /// Pass a trace for each name of [`Scenario::trace_names`], and a sink for each socket of [`sockets`](crate::sockets),
 /// in the same order. If `events` is true, the summary has a line for each event and drain.
@@ -343,22 +405,23 @@ pub fn bench<W: Sink>(
     alloc: Global,
     scenario: &Scenario,
     traces: &[Trace],
+    unit: Unit,
     sinks: &mut [W],
     events: bool,
 ) -> Result<Summary, BenchError>
     requires traces { length traces.now ≡ length scenario.now.traces.items }
     requires sinks { length sinks.old ≡ length (sockets_from 0 (hosts_of scenario.now.plan.hosts.items)) }
     requires countable { All (λ (sink : W). W.failures sink < u64.MAX) sinks.old }
-    ensures ok { IfOk result (λ summary. Benches scenario.now (map frames_of traces.now) events summary
+    ensures ok { IfOk result (λ summary. Benches unit scenario.now (map frames_of traces.now) events summary
         (map (λ (s : W). record { taken = W.taken s; failures = W.failures s }) sinks.old)
         (map (λ (s : W). record { taken = W.taken s; failures = W.failures s }) sinks.new)) }
-    ensures err { IfErr result (λ error. Stops scenario.now (map frames_of traces.now) error
+    ensures err { IfErr result (λ error. Stops unit scenario.now (map frames_of traces.now) error
         (map (λ (s : W). record { taken = W.taken s; failures = W.failures s }) sinks.old)
         (map (λ (s : W). record { taken = W.taken s; failures = W.failures s }) sinks.new)) }
 {
     let (play, hosts) = play_scenario(alloc, scenario, traces, None, events)?;
-    let mut writer = RecordWriter::new(alloc)?;
-    play.write(&mut writer, sinks)?;
+    let mut writer = RecordWriter::new(alloc, unit)?;
+    play.write(&mut writer, unit, sinks)?;
     Ok(play.summary(hosts))
 }
 
@@ -377,6 +440,7 @@ pub fn bench_wires<W: Sink>(
     alloc: Global,
     scenario: &Scenario,
     traces: &[Trace],
+    unit: Unit,
     sinks: &mut [W],
     wire_sinks: &mut [W],
     events: bool,
@@ -386,13 +450,14 @@ pub fn bench_wires<W: Sink>(
     requires wires { length wire_sinks.old ≡ length (wire_names (hosts_of scenario.now.plan.hosts.items)) }
     requires countable { All (λ (sink : W). W.failures sink < u64.MAX) sinks.old }
     requires wires_countable { All (λ (sink : W). W.failures sink < u64.MAX) wire_sinks.old }
-    ensures ok { IfOk result (λ summary. BenchesWires scenario.now (map frames_of traces.now) events summary (record {
-      old = map (λ (s : W). record { taken = W.taken s; failures = W.failures s }) sinks.old;
-      new = map (λ (s : W). record { taken = W.taken s; failures = W.failures s }) sinks.new;
-      wires_old = map (λ (s : W). record { taken = W.taken s; failures = W.failures s }) wire_sinks.old;
-      wires_new = map (λ (s : W). record { taken = W.taken s; failures = W.failures s }) wire_sinks.new;
-    })) }
-    ensures err { IfErr result (λ error. StopsWires scenario.now (map frames_of traces.now) error (record {
+    ensures ok { IfOk result (λ summary. BenchesWires unit scenario.now (map frames_of traces.now) events summary
+        (record {
+          old = map (λ (s : W). record { taken = W.taken s; failures = W.failures s }) sinks.old;
+          new = map (λ (s : W). record { taken = W.taken s; failures = W.failures s }) sinks.new;
+          wires_old = map (λ (s : W). record { taken = W.taken s; failures = W.failures s }) wire_sinks.old;
+          wires_new = map (λ (s : W). record { taken = W.taken s; failures = W.failures s }) wire_sinks.new;
+        })) }
+    ensures err { IfErr result (λ error. StopsWires unit scenario.now (map frames_of traces.now) error (record {
       old = map (λ (s : W). record { taken = W.taken s; failures = W.failures s }) sinks.old;
       new = map (λ (s : W). record { taken = W.taken s; failures = W.failures s }) sinks.new;
       wires_old = map (λ (s : W). record { taken = W.taken s; failures = W.failures s }) wire_sinks.old;
@@ -403,9 +468,9 @@ pub fn bench_wires<W: Sink>(
     let puts = PutFrames::new(alloc);
     let (play, hosts) = play_scenario(alloc, scenario, traces, Some(puts), events)?;
     let names = wires(alloc, plans)?;
-    let mut writer = RecordWriter::new(alloc)?;
-    play.write(&mut writer, sinks)?;
+    let mut writer = RecordWriter::new(alloc, unit)?;
+    play.write(&mut writer, unit, sinks)?;
     let puts = play.record.puts.as_ref().unwrap();
-    puts.write_wires(plans, names.as_slice(), &mut writer, wire_sinks)?;
+    puts.write_wires(plans, names.as_slice(), &mut writer, unit, wire_sinks)?;
     Ok(play.summary(hosts))
 }

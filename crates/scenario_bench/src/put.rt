@@ -3,7 +3,7 @@
 use crate::events::wire_of;
 use descriptors::LONGEST_LEGAL;
 use network_plan::HostPlan;
-use pcap_trace::{RecordWriter, Sink, WriteError};
+use pcap_trace::{RecordWriter, Sink, Unit, WriteError};
 use std::alloc::{AllocError, Global};
 use std::marker::Model;
 
@@ -66,6 +66,7 @@ impl PutFrames {
     /// # Errors
     ///
     /// If memory is refused.
+    #[inline(never)]
     pub(crate) fn reserve(&mut self, count: usize) -> Result<(), AllocError>
         ensures { self.new ≡ self.old }
     {
@@ -103,16 +104,17 @@ impl PutFrames {
         plans: &[HostPlan],
         wire: &str,
         writer: &mut RecordWriter,
+        unit: Unit,
         sink: &mut W,
     ) -> Result<(), WriteError>
         requires countable { W.failures sink.old < u64.MAX }
         ensures ok { OnOk result (Appends (W.taken sink.old) (W.taken sink.new)
-            (written (frames_on_wire (hosts_of plans.now) wire.now self.now))) }
+            (written unit (frames_on_wire (hosts_of plans.now) wire.now self.now))) }
         ensures err { OnErr result (AppendsFront (W.taken sink.old) (W.taken sink.new)
-            (written (frames_on_wire (hosts_of plans.now) wire.now self.now))) }
+            (written unit (frames_on_wire (hosts_of plans.now) wire.now self.now))) }
         ensures failures { CountsFailures result (W.failures sink.old) (W.failures sink.new) }
     {
-        writer.begin();
+        writer.begin(unit);
         let mut bytes = self.bytes.as_slice();
         for info in self.infos.as_slice() {
             let (frame, rest) = bytes.split_at(info.length);
@@ -120,7 +122,7 @@ impl PutFrames {
             if wire_of(plans, info.host) != wire {
                 continue;
             }
-            writer.write(sink, info.number, frame)?;
+            writer.write(sink, unit, info.number, frame)?;
         }
         writer.flush(sink)
     }
@@ -137,21 +139,22 @@ impl PutFrames {
         plans: &[HostPlan],
         wires: &[&str],
         writer: &mut RecordWriter,
+        unit: Unit,
         sinks: &mut [W],
     ) -> Result<(), WriteError>
         requires sinks { length sinks.old ≡ length wires.now }
         requires countable { All (λ (sink : W). W.failures sink < u64.MAX) sinks.old }
         ensures ok { OnOk result
-            (AreWritten (length sinks.old) (wire_texts (hosts_of plans.now) self.now (names_in wires.now))
+            (AreWritten unit (length sinks.old) (wire_texts (hosts_of plans.now) self.now (names_in wires.now))
             (map (λ (s : W). record { taken = W.taken s; failures = W.failures s }) sinks.old)
             (map (λ (s : W). record { taken = W.taken s; failures = W.failures s }) sinks.new)) }
         ensures err { OnErr result ((failed : ℕ) ×
-            AreWrittenUpTo failed (wire_texts (hosts_of plans.now) self.now (names_in wires.now))
+            AreWrittenUpTo unit failed (wire_texts (hosts_of plans.now) self.now (names_in wires.now))
             (map (λ (s : W). record { taken = W.taken s; failures = W.failures s }) sinks.old)
             (map (λ (s : W). record { taken = W.taken s; failures = W.failures s }) sinks.new)) }
     {
         for index in 0..sinks.len() {
-            self.write_wire(plans, wires[index], writer, &mut sinks[index])?;
+            self.write_wire(plans, wires[index], writer, unit, &mut sinks[index])?;
         }
         Ok(())
     }

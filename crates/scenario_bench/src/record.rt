@@ -136,6 +136,7 @@ fn give_up(hosts: &mut [Tally], host: usize, sending: u64, holding: u64)
 
 /// Records the outcome of a tick at a host.
 #[tactic(auto, using(crate::proofs::Noting::told_passage, crate::proofs::Noting::told_nothing))]
+#[inline(always)]
 fn note_outcome(hosts: &mut [Tally], host: usize, outcome: &Outcome<()>)
     ensures { (frame : List ℕ) → TalliesGrow (told_of host (with_frame frame outcome.now)) hosts.old hosts.new }
 {
@@ -152,6 +153,7 @@ fn is_put(outcome: &Outcome<()>) -> bool
 }
 
 /// Records the frame of an outcome at a host, if it was put onto a wire, and such frames are recorded.
+#[inline(always)]
 fn note_put(
     puts: &mut Option<PutFrames>,
     host: usize,
@@ -186,6 +188,7 @@ fn puts_among(ticks: &[Tick]) -> usize
 }
 
 /// How many frames an event may put onto wires.
+#[inline(never)]
 fn most_puts(event: &Event) -> usize {
     match event {
         Event::Send { ticks, .. }
@@ -209,6 +212,7 @@ fn reserve_puts(puts: &mut Option<PutFrames>, event: &Event) -> Result<(), Alloc
 }
 
 /// Records a frame that a socket returned in the event with this number.
+#[inline(never)]
 fn note_frame(
     sockets: &mut [GivenFrames],
     host: usize,
@@ -226,6 +230,7 @@ fn note_frame(
 }
 
 /// Makes room for a frame that a socket returns.
+#[inline(never)]
 fn reserve_frame(sockets: &mut [GivenFrames], host: usize, socket: usize) -> Result<(), AllocError>
     ensures { sockets.new ≡ sockets.old }
 {
@@ -248,6 +253,7 @@ fn note_sent(hosts: &mut [Tally], host: usize, answer: Answer<()>)
 
 /// Records the frames that a reset gave up.
 #[tactic(auto, using(crate::specs::RecordingLaws::grows_not))]
+#[inline(never)]
 fn note_reset(hosts: &mut [Tally], host: usize, answer: Answer<()>)
     ensures { (frame : List ℕ) → TalliesGrow (given_up_of host (answer_with frame answer)) hosts.old hosts.new }
 {
@@ -325,6 +331,7 @@ impl Record {
     }
 
     /// Records the line of an event.
+    #[inline(always)]
     fn note_line(&mut self, event: &Event, accesses: u64, answer: &Answer<()>, frame: &[u8])
         ensures { NotesLine event.now accesses (answer_with frame.now answer.now) self.old self.new }
     {
@@ -335,6 +342,7 @@ impl Record {
     }
 
     /// Records the answer of a socket, with its frame.
+    #[inline(always)]
     fn note_received(&mut self, host: usize, socket: usize, answer: Answer<()>, frame: &[u8])
         requires fits { length frame.now ≤ 1518 }
         ensures { NotesAnswer (given_of host socket (answer_with frame.now answer)) self.old self.new }
@@ -349,6 +357,7 @@ impl Record {
     }
 
     /// Records the answer of an event, with the frame that a socket returned. Joins and leaves aren't counted.
+    #[inline(always)]
     fn note_answer(&mut self, event: &Event, answer: Answer<()>, frame: &[u8])
         requires fits { length frame.now ≤ 1518 }
         ensures { NotesAnswer (answered event.now (answer_with frame.now answer)) self.old self.new }
@@ -392,6 +401,7 @@ impl Observer for Record {
 
     ghost composes = { ticks_compose };
 
+    #[inline(always)]
     fn note(&mut self, tick: Tick, accesses: u64, outcome: Outcome<()>, frame: &[u8]) {
         let host = tick_host(tick);
         note_outcome(self.hosts.as_mut_slice(), host, &outcome);
@@ -417,6 +427,7 @@ impl RunObserver for Record {
 
     ghost composes_runs = { record_composes };
 
+    #[inline(always)]
     fn make_room(&mut self, event: &Event, ticks: usize) -> bool {
         if self.failed {
             return false;
@@ -434,6 +445,7 @@ impl RunObserver for Record {
 
     // Only the record changes: as `NotesLine` of `note_line` and `NotesAnswer` of `note_answer` say, and the number of
     // the next event is one more.
+    #[inline(always)]
     fn answer(&mut self, event: &Event, accesses: u64, answer: Answer<()>, frame: &[u8]) {
         self.note_line(event, accesses, &answer, frame);
         self.note_answer(event, answer, frame);

@@ -7,6 +7,7 @@ ghost use Rattle.scenario_bench.specs.EventLogView.{plan_name};
 ghost use Rattle.scenario_bench.specs.RunLogs.{act_drained, answered_log, log_ended, log_heard, new_log};
 
 use crate::event_log::{EventLog, Place};
+use crate::summary::Refusals;
 use adapter::Outcome;
 use network_plan::{Answer, Event, HostPlan};
 use packet_socket::RecvError;
@@ -16,10 +17,8 @@ use std::alloc::{AllocError, Global};
 /// What is recorded of the answers of a run.
 #[derive(Drop)]
 pub(crate) struct RunLog {
-    /// The number of sends that were refused, up to the greatest `u64`.
-    pub(crate) refused: u64,
-    /// The number of recvs that named a socket that doesn't exist, up to the greatest `u64`.
-    pub(crate) absent: u64,
+    /// The calls that were refused.
+    pub(crate) refusals: Refusals,
     /// A line for each event; `None` if they aren't recorded.
     pub(crate) lines: Option<EventLog>,
 }
@@ -35,13 +34,13 @@ impl RunLog {
             None
         };
         Ok(RunLog {
-            refused: 0,
-            absent: 0,
+            refusals: Refusals::default(),
             lines,
         })
     }
 
     /// Makes room for the line of an event with this many ticks.
+    #[inline(always)]
     pub(crate) fn reserve(&mut self, ticks: usize) -> Result<(), AllocError>
         ensures { self.new ≡ self.old }
     {
@@ -52,6 +51,7 @@ impl RunLog {
     }
 
     /// Records what came of a tick.
+    #[inline(always)]
     pub(crate) fn note(
         &mut self,
         tick: Tick,
@@ -68,20 +68,26 @@ impl RunLog {
         }
     }
 
-    /// Counts an answer, if it refuses a send or if there is no such socket.
+    /// Counts an answer, if it refuses a call or if there is no such socket.
+    #[inline(always)]
     fn count(&mut self, answer: &Answer<()>)
         ensures { (frame : List ℕ) → self.new ≡ answered_log (answer_with frame answer.now) self.old }
     {
+        let count = &mut self.refusals;
         match answer {
-            Answer::Sent(Err(_)) => self.refused = self.refused.saturating_add(1),
+            Answer::Sent(Err(_)) => count.sends = count.sends.saturating_add(1),
+            Answer::Joined(Err(_)) | Answer::Left(Err(_)) => {
+                count.groups = count.groups.saturating_add(1);
+            }
             Answer::Received(Err(RecvError::NoSocket)) => {
-                self.absent = self.absent.saturating_add(1);
+                count.sockets = count.sockets.saturating_add(1);
             }
             _ => {}
         }
     }
 
     /// Records the end of an event.
+    #[inline(always)]
     pub(crate) fn end(
         &mut self,
         place: Place,

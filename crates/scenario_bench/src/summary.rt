@@ -1,4 +1,6 @@
 //! The summary of a run.
+ghost use Rattle.std.specs.Prelude.{◌≡◌};
+ghost use Rattle.scenario_bench.specs.RunLogs.{with_later};
 
 use crate::event_log::EventLog;
 
@@ -39,15 +41,45 @@ pub struct GivenUp {
     pub off: u64,
 }
 
+/// Numbers of calls that were refused. Each saturates at the greatest `u64`.
+#[derive(Clone, Copy, Default)]
+pub struct Refusals {
+    /// Sends (E20 to E22).
+    pub sends: u64,
+    /// Joins and leaves (E23 to E26).
+    pub groups: u64,
+    /// Recvs that named a socket that doesn't exist (E31).
+    pub sockets: u64,
+}
+
+impl Refusals {
+    /// These, and those that came between two earlier counts.
+    pub(crate) fn with_later(self, before: Refusals, after: Refusals) -> Refusals
+        ensures { result ≡ with_later self before after }
+    {
+        Refusals {
+            sends: self
+                .sends
+                .saturating_add(after.sends.saturating_sub(before.sends)),
+            groups: self
+                .groups
+                .saturating_add(after.groups.saturating_sub(before.groups)),
+            sockets: self
+                .sockets
+                .saturating_add(after.sockets.saturating_sub(before.sockets)),
+        }
+    }
+}
+
 /// The summary of a run.
 #[derive(Drop)]
 pub struct Summary {
     /// The hosts of the plan, in order.
     pub hosts: Vec<HostSummary>,
-    /// The number of sends that were refused (E20 to E22), up to the greatest `u64`.
-    pub refused: u64,
-    /// The number of recvs that named a socket that doesn't exist (E31), up to the greatest `u64`.
-    pub absent: u64,
+    /// The calls that were refused.
+    pub refusals: Refusals,
+    /// Those of them that lines of the scenario asked for. The others are of events that were drawn.
+    pub asked: Refusals,
     /// A line for each event, if they were asked for.
     pub events: Option<EventLog>,
 }

@@ -38,10 +38,10 @@ loop-frame-init g c =
       filter = refl;
       read = c.len.ensures;
       grows = Grows-none taken;
-      so_far = SoFar-start (keeps_by c.args.lane.now.adapter.filter) c.args.trace.now.frames c.into_iter-frame-iterator.result
+      so_far = SoFar-start c.args.unit (keeps_by c.args.lane.now.adapter.filter) c.args.trace.now.frames c.into_iter-frame-iterator.result
           counts.illegal counts.filtered counts.written taken (append_known taken c.args.writer.now)
           (c.into_iter-frame-iterator.ensures.into_iter_gives ∙ c.iter-frame-items.ensures) zeros.1.0 zeros.1.1.0 zeros.1.1.1
-          (header_waits taken c.args.writer.now c.requires.begun);
+          (header_waits c.args.unit taken c.args.writer.now c.requires.begun);
     }
 
 pub loop-frame-preserved-then-not-is_sendable : goal.loop-frame-preserved-then-not-is_sendable
@@ -54,7 +54,8 @@ loop-frame-preserved-then-not-is_sendable g c =
       filter = now.invariant.filter;
       read = now.invariant.read;
       grows = now.invariant.grows;
-      so_far = SoFar-illegal (keeps_by c.args.lane.now.adapter.filter) c.args.trace.now.frames now.frame-iterator c.next.new.self
+      so_far = SoFar-illegal c.args.unit (keeps_by c.args.lane.now.adapter.filter) c.args.trace.now.frames now.frame-iterator
+          c.next.new.self
           c.in-Some.frame.now now.next counts.illegal counts.filtered counts.written (g.W.Sink.taken c.args.sink.now)
           (append_known (g.W.Sink.taken now.sink) now.writer) c.in-Some.ensures.steps (sym c.if-not-is_sendable.ensures)
           now.invariant.so_far;
@@ -75,7 +76,7 @@ loop-frame-preserved-then-not-receive g c =
       filter = c.receive.ensures.filter ∙ now.invariant.filter;
       read = now.invariant.read;
       grows = now.invariant.grows;
-      so_far = SoFar-filtered (keeps_by first) c.args.trace.now.frames now.frame-iterator c.next.new.self f now.next
+      so_far = SoFar-filtered c.args.unit (keeps_by first) c.args.trace.now.frames now.frame-iterator c.next.new.self f now.next
           counts.illegal counts.filtered counts.written (g.W.Sink.taken c.args.sink.now)
           (append_known (g.W.Sink.taken now.sink) now.writer) c.in-Some.ensures.steps (sym c.if-not-is_sendable.ensures) away
           now.invariant.so_far;
@@ -86,7 +87,7 @@ returns-in_err-write_received-clause-err g c =
     let p = err_from_is_err_and c.from_residual.result c.from_residual.ensures.1 in
     let now = c.loop-frame in
     let counts = c.loop-frame.counts in
-    rw p.1 (SoFar-stops (keeps_by c.args.lane.now.adapter.filter) c.args.trace.now.frames now.frame-iterator now.next
+    rw p.1 (SoFar-stops c.args.unit (keeps_by c.args.lane.now.adapter.filter) c.args.trace.now.frames now.frame-iterator now.next
     counts.illegal counts.filtered counts.written (g.W.Sink.taken c.args.sink.now) (g.W.Sink.taken now.sink)
     (g.W.Sink.taken c.write_received.new.sink) now.writer now.invariant.grows now.invariant.so_far
     c.in_err-write_received.ensures.err)
@@ -105,14 +106,14 @@ loop-frame-preserved g c =
     c.if-not-receive.false in
     let bytes : slot_bytes c.receive.new.self ≡ padded f = (c.receive.ensures.finished c.if-not-receive.false).finished.bytes in
     let went = subst (λ (x : List ℕ). Appends waiting (append_known next c.write_received.new.writer)
-    (packet_of (record { time = c.loop-frame.next; frame = x }))) bytes c.in_ok-write_received.ensures.ok in
+    (packet_of c.args.unit (record { time = c.loop-frame.next; frame = x }))) bytes c.in_ok-write_received.ensures.ok in
     record {
       quiet = c.in_ok-write_received.ensures.failures ∙ now.invariant.quiet;
       waiting = c.in_ok-write_received.ensures.waiting;
       filter = c.in_ok-write_received.ensures.filter ∙ c.receive.ensures.filter ∙ now.invariant.filter;
       read = now.invariant.read;
       grows = Grows-more taken mid next now.invariant.grows c.in_ok-write_received.ensures.grows;
-      so_far = SoFar-kept (keeps_by first) c.args.trace.now.frames now.frame-iterator c.next.new.self f now.next counts.illegal
+      so_far = SoFar-kept c.args.unit (keeps_by first) c.args.trace.now.frames now.frame-iterator c.next.new.self f now.next counts.illegal
           counts.filtered counts.written taken waiting (append_known next c.write_received.new.writer) c.in-Some.ensures.steps
           (sym c.if-not-is_sendable.ensures) keep now.invariant.so_far went;
     }
@@ -122,6 +123,6 @@ returns-in_err-flush-clause-err g c =
     let p = err_from_is_err_and c.from_residual-in_err-flush.result c.from_residual-in_err-flush.ensures.1 in
     let now = c.loop-frame in
     let counts = c.loop-frame.counts in
-    rw p.1 (SoFar-stops (keeps_by c.args.lane.now.adapter.filter) c.args.trace.now.frames now.frame-iterator now.next
+    rw p.1 (SoFar-stops c.args.unit (keeps_by c.args.lane.now.adapter.filter) c.args.trace.now.frames now.frame-iterator now.next
     counts.illegal counts.filtered counts.written (g.W.Sink.taken c.args.sink.now) (g.W.Sink.taken now.sink)
     (g.W.Sink.taken c.flush.new.sink) now.writer now.invariant.grows now.invariant.so_far c.in_err-flush.ensures.err)

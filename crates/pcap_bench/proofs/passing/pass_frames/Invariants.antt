@@ -14,6 +14,6 @@ invariant-loop-frame g l = record {
   filter : l.lane.adapter.filter ≡ l.fn.lane.adapter.filter;
   read : l.counts.read ≡ length l.fn.trace.frames;
   grows : Grows (g.W.Sink.taken l.fn.sink) (g.W.Sink.taken l.sink);
-  so_far : SoFar (Passes (filter_of l.fn.lane.adapter.filter)) l.fn.trace.frames l.frame-iterator l.next l.counts.illegal
+  so_far : SoFar l.fn.unit (Passes (filter_of l.fn.lane.adapter.filter)) l.fn.trace.frames l.frame-iterator l.next l.counts.illegal
       l.counts.filtered l.counts.written (g.W.Sink.taken l.fn.sink) (append_known (g.W.Sink.taken l.sink) l.writer);
 }

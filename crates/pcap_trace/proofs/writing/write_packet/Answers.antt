@@ -12,8 +12,8 @@ returns-in_err-write_all-clause-err g c =
     let a = g.W.Sink.taken c.args.sink.now in
     let b = g.W.Sink.taken c.write_all.new.sink in
     let frame = c.args.packet.now.1 in
-    let header : c.packet_header.result ≡ packet_header c.args.packet.now.0 (length frame) = c.packet_header.ensures
-    ∙ ap (packet_header c.args.packet.now.0) c.len.ensures.value in
+    let header : c.packet_header.result ≡ packet_header c.args.unit c.args.packet.now.0 (length frame) = c.packet_header.ensures
+    ∙ ap (packet_header c.args.unit c.args.packet.now.0) c.len.ensures.value in
     rw p.1 (subst (λ (h : List ℕ). AppendsFront a b (h ++ frame)) header
     (AppendsFront-longer a b c.packet_header.result frame c.in_err-write_all.ensures.err))
 
@@ -23,11 +23,12 @@ returns-clause-err g c =
     let b = g.W.Sink.taken c.write_all.new.sink in
     let d = g.W.Sink.taken c.write_all-2.new.sink in
     let frame = c.args.packet.now.1 in
-    let header : c.packet_header.result ≡ packet_header c.args.packet.now.0 (length frame) = c.packet_header.ensures
-    ∙ ap (packet_header c.args.packet.now.0) c.len.ensures.value in
-    let sent : Appends a b (packet_header c.args.packet.now.0 (length frame)) = subst (Appends a b) header c.in_ok-write_all.ensures.ok in
+    let header : c.packet_header.result ≡ packet_header c.args.unit c.args.packet.now.0 (length frame) = c.packet_header.ensures
+    ∙ ap (packet_header c.args.unit c.args.packet.now.0) c.len.ensures.value in
+    let sent : Appends a b (packet_header c.args.unit c.args.packet.now.0 (length frame)) = subst (Appends a b) header
+    c.in_ok-write_all.ensures.ok in
     on_err_weaker c.write_all-2.result
     (λ (part : AppendsFront b d c.as_slice.result.now). subst
-    (λ (t : List ℕ). AppendsFront a d (packet_header c.args.packet.now.0 (length frame) ++ t)) c.as_slice.ensures.value
-    (AppendsFront-then a b d (packet_header c.args.packet.now.0 (length frame)) c.as_slice.result.now sent part))
+    (λ (t : List ℕ). AppendsFront a d (packet_header c.args.unit c.args.packet.now.0 (length frame) ++ t)) c.as_slice.ensures.value
+    (AppendsFront-then a b d (packet_header c.args.unit c.args.packet.now.0 (length frame)) c.as_slice.result.now sent part))
     c.write_all-2.ensures.err

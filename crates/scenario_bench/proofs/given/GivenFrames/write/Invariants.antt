@@ -5,5 +5,5 @@ use Rattle.scenario_bench.proofs.given.GivenFrames.write.Given as goal
 abbrev pub invariant-loop-frame : goal.invariant-loop-frame
 invariant-loop-frame g l = record {
   quiet : g.W.Sink.failures l.sink ≡ g.W.Sink.failures l.fn.sink;
-  written : HasWritten l.fn.self.frames l.numbers l.frame-iterator (g.W.Sink.taken l.fn.sink) (g.W.Sink.taken l.sink) l.writer;
+  written : HasWritten l.unit l.fn.self.frames l.numbers l.frame-iterator (g.W.Sink.taken l.fn.sink) (g.W.Sink.taken l.sink) l.writer;
 }

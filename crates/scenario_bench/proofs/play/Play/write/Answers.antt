@@ -7,8 +7,10 @@ use Rattle.scenario_bench.proofs.play.Play.write.Goals as goal
 
 pub write-requires : goal.write-requires
 write-requires g c = record {
-  countable = still_countable g.W.Sink.taken g.W.Sink.failures _ c.loop-index.index (map frames_given c.args.self.now.record.sockets.items)
-      c.args.sinks.now c.loop-index.sinks (get_or c.loop-index.sinks c.loop-index.index c.index-sinks-index.result) c.requires.countable
+  countable =
+      still_countable g.W.Sink.taken g.W.Sink.failures c.args.unit _ c.loop-index.index
+      (map frames_given c.args.self.now.record.sockets.items) c.args.sinks.now c.loop-index.sinks
+      (get_or c.loop-index.sinks c.loop-index.index c.index-sinks-index.result) c.requires.countable
       c.loop-index.invariant (slice_get-get_or c.loop-index.sinks c.loop-index.index c.index-sinks-index.result (omega arith));
 }
 
@@ -17,7 +19,7 @@ returns-in_err-write-clause-err g c =
     let p = err_from_is_err_and c.from_residual.result c.from_residual.ensures.1 in
     rw p.1 (
       c.loop-index.index,
-      sink_failed g.W.Sink.taken g.W.Sink.failures c.loop-index.index
+      sink_failed g.W.Sink.taken g.W.Sink.failures c.args.unit c.loop-index.index
           (map frames_given c.args.self.now.record.sockets.items) c.args.sinks.now c.loop-index.sinks c.index.result.now.frames
           (get_or c.loop-index.sinks c.loop-index.index c.index-sinks-index.result) c.write.new.sink c.loop-index.invariant
           (text_at c.args.self.now.record.sockets.items c.loop-index.index c.index.result.now (omega arith) c.index.ensures)
@@ -26,7 +28,7 @@ returns-in_err-write-clause-err g c =
     )
 
 pub loop-index-preserved : goal.loop-index-preserved
-loop-index-preserved g c = sink_written g.W.Sink.taken g.W.Sink.failures c.loop-index.index
+loop-index-preserved g c = sink_written g.W.Sink.taken g.W.Sink.failures c.args.unit c.loop-index.index
     (map frames_given c.args.self.now.record.sockets.items) c.args.sinks.now c.loop-index.sinks c.index.result.now.frames
     (get_or c.loop-index.sinks c.loop-index.index c.index-sinks-index.result) c.write.new.sink c.loop-index.invariant
     (text_at c.args.self.now.record.sockets.items c.loop-index.index c.index.result.now (omega arith) c.index.ensures)

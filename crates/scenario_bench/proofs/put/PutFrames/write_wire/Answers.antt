@@ -17,7 +17,7 @@ next infos place below = rw add-one (drop-cons infos place no-info below)
 pub loop-info-init : goal.loop-info-init
 loop-info-init g c = record {
   quiet = refl;
-  written = puts-first (hosts_of c.args.plans.now) c.args.wire.now c.args.self.now c.self.inside.infos.items
+  written = puts-first (hosts_of c.args.plans.now) c.args.wire.now c.args.unit c.args.self.now c.self.inside.infos.items
       c.as_slice-info-items.result.now c.self.inside.bytes.items c.as_slice-bytes.result.now (g.W.Sink.taken c.args.sink.now)
       c.begin.new.self (sym c.self.view_is)
       c.as_slice-info-items.ensures.value c.as_slice-bytes.ensures.value c.self.invariant.bytes c.self.invariant.short c.begin.ensures;
@@ -30,8 +30,8 @@ loop-info-preserved g c =
     let info = get_or infos place no-info in
     record {
       quiet = c.in_ok-write.ensures.failures ∙ c.loop-info.invariant.quiet;
-      written = puts-written (hosts_of c.args.plans.now) c.args.wire.now c.args.self.now info (drop (place + 1) infos) (drop place infos)
-          c.split_at.result.0.now c.loop-info.bytes.now c.split_at.result.1.now (g.W.Sink.taken c.args.sink.now)
+      written = puts-written (hosts_of c.args.plans.now) c.args.wire.now c.args.unit c.args.self.now info (drop (place + 1) infos)
+          (drop place infos) c.split_at.result.0.now c.loop-info.bytes.now c.split_at.result.1.now (g.W.Sink.taken c.args.sink.now)
           (g.W.Sink.taken c.loop-info.sink) (g.W.Sink.taken c.write.new.sink) c.loop-info.writer c.write.new.self
           (next infos place (omega arith)) c.split_at.ensures.front c.split_at.ensures.back
           (on-wire-is (hosts_of c.args.plans.now) c.args.wire.now info c.wire_of.result.now c.ne.result true c.wire_of.ensures c.ne.ensures
@@ -42,7 +42,7 @@ loop-info-preserved g c =
 pub returns-in_err-write-clause-err : goal.returns-in_err-write-clause-err
 returns-in_err-write-clause-err g c =
     let p = err_from_is_err_and c.from_residual.result c.from_residual.ensures.1 in
-    rw p.1 (puts-stops (hosts_of c.args.plans.now) c.args.wire.now c.args.self.now
+    rw p.1 (puts-stops (hosts_of c.args.plans.now) c.args.wire.now c.args.unit c.args.self.now
     (drop c.loop-info.info-index c.as_slice-info-items.result.now) c.loop-info.bytes.now (g.W.Sink.taken c.args.sink.now)
     (g.W.Sink.taken c.loop-info.sink) (g.W.Sink.taken c.write.new.sink) c.loop-info.writer c.loop-info.invariant.written
     c.in_err-write.ensures.err)
@@ -51,7 +51,7 @@ pub returns-clause-err : goal.returns-clause-err
 returns-clause-err g c =
     on_err_weaker c.flush.result
     (λ (part : AppendsFront (g.W.Sink.taken c.loop-info.sink) (g.W.Sink.taken c.flush.new.sink) c.loop-info.writer).
-    puts-stops (hosts_of c.args.plans.now) c.args.wire.now c.args.self.now
+    puts-stops (hosts_of c.args.plans.now) c.args.wire.now c.args.unit c.args.self.now
     (drop c.loop-info.info-index c.as_slice-info-items.result.now) c.loop-info.bytes.now (g.W.Sink.taken c.args.sink.now)
     (g.W.Sink.taken c.loop-info.sink) (g.W.Sink.taken c.flush.new.sink) c.loop-info.writer c.loop-info.invariant.written part)
     c.flush.ensures.err

@@ -19,7 +19,7 @@ text_here hosts puts wires place below = wire_text_at hosts puts wires place (re
 
 pub write_wire-requires : goal.write_wire-requires
 write_wire-requires g c = record {
-  countable = still_countable g.W.Sink.taken g.W.Sink.failures _ c.loop-index.index
+  countable = still_countable g.W.Sink.taken g.W.Sink.failures c.args.unit _ c.loop-index.index
       (wire_texts (hosts_of c.args.plans.now) c.args.self.now (names_in c.args.wires.now))
       c.args.sinks.now c.loop-index.sinks (get_or c.loop-index.sinks c.loop-index.index c.index-sinks-index.result) c.requires.countable
       c.loop-index.invariant (slice_get-get_or c.loop-index.sinks c.loop-index.index c.index-sinks-index.result (omega arith));
@@ -31,8 +31,9 @@ returns-in_err-write_wire-clause-err g c =
     let p = err_from_is_err_and c.from_residual.result c.from_residual.ensures.1 in
     rw p.1 (
       c.loop-index.index,
-      sink_failed g.W.Sink.taken g.W.Sink.failures c.loop-index.index (wire_texts hosts c.args.self.now (names_in c.args.wires.now))
-          c.args.sinks.now c.loop-index.sinks (frames_on_wire hosts (wire_at c.args.wires.now c.loop-index.index).now c.args.self.now)
+      sink_failed g.W.Sink.taken g.W.Sink.failures c.args.unit c.loop-index.index
+          (wire_texts hosts c.args.self.now (names_in c.args.wires.now)) c.args.sinks.now c.loop-index.sinks
+          (frames_on_wire hosts (wire_at c.args.wires.now c.loop-index.index).now c.args.self.now)
           (get_or c.loop-index.sinks c.loop-index.index c.index-sinks-index.result) c.write_wire.new.sink c.loop-index.invariant
           (text_here hosts c.args.self.now c.args.wires.now c.loop-index.index (omega arith))
           (slice_get-get_or c.loop-index.sinks c.loop-index.index c.index-sinks-index.result (omega arith))
@@ -42,8 +43,9 @@ returns-in_err-write_wire-clause-err g c =
 pub loop-index-preserved : goal.loop-index-preserved
 loop-index-preserved g c =
     let hosts = hosts_of c.args.plans.now in
-    sink_written g.W.Sink.taken g.W.Sink.failures c.loop-index.index (wire_texts hosts c.args.self.now (names_in c.args.wires.now))
-    c.args.sinks.now c.loop-index.sinks (frames_on_wire hosts (wire_at c.args.wires.now c.loop-index.index).now c.args.self.now)
+    sink_written g.W.Sink.taken g.W.Sink.failures c.args.unit c.loop-index.index
+    (wire_texts hosts c.args.self.now (names_in c.args.wires.now)) c.args.sinks.now c.loop-index.sinks
+    (frames_on_wire hosts (wire_at c.args.wires.now c.loop-index.index).now c.args.self.now)
     (get_or c.loop-index.sinks c.loop-index.index c.index-sinks-index.result) c.write_wire.new.sink c.loop-index.invariant
     (text_here hosts c.args.self.now c.args.wires.now c.loop-index.index (omega arith))
     (slice_get-get_or c.loop-index.sinks c.loop-index.index c.index-sinks-index.result (omega arith))

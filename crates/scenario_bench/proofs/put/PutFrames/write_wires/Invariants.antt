@@ -6,6 +6,6 @@ use Rattle.scenario_bench.specs.WireLists.{names_in}
 use Rattle.scenario_bench.proofs.put.PutFrames.write_wires.Given as goal
 
 abbrev pub invariant-loop-index : goal.invariant-loop-index
-invariant-loop-index g l = AreWritten l.index (wire_texts (hosts_of l.plans) l.self (names_in l.wires))
+invariant-loop-index g l = AreWritten l.unit l.index (wire_texts (hosts_of l.plans) l.self (names_in l.wires))
     (map (λ s. record { taken = g.W.Sink.taken s; failures = g.W.Sink.failures s }) l.fn.sinks)
     (map (λ s. record { taken = g.W.Sink.taken s; failures = g.W.Sink.failures s }) l.sinks)

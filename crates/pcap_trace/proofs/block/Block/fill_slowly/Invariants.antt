@@ -1,6 +1,6 @@
 use Rattle.std.proofs.Common.{◌≡◌, ◌≤◌, ◌+◌, length}
 use Rattle.pcap_trace.specs.Devices.{Receives}
-use Rattle.pcap_trace.proofs.block.Block.fill.Given as goal
+use Rattle.pcap_trace.proofs.block.Block.fill_slowly.Given as goal
 
 abbrev pub invariant-loop-self : goal.invariant-loop-self
 invariant-loop-self g l = record {

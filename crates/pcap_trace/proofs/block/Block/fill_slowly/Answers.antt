@@ -1,5 +1,5 @@
 use Rattle.pcap_trace.proofs.Uses.{uses_joined, uses_received}
-use Rattle.pcap_trace.proofs.block.Block.fill.Goals as goal
+use Rattle.pcap_trace.proofs.block.Block.fill_slowly.Goals as goal
 
 pub returns-in_err-read_more-clause-used : goal.returns-in_err-read_more-clause-used
 returns-in_err-read_more-clause-used g c =
