@@ -7,7 +7,7 @@ from failing import FAILING, OTHERS, Failing, functions_of
 from scenario_reader import TraceRead
 from scenarios import EXAMPLE_FRAME, OF_D, TRAFFIC, TWO_WIRES, UNCHANGED
 
-READ, WRITE, OPEN = "E66 Read", "E67 Write", "E68 Open"
+READ, WRITE, OPEN = "E66 Read", "E67 Write", "E68 Open: "
 # The contents of output files that existed before.
 OLD = b"old" * 1000
 # The most calls of a function in a run.
@@ -145,11 +145,11 @@ def opens(failing, job):
     count, texts = len(job.outputs), job.whole[3]
     for old in job.olds if not job.part else ():
         untouched = [old or b""] * count
-        refused = (job.refusal(OPEN), [old] * count)
-        wanted = [refused] * len(job.inputs)
-        created = [(job.refusal(OPEN), untouched[:place] + [old] * (count - place)) for place in range(count)]
+        wanted = [(job.refusal(OPEN + path), [old] * count) for path in job.inputs]
+        refused = [(job.refusal(OPEN + "outdir"), [old] * count)]
+        created = [(job.refusal(OPEN + path), untouched[:place] + [old] * (count - place)) for place, path in enumerate(job.outputs)]
         begun = [(job.refusal(WRITE), texts[:place] + untouched[place:]) for place in range(count)]
-        for function, answers in [("open", wanted + created), ("statx", wanted + [refused] * job.folders + begun), ("ftruncate", begun)]:
+        for function, answers in [("open", wanted + created), ("statx", wanted + refused * job.folders + begun), ("ftruncate", begun)]:
             got = [got for _, got in job.in_turn(failing, function, old)]
             failing.bench.check(f"{job.with_files(old)}: each {function} fails", got, [(3, b"", *answer) for answer in answers])
 
@@ -158,9 +158,9 @@ def parts(failing, job):
     """Calls fail of a command that writes a part. If no part can be made, the output is written in place. After any other failure the output
     is as it was."""
     for old in job.olds if job.part else ():
-        kept = [(3, b"", job.refusal(OPEN), [old])]
+        given, kept = ([(3, b"", job.refusal(OPEN + path), [old]) for path in paths] for paths in (job.inputs, job.outputs))
         lost = [(3, b"", job.refusal(WRITE), [old])]
-        given, there = kept * len(job.inputs), int(old is not None)
+        there = int(old is not None)
         for function, answers in [("open", given + kept * there + [job.whole]),
                                   ("statx", given + [job.whole] * (1 + there) + lost),
                                   ("ftruncate", lost), ("rename", lost)]:

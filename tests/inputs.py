@@ -57,9 +57,10 @@ def all_cases(bench):
     bench.ends("standard input is read once", ["run", "twice.scenario", "outdir"], 1, b"", scenarios.refusal("E60 Header"), given=frame)
     bench.ends("standard input is read once, as the scenario", ["run", "-", "outdir"], 1, b"", scenarios.refusal("E60 Header"), given=feed)
     for device in ("/dev/zero", "/dev/null"):
-        bench.fails(f"{device} as a trace", device, "E68 Open", 3)
-        bench.ends(f"{device} as a trace to show", ["show", device], 3, b"", b"nicbench: E68 Open\n")
-        bench.ends(f"{device} as a scenario", ["run", device, "outdir"], 3, b"", scenarios.refusal("E68 Open"))
+        fault = f"E68 Open: {device}"
+        bench.fails(f"{device} as a trace", device, fault, 3)
+        bench.ends(f"{device} as a trace to show", ["show", device], 3, b"", f"nicbench: {fault}\n".encode())
+        bench.ends(f"{device} as a scenario", ["run", device, "outdir"], 3, b"", scenarios.refusal(fault))
     ends_of_input(bench)
 
 

@@ -7,7 +7,7 @@ import sys
 import xml.etree.ElementTree as ElementTree
 
 from bench import packet, trace
-from scenarios import EXAMPLE, EXAMPLE_FRAME, EXAMPLE_LINES, TO_SOCKET, TWO_HOSTS, folder, held, warning
+from scenarios import EXAMPLE, EXAMPLE_FRAME, EXAMPLE_LINES, TO_SOCKET, TWO_HOSTS, folder, held, refusal, warning
 
 TOP = os.path.dirname(os.path.dirname(os.path.abspath(__file__)))
 CHART = os.path.join(TOP, "tools", "run_chart")
@@ -86,7 +86,8 @@ def lines(bench):
                 [b"4 line 10 interrupt b handled 1 @0 rxdata:b moved @0 rxdone:b done @1 phy:a nothing "
                  b"@1 deliver:b nothing", b"5 line 11 recv b 0 ok 60"])
     told, _ = events_of(bench, "events: groups, drains and go", TO_SOCKET + b"tick go\njoin b 01:00:5e:00:00:01\njoin b 01:00:5e:00:00:01\n"
-                        b"leave b 01:00:5e:00:00:02\njoin b 02:00:5e:00:00:01\nsend b %s\ndrain b\n" % EXAMPLE_FRAME.hex().encode())
+                        b"leave b 01:00:5e:00:00:02\njoin b 02:00:5e:00:00:01\nsend b %s\ndrain b\n" % EXAMPLE_FRAME.hex().encode(),
+                        warned=warning(0, groups=3))
     bench.check("events: groups, drains and go", told.splitlines(),
                 [b"0 line 4 tick @0 go nothing", b"1 line 5 join b ok", b"2 line 6 join b E26 Joined", b"3 line 7 leave b E25 NotJoined",
                  b"4 line 8 join b E23 NotGroup", b"5 line 9 send b 14 ok", b"6 line 10 drain b ok 0"])
@@ -109,7 +110,10 @@ def mistakes(bench):
                  b"3 line 7 recv b 1 E31 NoSocket", b"4 line 8 recv a 0 E31 NoSocket", b"5 line 9 interrupt b notmine",
                  b"6 line 10 tick @0 rxdata:b nothing", b"7 line 11 tick @0 deliver:b nothing"])
     for name, call, warned in [("a refused send", b"send a ff\n", warning(1, 0)), ("a socket that isn't there", b"recv a 0\n", warning(0, 1)),
-                               ("an empty socket", b"recv b 0\n", b"")]:
+                               ("a join and a leave", b"join b 02:00:5e:00:00:01\nleave b 01:00:5e:00:00:01\n", warning(0, groups=2)),
+                               ("an empty socket", b"recv b 0\n", b""),
+                               ("events of auto", b"auto 10000 1\n", b""),
+                               ("events of auto, and a send", b"auto 10000 1\nsend a ff\nauto 10000 1\n", warning(1))]:
         bench.put("s.scenario", TO_SOCKET + call)
         ran = bench.run("run", "s.scenario", "outdir")
         bench.check(f"mistakes: {name}, without --events", (ran.returncode, ran.stderr), (0, warned))
@@ -147,7 +151,7 @@ def faults(bench):
     folder(bench)
     ran = bench.run("run", "--events", "none/events.txt", "s.scenario", "outdir")
     bench.check("events: no folder", (ran.returncode, ran.stdout, ran.stderr.splitlines()[0], held(bench.path("outdir"))),
-                (3, b"", b"nicbench: E68 Open", {}))
+                (3, b"", b"nicbench: E68 Open: none/events.txt", {}))
     ran = bench.run("run", "--events", "/dev/full", "s.scenario", "outdir")
     bench.check("events: a full device", (ran.returncode, ran.stdout, ran.stderr), (3, b"", b"nicbench: E67 Write\n"))
     bench.check("events: the traces are whole", len(held(bench.path("outdir"))["b.0.pcap"]), 100)
@@ -155,6 +159,38 @@ def faults(bench):
     bench.put("s.scenario", TWO_HOSTS.replace(b"w\n", b"v\n", 1) + b"send a ff\n")
     ran = bench.run("run", "--events", "events.txt", "s.scenario", "outdir")
     bench.check("events: a refused plan", (ran.returncode, ran.stdout, bench.get("events.txt")), (1, b"", b""))
+
+
+def same_files(bench):
+    """FILE mustn't be a file that the run also reads, or one that it writes in OUTDIR. Nothing is written then."""
+    scenario, fed = TO_SOCKET + b"feed a fed.pcap\n", trace(packet(EXAMPLE_FRAME))
+    bench.put("s.scenario", scenario)
+    bench.put("fed.pcap", fed)
+    for name in ("fed.pcap", "s.scenario"):
+        os.link(bench.path(name), bench.path(f"second.{name}"))
+        os.symlink(name, bench.path(f"link.{name}"))
+    for path in ["s.scenario", "fed.pcap", "second.s.scenario", "second.fed.pcap", "link.s.scenario", "link.fed.pcap", "outdir/../s.scenario",
+                 bench.path("fed.pcap")]:
+        folder(bench)
+        bench.ends(f"events: {path} is read", ["run", "--events", path, "s.scenario", "outdir"], 3, b"", refusal(f"E73 SameFile: {path}"))
+        bench.check(f"events: {path} is read: it stays", (bench.get("s.scenario"), bench.get("fed.pcap"), held(bench.path("outdir"))), (scenario, fed, {}))
+    ran = subprocess.run([bench.program, "run", "--events", "s.scenario", "-", "outdir"], cwd=bench.folder, capture_output=True, check=False,
+                         stdin=open(bench.path("s.scenario"), "rb"))
+    bench.check("events: standard input is read", (ran.returncode, ran.stdout, ran.stderr, bench.get("s.scenario")),
+                (3, b"", refusal("E73 SameFile: s.scenario"), scenario))
+    for options, path in [([], "outdir/b.0.pcap"), ([], "./outdir/b.0.pcap"), (["--wires"], "outdir/b.0.pcap"), (["--wires"], "outdir/w.pcap")]:
+        for old in (None, b"old"):
+            folder(bench)
+            if old:
+                bench.put(path, old)
+            bench.ends(f"events: {path} is written, {old}", ["run", *options, "--events", path, "s.scenario", "outdir"], 3, b"",
+                       refusal(f"E73 SameFile: {path}"))
+            bench.check(f"events: {path} is written, {old}: it stays", held(bench.path("outdir")), {os.path.basename(path): old or b""})
+    folder(bench)
+    events, _ = events_of(bench, "events: to another file", scenario)
+    for path in ("outdir/w.pcap", "outdir/b.1.pcap"):
+        ran = bench.run("run", "--events", path, "s.scenario", "outdir")
+        bench.check(f"events: {path} isn't written otherwise", (ran.returncode, ACCESSES.sub(b"", bench.get(path))), (0, events))
 
 
 def charts(bench):
@@ -225,6 +261,7 @@ def all_cases(bench):
     mistakes(bench)
     counts(bench)
     faults(bench)
+    same_files(bench)
     charts(bench)
     places(bench)
     refused_charts(bench)

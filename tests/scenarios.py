@@ -57,13 +57,14 @@ def held(path):
     return files
 
 
-def warning(refused, absent=0):
-    """What a run prints on standard error if sends were refused, or recvs named sockets that don't exist."""
-    return b"nicbench: sends refused %d, recvs of absent sockets %d; --events lists them\n" % (refused, absent)
+def warning(sends, recvs=0, groups=0):
+    """What a run prints on standard error if calls of the scenario's lines were refused: sends, recvs of sockets that don't exist, and joins
+    and leaves."""
+    return b"nicbench: refused: sends %d, joins and leaves %d, recvs %d; --events lists them\n" % (sends, groups, recvs)
 
 
 # Each warning of this kind.
-ANY_WARNING = re.compile(rb"nicbench: sends refused \d+, recvs of absent sockets \d+; --events lists them\n")
+ANY_WARNING = re.compile(rb"nicbench: refused: sends \d+, joins and leaves \d+, recvs \d+; --events lists them\n")
 
 
 def plays(bench, name, text, lines, files, options=(), warned=b""):
@@ -178,11 +179,12 @@ def faults(bench):
     ]:
         bench.put("bad.pcap", data)
         refused(bench, f"feed: {name}", feed % b"bad.pcap", fault)
-    refused(bench, "feed: a missing trace", feed % b"missing.pcap", "E68 Open", 3)
+    missing = "E68 Open: missing.pcap"
+    refused(bench, "feed: a missing trace", feed % b"missing.pcap", missing, 3)
     refused(bench, "feed: a folder", feed % b"outdir", "E66 Read", 3)
     refused(bench, "feed: the first fault of two", feed % b"bad.pcap" + b"feed a missing.pcap\n", "E64 Record")
-    refused(bench, "feed: the first fault of two, the other way", feed % b"missing.pcap" + b"feed a bad.pcap\n", "E68 Open", 3)
-    refused(bench, "feed: a trace before a plan", b"host a 01:00:00:00:00:01 w\nfeed a missing.pcap\n", "E68 Open", 3)
+    refused(bench, "feed: the first fault of two, the other way", feed % b"missing.pcap" + b"feed a bad.pcap\n", missing, 3)
+    refused(bench, "feed: a trace before a plan", b"host a 01:00:00:00:00:01 w\nfeed a missing.pcap\n", missing, 3)
     refused(bench, "feed: a line before a trace", feed % b"missing.pcap" + b"fly\n", "line 5: E50 Word")
 
 
@@ -255,7 +257,7 @@ def plans(bench):
         ("a group that is none", TWO_HOSTS + b"group a 02:00:00:00:00:03\n" + socket, "E44 Config", made),
         ("a VLAN", TWO_HOSTS + b"vlan a 4096\n" + socket, "E44 Config", made),
         *((f"option {option}", TWO_HOSTS.replace(b"02 w", b"02 w " + option.encode()) + socket, "E44 Config", made)
-          for option in ["rx 12", "rx 0", "tx 264", "buffers 7", "buffers 4097", "rxa 3", "rxa 50", "rxa 0", "link 0"]),
+          for option in ["rx 12", "rx 0", "rx 4104", "tx 4104", "buffers 7", "buffers 8193", "rxa 3", "rxa 50", "rxa 0", "link 0"]),
         ("a link that never comes", TWO_HOSTS.replace(b"02 w", b"02 w link never") + socket, "E46 Init: E14 NoLink", made),
         ("a link that comes too late", TWO_HOSTS.replace(b"02 w", b"02 w link 2001") + socket, "E46 Init: E14 NoLink", made),
     ]:
@@ -271,22 +273,22 @@ def places(bench):
     bench.put("feed.scenario", TO_SOCKET + b"feed a missing.pcap\n")
     bench.put("plan.scenario", b"host b 02:00:00:00:00:02 w\nsocket b all\n")
     for name, words, fault, status in [
-        ("no scenario", ["missing.scenario", "outdir"], "E68 Open", 3),
+        ("no scenario", ["missing.scenario", "outdir"], "E68 Open: missing.scenario", 3),
         ("a folder as scenario", ["outdir", "outdir"], "E66 Read", 3),
-        ("no OUTDIR", ["s.scenario", "missing"], "E68 Open", 3),
-        ("no OUTDIR, and no file to make", ["none.scenario", "missing"], "E68 Open", 3),
-        ("a file as OUTDIR", ["s.scenario", "s.scenario"], "E68 Open", 3),
-        ("a file as OUTDIR, and no file to make", ["none.scenario", "s.scenario"], "E68 Open", 3),
-        ("an empty word as OUTDIR", ["none.scenario", ""], "E68 Open", 3),
+        ("no OUTDIR", ["s.scenario", "missing"], "E68 Open: missing", 3),
+        ("no OUTDIR, and no file to make", ["none.scenario", "missing"], "E68 Open: missing", 3),
+        ("a file as OUTDIR", ["s.scenario", "s.scenario"], "E68 Open: s.scenario", 3),
+        ("a file as OUTDIR, and no file to make", ["none.scenario", "s.scenario"], "E68 Open: s.scenario", 3),
+        ("an empty word as OUTDIR", ["none.scenario", ""], "E68 Open: ", 3),
         ("a line before OUTDIR", ["bad.scenario", "missing"], "line 1: E50 Word", 1),
-        ("a trace before OUTDIR", ["feed.scenario", "s.scenario"], "E68 Open", 3),
-        ("OUTDIR before a plan", ["plan.scenario", "missing"], "E68 Open", 3),
+        ("a trace before OUTDIR", ["feed.scenario", "s.scenario"], "E68 Open: missing.pcap", 3),
+        ("OUTDIR before a plan", ["plan.scenario", "missing"], "E68 Open: missing", 3),
     ]:
         bench.ends(f"run: {name}", ["run", *words], status, b"", refusal(fault))
     bench.check("run: OUTDIR stays empty", os.listdir(bench.path("outdir")), [])
     bench.check("run: OUTDIR isn't made", os.path.exists(bench.path("missing")), False)
     for name in ["x/y", "../b", "/b"]:
-        refused(bench, f"a file outside of OUTDIR: {name}", TO_SOCKET.replace(b" b ", b" %s " % name.encode()), "E68 Open", 3)
+        refused(bench, f"a file outside of OUTDIR: {name}", TO_SOCKET.replace(b" b ", b" %s " % name.encode()), f"E68 Open: outdir/{name}.0.pcap", 3)
     bench.check("run: no file is made outside of OUTDIR", os.path.exists(bench.path("b.0.pcap")), False)
     replaced(bench)
     full(bench)
@@ -308,10 +310,11 @@ def full(bench):
     """Files that can't be created or written, and outputs that accept no bytes."""
     path = folder(bench)
     os.mkdir(os.path.join(path, "b.0.pcap"))
-    bench.ends("run: a folder in the place of a file", ["run", "s.scenario", "outdir"], 3, b"", refusal("E68 Open"))
+    taken = refusal("E68 Open: outdir/b.0.pcap")
+    bench.ends("run: a folder in the place of a file", ["run", "s.scenario", "outdir"], 3, b"", taken)
     bench.put("three.scenario", EXAMPLE.replace(b"socket", b"socket a all\nsocket b 0806\nsocket", 1))
     bench.put("outdir/a.0.pcap", b"old")
-    bench.ends("run: a folder in the place of the second file", ["run", "three.scenario", "outdir"], 3, b"", refusal("E68 Open"))
+    bench.ends("run: a folder in the place of the second file", ["run", "three.scenario", "outdir"], 3, b"", taken)
     bench.check("run: a folder in the place of the second file: the first", bench.get("outdir/a.0.pcap"), b"old")
     os.rmdir(os.path.join(path, "b.0.pcap"))
     os.symlink("/dev/full", os.path.join(path, "b.0.pcap"))
@@ -388,15 +391,15 @@ def drawn(bench):
     setup = b"".join(b"host %s %s w rxa 2\n" % host for host in hosts) + b"socket a all\nsocket b 88b5\nsocket c 0800\n"
     lines_drawn = b"".join(event_of(word, hosts) for word in words_from(1, 10000))
     runs = []
-    for name, text in [("auto 10000 1", setup + b"auto 10000 1\n"), ("auto 10000 1 once more", setup + b"auto 10000 1\n"),
-                       ("the lines of auto 10000 1", setup + lines_drawn)]:
+    for name, text, warned in [("auto 10000 1", b"auto 10000 1\n", b""), ("auto 10000 1 once more", b"auto 10000 1\n", b""),
+                               ("the lines of auto 10000 1", lines_drawn, warning(578))]:
         path = folder(bench)
-        bench.put("s.scenario", text)
+        bench.put("s.scenario", setup + text)
         ran = bench.run("run", "s.scenario", "outdir")
-        runs.append((ran.returncode, ran.stdout, ran.stderr, held(path)))
-        bench.check(f"auto: {name}", (ran.returncode, ran.stderr), (0, warning(578)))
+        runs.append((ran.returncode, ran.stdout, held(path)))
+        bench.check(f"auto: {name}", (ran.returncode, ran.stderr), (0, warned))
         bench.check(f"auto: {name}: as the first", runs[-1] == runs[0], True)
-    bench.check("auto: frames are given", len(runs[0][3]["a.0.pcap"]) > 10000, True)
+    bench.check("auto: frames are given", len(runs[0][2]["a.0.pcap"]) > 10000, True)
     all_fit(bench, hosts, runs[0][1].decode())
     plays(bench, "auto 0 1", TO_SOCKET + b"auto 0 1\n", told("a") + told("b"), {"b.0.pcap": FILE_HEADER})
     plays(bench, "auto 0 1: the events behind it have the numbers from 0 on", EXAMPLE.replace(TO_SOCKET, TO_SOCKET + b"auto 0 1\n"), EXAMPLE_LINES,
@@ -471,10 +474,11 @@ def wire_places(bench):
     option = ["--wires"]
     refused(bench, "wires: a wire's name", TWO_WIRES.replace(b" w", b" a.0"), "E40 Name", 1, [*made, "a.0.pcap", "v.pcap"], option)
     refused(bench, "wires: a plan", TWO_WIRES.replace(b" v", b" u", 1), "E41 Ends", 1, [*made, "w.pcap", "u.pcap", "v.pcap"], option)
-    for name in [b"x/y", b"../w", b"/w"]:
-        refused(bench, f"wires: a file outside of OUTDIR: {name.decode()}", TO_SOCKET.replace(b" w\n", b" %s\n" % name), "E68 Open", 3, made[:1], option)
+    for name in ["x/y", "../w", "/w"]:
+        refused(bench, f"wires: a file outside of OUTDIR: {name}", TO_SOCKET.replace(b" w\n", b" %s\n" % name.encode()),
+                f"E68 Open: outdir/{name}.pcap", 3, made[:1], option)
     bench.check("wires: no file is made outside of OUTDIR", os.path.exists(bench.path("w.pcap")), False)
-    bench.ends("wires: no OUTDIR", ["run", "--wires", "s.scenario", "missing"], 3, b"", refusal("E68 Open"))
+    bench.ends("wires: no OUTDIR", ["run", "--wires", "s.scenario", "missing"], 3, b"", refusal("E68 Open: missing"))
     bench.put("s.scenario", TWO_WIRES + TRAFFIC)
     order = ["b.0.pcap", "d.0.pcap", "w.pcap", "v.pcap"]
     texts = {**TRAFFIC_FILES, **WIRE_FILES}
@@ -490,7 +494,7 @@ def wire_places(bench):
         os.remove(bench.path(f"outdir/{file}"))
         folder(bench)
         os.mkdir(os.path.join(path, file))
-        bench.ends(f"wires: {file} is a folder", ["run", "--wires", "s.scenario", "outdir"], 3, b"", refusal("E68 Open"))
+        bench.ends(f"wires: {file} is a folder", ["run", "--wires", "s.scenario", "outdir"], 3, b"", refusal(f"E68 Open: outdir/{file}"))
         os.rmdir(os.path.join(path, file))
         bench.check(f"wires: {file} is a folder: the files before it", held(path), {name: b"" for name in order[:place]})
 

@@ -3,7 +3,6 @@
 import re
 
 from server import ZERO, lines, number
-from server_pages import read_page
 
 # A frame of 1,518 bytes. A receive packet buffer of 2 KB has room for one.
 FRAME = "ffffffffffff02000000000908000000".ljust(3036, "0")
@@ -57,7 +56,7 @@ def images(server):
     for name, size in [("none", 0), ("short", 127), ("long", 129), ("longer", 1_000_000)]:
         server.put(name, bytes(size))
         server.check(f"images: {size} bytes", server.serve(b"readl 0\n", "--image", name), (1, b"", b"nicbench: E58 Image\n"))
-    for name, code in [("missing", b"E68 Open"), (".", b"E66 Read"), ("/dev/zero", b"E68 Open")]:
+    for name, code in [("missing", b"E68 Open: missing"), (".", b"E66 Read"), ("/dev/zero", b"E68 Open: /dev/zero")]:
         server.check(f"images: {name}", server.serve(b"readl 0\n", "--image", name), (3, b"", b"nicbench: " + code + b"\n"))
     both = b"error: invalid value 'words' for '--image <FILE>': the file contains the address, so --address can't be used with it\n"
     for order in [("--image=words", "--address=02:00:00:00:00:01"), ("--address=02:00:00:00:00:01", "--image=words")]:
@@ -101,11 +100,9 @@ def words(server):
 
 
 def defaults_shown(server):
-    """The help and the page have the defaults that `options` tests."""
+    """The help has the defaults that `options` tests."""
     told = re.findall(r"^ +(--[a-z]+) .*\[(.*)\]$", server.run("serve", "--help").stderr.decode(), re.M)
     server.check("defaults: of the help", [word for pair in told for word in pair], DEFAULTS)
-    told = re.findall(r"^\| `(--[a-z]+)` \| (\S+) \|", read_page("docs", "SERVE.md"), re.M)
-    server.check("defaults: of the page", [word for pair in told for word in pair], DEFAULTS)
 
 
 def all_cases(server):

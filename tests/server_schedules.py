@@ -86,9 +86,10 @@ def refused(server):
     server.put("schedule", b"\xff")
     server.check("schedules: not UTF-8", server.serve(b"settle\n", "--schedule", "schedule"),
                  (1, b"", b"nicbench: E70 Schedule the text isn't UTF-8\n"))
-    for name, code in [("missing", b"E68 Open"), (".", b"E66 Read"), ("/dev/zero", b"E68 Open"), ("-", b"E68 Open")]:
+    for name, code in [("missing", b"E68 Open: missing"), (".", b"E66 Read"), ("/dev/zero", b"E68 Open: /dev/zero"), ("-", b"E68 Open: -")]:
         server.check(f"schedules: {name}", server.serve(b"settle\n", "--schedule", name), (3, b"", b"nicbench: " + code + b"\n"))
-    server.check("schedules: no folder to record in", server.serve(b"settle\n", "--record", "missing/record"), (3, b"", b"nicbench: E68 Open\n"))
+    server.check("schedules: no folder to record in", server.serve(b"settle\n", "--record", "missing/record"),
+                 (3, b"", b"nicbench: E68 Open: missing/record\n"))
     for words in [["--rxa", "2"], ["--rxa=2", "--seed", "3"]]:
         server.put("schedule", b"options --rxa 2 --seed 9\n")
         server.check(f"schedules: options {words}", server.serve(b"settle\n", "--schedule", "schedule", *words), (0, lines([ZERO]), b""))

@@ -5,7 +5,7 @@ use Rattle.std.specs.Prelude.{⊤, IsNone, IsSome, codes, option_map}
 use Rattle.clap.specs.Words.{Row, Text, first_of}
 use Rattle.command_line.specs.Shape.{found_in, refusals}
 use Rattle.command_line.specs.Spelling.{IsGroup, IsKilobytes, IsLink, SpellsAddress, SpellsCount, SpellsDecimal, SpellsGroup}
-use Rattle.command_line.specs.Spelling.{SpellsKilobytes, SpellsLink, SpellsVlan, SpellsWord}
+use Rattle.command_line.specs.Spelling.{SpellsKilobytes, SpellsLink, SpellsRingSize, SpellsVlan, SpellsWord}
 use Rattle.command_line.specs.declared.error.InvalidValue.{InvalidValue}
 use Rattle.command_line.specs.declared.job.DriveJob.{DriveJob}
 use Rattle.command_line.specs.declared.job.Job.{Job}
@@ -50,11 +50,13 @@ pub record IsPassJobOf (rows : List Row) (job : PassJob) : Type 0 where
   pub filter : IsPassFilterOf rows job.filter
   pub input : first_of (codes "IN") rows ≡ Some job.input.now
   pub output : first_of (codes "OUT") rows ≡ Some job.output.now
+  pub nanos : IsFlagOf (first_of (codes "nanos") rows) job.nanos
 
 pub record IsRunJobOf (rows : List Row) (job : RunJob) : Type 0 where
   pub scenario : first_of (codes "SCENARIO") rows ≡ Some job.scenario.now
   pub directory : first_of (codes "OUTDIR") rows ≡ Some job.directory.now
   pub wires : IsFlagOf (first_of (codes "wires") rows) job.wires
+  pub nanos : IsFlagOf (first_of (codes "nanos") rows) job.nanos
   pub events : IsTextOf (first_of (codes "events") rows) job.events
 
 abbrev pub IsShowJobOf : List Row → ShowJob → Type 0
@@ -84,6 +86,9 @@ pub record IsServeJobOf (rows : List Row) (job : ServeJob) : Type 0 where
 pub record IsDriveJobOf (rows : List Row) (job : DriveJob) : Type 0 where
   pub registers : IsValueOr SpellsWord 0xFEB00000 (first_of (codes "registers") rows) job.registers
   pub memory : IsValueOr SpellsWord 0x100000 (first_of (codes "memory") rows) job.memory
+  pub rx : IsValueOr SpellsRingSize 64 (first_of (codes "rx") rows) job.rx
+  pub tx : IsValueOr SpellsRingSize 64 (first_of (codes "tx") rows) job.tx
+  pub buffers : IsValueOr SpellsRingSize 512 (first_of (codes "buffers") rows) job.buffers
   pub expect : IsValueOf SpellsDecimal (first_of (codes "expect") rows) job.expect
   pub idle : IsValueOf SpellsDecimal (first_of (codes "idle") rows) job.idle
   pub send : first_of (codes "send") rows ≡ Some job.send.now
@@ -145,6 +150,9 @@ name_of options.Link = codes "link"
 name_of options.Rxa = codes "rxa"
 name_of options.Seed = codes "seed"
 name_of options.Missed = codes "missed"
+name_of options.Rx = codes "rx"
+name_of options.Tx = codes "tx"
+name_of options.Buffers = codes "buffers"
 name_of options.Expect = codes "expect"
 name_of options.Idle = codes "idle"
 
@@ -160,6 +168,9 @@ IsSpelled rows options.Link text = (link : ServeLink) × SpellsLink text link
 IsSpelled rows options.Rxa text = (n : ℕ) × SpellsKilobytes text n
 IsSpelled rows options.Seed text = (n : ℕ) × SpellsDecimal text n
 IsSpelled rows options.Missed text = (n : ℕ) × SpellsCount text n
+IsSpelled rows options.Rx text = (n : ℕ) × SpellsRingSize text n
+IsSpelled rows options.Tx text = (n : ℕ) × SpellsRingSize text n
+IsSpelled rows options.Buffers text = (n : ℕ) × SpellsRingSize text n
 IsSpelled rows options.Expect text = (n : ℕ) × SpellsDecimal text n
 IsSpelled rows options.Idle text = (n : ℕ) × SpellsDecimal text n
 

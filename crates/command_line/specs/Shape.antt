@@ -21,18 +21,19 @@ required_rule name = record (option_rule name) { required = true }
 abbrev pub file_rule : Text → Rule
 file_rule name = record (new_rule name) { required = true; action = Some action.Set }
 
--- `pass [--address A] [--group G] [--vlan N] IN OUT`
+-- `pass [--address A] [--group G] [--vlan N] [--nanos] IN OUT`
 unfoldable pub pass_app : App
 pass_app =
-    with_rule (with_rule (with_rule (with_rule (with_rule (new_app (codes "pass"))
-    (option_rule (codes "address"))) (option_rule (codes "group"))) (option_rule (codes "vlan")))
+    with_rule (with_rule (with_rule (with_rule (with_rule (with_rule (new_app (codes "pass"))
+    (option_rule (codes "address"))) (option_rule (codes "group"))) (option_rule (codes "vlan"))) (flag_rule (codes "nanos")))
     (file_rule (codes "IN"))) (file_rule (codes "OUT"))
 
--- `run [--wires] [--events FILE] SCENARIO OUTDIR`
+-- `run [--wires] [--nanos] [--events FILE] SCENARIO OUTDIR`
 unfoldable pub run_app : App
 run_app =
-    with_rule (with_rule (with_rule (with_rule (new_app (codes "run"))
-    (flag_rule (codes "wires"))) (option_rule (codes "events"))) (file_rule (codes "SCENARIO"))) (file_rule (codes "OUTDIR"))
+    with_rule (with_rule (with_rule (with_rule (with_rule (new_app (codes "run"))
+    (flag_rule (codes "wires"))) (flag_rule (codes "nanos"))) (option_rule (codes "events"))) (file_rule (codes "SCENARIO")))
+    (file_rule (codes "OUTDIR"))
 
 -- `show TRACE`
 unfoldable pub show_app : App
@@ -47,12 +48,13 @@ serve_app =
     (option_rule (codes "image"))) (option_rule (codes "link"))) (option_rule (codes "rxa"))) (option_rule (codes "seed")))
     (option_rule (codes "missed"))) (option_rule (codes "schedule"))) (option_rule (codes "record"))
 
--- `drive [--registers ADDRESS] [--memory BYTES] [--expect N] [--idle N] --send IN --receive OUT`
+-- `drive [--registers ADDRESS] [--memory BYTES] [--rx N] [--tx N] [--buffers N] [--expect N] [--idle N] --send IN --receive OUT`
 unfoldable pub drive_app : App
 drive_app =
-    with_rule (with_rule (with_rule (with_rule (with_rule (with_rule (new_app (codes "drive"))
-    (option_rule (codes "registers"))) (option_rule (codes "memory"))) (option_rule (codes "expect")))
-    (option_rule (codes "idle"))) (required_rule (codes "send"))) (required_rule (codes "receive"))
+    with_rule (with_rule (with_rule (with_rule (with_rule (with_rule (with_rule (with_rule (with_rule (new_app (codes "drive"))
+    (option_rule (codes "registers"))) (option_rule (codes "memory"))) (option_rule (codes "rx"))) (option_rule (codes "tx")))
+    (option_rule (codes "buffers"))) (option_rule (codes "expect"))) (option_rule (codes "idle")))
+    (required_rule (codes "send"))) (required_rule (codes "receive"))
 
 -- the program, which has a version and a subcommand, and shows its help if there are no words
 unfoldable pub program_app : App

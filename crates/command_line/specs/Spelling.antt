@@ -61,6 +61,10 @@ SpellsWord text n = SpellsDecimal text n ⊎ ((digits : List ℕ) × (text ≡ c
 abbrev pub SpellsCount : List ℕ → ℕ → Type 0
 SpellsCount text n = SpellsNumber text n × (n < 2 ^ 32)
 
+-- a number of descriptors in a ring, or of receive buffers, of 16 bits
+abbrev pub SpellsRingSize : List ℕ → ℕ → Type 0
+SpellsRingSize text n = SpellsNumber text n × (n < 2 ^ 16)
+
 -- the kilobytes that the receive part of a packet buffer can have (manual 13.4.16 "Packet Buffer Allocation", RXA)
 abbrev pub IsKilobytes : ℕ → Type 0
 IsKilobytes n = (2 ≤ n) × (n ≤ 48) × (n % 2 ≡ 0)

@@ -8,11 +8,11 @@ ghost use Rattle.command_line.specs.Shape.{drive_app, file_rule, flag_rule, opti
 ghost use Rattle.command_line.specs.Shape.{required_rule, run_app, serve_app, show_app};
 
 use crate::help::{
-    ADDRESS_HELP, DRIVE_ABOUT, DRIVE_MEMORY_HELP, DRIVE_NOTE, EEPROM_ADDRESS_HELP, EVENTS_HELP,
-    EXPECT_HELP, GROUP_HELP, IDLE_HELP, IMAGE_HELP, LINK_HELP, MEMORY_HELP, MISSED_HELP,
-    PASS_ABOUT, PASS_NOTE, PROGRAM_NOTE, RECORD_HELP, REGISTERS_HELP, RUN_ABOUT, RUN_NOTE,
-    RXA_HELP, SCHEDULE_HELP, SEED_HELP, SERVE_ABOUT, SERVE_NOTE, SHOW_ABOUT, SHOW_NOTE, VERSION,
-    VLAN_HELP, WIRES_HELP,
+    ADDRESS_HELP, BUFFERS_HELP, DRIVE_ABOUT, DRIVE_MEMORY_HELP, DRIVE_NOTE, EEPROM_ADDRESS_HELP,
+    EVENTS_HELP, EXPECT_HELP, GROUP_HELP, IDLE_HELP, IMAGE_HELP, LINK_HELP, MEMORY_HELP,
+    MISSED_HELP, NANOS_HELP, PASS_ABOUT, PASS_NOTE, PROGRAM_NOTE, RECORD_HELP, REGISTERS_HELP,
+    RUN_ABOUT, RUN_NOTE, RX_HELP, RXA_HELP, SCHEDULE_HELP, SEED_HELP, SERVE_ABOUT, SERVE_NOTE,
+    SHOW_ABOUT, SHOW_NOTE, TX_HELP, VERSION, VLAN_HELP, WIRES_HELP,
 };
 use clap::{Arg, ArgAction, Command};
 use std::alloc::{AllocError, Global};
@@ -135,10 +135,11 @@ fn clap_commands<'a>(
     Ok(commands)
 }
 
-const PASS_ARGUMENTS: [Argument<'static>; 5] = [
+const PASS_ARGUMENTS: [Argument<'static>; 6] = [
     Argument::Value("address", "A", ADDRESS_HELP),
     Argument::Value("group", "G", GROUP_HELP),
     Argument::Value("vlan", "N", VLAN_HELP),
+    Argument::Flag("nanos", NANOS_HELP),
     Argument::File(
         "IN",
         "The trace to read, a pcap file, or - for standard input",
@@ -149,7 +150,7 @@ const PASS_ARGUMENTS: [Argument<'static>; 5] = [
     ),
 ];
 
-/// `pass [--address A] [--group G] [--vlan N] IN OUT`.
+/// `pass [--address A] [--group G] [--vlan N] [--nanos] IN OUT`.
 fn pass<'a>() -> Subcommand<'a>
     ensures { app_for result ≡ pass_app }
 {
@@ -161,8 +162,9 @@ fn pass<'a>() -> Subcommand<'a>
     }
 }
 
-const RUN_ARGUMENTS: [Argument<'static>; 4] = [
+const RUN_ARGUMENTS: [Argument<'static>; 5] = [
     Argument::Flag("wires", WIRES_HELP),
+    Argument::Flag("nanos", NANOS_HELP),
     Argument::Value("events", "FILE", EVENTS_HELP),
     Argument::File(
         "SCENARIO",
@@ -171,7 +173,7 @@ const RUN_ARGUMENTS: [Argument<'static>; 4] = [
     Argument::File("OUTDIR", "The folder to write traces into; it must exist"),
 ];
 
-/// `run [--wires] [--events FILE] SCENARIO OUTDIR`.
+/// `run [--wires] [--nanos] [--events FILE] SCENARIO OUTDIR`.
 fn run<'a>() -> Subcommand<'a>
     ensures { app_for result ≡ run_app }
 {
@@ -226,9 +228,12 @@ fn serve<'a>() -> Subcommand<'a>
     }
 }
 
-const DRIVE_ARGUMENTS: [Argument<'static>; 6] = [
+const DRIVE_ARGUMENTS: [Argument<'static>; 9] = [
     Argument::Value("registers", "ADDRESS", REGISTERS_HELP),
     Argument::Value("memory", "BYTES", DRIVE_MEMORY_HELP),
+    Argument::Value("rx", "N", RX_HELP),
+    Argument::Value("tx", "N", TX_HELP),
+    Argument::Value("buffers", "N", BUFFERS_HELP),
     Argument::Value("expect", "N", EXPECT_HELP),
     Argument::Value("idle", "N", IDLE_HELP),
     Argument::Required("send", "IN", "The trace whose frames are sent, a pcap file"),
@@ -239,7 +244,8 @@ const DRIVE_ARGUMENTS: [Argument<'static>; 6] = [
     ),
 ];
 
-/// `drive [--registers ADDRESS] [--memory BYTES] [--expect N] [--idle N] --send IN --receive OUT`.
+/// `drive [--registers ADDRESS] [--memory BYTES] [--rx N] [--tx N] [--buffers N] [--expect N] [--idle N] --send IN
+/// --receive OUT`.
 fn drive<'a>() -> Subcommand<'a>
     ensures { app_for result ≡ drive_app }
 {

@@ -1,13 +1,41 @@
 //! The job of `drive`, from what clap holds for its options.
-ghost use Rattle.std.specs.Prelude.{IfErr, IfOk, codes};
-ghost use Rattle.clap.specs.Words.{first_of, found_of, rows_of};
-ghost use Rattle.command_line.specs.Jobs.{HasTraces, IsDriveJobOf, IsInvalidIn, IsValueOf};
-ghost use Rattle.command_line.specs.Spelling.{SpellsDecimal};
+ghost use Rattle.std.specs.Prelude.{◌≡◌, ℕ, IfErr, IfOk, List, codes};
+ghost use Rattle.clap.specs.Words.{Row, Text, first_of, found_of, rows_of};
+ghost use Rattle.command_line.specs.Jobs.{HasTraces, IsDriveJobOf, IsInvalidIn, IsSpelled, IsValueOf};
+ghost use Rattle.command_line.specs.Jobs.{IsValueOr, name_of};
+ghost use Rattle.command_line.specs.Spelling.{SpellsDecimal, SpellsRingSize};
 
 use crate::common::{memory, registers};
-use crate::spelling::decimal_of;
+use crate::spelling::{decimal_of, ring_size_of};
 use crate::{DriveJob, InvalidValue, ValueOption};
 use clap::ArgMatches;
+
+const DEFAULT_RING: u16 = 64;
+
+const DEFAULT_BUFFERS: u16 = 512;
+
+/// The value of an option for a number of descriptors or of buffers.
+fn ring_size<'a>(
+    matches: &ArgMatches<'a>,
+    name: &str,
+    option: ValueOption,
+    default: u16,
+) -> Result<u16, InvalidValue<'a>>
+    requires named { name.now ≡ name_of option }
+    requires spelled { (rows : List Row) (text : Text) → IsSpelled rows option text
+        → (n : ℕ) × SpellsRingSize text n }
+    ensures value { IfOk result (IsValueOr SpellsRingSize default
+        (first_of name.now (rows_of (found_of matches.now)))) }
+    ensures refused { IfErr result (IsInvalidIn (rows_of (found_of matches.now))) }
+{
+    match matches.get_str(name) {
+        Some(text) => match ring_size_of(text) {
+            Some(size) => Ok(size),
+            None => Err(InvalidValue { option, text }),
+        },
+        None => Ok(default),
+    }
+}
 
 fn expect<'a>(matches: &ArgMatches<'a>) -> Result<Option<u64>, InvalidValue<'a>>
     ensures value { IfOk result (IsValueOf SpellsDecimal
@@ -51,6 +79,9 @@ pub(crate) fn drive_job<'a>(matches: &ArgMatches<'a>) -> Result<DriveJob<'a>, In
 {
     let registers = registers(matches)?;
     let memory = memory(matches)?;
+    let rx = ring_size(matches, "rx", ValueOption::Rx, DEFAULT_RING)?;
+    let tx = ring_size(matches, "tx", ValueOption::Tx, DEFAULT_RING)?;
+    let buffers = ring_size(matches, "buffers", ValueOption::Buffers, DEFAULT_BUFFERS)?;
     let expect = expect(matches)?;
     let idle = idle(matches)?;
     let send = matches.get_str("send").unwrap();
@@ -58,6 +89,9 @@ pub(crate) fn drive_job<'a>(matches: &ArgMatches<'a>) -> Result<DriveJob<'a>, In
     Ok(DriveJob {
         registers,
         memory,
+        rx,
+        tx,
+        buffers,
         send,
         receive,
         expect,

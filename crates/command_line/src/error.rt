@@ -111,6 +111,9 @@ fn shown(option: ValueOption) -> &'static str {
         ValueOption::Rxa => "--rxa <N>",
         ValueOption::Seed => "--seed <N>",
         ValueOption::Missed => "--missed <N>",
+        ValueOption::Rx => "--rx <N>",
+        ValueOption::Tx => "--tx <N>",
+        ValueOption::Buffers => "--buffers <N>",
         ValueOption::Expect => "--expect <N>",
         ValueOption::Idle => "--idle <N>",
     }
@@ -129,6 +132,8 @@ fn form_of(option: ValueOption) -> &'static str {
         ValueOption::Rxa => RXA_FORM,
         ValueOption::Seed => SEED_FORM,
         ValueOption::Missed => MISSED_FORM,
+        ValueOption::Rx | ValueOption::Tx => RING_FORM,
+        ValueOption::Buffers => BUFFERS_FORM,
         ValueOption::Expect => EXPECT_FORM,
         ValueOption::Idle => IDLE_FORM,
     }
@@ -156,6 +161,10 @@ const RXA_FORM: &str = "kilobytes are an even decimal number from 2 to 48, such 
 const SEED_FORM: &str = "a seed is a decimal number below 2^64, such as 7";
 
 const MISSED_FORM: &str = "a count is a decimal number below 2^32, such as 4294967294";
+
+const RING_FORM: &str = "descriptors are a decimal number below 65536, such as 64";
+
+const BUFFERS_FORM: &str = "buffers are a decimal number below 65536, such as 512";
 
 const EXPECT_FORM: &str = "frames are a decimal number below 2^64, such as 100";
 

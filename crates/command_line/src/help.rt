@@ -1,18 +1,18 @@
 //! The texts of the program's help, and its version.
 
 /// The version of the program, as `--version` prints it. CHANGELOG.md has a heading for each that was released.
-pub(crate) const VERSION: &str = "0.1.0";
+pub(crate) const VERSION: &str = "0.2.0";
 
 pub(crate) const PASS_ABOUT: &str =
     "Send the frames of a trace through a receive filter and a ring";
 
 pub(crate) const PASS_NOTE: &str =
     "Frames for the broadcast address also pass. Without --address and --group, frames for every address
-pass. Times are not kept: the timestamp of a frame in OUT, in microseconds, is the number of the
-frame in IN, from 0. All of IN is read before OUT is written, so both may be the same file: its
-frames are replaced. IN may be standard input: tcpdump -w - | nicbench pass - OUT writes OUT when
-tcpdump ends. If OUT is -, the trace goes to standard output, and the line of counts to standard
-error.
+pass. Times are not kept: the timestamp of a frame in OUT is its number in IN, from 0, as a number
+of microseconds, also with --nanos: frame 7 is at 0.000007 or 0.000007000 seconds. All of IN is read
+before OUT is written, so both may be the same file: its frames are replaced. IN may be standard
+input: tcpdump -w - | nicbench pass - OUT writes OUT when tcpdump ends. If OUT is -, the trace goes
+to standard output, and the line of counts to standard error.
 
 A file OUT gets all new frames at once: they are written beside it, into OUT.part0, and then this
 file is renamed. So after an error or a kill OUT is unchanged. This doesn't hold for a link, a file
@@ -45,6 +45,9 @@ pub(crate) const GROUP_HELP: &str = "Let frames for this group pass, such as 01:
 
 pub(crate) const VLAN_HELP: &str =
     "Let tagged frames pass only if they are of this VLAN, 0 to 4095, such as 5";
+
+pub(crate) const NANOS_HELP: &str =
+    "Write the same timestamps in nanoseconds, in place of microseconds";
 
 pub(crate) const RUN_ABOUT: &str = "Run a scenario: hosts on wires, step by step";
 
@@ -112,12 +115,13 @@ Then come the events, numbered from 0:
                           for standard input
   auto COUNT START        COUNT random events, up to 1000000; START is the seed
 
-OUTDIR/h.s.pcap is the trace of the frames that socket s of host h returned. The timestamp of each
-frame, in microseconds, is the number of its event. With --wires, OUTDIR/w.pcap is the trace of all
-frames that adapters put on wire w, also those that no host received; the files of wires follow
-those of sockets, in the order in which the host lines first name the wires. Files that don't exist
-are created, empty, before the first event. All files are written after the last event; an existing
-one loses its bytes when its first new byte is written. So on an error existing files are unchanged,
+OUTDIR/h.s.pcap is the trace of the frames that socket s of host h returned. With --wires,
+OUTDIR/w.pcap is the trace of all frames that adapters put on wire w, also those that no host
+received; the files of wires follow those of sockets, in the order in which the host lines first
+name the wires. The timestamp of a frame is the number of its event, as a number of microseconds,
+also with --nanos: event 7 is at 0.000007 or 0.000007000 seconds. Files that don't exist are
+created, empty, before the first event. All files are written after the last event; an existing one
+loses its bytes when its first new byte is written. So on an error existing files are unchanged,
 unless it is E67: then the files before the one that failed are complete, and those after it are
 unchanged. Standard output has a line for each host:
 
@@ -128,8 +132,8 @@ that it stored, and that it missed because its receive packet buffer was full ('
 'exact' if there may be more); then frames that its sockets returned, and frames that none of its
 sockets takes. The line of a host that was reset ends with 'givenup T R off O': resets gave up T
 frames that were to be sent and R received ones, and O frames reached it while its receiver was off.
-If sends were refused, or recvs named sockets that don't exist, a line on standard error counts
-them.
+If calls were refused, a line on standard error counts them: sends, joins and leaves, and recvs of
+sockets that don't exist. It doesn't count events of auto lines.
 
 With --events, FILE has a line for each event, such as
 
@@ -137,8 +141,22 @@ With --events, FILE has a line for each event, such as
 
 This is its number and that of its line in the scenario, the call, its answer, the number of its
 accesses to memory and registers, and each tick that it played: after @ the number of accesses
-before the tick, then its outcome. A frame is shown by its size. FILE is written after the files in
-OUTDIR. If it is -, the lines of hosts go to standard error.
+before the tick, then its outcome. A frame is shown by its size. If a frame is delivered while the
+receiver is off, as in a reset, the outcome is 'off'. The answers:
+
+  ok                a send, a join or a leave was accepted
+  ok N              a recv returned a frame of N bytes; or a drain returned N frames
+  handled N         an interrupt: the driver took N frames off its receive ring
+  notmine           an interrupt: no cause was set that the driver handles
+  givenup T R on N  a reset gave up T frames that were to be sent and R received ones, and the
+                    receiver was on again after N accesses
+  CODE NAME         the call was refused, or its socket's queue is empty, such as E22 RingFull:
+                    docs/ERRORS.md
+
+FILE is written after the files in OUTDIR. If it is -, the lines of hosts go to standard error. FILE
+can't be a file that run also reads, or writes in OUTDIR. This draws the events as a chart:
+
+  $ tools/run_chart SCENARIO FILE
 
 If run fails, it prints 'nicbench: CODE NAME' on standard error, or 'nicbench: line N: CODE NAME' if
 a line is invalid. If existing files in OUTDIR are unchanged, a second line says so:
@@ -147,8 +165,8 @@ a line is invalid. If existing files in OUTDIR are unchanged, a second line says
   E41 Ends      A wire has only 1 host, or more than 8. Check the names of wires, or add a host
   E42 Hosts     There is no host, or there are more than 16. Add hosts, or split the scenario
   E43 Address   An address is multicast (its first byte is odd) or another host's. Choose another
-  E44 Config    An option of a host is invalid. rx and tx are multiples of 8 from 8 to 256, buffers
-                from rx to 4096, rxa even from 2 to 48, link at least 1; the first byte of a group
+  E44 Config    An option of a host is invalid. rx and tx are multiples of 8 from 8 to 4096, buffers
+                from rx to 8192, rxa even from 2 to 48, link at least 1; the first byte of a group
                 is odd, and a VLAN is at most 4095
   E45 Memory    Out of memory for the hosts. Free some, or use fewer buffers
   E46 Init      An adapter could not be initialized; the reason follows, such as E14 NoLink: its
@@ -164,7 +182,7 @@ a line is invalid. If existing files in OUTDIR are unchanged, a second line says
   E55 Long      The line has more than 8192 bytes. Split it
   E56 Text      The line isn't UTF-8. Save the scenario as UTF-8
 
-A run can also end with E57, E60 to E68 and E72. What each code means: nicbench --help";
+A run can also end with E57, E60 to E68, E72 and E73. What each code means: nicbench --help";
 
 pub(crate) const SHOW_ABOUT: &str = "List the frames of a trace, one per line";
 
@@ -293,6 +311,14 @@ pub(crate) const DRIVE_ABOUT: &str = "Run the driver on an adapter that another 
 pub(crate) const DRIVE_MEMORY_HELP: &str =
     "Bytes of memory for the driver, from address 0 [1048576]";
 
+pub(crate) const RX_HELP: &str =
+    "Descriptors in the receive ring, a multiple of 8 from 8 to 4096 [64]";
+
+pub(crate) const TX_HELP: &str =
+    "Descriptors in the transmit ring, a multiple of 8 from 8 to 4096 [64]";
+
+pub(crate) const BUFFERS_HELP: &str = "Receive buffers, from --rx to 8192 [512]";
+
 pub(crate) const EXPECT_HELP: &str = "Stop after N frames were received; status 1 if fewer were";
 
 pub(crate) const IDLE_HELP: &str =
@@ -319,8 +345,8 @@ it prints its counts on standard error:
 
 If drive fails, it prints 'nicbench: CODE NAME' on standard error:
 
-  E46           The adapter could not be initialized; the reason follows, such as E14 NoLink. Status
-                1
+  E46           The adapter could not be initialized, status 1. The reason follows, such as E15
+                Config: the size of a ring isn't allowed, or --memory is too small
   E59, E69      An answer isn't right, or drive ended too early, status 1
   E60 to E64    IN is invalid, status 1
   E66 to E68    Opening, reading or writing failed, status 3
@@ -348,8 +374,9 @@ nicbench prints 'nicbench: CODE NAME' on standard error, or 'nicbench: line N: C
 of a scenario is invalid. IN is any input: also the TRACE of show, and the SCENARIO of run with each
 FILE that it feeds. If IN is -, it is standard input, which can be read only once. Standard input
 and named pipes are read to their end first, up to 1 GiB. OUT is any output: also each file in the
-OUTDIR of run. Codes E40 to E56 come from run only (E46 from drive, too): nicbench run --help. For
-E57, E66, E67 and E68 of serve: nicbench serve --help
+OUTDIR of run, and its FILE of --events. E68 and E73 are followed by the path. Codes E40 to E56 come
+from run only (E46 from drive, too): nicbench run --help. For E57, E66, E67 and E68 of serve:
+nicbench serve --help
 
   E57 Memory    Out of memory before anything was written. Free some, or split IN
   E58 Image     The file of --image of serve hasn't 128 bytes. Name another file
@@ -373,4 +400,6 @@ E57, E66, E67 and E68 of serve: nicbench serve --help
                 it, or use the options in its first line
   E71 Unmet     Deviations of the schedule of serve weren't met. Standard error lists them
   E72 Pipe      Standard input or a pipe has more than 1 GiB. Copy it to a file first, and name the
-                file";
+                file
+  E73 SameFile  The FILE of --events of run is also its SCENARIO, a trace that it feeds, or a file
+                in OUTDIR that it writes. Name another FILE";

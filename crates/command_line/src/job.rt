@@ -15,7 +15,7 @@ pub enum Job<'a> {
     Drive(DriveJob<'a>),
 }
 
-/// The job of `pass [--address A] [--group G] [--vlan N] IN OUT`.
+/// The job of `pass [--address A] [--group G] [--vlan N] [--nanos] IN OUT`.
 #[derive(Clone, Copy)]
 pub struct PassJob<'a> {
     /// Which frames pass.
@@ -24,9 +24,11 @@ pub struct PassJob<'a> {
     pub input: &'a str,
     /// The path of the trace that is written, OUT.
     pub output: &'a str,
+    /// Whether times are written in nanoseconds (`--nanos`).
+    pub nanos: bool,
 }
 
-/// The job of `run [--wires] [--events FILE] SCENARIO OUTDIR`.
+/// The job of `run [--wires] [--nanos] [--events FILE] SCENARIO OUTDIR`.
 #[derive(Clone, Copy)]
 pub struct RunJob<'a> {
     /// The path of the scenario that is run, SCENARIO.
@@ -35,6 +37,8 @@ pub struct RunJob<'a> {
     pub directory: &'a str,
     /// Whether the traces of wires are written, too (`--wires`).
     pub wires: bool,
+    /// Whether times are written in nanoseconds (`--nanos`).
+    pub nanos: bool,
     /// The path of the file that gets a line for each event (`--events`, none).
     pub events: Option<&'a str>,
 }
@@ -81,14 +85,20 @@ pub struct ServeJob<'a> {
     pub record: Option<&'a str>,
 }
 
-/// The job of `drive [--registers ADDRESS] [--memory BYTES] [--expect N] [--idle N] --send IN --receive OUT`. Addresses
-/// and sizes that aren't given have their defaults here.
+/// The job of `drive [--registers ADDRESS] [--memory BYTES] [--rx N] [--tx N] [--buffers N] [--expect N] [--idle N]
+/// --send IN --receive OUT`. Addresses and sizes that aren't given have their defaults here.
 #[derive(Clone, Copy)]
 pub struct DriveJob<'a> {
     /// The address of the first byte of registers (`--registers`, 0xFEB00000).
     pub registers: u64,
     /// How many bytes of memory the driver may use, from address 0 on (`--memory`, 1 MiB).
     pub memory: u64,
+    /// The number of descriptors in the receive ring (`--rx`, 64).
+    pub rx: u16,
+    /// The number of descriptors in the transmit ring (`--tx`, 64).
+    pub tx: u16,
+    /// The number of receive buffers (`--buffers`, 512).
+    pub buffers: u16,
     /// The path of the trace whose frames are sent, IN (`--send`).
     pub send: &'a str,
     /// The path of the trace that received frames are written into, OUT (`--receive`).
@@ -140,6 +150,12 @@ pub enum ValueOption {
     Seed,
     /// `--missed`, of `serve`.
     Missed,
+    /// `--rx`, of `drive`.
+    Rx,
+    /// `--tx`, of `drive`.
+    Tx,
+    /// `--buffers`, of `drive`.
+    Buffers,
     /// `--expect`, of `drive`.
     Expect,
     /// `--idle`, of `drive`.

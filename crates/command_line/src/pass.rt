@@ -77,9 +77,11 @@ pub(crate) fn pass_job<'a>(matches: &ArgMatches<'a>) -> Result<PassJob<'a>, Inva
     };
     let input = matches.get_str("IN").unwrap();
     let output = matches.get_str("OUT").unwrap();
+    let nanos = matches.get_str("nanos") == Some("true");
     Ok(PassJob {
         filter,
         input,
         output,
+        nanos,
     })
 }

@@ -13,11 +13,13 @@ pub(crate) fn run_job<'a>(matches: &ArgMatches<'a>) -> RunJob<'a>
     let scenario = matches.get_str("SCENARIO").unwrap();
     let directory = matches.get_str("OUTDIR").unwrap();
     let wires = matches.get_str("wires") == Some("true");
+    let nanos = matches.get_str("nanos") == Some("true");
     let events = matches.get_str("events");
     RunJob {
         scenario,
         directory,
         wires,
+        nanos,
         events,
     }
 }

@@ -3,7 +3,7 @@ ghost use Rattle.std.specs.Prelude.{ℕ, List, IfSome, IfNone};
 ghost use Rattle.std.specs.Option.{SomeIff};
 ghost use Rattle.command_line.specs.Spelling.{IsHexadecimalDigit, SpellsAddress, SpellsByte, SpellsCount};
 ghost use Rattle.command_line.specs.Spelling.{SpellsDecimal, SpellsGroup, SpellsHexadecimal, SpellsKilobytes};
-ghost use Rattle.command_line.specs.Spelling.{SpellsLink, SpellsVlan, SpellsWord, hexadecimal_value};
+ghost use Rattle.command_line.specs.Spelling.{SpellsLink, SpellsRingSize, SpellsVlan, SpellsWord, hexadecimal_value};
 ghost use Rattle.command_line.specs.declared.job.ServeLink.{ServeLink};
 
 use crate::ServeLink;
@@ -133,6 +133,15 @@ pub fn count_of(text: &str) -> Option<u32>
     ensures refused { IfNone result ((n : ℕ) → ¬ SpellsCount text.now n) }
 {
     u32::try_from(decimal_of(text)?).ok()
+}
+
+/// The number of descriptors or of buffers that a text spells in decimal digits alone, below 2^16. `None` for any other
+/// text.
+pub fn ring_size_of(text: &str) -> Option<u16>
+    ensures spelled { IfSome result (SpellsRingSize text.now) }
+    ensures refused { IfNone result ((n : ℕ) → ¬ SpellsRingSize text.now n) }
+{
+    u16::try_from(decimal_of(text)?).ok()
 }
 
 /// The kilobytes of a receive packet buffer that a text spells: an even number from 2 to 48, in decimal digits alone.

@@ -10,34 +10,38 @@ use Rattle.bus.proofs.Keeping.{keeps-on}
 use Rattle.packet_socket.specs.HostCalls.{HostReady, IsReadyHost, host_at}
 use Rattle.packet_socket.specs.HostState.{HostState}
 use Rattle.pcap_trace.specs.Format.{file_header, written}
+use Rattle.pcap_trace.specs.declared.unit.Unit.TheVariants.{Micros}
 use Rattle.pcap_trace.proofs.Flushed.{flushed, header_waits}
-use Rattle.drive.specs.Drives.{Drives}
+use Rattle.drive.specs.Drives.{Drives, counts_of}
 use Rattle.drive.specs.Exchanging.{ExchangeMoment, Exchanges, SendsFront, exchange_at, host_moment}
 use Rattle.drive.specs.Numbering.{numbered, packets_of}
 use Rattle.drive.specs.declared.counts.DriveCounts.{DriveCounts}
+use Rattle.drive.specs.declared.counts.DriveRings.{DriveRings}
 use Rattle.drive.proofs.Numbers.{number_after-count}
 use Rattle.drive.proofs.SentFrames.{sends-then}
 
 -- The header waits first, then the packets are written, and then what waits goes out.
-trace-of : (before mid after : Option (List ℕ)) (header waiting : List ℕ) (received : List (List ℕ)) → header ≡ file_header
+trace-of : (before mid after : Option (List ℕ)) (header waiting : List ℕ) (received : List (List ℕ)) → header ≡ file_header Micros
     → Appends (append_known before header) (append_known mid waiting) (packets_of 0 received) → Appends mid after waiting
-    → Appends before after (written (numbered 0 received))
+    → Appends before after (written Micros (numbered 0 received))
 trace-of before mid after header waiting received is packets flush =
-    flushed before mid after waiting (written (numbered 0 received))
+    flushed before mid after waiting (written Micros (numbered 0 received))
     (subst (λ (all : List ℕ). Appends before (append_known mid waiting) all)
-    (ap (λ (front : List ℕ). front ++ packets_of 0 received) (append-nil file_header))
-    (Appends-trans before (append_known before header) (append_known mid waiting) (written []) (packets_of 0 received)
-    (header_waits before header is) packets))
+    (ap (λ (front : List ℕ). front ++ packets_of 0 received) (append-nil (file_header Micros)))
+    (Appends-trans before (append_known before header) (append_known mid waiting) (written Micros []) (packets_of 0 received)
+    (header_waits Micros before header is) packets))
     flush
 
-pub drives-of : {B : Type 0} (bus : Ghosts B) → Composes bus.happened bus.lent_stays → (frames : List (List ℕ)) (counts : DriveCounts)
+pub drives-of : {B : Type 0} (bus : Ghosts B) → Composes bus.happened bus.lent_stays → (rings : DriveRings) (frames : List (List ℕ))
+    (counts : DriveCounts)
     (before taken after : Option (List ℕ)) (header waiting : List ℕ) (old up end : B) (host last : HostState) (mid : ExchangeMoment B)
-    → Keeps bus old up → (bus.honest old → HostReady host (bus.world up)) → header ≡ file_header
+    → Keeps bus old up → (bus.honest old → HostReady host (bus.world up)) → host.driver.layout ≡ counts_of rings → header ≡ file_header Micros
     → SendsFront bus frames counts.sent counts.illegal (exchange_at up host (append_known before header) 0) mid
     → Exchanges bus [] mid (exchange_at end last (append_known taken waiting) counts.received)
     → Appends taken after waiting
-    → Drives bus frames counts before after old end
-drives-of bus composes frames counts before taken after header waiting old up end host last mid keeps ready is sends waits flush =
+    → Drives bus rings frames counts before after old end
+drives-of bus composes rings frames counts before taken after header waiting old up end host last mid keeps ready layout is sends waits
+    flush =
     let start = exchange_at up host (append_known before header) 0 in
     let done = exchange_at end last (append_known taken waiting) counts.received in
     let all = sends-then bus composes frames sends.0 counts.sent counts.illegal start mid done sends.1 waits in
@@ -56,6 +60,7 @@ drives-of bus composes frames counts before taken after header waiting old up en
           record {
             up = host_at up host;
             ready = first;
+            layout = layout;
             end = host_moment done;
             end_is = refl;
             flows = whole.flows first;

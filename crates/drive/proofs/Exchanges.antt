@@ -27,6 +27,7 @@ use Rattle.packet_socket.specs.HostEffects.{InterruptEffect, RecvEffect, SendEff
 use Rattle.packet_socket.proofs.Effects.{Maps, flows-changed, interrupt-map, recv-map, send-map}
 use Rattle.packet_socket.proofs.Stretches.{host-happens, host-join}
 use Rattle.pcap_trace.specs.Format.{packet_of}
+use Rattle.pcap_trace.specs.declared.unit.Unit.TheVariants.{Micros}
 use Rattle.drive.specs.Exchanging.{ExchangeMoment, Exchanges, HostFlows, exchange_at, accepted_of, given_of, host_moment}
 use Rattle.drive.specs.Numbering.{next_number, packets_of}
 use Rattle.drive.proofs.Numbers.{number_after-append, packets_of-append}
@@ -178,13 +179,13 @@ pub exchange-receives : {B : Type 0} (bus : Ghosts B) → Composes bus.happened 
     (into : List ℕ) (text text' : Option (List ℕ)) (number : ℕ)
     → Keeps bus old.bus new.bus → new.host.driver.layout ≡ old.host.driver.layout
     → CallsOver bus (given_by 0 (Ok (take size into))) [] old new (RecvEffect 0 (Ok (take size into)))
-    → Appends text text' (packet_of (record { time = number; frame = take size into }))
+    → Appends text text' (packet_of Micros (record { time = number; frame = take size into }))
     → Exchanges bus [] (exchange_at old.bus old.host text number) (exchange_at new.bus new.host text' (next_number number))
 exchange-receives bus composes old new size into text text' number keeps layout receives written = record {
   keeps = keeps;
   layout = layout;
   received = take size into ∷ [];
-  written = subst (Appends text text') (sym (append-nil (packet_of (record { time = number; frame = take size into })))) written;
+  written = subst (Appends text text') (sym (append-nil (packet_of Micros (record { time = number; frame = take size into })))) written;
   count = refl;
   flows = λ is. effect-flows bus composes old new (take size into ∷ []) [] (RecvEffect 0 (Ok (take size into)))
       (recv-map 0 (Ok (take size into))) (keeps.honest is.honest) (receives true is);

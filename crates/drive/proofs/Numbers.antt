@@ -3,6 +3,7 @@ use Rattle.std.proofs.Common.{◌≡◌, ◌≤◌, ◌+◌, ◌-◌, ◌^◌, �
 use Rattle.std.specs.List.{flat_map}
 use Rattle.std.proofs.lemmas.List.Concat.{flat_map-append}
 use Rattle.pcap_trace.specs.Format.{Timed, packet_of}
+use Rattle.pcap_trace.specs.declared.unit.Unit.TheVariants.{Micros}
 use Rattle.drive.specs.Exchanging.{saturated}
 use Rattle.drive.specs.Numbering.{next_number, number_after, numbered, packets_of}
 
@@ -17,7 +18,8 @@ numbered-append n (x ∷ xs) ys = ap (λ (later : List Timed). record { time = n
 
 pub packets_of-append : (n : ℕ) (xs ys : List (List ℕ)) → packets_of n (xs ++ ys) ≡ packets_of n xs ++ packets_of (number_after n xs) ys
 packets_of-append n xs ys =
-    ap (flat_map packet_of) (numbered-append n xs ys) ∙ flat_map-append packet_of (numbered n xs) (numbered (number_after n xs) ys)
+    ap (flat_map (packet_of Micros)) (numbered-append n xs ys)
+    ∙ flat_map-append (packet_of Micros) (numbered n xs) (numbered (number_after n xs) ys)
 
 number_after-from : (n : ℕ) (xs : List (List ℕ)) → n ≤ 2 ^ 64 - 1 → number_after n xs ≡ saturated (n + length xs)
 number_after-from n [] low = omega (arith, low)

@@ -2,18 +2,26 @@
 use Rattle.std.specs.Prelude.{◌≡◌, ◌++◌, ℕ, List, Option, count_by, length, true}
 use Rattle.std.specs.Io.KnownBytes.{Appends}
 use Rattle.descriptors.specs.Frames.{is_sendable}
+use Rattle.dma_memory.specs.Layout.{Counts}
 use Rattle.bus.specs.declared.bus.Bus.{Ghosts}
 use Rattle.packet_socket.specs.HostCalls.{HostMoment, IsReadyHost}
 use Rattle.pcap_trace.specs.Format.{written}
+use Rattle.pcap_trace.specs.declared.unit.Unit.TheVariants.{Micros}
 use Rattle.drive.specs.Exchanging.{HostFlows, accepted_of_all, is_illegal, saturated}
 use Rattle.drive.specs.Numbering.{numbered}
 use Rattle.drive.specs.declared.counts.DriveCounts.{DriveCounts}
+use Rattle.drive.specs.declared.counts.DriveRings.{DriveRings}
 
--- Over a bus that obeys the law: an adapter was initialized, and then these frames were exchanged.
-pub record DrivesLawfully {B : Type 0} (bus : Ghosts B) (accepted received : List (List ℕ)) (new : B) : Type 0 where
+-- the numbers of descriptors and buffers
+abbrev pub counts_of : DriveRings → Counts
+counts_of rings = record { rx = rings.rx; tx = rings.tx; buffers = rings.buffers }
+
+-- Over a bus that obeys the law: an adapter was initialized with these rings, and then these frames were exchanged.
+pub record DrivesLawfully {B : Type 0} (bus : Ghosts B) (rings : DriveRings) (accepted received : List (List ℕ)) (new : B) : Type 0 where
   -- the moment after the initialization
   pub up : HostMoment B
   pub ready : IsReadyHost bus true up
+  pub layout : up.host.driver.layout ≡ counts_of rings
   -- the moment at the end
   pub end : HostMoment B
   pub end_is : end.bus ≡ new
@@ -22,7 +30,7 @@ pub record DrivesLawfully {B : Type 0} (bus : Ghosts B) (accepted received : Lis
 -- The first frames of the list, `handed`, were handed to the driver, each once and in order. Some frames were received, and the trace of
 -- exactly these, in order, was written. The counts are right. Over a bus that obeys the law the driver accepted those of the frames handed
 -- that have 14 to 1,518 bytes, padded, and the socket returned the frames received.
-pub record Drives {B : Type 0} (bus : Ghosts B) (frames : List (List ℕ)) (counts : DriveCounts) (before after : Option (List ℕ))
+pub record Drives {B : Type 0} (bus : Ghosts B) (rings : DriveRings) (frames : List (List ℕ)) (counts : DriveCounts) (before after : Option (List ℕ))
     (old new : B)
     : Type 0 where
   pub handed : List (List ℕ)
@@ -32,5 +40,5 @@ pub record Drives {B : Type 0} (bus : Ghosts B) (frames : List (List ℕ)) (coun
   pub illegal_is : counts.illegal ≡ saturated (count_by is_illegal handed)
   pub received : List (List ℕ)
   pub received_is : counts.received ≡ saturated (length received)
-  pub trace : Appends before after (written (numbered 0 received))
-  pub lawfully : bus.honest old → DrivesLawfully bus (accepted_of_all handed) received new
+  pub trace : Appends before after (written Micros (numbered 0 received))
+  pub lawfully : bus.honest old → DrivesLawfully bus rings (accepted_of_all handed) received new

@@ -2,6 +2,7 @@
 use Rattle.std.specs.Prelude.{◌+◌, ◌-◌, ◌^◌, ◌∷◌, [], ℕ, List, min}
 use Rattle.std.specs.List.{flat_map}
 use Rattle.pcap_trace.specs.Format.{Timed, packet_of}
+use Rattle.pcap_trace.specs.declared.unit.Unit.TheVariants.{Micros}
 
 -- Numbers of frames have 64 bits, and the greatest is kept.
 abbrev pub next_number : ℕ → ℕ
@@ -19,4 +20,4 @@ numbered n (frame ∷ later) = record { time = n; frame = frame } ∷ numbered (
 
 -- their packets, one after the other
 abbrev pub packets_of : (n : ℕ) → (frames : List (List ℕ)) → List ℕ
-packets_of n frames = flat_map packet_of (numbered n frames)
+packets_of n frames = flat_map (packet_of Micros) (numbered n frames)

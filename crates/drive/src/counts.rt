@@ -1,6 +1,17 @@
-// What a drive did, and when it ends.
+// The sizes of a driver's rings, when a drive ends, and what it did.
 
 ghost use Rattle.std.specs.Prelude.{◌↔◌, ◌≤◌, ◌+◌, IfSome, IsTrue};
+
+/// The sizes of the driver's rings, and the number of its receive buffers.
+#[derive(Clone, Copy, Debug, PartialEq, Eq)]
+pub struct DriveRings {
+    /// The number of descriptors in the receive ring.
+    pub rx: u16,
+    /// The number of descriptors in the transmit ring.
+    pub tx: u16,
+    /// The number of receive buffers.
+    pub buffers: u16,
+}
 
 /// When a drive ends.
 #[derive(Clone, Copy, Debug, PartialEq, Eq)]

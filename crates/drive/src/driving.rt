@@ -4,25 +4,28 @@ ghost use Rattle.std.specs.Prelude.{◌≡◌, ◌<◌, ◌≤◌, [], IfOk, OnO
 ghost use Rattle.std.specs.Io.KnownBytes.{append_known};
 ghost use Rattle.dma_memory.specs.Layout.{size_of};
 ghost use Rattle.bus.specs.Keeping.{Keeps};
-ghost use Rattle.drive.specs.Drives.{Drives};
+ghost use Rattle.bring_up.specs.Configuration.{configured_counts};
+ghost use Rattle.drive.specs.Drives.{Drives, counts_of};
 ghost use Rattle.drive.specs.Exchanging.{Exchanges, exchange_at};
 ghost use Rattle.packet_socket.specs.HostCalls.{HostReady};
 
 use crate::exchange::Exchange;
-use crate::{DriveCounts, DriveError, DriveLimits, WatchedBus};
+use crate::{DriveCounts, DriveError, DriveLimits, DriveRings, WatchedBus};
 use arrayvec::ArrayVec;
 use bring_up::{Config, InitError};
 use packet_socket::{Host, SocketKind};
-use pcap_trace::{Frames, RecordWriter, Sink};
+use pcap_trace::{Frames, RecordWriter, Sink, Unit};
 use qtest_bus::BusFault;
 use std::alloc::Global;
 
-/// Rings of 64 slots and 512 receive buffers, and each frame passes the filter. They take 264,192 bytes.
-fn config() -> Config {
+/// These rings, and each frame passes the filter.
+fn config(rings: &DriveRings) -> Config
+    ensures { configured_counts result ≡ counts_of rings.now }
+{
     Config {
-        rx: 64,
-        tx: 64,
-        buffers: 512,
+        rx: rings.rx,
+        tx: rings.tx,
+        buffers: rings.buffers,
         rxa: 48,
         promiscuous: true,
         groups: ArrayVec::new(),
@@ -31,14 +34,19 @@ fn config() -> Config {
 }
 
 /// Initializes the adapter, and makes a host whose only socket takes all frames.
-fn bring_up<B: WatchedBus>(alloc: Global, bus: &mut B) -> Result<Host, DriveError>
+fn bring_up<B: WatchedBus>(
+    alloc: Global,
+    bus: &mut B,
+    rings: &DriveRings,
+) -> Result<Host, DriveError>
     ensures keeps { Keeps B.Bus bus.old bus.new }
+    ensures layout { IfOk result (λ host. host.driver.layout ≡ counts_of rings.now) }
     ensures memory { IfOk result (λ host. size_of host.driver.layout ≤ B.Bus.extent bus.new) }
     ensures ready { B.Bus.honest bus.old → IfOk result (λ host. HostReady host (B.Bus.world bus.new)) }
 {
     let mut kinds = ArrayVec::new();
     kinds.push(SocketKind::All);
-    match Host::new(alloc, bus, &config(), kinds) {
+    match Host::new(alloc, bus, &config(rings), kinds) {
         Ok(host) => Ok(host),
         Err(error) => Err(reason(bus.fault(), error)),
     }
@@ -79,8 +87,9 @@ impl Exchange {
     }
 }
 
-/// Initializes an adapter, sends the frames of a list, and receives frames until `limits` are met. The frames received
-/// are written to `sink`, as a trace in which each has its number, from 0 on, as its time in microseconds.
+/// Initializes an adapter with these rings, sends the frames of a list, and receives frames until `limits` are met. The
+/// frames received are written to `sink`, as a trace in which each has its number, from 0 on, as its time in
+/// microseconds.
 ///
 /// The driver is handed the frames in order, each once. While its transmit ring is full, and after the last frame, the
 /// handler is called again and again; it reads ICR, so it finds its work even if no interrupt line is reported. While
@@ -88,22 +97,23 @@ impl Exchange {
 ///
 /// # Errors
 ///
-/// E57 if memory was refused, E46 if the adapter wasn't initialized, E67 if `sink` failed, and the fault of the bus if
-/// it stopped. At an error a part of the trace may have been written.
+/// E57 if memory was refused, E46 if the adapter wasn't initialized (E15 if these rings aren't allowed or don't fit), E67
+/// if `sink` failed, and the fault of the bus if it stopped. At an error a part of the trace may have been written.
 pub fn drive<B: WatchedBus, S: Sink>(
     alloc: Global,
     bus: &mut B,
     frames: &Frames,
+    rings: &DriveRings,
     limits: &DriveLimits,
     sink: &mut S,
 ) -> Result<DriveCounts, DriveError>
     requires countable { S.failures sink.old < u64.MAX }
     ensures keeps { Keeps B.Bus bus.old bus.new }
     ensures drives { IfOk result
-        (λ counts. Drives B.Bus frames.now counts (S.taken sink.old) (S.taken sink.new) bus.old bus.new) }
+        (λ counts. Drives B.Bus rings.now frames.now counts (S.taken sink.old) (S.taken sink.new) bus.old bus.new) }
 {
-    let writer = RecordWriter::new(alloc)?;
-    let host = bring_up(alloc, bus)?;
+    let writer = RecordWriter::new(alloc, Unit::Micros)?;
+    let host = bring_up(alloc, bus, rings)?;
     let mut exchange = Exchange {
         host,
         writer,

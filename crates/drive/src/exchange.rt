@@ -8,7 +8,7 @@ ghost use Rattle.drive.specs.Exchanging.{Exchanges, exchange_at};
 
 use crate::{DriveError, WatchedBus};
 use packet_socket::Host;
-use pcap_trace::{RecordWriter, Sink, WriteError};
+use pcap_trace::{RecordWriter, Sink, Unit, WriteError};
 
 /// The only socket of the host, which takes all frames.
 const SOCKET: usize = 0;
@@ -46,7 +46,8 @@ impl Exchange {
         let Ok(size) = self.host.recv(bus, SOCKET, &mut frame) else {
             return Ok(false);
         };
-        self.writer.write(sink, self.received, &frame[..size])?;
+        self.writer
+            .write(sink, Unit::Micros, self.received, &frame[..size])?;
         self.received = self.received.saturating_add(1);
         Ok(true)
     }

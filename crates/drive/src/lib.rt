@@ -8,7 +8,7 @@ mod exchange;
 mod sending;
 mod watched_bus;
 
-pub use counts::{DriveCounts, DriveLimits};
+pub use counts::{DriveCounts, DriveLimits, DriveRings};
 pub use drive_error::DriveError;
 pub use driving::drive;
 pub use watched_bus::WatchedBus;

@@ -15,6 +15,8 @@ use Rattle.nicbench.specs.declared.fault.Fault.TheVariants as faults
 
 abbrev pub status_of : Fault → ℕ
 status_of (faults.Program error) = program.status_of error
+status_of (faults.Open path) = program.status_of errors.Open
+status_of (faults.SameFile path) = 3
 status_of (faults.Scenario refusal) = refusals.status_of refusal
 status_of (faults.Bench error) = bench.status_of error
 status_of (faults.Serve error) = server.status_of error
@@ -35,7 +37,7 @@ schedule_fault schedules.Memory = faults.Memory
 
 -- the fault of an input or an output that can't be used
 abbrev pub file_fault : FileError → Fault
-file_fault files.Open = faults.Program errors.Open
+file_fault (files.Open path) = faults.Open path
 file_fault (files.Read error) = faults.Program (errors.Read error)
 file_fault files.Pipe = faults.Pipe
 file_fault files.Memory = faults.Memory

@@ -3,9 +3,9 @@ ghost use Rattle.std.specs.Prelude.{◌<◌};
 
 use crate::fault::Fault;
 use command_line::DriveJob;
-use drive::{DriveCounts, DriveLimits, drive};
-use pcap_bench::{Frames, ProgramError, Sink};
-use program_files::{Watched, create, read_trace};
+use drive::{DriveCounts, DriveLimits, DriveRings, drive};
+use pcap_bench::{Frames, Sink};
+use program_files::{FileError, Watched, create, read_trace};
 use qtest_bus::QtestBus;
 use std::io::{self, BufReader, Input};
 use std::rt::Files;
@@ -26,11 +26,16 @@ fn drive_adapter<R: Input + Print + AllocGlobal, S: Sink>(
         return Err(Fault::Memory);
     };
     let mut bus = QtestBus::new(rt.alloc(), input, io::writer(rt), job.registers, job.memory);
+    let rings = DriveRings {
+        rx: job.rx,
+        tx: job.tx,
+        buffers: job.buffers,
+    };
     let limits = DriveLimits {
         expect: job.expect,
         idle: job.idle.unwrap_or(IDLE),
     };
-    match drive(rt.alloc(), &mut bus, frames, &limits, sink) {
+    match drive(rt.alloc(), &mut bus, frames, &rings, &limits, sink) {
         Ok(counts) => Ok(counts),
         Err(error) => Err(Fault::Drive(error)),
     }
@@ -43,7 +48,7 @@ fn exchange<R: Files + Input + Print + Watched + AllocGlobal>(
 ) -> Result<(DriveCounts, bool), Fault> {
     if job.send == "-" {
         // Answers come from standard input.
-        return Err(Fault::Program(ProgramError::Open));
+        return Err(Fault::from(FileError::open(rt.alloc(), job.send)));
     }
     let trace = read_trace(rt, job.send)?;
     let mut sink = create(rt, job.receive)?;

@@ -9,12 +9,15 @@ use pcap_bench::{ProgramError, WriteError};
 use program_files::FileError;
 use scenario::Refusal;
 use scenario_bench::BenchError;
-use std::alloc::{AllocError, AllocFailed};
+use std::alloc::{AllocError, AllocFailed, Global};
 use std::fmt::{self, Display};
 use step_schedules::ScheduleError;
 
 /// The exit status where an image was refused.
 const BAD_IMAGE: u8 = 1;
+
+/// The exit status if `--events` names a file that the run also uses otherwise.
+const SAME_FILE: u8 = 3;
 
 /// The exit status if a schedule was refused, or wasn't met.
 const BAD_SCHEDULE: u8 = 1;
@@ -29,10 +32,14 @@ const LONG_PIPE: u8 = 3;
 const NO_MEMORY: u8 = 4;
 
 /// Why the program ended.
-#[derive(Clone, Copy)]
+#[derive(Drop)]
 pub(crate) enum Fault {
     /// A trace was refused, or didn't pass, or a file failed.
     Program(ProgramError),
+    /// The file at this path couldn't be opened or created.
+    Open(String),
+    /// The file of `--events`, at this path, is also one that the run reads, or another one that it writes.
+    SameFile(String),
     /// A scenario was refused.
     Scenario(Refusal),
     /// A scenario wasn't run to its end.
@@ -62,6 +69,8 @@ impl Display for Fault {
     fn fmt<W: fmt::Write>(&self, f: &mut fmt::Formatter<W>) -> fmt::Result {
         match self {
             Fault::Program(error) => error.fmt(f),
+            Fault::Open(path) => write!(f, "{}: {path}", ProgramError::Open),
+            Fault::SameFile(path) => write!(f, "E73 SameFile: {path}"),
             Fault::Scenario(refusal) => refusal.fmt(f),
             Fault::Bench(error) => error.fmt(f),
             Fault::Serve(error) => error.fmt(f),
@@ -78,12 +87,23 @@ impl Display for Fault {
 }
 
 impl Fault {
+    /// The fault of a run whose `--events` names a file that it also uses otherwise. It is `Memory` if there is no
+    /// memory for the path.
+    pub(crate) fn same_file(alloc: Global, path: &str) -> Fault {
+        match String::from_str(alloc, path) {
+            Ok(path) => Fault::SameFile(path),
+            Err(_) => Fault::Memory,
+        }
+    }
+
     /// The exit status of the program: 1 for what was refused, 3 for a file that failed, 4 if memory is refused.
     pub(crate) fn status(&self) -> u8
         ensures { result ≡ status_of self.now }
     {
         match self {
             Fault::Program(error) => error.status(),
+            Fault::Open(_) => ProgramError::Open.status(),
+            Fault::SameFile(_) => SAME_FILE,
             Fault::Scenario(refusal) => refusal.status(),
             Fault::Bench(error) => error.status(),
             Fault::Serve(error) => error.status(),
@@ -111,7 +131,7 @@ impl From<FileError> for Fault {
 
     fn from(error: FileError) -> Fault {
         match error {
-            FileError::Open => Fault::Program(ProgramError::Open),
+            FileError::Open(path) => Fault::Open(path),
             FileError::Read(error) => Fault::Program(ProgramError::Read(error)),
             FileError::Pipe => Fault::Pipe,
             FileError::Memory => Fault::Memory,

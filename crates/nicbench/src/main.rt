@@ -6,12 +6,14 @@
 ghost use Rattle.command_line.specs.Jobs.{HasBounds};
 
 mod drive_job;
+mod events_file;
 mod fault;
 mod pass;
 mod run;
 mod schedules;
 mod serve;
 mod show;
+mod unit;
 
 use crate::drive_job::run_drive;
 use crate::fault::Fault;

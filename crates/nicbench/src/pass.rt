@@ -3,6 +3,7 @@ ghost use Rattle.std.specs.Prelude.{◌<◌};
 ghost use Rattle.pcap_bench.specs.Options.{HasVlanNumber};
 
 use crate::fault::Fault;
+use crate::unit::unit_of;
 use command_line::PassJob;
 use pcap_bench::{PassCounts, ProgramError, Sink, Trace, WriterSink, pass, print_pass};
 use program_files::{StandardError, Watched, create_whole, read_trace};
@@ -22,7 +23,8 @@ fn pass_trace<R: AllocGlobal, S: Sink>(
     requires number { HasVlanNumber job.now.filter }
     requires countable { S.failures sink.old < u64.MAX }
 {
-    match pass(rt.alloc(), trace, &job.filter, sink) {
+    let unit = unit_of(job.nanos);
+    match pass(rt.alloc(), trace, &job.filter, unit, sink) {
         Ok(counts) => Ok(counts),
         Err(error) => Err(Fault::Program(ProgramError::Pass(error))),
     }

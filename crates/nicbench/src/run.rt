@@ -2,16 +2,17 @@
 ghost use Rattle.std.specs.Prelude.{◌≡◌, ◌+◌, All, IfOk, IfSome, OnOk, length};
 ghost use Rattle.nicbench.specs.Sinks.{sockets_in, wires_in};
 
+use crate::events_file::create_events_sink;
 use crate::fault::Fault;
+use crate::unit::unit_of;
 use command_line::RunJob;
 use network_plan::HostPlan;
 use pcap_bench::{Sink, Trace, WriterSink};
 use program_files::{
-    FileSink, StandardError, Watched, create, create_all, find_folder, read_bytes, read_trace,
-    report_play,
+    FileSink, StandardError, Watched, create_all, find_folder, read_bytes, read_trace, report_play,
 };
 use scenario::Scenario;
-use scenario_bench::{Summary, bench, bench_wires, print_summary, wires};
+use scenario_bench::{Refusals, Summary, bench, bench_wires, print_summary, wires};
 use std::alloc::{AllocError, Global};
 use std::io::{self, Input};
 use std::rt::Files;
@@ -56,7 +57,7 @@ fn push_socket_files(
 }
 
 /// The name of the file of each socket, hosts in order and the sockets of each in order.
-fn socket_files(alloc: Global, plans: &[HostPlan]) -> Result<Vec<String>, AllocError>
+pub(crate) fn socket_files(alloc: Global, plans: &[HostPlan]) -> Result<Vec<String>, AllocError>
     ensures { IfOk result (λ names. length names.items ≡ sockets_in plans.now) }
 {
     let mut names = Vec::new(alloc);
@@ -68,7 +69,7 @@ fn socket_files(alloc: Global, plans: &[HostPlan]) -> Result<Vec<String>, AllocE
 
 /// The name of the file of each wire, `WIRE.pcap`, in the order in which the hosts first name them. It is no socket's
 /// file: the name of a wire has no dot, and the name of a socket's file has a second one.
-fn wire_files(alloc: Global, plans: &[HostPlan]) -> Result<Vec<String>, AllocError>
+pub(crate) fn wire_files(alloc: Global, plans: &[HostPlan]) -> Result<Vec<String>, AllocError>
     ensures { IfOk result (λ names. length names.items ≡ wires_in plans.now) }
 {
     let found = wires(alloc, plans)?;
@@ -110,19 +111,6 @@ fn create_wire_sinks<R: Files + AllocGlobal>(
     Ok(sinks)
 }
 
-/// The file of the lines of events, if they go to a file.
-fn create_events_sink<R: Files>(
-    rt: &R,
-    job: &RunJob<'_>,
-) -> Result<Option<FileSink<R::File>>, Fault>
-    ensures { IfOk result (λ file. IfSome file (λ sink. ⟦<FileSink<R::File> as Sink>⟧.failures sink ≡ 0)) }
-{
-    match job.events {
-        Some(path) => Ok(Some(create(rt, path)?)),
-        None => Ok(None),
-    }
-}
-
 /// Makes sure that the files of the wires can be written, too, plays a scenario, and writes the files of the sockets
 /// and then those of the wires.
 fn play_wires<R: Files + Watched + AllocGlobal>(
@@ -142,6 +130,7 @@ fn play_wires<R: Files + Watched + AllocGlobal>(
         rt.alloc(),
         scenario,
         traces,
+        unit_of(job.nanos),
         sinks,
         wire_sinks.as_mut_slice(),
         job.events.is_some(),
@@ -166,24 +155,30 @@ fn play<R: Files + Watched + AllocGlobal>(
         return play_wires(rt, job, scenario, traces, sinks.as_mut_slice());
     }
     report_play(rt, traces);
-    let events = job.events.is_some();
-    match bench(rt.alloc(), scenario, traces, sinks.as_mut_slice(), events) {
+    let (unit, events) = (unit_of(job.nanos), job.events.is_some());
+    match bench(
+        rt.alloc(),
+        scenario,
+        traces,
+        unit,
+        sinks.as_mut_slice(),
+        events,
+    ) {
         Ok(summary) => Ok(summary),
         Err(error) => Err(Fault::Bench(error)),
     }
 }
 
-/// Warns on standard error, once, if sends were refused, or if recvs named a socket that doesn't exist. The status is
-/// the same.
+/// Warns on standard error, once, if calls that the scenario asked for were refused. The status is the same.
 fn warn<R: Eprint>(rt: &R, summary: &Summary) {
-    let Summary {
-        refused,
-        absent,
-        ..
-    } = summary;
-    if *refused > 0 || *absent > 0 {
+    let Refusals {
+        sends,
+        groups,
+        sockets,
+    } = summary.asked;
+    if sends > 0 || groups > 0 || sockets > 0 {
         let _ = eprintln!(rt;
-            "nicbench: sends refused {refused}, recvs of absent sockets {absent}; --events lists them"
+            "nicbench: refused: sends {sends}, joins and leaves {groups}, recvs {sockets}; --events lists them"
         );
     }
 }
@@ -228,7 +223,7 @@ pub(crate) fn run_scenario<R: Files + Input + Print + Watched + AllocGlobal>(
         warn(rt, &summary);
         return Ok(());
     }
-    let file = create_events_sink(rt, job)?;
+    let file = create_events_sink(rt, job, &scenario)?;
     let summary = play(rt, job, &scenario, traces.as_slice())?;
     print(rt, &summary, file)?;
     warn(rt, &summary);

@@ -3,7 +3,7 @@
 use crate::fault::Fault;
 use command_line::ServeJob;
 use pcap_bench::{ProgramError, WriteError};
-use program_files::{LateFile, create_file, read_bytes};
+use program_files::{FileError, LateFile, create_file, read_bytes};
 use schedule_options::is_for;
 use schedule_player::Player;
 use std::alloc::Global;
@@ -25,7 +25,7 @@ fn read_schedule<R: Files + Input + AllocGlobal>(
     job: &ServeJob<'_>,
 ) -> Result<Schedule, Fault> {
     if path == STANDARD_INPUT {
-        return Err(Fault::Program(ProgramError::Open));
+        return Err(Fault::from(FileError::open(rt.alloc(), path)));
     }
     let bytes = read_bytes(rt, path)?;
     let schedule = Schedule::parse(rt.alloc(), bytes.as_slice())?;
@@ -53,7 +53,7 @@ pub(crate) fn player_of<R: Files + Input + AllocGlobal>(
 }
 
 /// The file of a recorded schedule, if the job wants one. It keeps its bytes until the schedule is stored.
-pub(crate) fn record_of<R: Files>(
+pub(crate) fn record_of<R: Files + AllocGlobal>(
     rt: &R,
     job: &ServeJob<'_>,
 ) -> Result<Option<LateFile<R::File>>, Fault> {

@@ -3,19 +3,29 @@ ghost use Rattle.std.specs.Prelude.{◌≡◌};
 ghost use Rattle.program_files.specs.declared.file_error.FileError.TheVariants as errors;
 
 use pcap_trace::ReadError;
-use std::alloc::{AllocError, AllocFailed};
+use std::alloc::{AllocError, AllocFailed, Global};
 
 /// Why an input or an output can't be used.
-#[derive(Clone, Copy)]
+#[derive(Drop)]
 pub enum FileError {
-    /// E68: a file can't be opened or created.
-    Open,
+    /// E68: the file at this path can't be opened or created.
+    Open(String),
     /// A trace is refused, or an input can't be read.
     Read(ReadError),
     /// E72: standard input or a pipe has more bytes than are read.
     Pipe,
     /// E57: memory was refused.
     Memory,
+}
+
+impl FileError {
+    /// The error for a path whose file can't be opened or created. It is `Memory` if there is no memory for the path.
+    pub fn open(alloc: Global, path: &str) -> FileError {
+        match String::from_str(alloc, path) {
+            Ok(path) => FileError::Open(path),
+            Err(_) => FileError::Memory,
+        }
+    }
 }
 
 impl From<ReadError> for FileError {

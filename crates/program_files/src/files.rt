@@ -7,12 +7,15 @@ use crate::progress::{ReportingReader, Watched};
 use pcap_trace::{ReadError, ReaderSource, Sink, SliceSource, Trace, WriterSink};
 use std::alloc::Global;
 use std::fs::{self, Metadata, OpenFile, OpenOptions};
-use std::io::{ErrorKind, Input, Read};
-use std::os::unix::fs::FileTypeExt;
+use std::io::{self, ErrorKind, Input, Read};
+use std::os::unix::fs::{FileTypeExt, MetadataExt};
 use std::rt::Files;
 
 /// The path that stands for standard input.
 const STANDARD_INPUT: &str = "-";
+
+/// The path of the file that is standard input, if it is one.
+const STANDARD_INPUT_FILE: &str = "/dev/stdin";
 
 /// The most bytes that standard input or a pipe may have: 1 GiB.
 const MOST_PIPED: u64 = 1 << 30;
@@ -49,12 +52,12 @@ fn read_pipe<S: Read + Drop>(alloc: Global, reader: S) -> Result<Vec<u8>, FileEr
 }
 
 /// Opens a path, and looks what it is.
-fn open_path<R: Files>(rt: &R, path: &str) -> Result<(R::File, Metadata), FileError> {
+fn open_path<R: Files + AllocGlobal>(rt: &R, path: &str) -> Result<(R::File, Metadata), FileError> {
     let Ok(file) = fs::open(rt, path) else {
-        return Err(FileError::Open);
+        return Err(FileError::open(rt.alloc(), path));
     };
     let Ok(metadata) = file.metadata() else {
-        return Err(FileError::Open);
+        return Err(FileError::open(rt.alloc(), path));
     };
     Ok((file, metadata))
 }
@@ -73,7 +76,7 @@ fn open<R: Files + Input + AllocGlobal>(rt: &R, path: &str) -> Result<Opened<R::
     } else if kind.is_dir() {
         Err(FileError::Read(ReadError::Read))
     } else {
-        Err(FileError::Open)
+        Err(FileError::open(rt.alloc(), path))
     }
 }
 
@@ -118,15 +121,18 @@ pub fn read_front<R: Files + Input + AllocGlobal>(
 }
 
 /// A file that is written. It is made if there is none; else it keeps its bytes until the first new byte.
-pub fn create_file<R: Files>(rt: &R, path: &str) -> Result<LateFile<R::File>, FileError> {
+pub fn create_file<R: Files + AllocGlobal>(
+    rt: &R,
+    path: &str,
+) -> Result<LateFile<R::File>, FileError> {
     match OpenOptions::new().write(true).create(true).open(rt, path) {
         Ok(file) => Ok(LateFile::new(file)),
-        Err(_) => Err(FileError::Open),
+        Err(_) => Err(FileError::open(rt.alloc(), path)),
     }
 }
 
 /// A file as a sink. It is made if there is none; else it keeps its bytes until the sink's first byte.
-pub fn create<R: Files>(rt: &R, path: &str) -> Result<FileSink<R::File>, FileError>
+pub fn create<R: Files + AllocGlobal>(rt: &R, path: &str) -> Result<FileSink<R::File>, FileError>
     ensures { IfOk result (λ sink. ⟦<FileSink<R::File> as Sink>⟧.failures sink ≡ 0) }
 {
     Ok(WriterSink::new(create_file(rt, path)?))
@@ -140,10 +146,10 @@ fn create_in<R: Files + AllocGlobal>(
 ) -> Result<FileSink<R::File>, FileError>
     ensures { IfOk result (λ sink. ⟦<FileSink<R::File> as Sink>⟧.failures sink ≡ 0) }
 {
-    if name.contains('/') {
-        return Err(FileError::Open);
-    }
     let path = format!(in rt.alloc(); "{directory}/{name}")?;
+    if name.contains('/') {
+        return Err(FileError::Open(path));
+    }
     create(rt, path.as_str())
 }
 
@@ -165,9 +171,25 @@ pub fn create_all<R: Files + AllocGlobal>(
 }
 
 /// Looks whether a folder is there.
-pub fn find_folder<R: Files>(rt: &R, path: &str) -> Result<(), FileError> {
+pub fn find_folder<R: Files + AllocGlobal>(rt: &R, path: &str) -> Result<(), FileError> {
     match fs::metadata(rt, path) {
         Ok(metadata) if metadata.is_dir() => Ok(()),
-        _ => Err(FileError::Open),
+        _ => Err(FileError::open(rt.alloc(), path)),
+    }
+}
+
+/// Looks what an input or an output is. Links are followed.
+fn metadata_of<R: Files>(rt: &R, path: &str) -> io::Result<Metadata> {
+    if path == STANDARD_INPUT {
+        return fs::metadata(rt, STANDARD_INPUT_FILE);
+    }
+    fs::metadata(rt, path)
+}
+
+/// Whether the path of an output and that of an input, or of another output, are of one plain file.
+pub fn is_same_file<R: Files>(rt: &R, output: &str, other: &str) -> bool {
+    match (fs::metadata(rt, output), metadata_of(rt, other)) {
+        (Ok(one), Ok(two)) => one.is_file() && one.dev() == two.dev() && one.ino() == two.ino(),
+        _ => false,
     }
 }

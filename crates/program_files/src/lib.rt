@@ -10,7 +10,8 @@ mod whole_file;
 
 pub use file_error::FileError;
 pub use files::{
-    FileSink, create, create_all, create_file, find_folder, read_bytes, read_front, read_trace,
+    FileSink, create, create_all, create_file, find_folder, is_same_file, read_bytes, read_front,
+    read_trace,
 };
 pub use late_file::LateFile;
 pub use progress::{Watched, report_play};

@@ -127,7 +127,7 @@ fn open_replaceable<R: Files + AllocGlobal>(
     ensures { IfOk result (λ file. ⟦<FileSink<R::File> as Sink>⟧.failures file.sink ≡ 0) }
 {
     let Ok(file) = OpenOptions::new().write(true).open(rt, path) else {
-        return Err(FileError::Open);
+        return Err(FileError::open(rt.alloc(), path));
     };
     match part_like(rt, path, old)? {
         Some((part, name)) => Ok(WholeFile::beside(part, name)),

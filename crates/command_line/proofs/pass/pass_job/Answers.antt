@@ -1,7 +1,7 @@
-use Rattle.std.proofs.Common.{◌≤◌, codes}
+use Rattle.std.proofs.Common.{◌≤◌, codes, refl}
 use Rattle.clap.specs.Words.{first_of, found_of, rows_of}
 use Rattle.command_line.specs.Spelling.{IsGroup, SpellsGroup, SpellsVlan}
-use Rattle.command_line.proofs.Values.{is_got, of_value, some_text}
+use Rattle.command_line.proofs.Values.{flag_value, is_got, of_value, some_text, text_of}
 use Rattle.command_line.proofs.pass.pass_job.Goals as goal
 
 pub unwrap-input-requires : goal.unwrap-input-requires
@@ -17,6 +17,8 @@ returns-clause-job c = record {
       c.unwrap-input.ensures;
   output = some_text (found_of c.args.matches.now) (codes "OUT") c.get_str-2.result c.unwrap-output.result c.get_str-2.ensures
       c.unwrap-output.ensures;
+  nanos = flag_value _ c.get_str-3.result _ c.eq-nanos.result refl
+      (text_of (found_of c.args.matches.now) (codes "nanos") c.get_str-3.result c.get_str-3.ensures) c.eq-nanos.ensures;
 }
 
 pub returns-clause-bounds : goal.returns-clause-bounds

@@ -17,5 +17,7 @@ returns c = record {
       c.unwrap-directory.ensures;
   wires = flag_value _ c.get_str-3.result _ c.eq-wires.result refl
       (text_of (found_of c.args.matches.now) (codes "wires") c.get_str-3.result c.get_str-3.ensures) c.eq-wires.ensures;
+  nanos = flag_value _ c.get_str-4.result _ c.eq-nanos.result refl
+      (text_of (found_of c.args.matches.now) (codes "nanos") c.get_str-4.result c.get_str-4.ensures) c.eq-nanos.ensures;
   events = text_of (found_of c.args.matches.now) (codes "events") c.get_str-events.result c.get_str-events.ensures;
 }
