@@ -6,6 +6,8 @@ mod drains;
 #[cfg(test)]
 mod logs;
 #[cfg(test)]
+mod memory_tests;
+#[cfg(test)]
 mod no_memory;
 #[cfg(test)]
 mod outlet;
