@@ -26,6 +26,7 @@ bracketed number = codes "[" ++ number ++ codes "]"
 
 -- Registers.
 
+-- the name of a register of the receive ring
 abbrev pub receive_register : RingRegister → Text
 receive_register BaseLow = codes "RDBAL"
 receive_register BaseHigh = codes "RDBAH"
@@ -33,6 +34,7 @@ receive_register Length = codes "RDLEN"
 receive_register Head = codes "RDH"
 receive_register Tail = codes "RDT"
 
+-- the name of a register of the transmit ring
 abbrev pub transmit_register : RingRegister → Text
 transmit_register BaseLow = codes "TDBAL"
 transmit_register BaseHigh = codes "TDBAH"
@@ -73,6 +75,7 @@ array_index (Rah entry) = Some entry
 array_index (Vfta word) = Some word
 array_index register = None
 
+-- an index in brackets, if there is one
 abbrev pub index_text : Option ℕ → Text
 index_text (Some index) = bracketed (decimal index)
 index_text None = []
@@ -84,6 +87,7 @@ register_text None offset = codes "register" ++ bracketed (hexadecimal offset)
 
 -- Descriptors.
 
+-- the name of an engine's ring
 abbrev pub ring_text : Engine → Text
 ring_text engines.Receive = codes "rx"
 ring_text engines.Transmit = codes "tx"

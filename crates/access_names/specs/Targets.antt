@@ -22,6 +22,7 @@ abbrev pub target_in_ring : Engine → Ring → ℕ → Option Target
 target_in_ring engine ring address =
     if is_in_ring ring address then Some (descriptor_at engine (address - ring.base)) else None
 
+-- the first target, if there is one; otherwise the second
 abbrev pub or_else : Option Target → Target → Target
 or_else (Some target) other = target
 or_else None other = other

@@ -24,6 +24,7 @@ pub data AdapterEvent : Type 0 where
   Step : StepKind → FrameOutcome → List ℕ → AdapterEvent
   Arrive : Fate → List ℕ → AdapterEvent
 
+-- The adapter after an event.
 abbrev pub after_event : AdapterEvent → AdapterState → AdapterState
 after_event (Read offset) state = after_read offset state
 after_event (Write offset value) state = after_write offset value state
@@ -79,6 +80,7 @@ pub record ReadsByHistory (register : Register) (kept : ℕ) (words : List ℕ) 
       → is_reset_event event ≡ true → NoneSets (row_of register).offset after
       → reads words link (before ++ event ∷ after) (row_of register).offset ≡ (row_of register).reset words
 
+-- Each register whose kept bits are its rule reads by its history.
 abbrev pub PlainByHistory : Type 0
 PlainByHistory =
     (register : Register) (kept : ℕ) (words : List ℕ) (link : Link)

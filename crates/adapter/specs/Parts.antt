@@ -27,6 +27,7 @@ eerd_operation (Step EepromTick answer memory) = eerd.Tick ∷ []
 eerd_operation (Step kind answer memory) = []
 eerd_operation (Arrive fate frame) = []
 
+-- What comes to EERD of a list of events, resets apart.
 abbrev pub eerd_operations : List AdapterEvent → List eerd.Operation
 eerd_operations [] = []
 eerd_operations (event ∷ later) = eerd_operation event ++ eerd_operations later
@@ -45,6 +46,7 @@ mdic_event (Step PhyTick answer memory) = mdic.Tick ∷ []
 mdic_event (Step kind answer memory) = []
 mdic_event (Arrive fate frame) = []
 
+-- What comes to MDIC of a list of events.
 abbrev pub mdic_events : List AdapterEvent → List MdicEvent
 mdic_events [] = []
 mdic_events (event ∷ later) = mdic_event event ++ mdic_events later
@@ -56,13 +58,18 @@ NoReset events = list_any is_reset_event events ≡ false
 -- EERD reads what the law of its history says of what came to it since power-on or the last reset;
 -- MDIC reads what the law of its history says of what came to it since power-on, and so stands the PHY.
 pub record PartsByHistory (words : List ℕ) (link : Link) : Type 0 where
+  -- Without a reset, EERD reads by all that came to it.
   pub eerd_since_power_on : (all : List AdapterEvent) → NoReset all
       → reads words link all (row_of Eerd).offset ≡ eerd.reads_after words (eerd_operations all)
+  -- After a reset, EERD reads by what came to it since then.
   pub eerd_since_reset : (before : List AdapterEvent) (event : AdapterEvent) (after : List AdapterEvent) → is_reset_event event ≡ true
       → NoReset after
       → reads words link (before ++ event ∷ after) (row_of Eerd).offset ≡ eerd.reads_after words (eerd_operations after)
+  -- MDIC reads by all that came to it.
   pub mdic : (all : List AdapterEvent) → reads words link all (row_of Mdic).offset ≡ mdic_reads (new_phy link) (mdic_events all)
+  -- The PHY's state is that after all that came to MDIC.
   pub phy : (all : List AdapterEvent) → (after_events all (new_adapter words link)).phy ≡ phy_of (new_phy link) (mdic_events all)
 
+-- This holds for each EEPROM image and each setting of the link.
 abbrev pub PartsHaveTheirLaws : Type 0
 PartsHaveTheirLaws = (words : List ℕ) (link : Link) → PartsByHistory words link

@@ -14,16 +14,25 @@ use Rattle.adapter.specs.World.{World, receive_ring, transmit_ring}
 -- The frames to be sent can be read: the ring is inside memory, and so is the data of the descriptors from TDH to TDT, at most 1,518
 -- bytes each.
 pub record CanReadSending (world : World) : Type 0 where
+  -- The transmit ring is in memory.
   pub ring : LiesWhole world.memory (transmit_ring world)
+  -- TDH is a slot of the ring, unless the adapter owns no descriptor.
   pub slot : ((transmit_ring world).head < count_of (transmit_ring world)) ⊎ (offered_places (transmit_ring world) ≡ [])
+  -- The data of each descriptor from TDH to TDT is in memory, and has at most 1,518 bytes.
   pub queued : All (λ slot. CanBeCopied world.memory (address_of (transmit_ring world) slot)) (offered_places (transmit_ring world))
 
 -- The frames that are held can be read: the ring is inside memory, and so are the pieces in the finished slots and the one in progress.
 -- No frame has more than 1,518 bytes.
 pub record CanReadHeld (oldest : ℕ) (world : World) : Type 0 where
+  -- The receive ring is in memory.
   pub ring : LiesWhole world.memory (receive_ring world)
+  -- The oldest slot that the driver hasn't taken is in the ring, unless there is none.
   pub slot : (oldest < count_of (receive_ring world)) ⊎ (outstanding (receive_ring world) oldest ≡ [])
+  -- The pieces of the finished slots are in memory.
   pub finished : All (NamesMemory world.memory) (finished oldest world)
+  -- The descriptor of the piece in progress is in memory.
   pub work : ForSome world.adapter.receiver.work (λ work. LiesIn world.memory work.descriptor 16)
+  -- The piece in progress is in memory.
   pub piece : ForSome world.adapter.receiver.work (λ work. LiesIn world.memory (named_address world.memory work.descriptor) work.length)
+  -- No frame in these pieces has more than 1,518 bytes.
   pub short : AreShort [] (pieces_in_slots oldest world)

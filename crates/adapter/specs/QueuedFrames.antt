@@ -7,8 +7,11 @@ use Rattle.tx_engine.specs.Fetching.{descriptor_at, frame_at}
 
 -- The bytes that a descriptor names lie in memory, and are at most 1,518.
 pub record CanBeCopied (memory : List ℕ) (descriptor : ℕ) : Type 0 where
+  -- The bytes are in memory.
   pub lies : LiesIn memory (descriptor_at memory descriptor).address (descriptor_at memory descriptor).length
+  -- There are at most 1,518.
   pub short : (descriptor_at memory descriptor).length ≤ 1518
 
+-- The frames of the descriptors from head to tail, padded if the adapter pads.
 abbrev pub queued_in : Bool → List ℕ → Ring → List (List ℕ)
 queued_in pad memory ring = map (λ (slot : ℕ). frame_at pad memory (address_of ring slot)) (offered_places ring)

@@ -84,7 +84,9 @@ IsInTable register = Unit {0}
 
 -- the register stands at this offset
 pub record StandsAt (offset : ℕ) (register : Register) : Type 0 where
+  -- Its number is one that its array has.
   pub in_table : IsInTable register
+  -- Its row has this offset.
   pub there : (row_of register).offset ≡ offset
 
 -- the registers that are no part of an array

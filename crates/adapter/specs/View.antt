@@ -30,6 +30,7 @@ state_of inside = record {
   transmitter = inside.transmitter;
 }
 
+-- What holds of the fields at all times.
 abbrev pub IsConsistent : Inside → Type 0
 IsConsistent inside = IsAdapter (state_of inside)
 

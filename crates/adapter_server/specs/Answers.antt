@@ -13,7 +13,8 @@ use Rattle.adapter.specs.declared.step.StepKind.{StepKind}
 use Rattle.pci_function.specs.Ports.{after_write, answer_at}
 use Rattle.pci_function.specs.declared.port_width.PortWidth.{PortWidth}
 use Rattle.rx_engine.specs.declared.arrival.Fate.{Fate}
-use Rattle.served_device.specs.Devices.{Happened, Prints, Settles, Steps, most_rounds}
+use Rattle.played_adapter.specs.Playing.{most_rounds}
+use Rattle.served_device.specs.Devices.{Happened, Prints, Settles, Steps}
 use Rattle.served_device.specs.Happenings.{Logged}
 use Rattle.server_output.specs.Order.{Both, Joins, Tells, TellsPart}
 use Rattle.server_requests.specs.Reading.{request_in}
@@ -40,13 +41,18 @@ use Rattle.adapter_server.specs.declared.snapshot.Server.{Server}
 
 -- What happens is printed, and then the line of the answer.
 pub record Answered (Happens : Text → Type 0) (line : Text) (text : Text) : Type 0 where
+  -- what was printed of what happened
   pub told : Text
+  -- it happened
   pub happens : Happens told
+  -- the line of the answer comes last
   pub text_is : text ≡ told ++ line
 
 -- A line is answered, and the state is this one afterwards.
 pub record Replies {S : Type 0} (line : Text) (b' b : S) (text : Text) : Type 0 where
+  -- the state afterwards
   pub after : b ≡ b'
+  -- nothing but the line was written
   pub text_is : text ≡ line
 
 -- A request is refused, and changes nothing.
@@ -95,15 +101,18 @@ ReadsAt (Ok (Register offset)) wanted address said a b text = ReadsRegister offs
 ReadsAt (Ok Memory) wanted address said a b text = ReadsMemory address wanted said a b text
 ReadsAt (Err refusal) wanted address said a b text = Refuses refusal a b text
 
+-- Bytes are stored where a place was found; otherwise the request is refused.
 abbrev pub WritesAt : Result Place Refusal → (address : ℕ) → List ℕ → (said : Text) → Session → Session → Text → Type 0
 WritesAt (Ok place) address bytes said a b text =
     (m : Session) × PacedThen (Accessed (write_to place address bytes) said a) m ok_line b text
 WritesAt (Err refusal) address bytes said a b text = Refuses refusal a b text
 
+-- A step is played, and its outcome is the answer.
 abbrev pub AnswersStep : StepKind → Session → Session → Text → Type 0
 AnswersStep kind a b text =
     (outcome : Outcome (Unit {0})) × Answered (OnDevice (Steps kind outcome) a b) (word_line (outcome_word outcome)) text
 
+-- A frame arrives, and its fate is the answer.
 abbrev pub AnswersArrival : (frame : List ℕ) → (said : Text) → Session → Session → Text → Type 0
 AnswersArrival frame said a b text =
     (fate : Fate) × (m : Session)
@@ -126,6 +135,7 @@ line_number device = if is_asserted device.machine.world.adapter then 1 else 0
 abbrev pub Changes : (change : Session → Session) → Session → Session → Text → Type 0
 Changes change a b text = Replies ok_line (change a) b text
 
+-- the session after a write of a port of the PCI function
 abbrev pub with_port_written : PortWidth → (port value : ℕ) → Session → Session
 with_port_written width port value session = record session { function = after_write port width value session.function }
 
@@ -158,9 +168,13 @@ AnswersFaults a b text = Replies (faults_line a.device.faults) (record a { devic
 
 -- All offered frames arrive, rounds are played, and then it is this time.
 pub record SettlesUntil (time : ℕ) (a b : Session) (text : Text) : Type 0 where
+  -- how many steps did something
   pub moved : ℕ
+  -- the session before the clock is set
   pub settled : Session
+  -- what happened
   pub settles : SettlesAll moved a settled text
+  -- nothing changes then but the clock
   pub after : b ≡ record settled { clock = time }
 
 -- The time is the answer. If the clock can't show it, the request is refused.
@@ -176,7 +190,9 @@ time_after clock nanoseconds = if nat_lt (clock + nanoseconds) (2 ^ 64) then Som
 
 -- The adapter and its memory answer, and nothing else changes.
 pub record OnSession (Answers : Session → Session → Text → Type 0) (a b : Server) (text : Text) : Type 0 where
+  -- the answer
   pub answers : Answers a.session b.session text
+  -- nothing changes but the session
   pub after : b ≡ record a { session = b.session }
 
 -- what reports that the interrupt line of one session is that of another from now on
@@ -221,11 +237,14 @@ abbrev pub Obeys : Request → (said : Text) → Server → Server → Text → 
 Obeys request said a b text =
     Joins (λ middle first. OnSession (RoundBegins request) a middle first) (λ middle rest. Does request said middle b rest) text
 
+-- A request is obeyed, or refused.
 abbrev pub AnswersTo : Result Request Refusal → (said : Text) → Server → Server → Text → Type 0
 AnswersTo (Ok request) said a b text = Obeys request said a b text
 AnswersTo (Err refusal) said a b text = Refuses refusal a b text
 
 -- A line's request is answered; a line that isn't UTF-8 is refused.
 pub record AnswersLine (line : Text) (a b : Server) (text : Text) : Type 0 where
+  -- a line in UTF-8 is read, and its request answered
   pub asked : IsUtf8 line → AnswersTo (request_in (words_of line)) line a b text
+  -- another line is refused
   pub other : (¬ (IsUtf8 line)) → Refuses refusals.Text a b text

@@ -15,6 +15,7 @@ use Rattle.served_session.specs.declared.session.Session.{Session}
 abbrev pub pba : ℕ
 pba = 0x1000
 
+-- the adapter with this value in MPC
 abbrev pub with_missed : ℕ → AdapterState → AdapterState
 with_missed count adapter = record adapter { missed_packets = count }
 

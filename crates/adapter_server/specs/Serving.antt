@@ -36,10 +36,15 @@ ServesWhole bytes begin last text = Serves (lines_of bytes) begin last text
 
 -- The first lines of these bytes are answered, each in full, in order, and nothing else is written.
 pub record ServesFront (bytes : List ℕ) (begin : Server) (text : Text) : Type 0 where
+  -- the lines that are answered
   pub answered : List Text
+  -- the other lines
   pub left : List Text
+  -- both together are all lines
   pub lines : lines_of bytes ≡ answered ++ left
+  -- the server after them
   pub last : Server
+  -- their answers, one after the other
   pub serves : Serves answered begin last text
 
 -- a beginning of the text of some events that happen in order, or of the answer to the first of these lines
@@ -49,20 +54,32 @@ BeginsNext (line ∷ later) a text = Begins (Reaches (Turns line a) a.session.de
 
 -- The first lines of these bytes are answered, each in full, in order. Then at most a part of the next answer is written.
 pub record ServesBegun (bytes : List ℕ) (begin : Server) (text : Text) : Type 0 where
+  -- the lines that are answered in full
   pub answered : List Text
+  -- the other lines
   pub left : List Text
+  -- both together are all lines
   pub lines : lines_of bytes ≡ answered ++ left
+  -- the server after the full answers
   pub last : Server
+  -- the full answers
   pub front : Text
+  -- what was written of the next answer
   pub part : Text
+  -- the full answers, one after the other
   pub serves : Serves answered begin last front
+  -- the part is a beginning of the next answer
   pub begun : BeginsNext left last part
+  -- nothing else was written
   pub text_is : text ≡ front ++ part
 
 -- All lines are answered, in order, and this is the player after them.
 pub record ServesTo (bytes : List ℕ) (begin : Server) (left : Option PlayerState) (text : Text) : Type 0 where
+  -- the server after all lines
   pub last : Server
+  -- the answers, one after the other
   pub serves : ServesWhole bytes begin last text
+  -- its player is the result
   pub player : left ≡ last.session.player
 
 -- From a new server with this player on, all lines are answered, and this is the player after them.

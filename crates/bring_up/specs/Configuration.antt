@@ -19,12 +19,18 @@ vlans_of (Some vlans) = vlans.items
 
 -- RXA, the groups and the VLANs are valid.
 pub record HasRightNumbers (config : Config) : Type 0 where
+  -- RXA is even, from 2 to 48
   pub allocation : IsAllocation config.rxa
+  -- the first byte of each group is odd
   pub groups : All IsGroup config.groups.items
+  -- each VLAN is below 4,096
   pub vlans : All (λ vlan. vlan < table_numbers) (vlans_of config.vlans)
 
 -- It is valid in a memory of this size, in bytes.
 pub record CanBeHad (config : Config) (size : ℕ) : Type 0 where
+  -- rings and buffers have valid sizes
   pub counts : IsAllowed (configured_counts config)
+  -- RXA, groups and VLANs are valid
   pub numbers : HasRightNumbers config
+  -- memory has room for the layout
   pub room : size_of (configured_counts config) ≤ size

@@ -74,18 +74,22 @@ all_writes config address groups vlans = writes_before_rings config address grou
 
 -- RCTL, VFTA and the exact addresses of the receive filter, which don't change after initialization
 pub record FilterHasSetup (setup : DriverSetup) (filter : FilterRegisters) : Type 0 where
+  -- RCTL
   pub receive_control_is : filter.rctl ≡ receive_control setup.promiscuous setup.by_vlan
   -- VFTA has the VLANs.
   pub vlans : HasNumbers filter.vfta setup.vlans
+  -- each word of VFTA has 32 bits
   pub words : AreWords filter.vfta
   -- The first exact address is this one, and valid; the other 15 entries are 0.
   pub address_low : filter.ral ≡ low_word setup.address ∷ replicate (EXACT_ADDRESSES - 1) 0
+  -- RAH: bytes 4 and 5 of the address, and AV, in the first entry
   pub address_high : filter.rah ≡ (high_word setup.address + alone rah_av) ∷ replicate (EXACT_ADDRESSES - 1) 0
   -- VET
   pub vlan_type : filter.vet ≡ VLAN_TYPE
 
 -- An adapter has what its driver keeps of a configuration. Of the filter, this leaves MTA alone open.
 pub record HasSetup (setup : DriverSetup) (adapter : AdapterState) : Type 0 where
+  -- the receive filter, apart from MTA
   pub filter : FilterHasSetup setup adapter.filter
   -- PBA.RXA
   pub allocation : adapter.receive_kilobytes ≡ setup.rxa

@@ -36,5 +36,6 @@ disable_writes = write_at RCTL 0 ∷ []
 abbrev pub transmit_control : ℕ
 transmit_control = alone tctl_en + alone tctl_psp + 0x0F * alone tctl_ct + 0x40 * alone tctl_cold
 
+-- TCTL is written
 abbrev pub transmit_writes : List Write
 transmit_writes = write_at TCTL transmit_control ∷ []

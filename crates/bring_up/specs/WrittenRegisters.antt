@@ -9,6 +9,7 @@ use Rattle.registers.specs.Places.{alone, ctrl_asde, ctrl_rst, ctrl_slu, rxdmt0,
 abbrev pub register_limit : ℕ
 register_limit = 2 ^ 32
 
+-- a write of this value at this offset
 abbrev pub write_at : ℕ → ℕ → Write
 write_at offset value = record { offset = offset; value = value }
 
@@ -24,6 +25,7 @@ allocation_writes kilobytes = write_at PBA kilobytes ∷ []
 abbrev pub link_control : ℕ
 link_control = alone ctrl_slu + alone ctrl_asde
 
+-- CTRL is written
 abbrev pub link_writes : List Write
 link_writes = write_at CTRL link_control ∷ []
 
@@ -31,5 +33,6 @@ link_writes = write_at CTRL link_control ∷ []
 abbrev pub handled_causes : ℕ
 handled_causes = alone txdw + alone rxdmt0 + alone rxo + alone rxt0
 
+-- IMS is written
 abbrev pub mask_writes : List Write
 mask_writes = write_at IMS handled_causes ∷ []

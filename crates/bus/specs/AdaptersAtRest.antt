@@ -34,8 +34,11 @@ RestAfterReset = (world : World) → IsAtRest (record world { adapter = after_re
 
 -- No frame came or left, and none was missed.
 pub record NoFrame (past : Past) : Type 0 where
+  -- no frame was put on the wire
   pub none_put : past.put ≡ []
+  -- no frame was stored
   pub none_stored : past.stored ≡ []
+  -- no frame was missed
   pub none_missed : past.missed ≡ 0
 
 -- Whatever happens leaves it at rest, and no frame comes or leaves.

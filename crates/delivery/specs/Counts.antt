@@ -180,6 +180,7 @@ with_ring Length number ring = record ring { slots = min (number / 16) 65536 }
 with_ring Head number ring = record ring { head = number }
 with_ring Tail number ring = record ring { tail = number }
 
+-- a register of a ring was written: the bits that it keeps are the value's
 abbrev pub ring_written : RingRegister → (value : ℕ) → RingCounts → RingCounts
 ring_written part value ring = with_ring part (bit_and value (ring_kept part)) ring
 

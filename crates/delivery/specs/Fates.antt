@@ -48,8 +48,11 @@ marks k happened = flat_map (mark_by k) happened
 -- What a host's fates depend on, beside registers: the groups that it has joined, the frames in its receive packet buffer, and whether
 -- its receive side is enabled (RCTL.EN).
 pub record Reception : Type 0 where
+  -- the groups joined
   pub groups : List (List ℕ)
+  -- the frames in the receive packet buffer, the oldest first
   pub buffered : List (List ℕ)
+  -- whether RCTL.EN is set
   pub enabled : Bool
 
 -- the receive side is enabled

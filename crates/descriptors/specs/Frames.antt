@@ -6,15 +6,19 @@ use Rattle.std.specs.Prelude.{◌≡◌, ◌≤◌, ◌-◌, ◌++◌, ◌&&◌,
 abbrev pub shortest_frame : ℕ
 shortest_frame = 60
 
+-- the bytes of the longest frame on the wire
 abbrev pub longest_frame : ℕ
 longest_frame = 1518
 
+-- the bytes of the shortest frame that a host may send
 abbrev pub shortest_sent : ℕ
 shortest_sent = 14
 
 -- a frame that may be on the wire
 pub record IsLegal (frame : List ℕ) : Type 0 where
+  -- at least 60 bytes
   pub least : shortest_frame ≤ length frame
+  -- at most 1,518 bytes
   pub most : length frame ≤ longest_frame
 
 -- A frame that a host may send, shorter ones among it (our choice).

@@ -11,7 +11,9 @@ count_of ring = min (ring.bytes / 16) 65536
 
 -- Head and tail are slots of the ring; a ring of no descriptors has none.
 pub record HasValidIndices (ring : Ring) : Type 0 where
+  -- head is the index of a slot
   pub head : ring.head < count_of ring
+  -- tail is the index of a slot
   pub tail : ring.tail < count_of ring
 
 -- The slot behind an index; behind the last one stands the first.

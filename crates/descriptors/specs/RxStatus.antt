@@ -10,6 +10,7 @@ status_bits status = status.0
 abbrev pub dd : ℕ
 dd = 0
 
+-- EOP, end of packet
 abbrev pub eop : ℕ
 eop = 1
 

@@ -12,12 +12,15 @@ command_bits command = command.0
 abbrev pub tx_eop : ℕ
 tx_eop = 0
 
+-- IFCS, insert the check sequence
 abbrev pub tx_ifcs : ℕ
 tx_ifcs = 1
 
+-- RS, report status
 abbrev pub tx_rs : ℕ
 tx_rs = 3
 
+-- DEXT, descriptor extension
 abbrev pub tx_dext : ℕ
 tx_dext = 5
 

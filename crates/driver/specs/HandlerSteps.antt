@@ -52,8 +52,11 @@ count_limit = 2 ^ 64
 
 -- A count grew by `more`, but saturates at the greatest u64.
 pub record GrowsBy (before after more : ℕ) : Type 0 where
+  -- it didn't fall
   pub least : before ≤ after
+  -- it grew by `more` at most
   pub most : after ≤ before + more
+  -- it grew by exactly `more`, unless it is at its greatest value
   pub exactly : after < count_limit - 1 → after ≡ before + more
 
 -- A receiver was shown this frame, and kept it, or returned its buffers, which are in the pool then.
@@ -67,7 +70,9 @@ pub record Shows {R : Type 0} (took : R → R → List Received → List Receive
 -- A run of slots that left the ring: the buffer and the length of each slot, in order, and whether they were shown as a whole frame. The
 -- other runs are bad.
 pub record RunOfSlots : Type 0 where
+  -- the buffer and the length of each slot
   pub parts : List Part
+  -- whether it was shown as a frame
   pub whole : Bool
 
 abbrev pub run_of : List Part → (whole : Bool) → RunOfSlots
@@ -75,8 +80,11 @@ run_of parts whole = record { parts = parts; whole = whole }
 
 -- It has one to six slots. If it is whole, each slot before the last is full, and the last isn't empty.
 pub record IsRun (run : RunOfSlots) : Type 0 where
+  -- at least one slot
   pub least : 1 ≤ length run.parts
+  -- at most six slots
   pub most : length run.parts ≤ MOST_PARTS
+  -- in a whole run, the slots before the last are full, and the last isn't empty
   pub full : IsTrue run.whole → FillBuffers (lengths_in run.parts)
 
 -- the buffers of these runs, one run after the other
@@ -93,16 +101,23 @@ bad_runs runs = count_by (λ (run : RunOfSlots). not run.whole) runs
 
 -- These are the whole frames of these runs, one after the other, each with the buffers and lengths of its run. Each has a legal size.
 pub record AreFramesOf (runs : List RunOfSlots) (received : List Received) : Type 0 where
+  -- each frame has the buffers and lengths of its run
   pub parts : map (λ (one : Received). one.parts) received ≡ whole_frames runs
+  -- each frame has a legal size
   pub sizes : AreFrames received
 
 -- The whole frames of these runs were shown to the receiver, one after the other. The receiver kept some of them.
 pub record ShowsRuns {R : Type 0} (took : R → R → List Received → List Received → Type 0) (before after : R) (runs : List RunOfSlots)
     : Type 0 where
+  -- the frames shown
   pub received : List Received
+  -- they are the whole frames of the runs
   pub frames : AreFramesOf runs received
+  -- the frames that the receiver kept
   pub kept : List Received
+  -- the receiver saw these frames, and kept those
   pub shown : took before after received kept
+  -- those kept are among those shown, in the same order
   pub part : IsPart kept received
 
 -- They were shown so. The buffers of the frames that the receiver didn't keep, and those of the bad runs, went to the pool.
@@ -134,13 +149,18 @@ pub record HasParts (run : Run) (parts : List Part) : Type 0 where
 
 -- A moment of a driver's run, with its receiver.
 pub record Scene (B R : Type 0) : Type 0 where
+  -- the bus
   pub bus : B
+  -- the driver
   pub driver : DriverState
+  -- the receiver
   pub receiver : R
 
+-- this bus, driver and receiver
 abbrev pub scene : {B R : Type 0} → B → DriverState → R → Scene B R
 scene bus driver receiver = record { bus = bus; driver = driver; receiver = receiver }
 
+-- the bus and the driver of a scene
 abbrev pub moment : {B R : Type 0} → Scene B R → Moment B
 moment now = record { bus = now.bus; driver = now.driver }
 
@@ -182,23 +202,34 @@ pub record HandsOver {B R : Type 0} (bus : Ghosts B) (receivers : OfReceiver R) 
 
 -- These are the buffers of one frame: at least one. Those before the last, which are full, have at most `longest_frame` bytes in all.
 pub record AreOfOneFrame (numbers : List ℕ) : Type 0 where
+  -- at least one buffer
   pub least : 1 ≤ length numbers
+  -- the buffers before the last aren't longer together than the longest frame
   pub most : receive_buffer_bytes * (length numbers - 1) ≤ longest_frame
 
 -- A frame that was taken, in these pieces. It has a legal size. Each piece but the last fills its buffer, and the last isn't empty, so the
 -- frame's length determines the number of pieces.
 pub record IsTaken (pieces : List HandedOut) : Type 0 where
+  -- its pieces make up a frame of legal size
   pub whole : IsWholeFrame (received_of pieces)
+  -- each piece but the last fills its buffer
   pub fill : FillBuffers (lengths_in (parts_of pieces))
 
 -- n frames, each with its pieces, were shown to the receiver, in order. It keeps those in `kept`.
 pub record ShowsFrames {R : Type 0} (receivers : OfReceiver R) (n : ℕ) (before after : R) : Type 0 where
+  -- the pieces of each frame shown
   pub taken : List (List HandedOut)
+  -- the pieces of each frame kept
   pub kept : List (List HandedOut)
+  -- the receiver saw these frames, and kept those
   pub shown : receivers.took before after (map received_of taken) (map received_of kept)
+  -- those kept are among those shown, in the same order
   pub part : IsPart kept taken
+  -- n frames were shown
   pub count : length taken ≡ n
+  -- the buffers of each are those of one frame
   pub groups : All AreOfOneFrame (map numbers_of taken)
+  -- each is a frame of legal size, cut into full buffers
   pub each : All IsTaken taken
 
 -- n frames were taken off the ring, the oldest first, and shown to the receiver.
@@ -279,71 +310,104 @@ offering_accesses d offered tail = stores_from d.layout (next_receive d) offered
 -- `oldest` is the oldest slot's index. No frame ends in finished slots. The descriptors of the finished slots, which contain the beginning
 -- of a frame, were loaded, and that of the next outstanding slot, if there is one.
 pub record IsLook (oldest : ℕ) (rest : List ℕ) (world : World) (loads : ℕ) : Type 0 where
+  -- no frame ends in finished slots
   pub none_left : frames_of (finished_pieces oldest world) ≡ []
   -- Their pieces are full, and no longer together than the longest frame. So with buffers of 256 bytes they are at most five.
   pub short : receive_buffer_bytes * length (finished_pieces oldest world) ≤ longest_frame
+  -- the descriptors of the finished slots were loaded, and the next one, if it is outstanding
   pub loads_are : loads ≡ min (suc (length (finished_pieces oldest world))) (length rest)
 
 -- An interval of a run is split at a moment: these accesses were made before it, and those after it.
 pub record IsSplit {B : Type 0} {bus : Ghosts B} {up : Bool} {did : Did} {old new : Moment B} (ran : Ran bus up did old new)
     (first later : List Access) : Type 0 where
+  -- the bus at the moment
   pub middle : B
+  -- what the bus reports of the interval before it
   pub before : Past
+  -- what the bus reports of the interval after it
   pub behind : Past
+  -- the bus law has the interval before it
   pub reaches : bus.happened old.bus middle before
+  -- the bus law has the interval after it
   pub leaves : bus.happened middle new.bus behind
+  -- both together are the whole interval
   pub whole : ran.past ≡ joined before behind
+  -- the accesses before it
   pub first_made : before.accesses ≡ first
+  -- the accesses after it
   pub later_made : behind.accesses ≡ later
 
 -- The value `misses` was added to the driver's sum of missed frames. The accesses of `Works` say that it was read from MPC.
 pub record ReadsMisses (d d' : DriverState) : Type 0 where
+  -- the value that was added
   pub misses : ℕ
+  -- the sum grew by it, up to the greatest u64
   pub missed : d'.missed ≡ (with_missed misses d).missed
+  -- the sum is exact if it was, and nothing was lost now
   pub exact : d'.exact ≡ (with_missed misses d).exact
 
 -- The slots of the buffers `taken` were the oldest, and the count of bad runs doesn't change. Then slots are offered after the others:
 -- those that were staged, and new ones with the buffers `offered`. `oldest` and `newest` are equations of the whole lists of buffers:
 -- before the call, the buffers taken and the others; after it, the others, the staged and the offered ones.
 pub record TakesAndOffers (d d' : DriverState) (taken : List ℕ) : Type 0 where
+  -- the buffers of the slots that weren't taken
   pub rest : List ℕ
+  -- the buffers of the new slots
   pub offered : List ℕ
+  -- the slots taken were the oldest
   pub oldest : d.buffers ≡ taken ++ rest
+  -- staged and new slots come after the others
   pub newest : d'.buffers ≡ rest ++ (d.staged ++ offered)
+  -- no run was bad
   pub no_bad : d'.bad ≡ d.bad
 
 -- Frames are taken, each in the pieces of one list of `taken`, and then slots are offered. The run is split at a moment after the last load
 -- of a descriptor and before the next access.
 pub record Works {B : Type 0} (bus : Ghosts B) (taken : List (List HandedOut)) (up : Bool) (old new : Moment B) : Type 0 where
+  -- MPC was read, and added to the sum
   pub misses : ReadsMisses old.driver new.driver
+  -- slots were taken and offered
   pub served : TakesAndOffers old.driver new.driver (numbers_of (pieces_of taken))
+  -- the number of descriptors that the last look loaded
   pub loads : ℕ
+  -- these accesses were made, in this order, and these frames taken
   pub ran :
       Ran bus up (call_did
       (taking_accesses old.driver misses.misses (map numbers_of taken) loads
       ++ offering_accesses old.driver served.offered (next_receive new.driver))
       (joined_frames taken) []) old new
+  -- the moment after the last load of a descriptor
   pub split : IsSplit ran (taking_accesses old.driver misses.misses (map numbers_of taken) loads)
       (offering_accesses old.driver served.offered (next_receive new.driver))
+  -- the last look, at that moment
   pub look : IsLook new.driver.oldest_receive served.rest (bus.world split.middle) loads
 
 -- The first access, a read of ICR: the causes that it returned, and the bus after it.
 pub record Asked {B : Type 0} (bus : Ghosts B) (up : Bool) (old : Moment B) : Type 0 where
+  -- the value read from ICR
   pub causes : ℕ
+  -- the bus after the read
   pub after_read : B
+  -- the only access was this read
   pub reads : ReadsCauses bus up causes old after_read
 
 -- It does nothing: ICR had none of its causes.
 pub record DoesNothing {B : Type 0} (bus : Ghosts B) {up : Bool} (old new : Moment B) (asked : Asked bus up old) : Type 0 where
+  -- no cause that the driver handles was read
   pub none : ¬ Meet asked.causes handled_causes
+  -- there was no other access
   pub still : new.bus ≡ asked.after_read
+  -- no work is forgotten
   pub work : HasNoForgottenWork old.driver (bus.world old.bus) → HasNoForgottenWork new.driver (bus.world new.bus)
+  -- no frame was taken or accepted
   pub flows : FlowsTo up (in_world_of bus old) (in_world_of bus new) (driver_did [] []) asked.reads.past
 
 -- It does its work: n frames are taken, in these pieces, whoever holds them at the end.
 pub record HandlesCauses {B : Type 0} (bus : Ghosts B) (taken : List (List HandedOut)) (n : ℕ) {up : Bool} (old new : Moment B)
     (asked : Asked bus up old) : Type 0 where
+  -- a cause that the driver handles was read
   pub some : Meet asked.causes handled_causes
+  -- frames were taken, and slots offered
   pub works : Works bus taken up (at asked.after_read old.driver) new
   -- It takes at least the frames that ended in finished slots at the beginning.
   pub least : length (frames_ended (in_world_of bus old)) ≤ n
@@ -356,7 +420,9 @@ pub record HandlesCauses {B : Type 0} (bus : Ghosts B) (taken : List (List Hande
 -- A driver with a receiver does its work. The frames are shown to the receiver, and those that it keeps are held at the end.
 pub record HandlesIt {B R : Type 0} (bus : Ghosts B) (receivers : OfReceiver R) (n : ℕ) {up : Bool} (old new : Scene B R)
     (asked : Asked bus up (moment old)) : Type 0 where
+  -- the receiver saw the frames, and kept some
   pub frames : ShowsFrames receivers n old.receiver new.receiver
+  -- the driver did its work; the pieces of the frames kept are handed out at the end
   pub driver :
       HandlesCauses bus frames.taken n (moment old) (held_at (old.driver.handed_out ++ pieces_of frames.kept) (moment new)) asked
 
@@ -369,27 +435,40 @@ HandlesBy bus receivers (answers.Handled taken) old new asked = HandlesIt bus re
 -- It reads ICR first. What it does next depends on the causes read.
 pub record Handles {B R : Type 0} (bus : Ghosts B) (receivers : OfReceiver R) (result : Handled) (up : Bool) (old new : Scene B R) : Type 0
   where
+    -- the read of ICR
     pub asked : Asked bus up (moment old)
+    -- what it did then
     pub then_does : HandlesBy bus receivers result old new asked
 
 -- Over any bus.
 
 -- The numbers of slots and buffers (`layout`), the outstanding transmit slots, the setup and the groups joined don't change.
 pub record OnlyReceives (d d' : DriverState) : Type 0 where
+  -- rings and buffers have the same sizes
   pub layout : d'.layout ≡ d.layout
+  -- the oldest transmit slot is the same
   pub oldest : d'.oldest_transmit ≡ d.oldest_transmit
+  -- the number of outstanding transmit slots is the same
   pub sending : d'.sending ≡ d.sending
+  -- the setup is the same
   pub setup : d'.setup ≡ d.setup
+  -- the groups joined are the same
   pub groups : d'.groups ≡ d.groups
 
 -- These runs left the ring, the oldest first, each with one to six slots. Then slots were offered after the others: those that were staged,
 -- and new ones with the buffers `offered`.
 pub record LeaveRing (d d' : DriverState) (runs : List RunOfSlots) : Type 0 where
+  -- each has one to six slots
   pub are_runs : All IsRun runs
+  -- the buffers of the slots that stay
   pub rest : List ℕ
+  -- the buffers of the new slots
   pub offered : List ℕ
+  -- the runs were the oldest slots
   pub oldest : d.buffers ≡ run_buffers runs ++ rest
+  -- staged and new slots come after the others
   pub newest : d'.buffers ≡ rest ++ (d.staged ++ offered)
+  -- the oldest slot is now the one after the runs
   pub next : d'.oldest_receive ≡ place d.layout.rx d.oldest_receive (length (run_buffers runs))
 
 -- A value was added to the driver's sum of missed frames, these runs of slots left the ring, of which n were shown as whole frames, and
@@ -397,13 +476,17 @@ pub record LeaveRing (d d' : DriverState) (runs : List RunOfSlots) : Type 0 wher
 pub record ServesRing (d d' : DriverState) (runs : List RunOfSlots) (n : ℕ) : Type 0 where
   -- This record says nothing else of this value. Over a bus that obeys the law, `Handles` says that it was read from MPC.
   pub misses : ReadsMisses d d'
+  -- n runs were shown as whole frames
   pub count : length (whole_frames runs) ≡ n
+  -- the runs left the ring, and slots were offered
   pub leave : LeaveRing d d' runs
   -- Each bad run is counted once.
   pub bad : GrowsBy d.bad d'.bad (bad_runs runs)
   -- No buffer is free, or all slots but one are outstanding.
   pub refilled : IsRefilled d'
+  -- no piece was handed out at the beginning
   pub none_out : d.handed_out ≡ []
+  -- no buffer has two owners
   pub one_owner : HasNoSecondOwner d'.layout.buffers (owners d')
   -- No slot is staged at the end, and nothing else of the driver changes.
   pub others :
@@ -419,7 +502,11 @@ pub record ServesRing (d d' : DriverState) (runs : List RunOfSlots) (n : ℕ) : 
 
 -- With a receiver: it was shown the whole frames of the runs. No buffer is lost or has another number of owners; the receiver is an owner.
 pub record Serves {R : Type 0} (receivers : OfReceiver R) (before after : R) (d d' : DriverState) (n : ℕ) : Type 0 where
+  -- the runs that left the ring
   pub runs : List RunOfSlots
+  -- what became of the driver
   pub ring : ServesRing d d' runs n
+  -- what the receiver saw, and what it kept
   pub receiver : ShowsRuns receivers.took before after runs
+  -- the driver and the receiver own the buffers that the driver owned
   pub owners : HaveSameNumbers (owners d) (owners d' ++ buffers_of receiver.kept)

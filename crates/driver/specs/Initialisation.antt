@@ -56,9 +56,13 @@ pub record Refuses {B : Type 0} (bus : Ghosts B) (old new : B) (error : InitErro
 
 -- The tables of the filter: words that have these groups and VLANs.
 pub record AreFilterTables (named : List (List ℕ)) (named_vlans groups vlans : List ℕ) : Type 0 where
+  -- MTA has the groups' numbers, and no other
   pub has_groups : HasNumbers groups (numbers_of_groups named)
+  -- VFTA has the VLANs, and no other
   pub has_vlans : HasNumbers vlans named_vlans
+  -- each word of MTA has 32 bits
   pub groups_are : AreWords groups
+  -- each word of VFTA has 32 bits
   pub vlans_are : AreWords vlans
 
 -- The device with this address is found, its filter set up, and its receive ring with no slot offered.

@@ -49,7 +49,9 @@ part_loads counts parts = map (λ (part : Part). Loads (buffer_at counts part.bu
 
 -- A received frame may have this size.
 pub record IsFrameSize (size : ℕ) : Type 0 where
+  -- at least 60 bytes
   pub least : shortest_frame ≤ size
+  -- at most 1,518 bytes
   pub most : size ≤ longest_frame
 
 -- Each of these sizes is at most that of a receive buffer.
@@ -62,18 +64,27 @@ AreFull sizes = All (λ size. size ≡ receive_buffer_bytes) sizes
 
 -- The buffers before the last are full. The last has at least one byte, and at most as many as a receive buffer.
 pub record FillBuffers (sizes : List ℕ) : Type 0 where
+  -- the sizes before the last
   pub full : List ℕ
+  -- the last size
   pub last : ℕ
+  -- these are all sizes
   pub sizes_are : sizes ≡ full ++ last ∷ []
+  -- each buffer before the last is full
   pub are_full : AreFull full
+  -- the last has 1 to 256 bytes
   pub last_is : IsLastSize receive_buffer_bytes last
 
 -- It is as large as its pieces together, and may have this size. Each piece fits into its buffer.
 pub record IsWholeFrame (received : Received) : Type 0 where
+  -- it has a legal size
   pub size : IsFrameSize received.length
+  -- it is as long as its pieces together
   pub sum : received.length ≡ sum (lengths_in received.parts)
+  -- each piece fits into its buffer
   pub fits : FitIntoBuffers (lengths_in received.parts)
 
+-- Each is a frame of legal size, in pieces that fit into their buffers.
 abbrev pub AreFrames : List Received → Type 0
 AreFrames list = All IsWholeFrame list
 
@@ -83,6 +94,7 @@ AreFrames list = All IsWholeFrame list
 abbrev pub part_of : HandedOut → Part
 part_of one = record { buffer = one.number; length = length one.bytes }
 
+-- the buffers and lengths of these pieces
 abbrev pub parts_of : List HandedOut → List Part
 parts_of pieces = map part_of pieces
 

@@ -47,6 +47,7 @@ pub record Reclaims {B : Type 0} (bus : Ghosts B) (old new : Moment B) : Type 0 
   pub ran : Ran bus true (only (loads_to_free old.driver new.driver.sending)) old new
   pub none : written_back new.driver.oldest_transmit (bus.world new.bus) ≡ []
 
+-- Ok, or why a frame wasn't accepted
 abbrev pub SendAnswer : Type 0
 SendAnswer = Result (Unit {0}) SendError
 

@@ -31,9 +31,12 @@ use Rattle.driver_law.specs.ReadyDrivers.{ReadyWith, empty_descriptor}
 
 -- a driver, and the world of its adapter and its memory, at a moment
 pub record DriverInWorld : Type 0 where
+  -- the driver
   pub driver : DriverState
+  -- its adapter and its memory
   pub world : World
 
+-- this driver in this world
 abbrev pub driver_in : DriverState → World → DriverInWorld
 driver_in driver world = record { driver = driver; world = world }
 
@@ -43,7 +46,9 @@ frames_ended now = frames_of (finished_pieces now.driver.oldest_receive now.worl
 
 -- No work is forgotten: RXT0 is enabled, and it is recorded if a frame ends in the finished receive slots.
 pub record HasNoForgottenWork (d : DriverState) (world : World) : Type 0 where
+  -- RXT0 is in the mask
   pub enabled : HasBit world.adapter.causes.mask rxt0
+  -- no frame ends in the finished slots, or RXT0 is recorded
   pub asked : (frames_ended (driver_in d world) ≡ []) ⊎ HasBit world.adapter.causes.recorded rxt0
 
 -- The ring is refilled: no buffer is free, or all slots but one are outstanding.
@@ -52,25 +57,34 @@ IsRefilled d = (d.pool ≡ []) ⊎ (length d.buffers + 1 ≡ d.layout.rx)
 
 -- Over any bus: the ring is refilled, no slot is staged then, and nothing else changes.
 pub record OffersAll (d d' : DriverState) : Type 0 where
+  -- only the owners of buffers change, and no slot is staged
   pub others : d' ≡ with_owners d d'.buffers [] d'.pool []
+  -- the ring is refilled
   pub refilled : IsRefilled d'
+  -- no buffer has two owners
   pub one_owner : HasNoSecondOwner d'.layout.buffers (owners d')
 
 -- What a driver did in an interval.
 
 -- the frames that it took off the receive ring, and those that it accepted for sending, in order
 pub record DriverDid : Type 0 where
+  -- the frames taken off the receive ring, in order
   pub taken : List (List ℕ)
+  -- the frames accepted for sending, in order
   pub accepted : List (List ℕ)
 
+-- these frames were taken, and these accepted
 abbrev pub driver_did : (taken accepted : List (List ℕ)) → DriverDid
 driver_did taken accepted = record { taken = taken; accepted = accepted }
 
 -- the accesses in order, and the frames
 pub record Did : Type 0 where
+  -- the accesses, in order
   pub accesses : List Access
+  -- the frames taken and accepted
   pub frames : DriverDid
 
+-- these accesses, and these frames
 abbrev pub call_did : List Access → (taken accepted : List (List ℕ)) → Did
 call_did accesses taken accepted = record { accesses = accesses; frames = driver_did taken accepted }
 
@@ -90,10 +104,14 @@ misses_known now = now.driver.missed + now.world.adapter.missed_packets
 
 -- The driver's sum was exact at the beginning, and MPC was below its greatest value. The sum plus MPC grew by the frames missed.
 pub record IsExactSum (old new : DriverInWorld) (past : Past) : Type 0 where
+  -- no miss was lost before
   pub exact : IsTrue old.driver.exact
+  -- MPC was below its greatest value, at which it stays
   pub below_greatest : old.world.adapter.missed_packets < greatest_count
+  -- what is known grew by exactly the frames missed
   pub sum : misses_known new ≡ misses_known old + past.missed
 
+-- What is known of missed frames, at the beginning and the end of an interval.
 pub record SumsMisses (old new : DriverInWorld) (past : Past) : Type 0 where
   -- The driver's sum doesn't fall.
   pub sum : old.driver.missed ≤ new.driver.missed
@@ -130,7 +148,9 @@ with_missed value driver = record driver
 
 -- Frames were taken off the receive ring, and frames were accepted for sending. Any register may have been read.
 pub record FlowsTo (up : Bool) (old new : DriverInWorld) (did : DriverDid) (past : Past) : Type 0 where
+  -- The driver is ready again.
   pub ready : ReadyWith up new.driver new.world
+  -- Rings and buffers have the same sizes.
   pub layout : new.driver.layout ≡ old.driver.layout
   -- Frames are sent in order; none is lost or duplicated.
   pub sends : past.put ++ frames_to_send new.world ≡ frames_to_send old.world ++ did.accepted
@@ -143,11 +163,14 @@ pub record FlowsTo (up : Bool) (old new : DriverInWorld) (did : DriverDid) (past
   pub frees :
       length (written_back old.driver.oldest_transmit old.world) + length past.put + new.driver.sending
       ≡ old.driver.sending + length did.accepted + length (written_back new.driver.oldest_transmit new.world)
+  -- IMS keeps its value.
   pub mask : new.world.adapter.causes.mask ≡ old.world.adapter.causes.mask
+  -- Missed frames are counted.
   pub misses : SumsMisses old new past
 
 -- The same, and ICR wasn't read.
 pub record GoesTo (up : Bool) (old new : DriverInWorld) (did : DriverDid) (past : Past) : Type 0 where
+  -- Frames flow in order, and the driver is ready again.
   pub flows : FlowsTo up old new did past
   -- Causes are only added.
   pub causes : (place : ℕ) → HasBit old.world.adapter.causes.recorded place → HasBit new.world.adapter.causes.recorded place
@@ -155,6 +178,7 @@ pub record GoesTo (up : Bool) (old new : DriverInWorld) (did : DriverDid) (past 
   pub recorded :
       (length (frames_ended old) ≡ length did.taken + length (frames_ended new)) ⊎ HasBit new.world.adapter.causes.recorded rxt0
 
+-- The same, with the transmit side set up.
 abbrev pub Goes : (old new : DriverInWorld) → DriverDid → Past → Type 0
 Goes = GoesTo true
 
@@ -208,6 +232,7 @@ transmit_buffer counts slot = start_of counts (TransmitBuffer slot)
 abbrev pub tail_slot : DriverState → ℕ
 tail_slot driver = transmit_slot driver.layout (transmit_tail driver)
 
+-- the buffer of the slot at the tail
 abbrev pub tail_buffer : DriverState → ℕ
 tail_buffer driver = transmit_buffer driver.layout (transmit_tail driver)
 
@@ -242,9 +267,12 @@ send_accesses driver frame =
 
 -- the bus and the driver at a moment of a run
 pub record Moment (B : Type 0) : Type 0 where
+  -- the bus
   pub bus : B
+  -- the driver
   pub driver : DriverState
 
+-- this bus and this driver
 abbrev pub at : {B : Type 0} → B → DriverState → Moment B
 at bus driver = record { bus = bus; driver = driver }
 
@@ -260,29 +288,40 @@ in_world_of bus now = driver_in now.driver (bus.world now.bus)
 pub record Ran {B : Type 0} (bus : Ghosts B) (up : Bool) (did : Did) (old new : Moment B) : Type 0 where
   -- what the bus reports of the interval
   pub past : Past
+  -- the bus law has this interval
   pub reports : bus.happened old.bus new.bus past
   -- There were no other accesses, and these came in this order.
   pub only : past.accesses ≡ did.accesses
+  -- what changed, by the frames that the driver took and accepted
   pub goes : GoesTo up (in_world_of bus old) (in_world_of bus new) did.frames past
+  -- what the driver's writes decide
   pub follows : FollowsWrites (bus.world old.bus) (bus.world new.bus) past
 
 -- ICR was read over a bus, with no other access.
 pub record ReadsCauses {B : Type 0} (bus : Ghosts B) (up : Bool) (causes : ℕ) (old : Moment B) (after_read : B) : Type 0 where
+  -- what the bus reports of the read
   pub past : Past
+  -- the bus law has this interval
   pub reports : bus.happened old.bus after_read past
+  -- ICR was read, with this answer
   pub only : past.accesses ≡ Reads ICR causes ∷ []
+  -- No frame was taken or accepted.
   pub flows : FlowsTo up (in_world_of bus old) (driver_in old.driver (bus.world after_read)) (driver_did [] []) past
   -- Each cause that was recorded at the beginning was read.
   pub seen : (place : ℕ) → HasBit (bus.world old.bus).adapter.causes.recorded place → HasBit causes place
+  -- No cause is recorded after the read.
   pub cleared : (bus.world after_read).adapter.causes.recorded ≡ 0
   -- No work is forgotten if RXT0, bit 7, wasn't read.
   pub work :
       ¬ HasBit causes rxt0 → HasNoForgottenWork old.driver (bus.world old.bus) → HasNoForgottenWork old.driver (bus.world after_read)
+  -- The read changes no setting.
   pub follows : FollowsWrites (bus.world old.bus) (bus.world after_read) past
 
 -- The bus obeys the law, and the driver is ready. `up`: its transmit side is set up; otherwise it is off.
 pub record IsReady {B : Type 0} (bus : Ghosts B) (up : Bool) (now : Moment B) : Type 0 where
+  -- the bus obeys the law
   pub honest : bus.honest now.bus
+  -- the driver is ready
   pub ready : ReadyWith up now.driver (bus.world now.bus)
 
 -- If the bus obeys the law and the driver is ready before a call, `Holds` relates the moments before and after it. It does so for each list

@@ -6,13 +6,16 @@ use Rattle.std.specs.List.{concat}
 
 -- a piece of a frame that others hold, and the number of its buffer
 pub record HandedOut : Type 0 where
+  -- the number of its buffer
   pub number : ℕ
+  -- the bytes of the piece
   pub bytes : List ℕ
 
 -- the frame that these pieces make up
 abbrev pub frame_of : List HandedOut → List ℕ
 frame_of pieces = concat (map (λ (one : HandedOut). one.bytes) pieces)
 
+-- the numbers of their buffers
 abbrev pub numbers_of : List HandedOut → List ℕ
 numbers_of handed_out = map (λ (one : HandedOut). one.number) handed_out
 
@@ -29,10 +32,13 @@ pub record DriverSetup : Type 0 where
   -- the Ethernet address
   pub address : List ℕ
 
+-- a driver: its rings, the owners of its buffers, its counts, its groups and its setup
 pub record DriverState : Type 0 where
+  -- the sizes of the rings, and the number of receive buffers
   pub layout : Counts
   -- the place of the oldest outstanding receive slot, and the numbers of the buffers of all that are outstanding, the oldest first
   pub oldest_receive : ℕ
+  -- the numbers of the buffers of the outstanding receive slots, the oldest first
   pub buffers : List ℕ
   -- the buffers of the slots after these, whose descriptors are stored and which aren't offered yet
   pub staged : List ℕ
@@ -42,6 +48,7 @@ pub record DriverState : Type 0 where
   pub handed_out : List HandedOut
   -- the place of the oldest outstanding transmit slot, and how many are outstanding
   pub oldest_transmit : ℕ
+  -- the number of outstanding transmit slots
   pub sending : ℕ
   -- the sum of all values read from MPC
   pub missed : ℕ
@@ -51,6 +58,7 @@ pub record DriverState : Type 0 where
   pub bad : ℕ
   -- the multicast groups that it has joined
   pub groups : List (List ℕ)
+  -- what a reset needs
   pub setup : DriverSetup
 
 -- the same driver with other owners of buffers

@@ -24,6 +24,7 @@ use Rattle.driver_law.specs.DriverState.{transmit_slot}
 
 -- What always holds of the driver's own state.
 pub record IsDriver (driver : DriverState) : Type 0 where
+  -- The oldest receive slot is a slot of the ring.
   pub oldest_slot : driver.oldest_receive < driver.layout.rx
   -- At least one receive slot is neither outstanding nor staged.
   pub room : length driver.buffers + length driver.staged < driver.layout.rx
@@ -48,37 +49,51 @@ AreStored memory counts slot (number ∷ later) =
 
 -- A piece of a frame that others hold is in its buffer.
 pub record Stands (counts : Counts) (memory : List ℕ) (one : HandedOut) : Type 0 where
+  -- Memory has the piece's bytes at the start of its buffer.
   pub bytes : bytes_at memory (buffer_at counts one.number) (length one.bytes) ≡ one.bytes
+  -- The piece isn't longer than a receive buffer.
   pub short : length one.bytes ≤ receive_buffer_bytes
 
 -- The transmit side is set up: the driver knows its ring, and the data of each outstanding slot is in that slot's own buffer.
 pub record TransmitIsUp (counts : Counts) (oldest sending : ℕ) (memory : List ℕ) (ring : Ring) (control : ℕ) : Type 0 where
+  -- the oldest transmit slot is a slot of the ring
   pub oldest_slot : oldest < counts.tx
+  -- at least one transmit slot isn't outstanding
   pub room : sending < counts.tx
   -- TCTL.PSP
   pub pads : HasBit control tctl_psp
+  -- the registers of the ring have its base and its size, and TDT is after the last outstanding slot
   pub knows : KnowsRing ring (descriptor_bytes * counts.rx) counts.tx (place counts.tx oldest sending)
+  -- the data of each outstanding slot is inside its own buffer
   pub sources : All (λ slot. IsInside (data_of memory (transmit_slot counts slot)) (area_of counts (TransmitBuffer slot)))
       (slots_from counts.tx oldest sending)
 
 -- The transmit side isn't set up yet, as during initialization: its ring ends before the buffers, none of its slots is outstanding, and no
 -- frame is in the packet buffer.
 pub record TransmitIsOff (counts : Counts) (oldest sending : ℕ) (ring : Ring) (buffer : List Queued) : Type 0 where
+  -- the ring ends before the buffers
   pub ends : ring.base + descriptor_bytes * count_of ring ≤ descriptor_bytes * counts.rx + descriptor_bytes * counts.tx
+  -- TDH equals TDT
   pub idle : ring.head ≡ ring.tail
+  -- TDT is the driver's oldest slot
   pub last : ring.tail ≡ oldest
+  -- no slot is outstanding
   pub nothing : sending ≡ 0
+  -- the packet buffer has no frame to send
   pub empty : buffer ≡ []
 
 -- what the transmit side consists of
 pub record TransmitSide : Type 0 where
+  -- the host's memory
   pub memory : List ℕ
+  -- the registers of the transmit ring
   pub ring : Ring
   -- TCTL
   pub control : ℕ
   -- the packet buffer
   pub buffer : List Queued
 
+-- the transmit side of this adapter and its memory
 abbrev pub transmit_side : World → TransmitSide
 transmit_side world = record {
   memory = world.memory;
@@ -94,7 +109,9 @@ TransmitIs false counts oldest sending side = TransmitIsOff counts oldest sendin
 
 -- What the bus law asks of the adapter and its memory, and engines that can run.
 pub record MeetsLaw (oldest_receive oldest_transmit : ℕ) (world : World) : Type 0 where
+  -- the driver's oldest slots and the adapter's registers agree
   pub sound : Sound oldest_receive oldest_transmit world
+  -- no step of an engine is a fault
   pub runs : CanRun world
   -- A receive buffer is large enough for each finished piece of a frame, and for the one that is being stored.
   pub fit : FitBuffers receive_buffer_bytes oldest_receive world
@@ -111,14 +128,21 @@ pub record SlotsAreStored (driver : DriverState) (world : World) : Type 0 where
 
 -- The driver is ready, with its transmit side set up or off.
 pub record ReadyWith (up : Bool) (driver : DriverState) (world : World) : Type 0 where
+  -- what always holds of the driver's own state
   pub driver_is : IsDriver driver
+  -- what the bus law asks
   pub law : MeetsLaw driver.oldest_receive driver.oldest_transmit world
   -- Memory contains the whole layout.
   pub lies : size_of driver.layout ≤ length world.memory
+  -- the registers of the receive ring have its base and its size, and RDT is the driver's tail
   pub receive : KnowsRing (receive_ring world) 0 driver.layout.rx (receive_tail driver)
+  -- the transmit side is set up or off
   pub transmit : TransmitIs up driver.layout driver.oldest_transmit driver.sending (transmit_side world)
+  -- descriptors in memory agree with the driver's state
   pub slots : SlotsAreStored driver world
+  -- each piece that others hold is still in its buffer
   pub stand : All (Stands driver.layout world.memory) driver.handed_out
 
+-- The driver is ready, with its transmit side set up.
 abbrev pub Ready : DriverState → World → Type 0
 Ready = ReadyWith true

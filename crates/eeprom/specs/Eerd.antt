@@ -22,6 +22,7 @@ after_tick words Idle = Idle
 after_tick words (Pending address) = Done address (word_at words address)
 after_tick words (Done address word) = Done address word
 
+-- whether a read hasn't ended yet
 abbrev pub is_pending : ReadState → Bool
 is_pending Idle = false
 is_pending (Pending _) = true

@@ -43,6 +43,7 @@ reason_of_data control memory ring =
     else if not (is_inside memory (address_of ring ring.head) 16) then Descriptor
     else Buffer
 
+-- the fault of a TxTake
 abbrev pub fault_of_take : World → EngineFault
 fault_of_take world = record {
   engine = Transmit;
@@ -50,6 +51,7 @@ fault_of_take world = record {
   reason = reason_of_take world.memory (transmit_ring world);
 }
 
+-- the fault of an RxData
 abbrev pub fault_of_data : World → EngineFault
 fault_of_data world = record {
   engine = Receive;

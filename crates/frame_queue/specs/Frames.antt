@@ -1,6 +1,7 @@
 -- What a queue of frames is to its callers (our choice).
 use Rattle.std.specs.Prelude.{ℕ, List}
 
+-- The capacity of a queue and its frames.
 pub record Frames : Type 0 where
   -- the most frames that it can hold
   pub capacity : ℕ

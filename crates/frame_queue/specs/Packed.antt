@@ -2,6 +2,7 @@
 use Rattle.std.specs.Prelude.{◌≡◌, ◌+◌, ◌<◌, ◌≤◌, ℕ, List, [], ◌∷◌, length, take, drop, sum_by}
 use Rattle.frame_queue.specs.declared.packed.PackedQueue.TheInside.{Inside}
 
+-- The limits of a queue and its frames.
 pub record PackedFrames : Type 0 where
   -- the most frames that it can hold
   pub capacity : ℕ
@@ -19,6 +20,7 @@ unfoldable pub cut : List ℕ → List ℕ → List (List ℕ)
 cut [] bytes = []
 cut (n ∷ ns) bytes = take n bytes ∷ cut ns (drop n bytes)
 
+-- The plain data of a queue, as contracts see it.
 abbrev pub packed_of : Inside → PackedFrames
 packed_of queue = record {
   capacity = queue.lengths.capacity;
@@ -26,8 +28,13 @@ packed_of queue = record {
   frames = cut queue.lengths.items (drop queue.first queue.bytes.items);
 }
 
+-- What holds of the fields at all times.
 pub record IsPacked (queue : Inside) : Type 0 where
+  -- The frames' bytes follow one another from `first` up to `end`.
   pub end_is : queue.end ≡ queue.first + total queue.lengths.items
+  -- They are in the queue's memory.
   pub fits : queue.end ≤ length queue.bytes.items
+  -- There are at most as many frames as the capacity.
   pub count : length queue.lengths.items ≤ queue.lengths.capacity
+  -- The capacity is below 65,536.
   pub most : queue.lengths.capacity < 65536

@@ -22,15 +22,23 @@ use Rattle.host_calls.specs.InterruptCauses.{TellsCauses}
 -- is an access, or there are none, if it makes no access. `Later` holds of the rest of the steps.
 pub record MakesStage (k : ℕ) (made : List Access) (Holds : World → Past → World → Type 0) (steps : List AtomicStep)
     (old : List StationState) (Later : List AtomicStep → List StationState → Type 0) : Type 0 where
+  -- the steps of this stage
   pub first : List AtomicStep
+  -- the steps of later stages
   pub rest : List AtomicStep
+  -- both together are all steps
   pub split : steps ≡ first ++ rest
+  -- the host's accesses in this stage
   pub made_are : (past_at k first).accesses ≡ made
+  -- the stage ends with an access of the host, or has no step
   pub ends : EndsWithAccess first
   -- the stations right after the last access, before any further step
   pub middle : List StationState
+  -- the steps lead to these stations
   pub leads : LeadsTo k first old middle
+  -- what holds right after the stage's last access
   pub holds : Holds (world_at old k) (past_at k first) (world_at middle k)
+  -- what holds of the later stages
   pub later : Later rest middle
 
 -- The stages of a call, one after the other. After the last of its accesses only ticks are played.
@@ -41,6 +49,7 @@ MakesStages k (Then made Holds later) steps old =
 
 -- Host k ran this act in these steps, and its sockets returned the frames `given`.
 pub record InSteps (k : ℕ) (given : List Given) (steps : List AtomicStep) (old new : ConnectedHost) (act : HostAct) : Type 0 where
+  -- the accesses, stage by stage
   pub stages : MakesStages k act.stages steps old.stations
   -- each access is one of a call of this kind
   pub own : All (IsAccessOf act.kind old.host.driver.layout) (past_at k steps).accesses

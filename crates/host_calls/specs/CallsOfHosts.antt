@@ -33,18 +33,25 @@ pub record StepsOfCall (call : PlayedCall) (steps : List AtomicStep) (old new : 
 
 -- What a host does meanwhile. It is the host with number k.
 pub record HostRuns (k : ℕ) (steps : List AtomicStep) (done : HostDid) (old new : ConnectedHost) : Type 0 where
+  -- the host's frames are sent, held and given in order
   pub flows : HostFlowsTo true (in_world old.host (world_at old.stations k)) (in_world new.host (world_at new.stations k)) done
       (past_at k steps)
+  -- each access of the host is one of a host
   pub accesses : All (IsOfHost old.host.driver.layout) (past_at k steps).accesses
+  -- if no work was forgotten before, none is afterwards
   pub work : HasNoForgottenWork old.host.driver (world_at old.stations k) → HasNoForgottenWork new.host.driver (world_at new.stations k)
+  -- if the ring was refilled before, it is afterwards
   pub refilled : IsRefilled old.host.driver → IsRefilled new.host.driver
   -- If no slot was staged before the call, no slot is staged after it.
   pub offered : old.host.driver.staged ≡ [] → new.host.driver.staged ≡ []
 
 -- No group is joined or left: the groups joined and the driver's setup don't change, and no word of the group table is written.
 pub record GroupsStay (k : ℕ) (steps : List AtomicStep) (old new : ConnectedHost) : Type 0 where
+  -- the groups joined don't change
   pub groups : new.host.driver.groups ≡ old.host.driver.groups
+  -- the driver's setup doesn't change
   pub setup : new.host.driver.setup ≡ old.host.driver.setup
+  -- each access is a load, a store, a read of ICR or MPC, or a write of TDT or RDT
   pub accesses : All (IsOfDriver old.host.driver.layout) (past_at k steps).accesses
 
 -- A call of a host: the atomic steps that it and its ticks made, and what the host did. Its sockets returned the frames `given`, and it

@@ -7,9 +7,12 @@ use Rattle.stations.specs.declared.tick.Tick.{Tick}
 
 -- A host, and the stations of all hosts of its network, its own among them. A station is an adapter with its memory and its end of a wire.
 pub record ConnectedHost : Type 0 where
+  -- the host
   pub host : HostState
+  -- the stations of all hosts, by number
   pub stations : List StationState
 
+-- this host, with these stations
 abbrev pub connected : HostState → List StationState → ConnectedHost
 connected host stations = record { host = host; stations = stations }
 

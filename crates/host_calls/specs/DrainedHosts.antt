@@ -70,7 +70,9 @@ count_adapter_steps world = 2 * count_left world + length (in_work world)
 
 -- It holds none.
 pub record HoldsNothing (host : HostState) (world : World) : Type 0 where
+  -- no frame is in the receive ring or in the receive packet buffer
   pub held : frames_held host.driver.oldest_receive world ≡ []
+  -- no frame waits in a socket's queue
   pub queued : all_of host.queues ≡ []
 
 -- The steps that a drain plays: accesses of the host, and RxData and RxDone of its adapter.
@@ -83,8 +85,10 @@ IsDrainStep number (Idles tick) = ⊥
 -- The count of misses is unchanged: the sum of those that the driver read and those in MPC, up to the greatest u64. An exact count stays
 -- exact.
 pub record KeepsMisses (h : HostState) (a : World) (h' : HostState) (b : World) : Type 0 where
+  -- a count below the greatest u64 doesn't change
   pub sum : h.driver.missed + a.adapter.missed_packets < sum_limit
       → h'.driver.missed + b.adapter.missed_packets ≡ h.driver.missed + a.adapter.missed_packets
+  -- a count of at least the greatest u64 stays so
   pub sticks : sum_limit - 1 ≤ h.driver.missed + a.adapter.missed_packets → sum_limit - 1 ≤ h'.driver.missed + b.adapter.missed_packets
   -- The count is exact if the driver's sum is, MPC is below its greatest value, and the two together fit into a u64. No more is said of a
   -- count that isn't exact.
@@ -95,36 +99,53 @@ pub record KeepsMisses (h : HostState) (a : World) (h' : HostState) (b : World) 
 -- How many steps the drain took: at most four for each piece of the frames that the host held, and one; at least those that its adapter
 -- needs, and one for each frame given.
 pub record AreStepsOf (steps number given : ℕ) (old : ConnectedHost) : Type 0 where
+  -- at most four for each piece of the frames held, and one
   pub at_most : steps ≤ 4 * count_held old.host (world_at old.stations number) + 1
+  -- at least those of the adapter, and one for each frame given
   pub at_least : count_adapter_steps (world_at old.stations number) + given ≤ steps
 
 -- These are unchanged: what is to be sent, what waits at each end of a wire, and every other host's adapter and memory.
 pub record KeepsOthers (number : ℕ) (old new : List StationState) : Type 0 where
+  -- the frames to be sent
   pub to_send : frames_to_send (world_at new number) ≡ frames_to_send (world_at old number)
+  -- the frames that wait at the ends of wires
   pub lines : (k : ℕ) → backlog_at new k ≡ backlog_at old k
+  -- every other host's adapter and memory
   pub others : (k : ℕ) → k ≢ number → world_at new k ≡ world_at old k
 
 -- By which atomic steps it went: each frame of the packet buffer was moved, and nothing else happened but what the host did.
 pub record GoesBy (number : ℕ) (given : List Given) (old new : ConnectedHost) : Type 0 where
+  -- the atomic steps
   pub played : List AtomicStep
+  -- they lead from the stations before to those afterwards
   pub leads : LeadsTo number played old.stations new.stations
+  -- each is an access of the host, or an RxData or RxDone step of its adapter; steps that did nothing are among them
   pub only : All (IsDrainStep number) played
+  -- the frames that the driver took
   pub taken : List (List ℕ)
+  -- what the host did meanwhile
   pub runs : HostRuns number played (did taken given []) old new
+  -- no group is joined or left
   pub stay : GroupsStay number played old new
+  -- each frame of the receive packet buffer was moved to the ring, and nothing else happened
   pub moved : happened_in played ≡ replicate (length (world_at old.stations number).adapter.receiver.buffer) (Moved number)
 
 -- A drain of a host gave these frames, in this number of steps.
 pub record Drains (steps number : ℕ) (given : List Given) (old new : ConnectedHost) : Type 0 where
+  -- the number of steps
   pub steps_are : AreStepsOf steps number (length given) old
   -- Each socket gave exactly the frames that were held for it, in order, and no frame is held any more.
   pub all_given : (socket : ℕ) → given_for socket given ≡ held_for_socket old.host socket (world_at old.stations number)
+  -- no frame is held, and every queue is empty
   pub nothing_left : HoldsNothing new.host (world_at new.stations number)
   -- The frames without a socket were counted, up to the greatest u64.
   pub unclaimed : GrowsBy old.host.unclaimed new.host.unclaimed
       (without_socket old.host.kinds (frames_held old.host.driver.oldest_receive (world_at old.stations number)))
+  -- what is to be sent, what waits at ends of wires, and other hosts don't change
   pub keeps : KeepsOthers number old.stations new.stations
+  -- the count of misses doesn't change
   pub misses : KeepsMisses old.host (world_at old.stations number) new.host (world_at new.stations number)
+  -- the atomic steps of the drain
   pub by : GoesBy number given old new
 
 -- They were appended to those that the outlet had.

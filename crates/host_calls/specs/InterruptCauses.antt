@@ -20,8 +20,11 @@ use Rattle.driver.specs.declared.interrupt.Handled.TheVariants as answers
 
 -- The first access among these steps is the caller's read of ICR, which answered these causes. The early steps are those before it.
 pub record ReadsIcrFirst (caller : ℕ) (steps early : List AtomicStep) (causes : ℕ) : Type 0 where
+  -- the steps after the read
   pub later : List AtomicStep
+  -- the read is the first access
   pub split : steps ≡ early ++ At caller (Accesses (Reads ICR causes)) ∷ later
+  -- the early steps are ticks
   pub ticks : All IsTick early
 
 -- Whether the piece in progress at an adapter is the last of its frame (`ends`), after an event with this outcome: Moved is of a last
@@ -48,10 +51,15 @@ AreQuietEvents ends (event ∷ later) =
 
 -- At the caller one of the early steps did something.
 pub record DidSomething (caller : ℕ) (early : List AtomicStep) : Type 0 where
+  -- the steps before it
   pub before : List AtomicStep
+  -- what it was
   pub event : Event
+  -- the steps after it
   pub behind : List AtomicStep
+  -- it is one of the early steps
   pub split : early ≡ before ++ At caller event ∷ behind
+  -- its outcome isn't Nothing
   pub something : outcome_of_event event ≢ Nothing
 
 -- When the call began no cause was recorded that a driver handles, and no early step at the caller put a frame, missed one, or wrote back
@@ -67,7 +75,9 @@ HadCause caller adapter early = Meet adapter.causes.recorded handled_causes ⊎ 
 -- The first access reads ICR, with the value `causes`. What it implies of the caller's adapter when the call began, and of the steps before
 -- the read (`early`), that this value has a cause which a driver handles, and what, that it has none.
 pub record TellsCauses (caller : ℕ) (steps : List AtomicStep) (causes : ℕ) (adapter : AdapterState) : Type 0 where
+  -- the steps before the read
   pub early : List AtomicStep
+  -- ICR is read after them
   pub first : ReadsIcrFirst caller steps early causes
   -- no such cause was read
   pub quiet : ¬ (Meet causes handled_causes) → WasQuiet caller adapter early

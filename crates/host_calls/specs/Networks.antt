@@ -7,7 +7,9 @@ use Rattle.host_calls.specs.ConnectedHosts.{ConnectedHost, connected}
 
 -- A host is a driver with its sockets. Hosts are numbered from 0; the k-th station is the k-th host's.
 pub record NetworkState : Type 0 where
+  -- the hosts
   pub hosts : List HostState
+  -- their adapters and memories, with their ends of wires
   pub stations : List StationState
 
 -- This host is the k-th.

@@ -54,16 +54,25 @@ whole_reset k setup parts = before_reset k parts ++ (at_rest k setup parts ++ pa
 -- what a driver reads and stores in a reset, beside what its setup determines: the values of MPC and ICR, the words of the group table and
 -- of the VLAN table, and the numbers of the buffers that it offers
 pub record ResetValues : Type 0 where
+  -- the value read from MPC
   pub misses : ℕ
+  -- the value read from ICR
   pub causes : ℕ
+  -- the words of MTA
   pub groups : List ℕ
+  -- the words of VFTA
   pub vlans : List ℕ
+  -- the buffers of the slots offered
   pub numbers : List ℕ
 
 -- The accesses of each part, in order. With the three writes between the parts they are all accesses of the reset.
 pub record PartsAccess (k : ℕ) (counts : Counts) (setup : DriverSetup) (values : ResetValues) (parts : ResetParts) : Type 0 where
+  -- before RCTL is 0, no other access
   pub early : (past_at k parts.early).accesses ≡ []
+  -- before CTRL.RST, MPC is read
   pub stopping : (past_at k parts.stopping).accesses ≡ Reads MPC values.misses ∷ []
+  -- before RCTL is written again, the registers are set up, and slots are stored and offered
   pub resting : (past_at k parts.resting).accesses ≡ Writes IMC 0xFFFFFFFF ∷ Reads ICR values.causes
       ∷ quiet_writes setup counts values.groups values.vlans ++ free_accesses counts values.numbers
+  -- afterwards, the registers of the transmit ring, TCTL and IMS are written
   pub later : (past_at k parts.later).accesses ≡ later_accesses counts

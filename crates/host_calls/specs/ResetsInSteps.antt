@@ -26,61 +26,92 @@ stopped_host misses host = record host { driver = with_missed misses host.driver
 
 -- Until CTRL.RST is written: the host takes no frame and accepts none. None is stored or missed after RCTL is 0.
 pub record StopsInSteps (k misses : ℕ) (parts : ResetParts) (old : ConnectedHost) (last : List StationState) : Type 0 where
+  -- the steps lead from the stations before to those at the write of CTRL.RST
   pub leads : LeadsTo k (before_reset k parts) old.stations last
+  -- no frame is taken or accepted; MPC is added to the count of misses
   pub goes : HostGoesTo true (in_world old.host (world_at old.stations k)) (in_world (stopped_host misses old.host) (world_at last k))
       did_nothing (past_at k (before_reset k parts))
+  -- no frame is stored after RCTL is 0
   pub none_stored : (past_at k parts.stopping).stored ≡ []
+  -- no frame is missed after RCTL is 0
   pub none_missed : (past_at k parts.stopping).missed ≡ 0
 
 -- From this write to that of RCTL: first the adapter is as after a reset, with RNBC, GPRC and GPTC at 0; then no frame is put, stored or
 -- missed.
 pub record RestsInSteps (k : ℕ) (setup : DriverSetup) (parts : ResetParts) (last enabled : List StationState) : Type 0 where
+  -- the steps lead from CTRL.RST to the write of RCTL
   pub leads : LeadsTo k (at_rest k setup parts) last enabled
+  -- after CTRL.RST the adapter is reset, and memory is the same
   pub is_reset : world_at (after (reset_of k) last) k ≡ reset_world (world_at last k)
+  -- no frame is put, stored or missed
   pub no_frame : NoFrame (past_at k (at_rest k setup parts))
 
 -- The driver has new slots, with the buffers `numbers`, its other buffers are free, and the value of MPC was added to its count of misses.
 -- Nothing else of the host changes.
 pub record HostBeginsAgain (misses : ℕ) (numbers : List ℕ) (old new : HostState) : Type 0 where
+  -- nothing but the driver changes
   pub host : new ≡ record old { driver = new.driver }
+  -- no slot is outstanding but those that are offered anew
   pub driver : new.driver ≡ with_owners (reset_driver [] (with_missed misses old.driver)) numbers [] new.driver.pool new.driver.handed_out
+  -- no buffer is free, or all slots but one are offered
   pub refilled : IsRefilled new.driver
 
 -- After the write of RCTL: the host is ready again, and what it holds was stored since.
 pub record RestartsInSteps (k : ℕ) (parts : ResetParts) (enabled : List StationState) (new : ConnectedHost) : Type 0 where
+  -- the steps lead from the write of RCTL to the stations afterwards
   pub leads : LeadsTo k parts.later enabled new.stations
+  -- the host is ready
   pub ready : HostReady new.host (world_at new.stations k)
+  -- no work is forgotten
   pub work : HasNoForgottenWork new.host.driver (world_at new.stations k)
+  -- the frames held are those stored since
   pub held : frames_held new.host.driver.oldest_receive (world_at new.stations k) ≡ (past_at k parts.later).stored
+  -- no frame is put on the wire
   pub none_put : (past_at k parts.later).put ≡ []
+  -- no frame is to be sent
   pub none_to_send : frames_to_send (world_at new.stations k) ≡ []
 
 -- What is after the reset as it was before: what the driver set up, the numbers in the group table, the frames in the sockets' queues, and
 -- a link that is up. The count of misses loses none.
 pub record KeepsInReset (k : ℕ) (steps : List AtomicStep) (old new : ConnectedHost) : Type 0 where
+  -- the adapter has the driver's setup
   pub set_up : HasSetup old.host.driver.setup (world_at new.stations k).adapter
+  -- MTA has the bits of the groups joined
   pub groups : HasTable old.host.driver.groups (world_at new.stations k)
+  -- each socket's queue has the same frames
   pub waiting : (socket : ℕ) → waiting_frames new.host socket (world_at new.stations k)
       ≡ waiting_frames old.host socket (world_at old.stations k)
+  -- no miss is lost
   pub sums : SumsMisses (driver_in old.host.driver (world_at old.stations k)) (driver_in new.host.driver (world_at new.stations k))
       (past_at k steps)
+  -- a link that was up is up
   pub link : HasLink (world_at old.stations k) → HasLink (world_at new.stations k)
 
 -- Host k reset its adapter in these steps.
 pub record ResetsInSteps (k : ℕ) (steps : List AtomicStep) (old new : ConnectedHost) : Type 0 where
+  -- the steps of each part
   pub parts : ResetParts
+  -- the parts, with the three writes between them, are all steps
   pub split : steps ≡ whole_reset k old.host.driver.setup parts
   -- the exact accesses: the tables' words have the bits of the groups joined and of the VLANs
   pub values : ResetValues
+  -- the words written to MTA and VFTA have the bits of the groups joined and of the VLANs
   pub tables : AreFilterTables old.host.driver.groups old.host.driver.setup.vlans values.groups values.vlans
+  -- the accesses of each part
   pub accesses : PartsAccess k old.host.driver.layout old.host.driver.setup values parts
   -- all stations when CTRL.RST is written, and right after RCTL is written
   pub last : List StationState
+  -- all stations right after RCTL is written
   pub enabled : List StationState
+  -- until CTRL.RST
   pub stops : StopsInSteps k values.misses parts old last
+  -- from CTRL.RST to RCTL
   pub rests : RestsInSteps k old.host.driver.setup parts last enabled
+  -- after RCTL
   pub restarts : RestartsInSteps k parts enabled new
+  -- the host afterwards
   pub again : HostBeginsAgain values.misses values.numbers old.host new.host
+  -- what is as before
   pub keeps : KeepsInReset k steps old new
 
 -- What is given up: what is to be sent, and what is held, when CTRL.RST is written. By the outcomes: what was to be sent at the beginning,

@@ -31,7 +31,9 @@ pub record AreJoined (groups : List (List ℕ)) : Type 0 where
 
 -- These are the named groups, each once.
 pub record AreNamedOnce (named groups : List (List ℕ)) : Type 0 where
+  -- no group stands twice
   pub once : EachOnce groups
+  -- a group is in the list if and only if it is named
   pub same : (group : List ℕ) → Contains groups group ↔ Contains named group
 
 -- The group table.
@@ -46,7 +48,9 @@ HasNumber groups group = Contains (numbers_of_groups groups) (number_of group)
 
 -- The group table of an adapter has exactly the numbers of these groups.
 pub record HasTable (groups : List (List ℕ)) (world : World) : Type 0 where
+  -- MTA has the bits of the groups' numbers, and no other
   pub numbers : HasNumbers world.adapter.filter.mta (numbers_of_groups groups)
+  -- each word of MTA has 32 bits
   pub words : AreWords world.adapter.filter.mta
 
 -- So the groups determine the table.
@@ -64,8 +68,11 @@ word_of group = number_of group / 32
 
 -- The only access is a write of the word that has the bit of a group's number. The word has exactly the bits of these groups' numbers.
 pub record WritesWord (group : List ℕ) (groups : List (List ℕ)) (accesses : List Access) : Type 0 where
+  -- the word that is written
   pub value : ℕ
+  -- the word has exactly the bits of the groups' numbers
   pub bits : IsWord (word_of group) (numbers_of_groups groups) value
+  -- there is no other access
   pub is : accesses ≡ Writes (MTA + REGISTER_BYTES * word_of group) value ∷ []
 
 -- The accesses by which the table follows a group that is joined or left. `kept` are the groups that stay joined, and `groups` are those

@@ -16,6 +16,7 @@ pending_tag None = 0
 pending_tag (Some Write) = 1
 pending_tag (Some Read) = 2
 
+-- the register and its command
 abbrev pub mdic_writes : MdicState → HashWrites
 mdic_writes mdic = u32 mdic.value ++ u8 (pending_tag mdic.pending)
 
@@ -24,10 +25,12 @@ abbrev pub link_writes : Link → HashWrites
 link_writes (After ticks) = u8 0 ++ u16 ticks
 link_writes Never = u8 1
 
+-- a tag, and the ticks that are left if negotiation is running
 abbrev pub negotiation_writes : Negotiation → HashWrites
 negotiation_writes NotStarted = u8 0
 negotiation_writes (Running ticks) = u8 1 ++ u16 ticks
 negotiation_writes Complete = u8 2
 
+-- the whole state of the PHY
 abbrev pub phy_writes : PhyState → HashWrites
 phy_writes phy = bool phy.negotiation_enabled ++ bool phy.latched_low ++ link_writes phy.link ++ negotiation_writes phy.negotiation

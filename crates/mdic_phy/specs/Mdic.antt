@@ -11,7 +11,9 @@ use Rattle.mdic_phy.specs.Places.{mdic_e, mdic_i, mdic_op, mdic_phyadd, mdic_r, 
 
 -- The register's number, and the command that is pending.
 pub record MdicState : Type 0 where
+  -- the register's value
   pub value : ℕ
+  -- the command that is pending, if there is one
   pub pending : Option Operation
 
 -- A register without a command reads 0 (our choice).
@@ -22,12 +24,15 @@ new_mdic = record { value = 0; pending = None }
 abbrev pub data_of : ℕ → ℕ
 data_of value = value % 2 ^ 16
 
+-- REGADD, the number of the PHY's register
 abbrev pub regadd : ℕ → ℕ
 regadd value = field value mdic_regadd 5
 
+-- PHYADD, the PHY's address
 abbrev pub phyadd : ℕ → ℕ
 phyadd value = field value mdic_phyadd 5
 
+-- OP, the command
 abbrev pub op : ℕ → ℕ
 op value = field value mdic_op 2
 
@@ -75,6 +80,7 @@ abbrev pub ended : Option Operation → ℕ → PhyState → ℕ
 ended None value state = value
 ended (Some operation) value state = ended_value operation state value
 
+-- the PHY after the pending command, if there is one
 abbrev pub phy_ended : Option Operation → ℕ → PhyState → PhyState
 phy_ended None value state = state
 phy_ended (Some operation) value state = ended_phy operation value state
@@ -83,6 +89,7 @@ phy_ended (Some operation) value state = ended_phy operation value state
 abbrev pub mdic_after_tick : MdicState → PhyState → MdicState
 mdic_after_tick mdic state = record { value = ended mdic.pending mdic.value (phy.after_tick state); pending = None }
 
+-- the PHY after a tick: its count first, then the command
 abbrev pub phy_after_tick : MdicState → PhyState → PhyState
 phy_after_tick mdic state = phy_ended mdic.pending mdic.value (phy.after_tick state)
 

@@ -11,9 +11,13 @@ use Rattle.mdic_phy.specs.Places.{control_enable, control_reset, control_restart
 -- What a PHY knows: when its link comes up, whether negotiation is enabled (register 0, bit 12), how far
 -- negotiation stands, and whether the link status (register 1, bit 2) is latched low.
 pub record PhyState : Type 0 where
+  -- when the link comes up
   pub link : Link
+  -- whether negotiation is enabled (register 0, bit 12)
   pub negotiation_enabled : Bool
+  -- how far negotiation has come
   pub negotiation : Negotiation
+  -- whether the link status (register 1, bit 2) is latched low
   pub latched_low : Bool
 
 -- A PHY that is new or reset has no link, its negotiation is enabled but not started, and the link status is
@@ -21,6 +25,7 @@ pub record PhyState : Type 0 where
 abbrev pub new_phy : Link → PhyState
 new_phy link = record { link = link; negotiation_enabled = true; negotiation = NotStarted; latched_low = true }
 
+-- whether negotiation has ended
 abbrev pub is_complete : Negotiation → Bool
 is_complete NotStarted = false
 is_complete (Running left) = false
@@ -60,6 +65,7 @@ control_value phy = if phy.negotiation_enabled then alone control_enable else 0
 abbrev pub link_unseen : ℕ
 link_unseen = alone status_complete
 
+-- the status register with Auto-Negotiation Complete and Link Status
 abbrev pub link_seen : ℕ
 link_seen = union (alone status_complete) (alone status_link)
 
@@ -80,11 +86,13 @@ read_value register phy =
 abbrev pub after_read : ℕ → PhyState → PhyState
 after_read register phy = if register == 1 then record phy { latched_low = false } else phy
 
+-- whether negotiation is counting ticks
 abbrev pub is_running : Negotiation → Bool
 is_running NotStarted = false
 is_running (Running left) = true
 is_running Complete = false
 
+-- whether the PHY's negotiation is counting ticks
 abbrev pub is_counting : PhyState → Bool
 is_counting phy = is_running phy.negotiation
 
@@ -94,6 +102,7 @@ counted NotStarted = NotStarted
 counted (Running left) = if nat_le left 1 then Complete else Running (left - 1)
 counted Complete = Complete
 
+-- the PHY after a tick
 abbrev pub after_tick : PhyState → PhyState
 after_tick phy = record phy { negotiation = counted phy.negotiation }
 

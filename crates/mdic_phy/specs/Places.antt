@@ -6,9 +6,11 @@ use Rattle.std.specs.Prelude.{ℕ}
 abbrev pub control_reset : ℕ
 control_reset = 15
 
+-- Auto-Negotiation Enable
 abbrev pub control_enable : ℕ
 control_enable = 12
 
+-- Restart Auto-Negotiation
 abbrev pub control_restart : ℕ
 control_restart = 9
 
@@ -16,6 +18,7 @@ control_restart = 9
 abbrev pub status_complete : ℕ
 status_complete = 5
 
+-- Link Status
 abbrev pub status_link : ℕ
 status_link = 2
 
@@ -23,9 +26,11 @@ status_link = 2
 abbrev pub mdic_regadd : ℕ
 mdic_regadd = 16
 
+-- PHYADD, 5 bits
 abbrev pub mdic_phyadd : ℕ
 mdic_phyadd = 21
 
+-- OP, 2 bits
 abbrev pub mdic_op : ℕ
 mdic_op = 26
 
@@ -33,11 +38,14 @@ mdic_op = 26
 abbrev pub mdic_r : ℕ
 mdic_r = 28
 
+-- I: the end of the command records MDAC
 abbrev pub mdic_i : ℕ
 mdic_i = 29
 
+-- E: the command has failed
 abbrev pub mdic_e : ℕ
 mdic_e = 30
 
+-- bit 31, which is reserved
 abbrev pub mdic_reserved : ℕ
 mdic_reserved = 31

@@ -8,8 +8,11 @@ use Rattle.network_plan.specs.declared.event.Event.TheVariants.{Interrupt, Join,
 
 -- the host that is called, which call it makes, and the ticks that are played in the call
 pub record EventCall : Type 0 where
+  -- the number of the host
   pub host : ℕ
+  -- which call it makes
   pub request : Request
+  -- the ticks that are played in the call
   pub ticks : List Tick
 
 -- an event
@@ -18,6 +21,7 @@ pub data EventKind : Type 0 where
   ByReset : (host : ℕ) (ticks : List Tick) → EventKind
   Alone : (tick : Tick) → EventKind
 
+-- what an event is: a call of a host, a reset, or a tick alone
 abbrev pub in_event : Event → EventKind
 in_event (Send host frame ticks) = ByCall (record { host = host; request = Sending frame.items; ticks = ticks.items })
 in_event (Recv host socket ticks) = ByCall (record { host = host; request = Receiving socket; ticks = ticks.items })

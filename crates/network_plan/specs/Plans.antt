@@ -15,9 +15,11 @@ use Rattle.network_plan.specs.declared.plan_error.PlanError.TheVariants as refus
 abbrev pub most_name_bytes : ℕ
 most_name_bytes = 16
 
+-- a wire has at most so many ends
 abbrev pub most_ends : ℕ
 most_ends = 8
 
+-- a network has at most so many hosts
 abbrev pub most_hosts : ℕ
 most_hosts = 16
 
@@ -25,41 +27,59 @@ most_hosts = 16
 abbrev pub is_of_name : ℕ → Bool
 is_of_name byte = (nat_le 0x61 byte && nat_le byte 0x7A) || (nat_le 0x30 byte && nat_le byte 0x39) || (byte == 0x5F) || (byte == 0x2D)
 
+-- the bytes of a name of a host or a wire
 pub record IsName (bytes : List ℕ) : Type 0 where
+  -- at least one byte
   pub least : 1 ≤ length bytes
+  -- not too many bytes
   pub most : length bytes ≤ most_name_bytes
+  -- each is a byte of a name
   pub all : All (λ byte. is_of_name byte ≡ true) bytes
 
 -- how many hosts have this name, and are on the wire of this name
 abbrev pub hosts_named : List HostPlan → String Global → ℕ
 hosts_named hosts name = count_by (λ (host : HostPlan). string_eq host.name name) hosts
 
+-- the number of hosts on this wire
 abbrev pub hosts_on : List HostPlan → String Global → ℕ
 hosts_on hosts wire = count_by (λ (host : HostPlan). string_eq host.wire wire) hosts
 
 -- Both names are right, and no other host has its name.
 pub record HasName (hosts : List HostPlan) (host : HostPlan) : Type 0 where
+  -- the host's name
   pub name : IsName (string_bytes host.name)
+  -- the wire's name
   pub wire : IsName (string_bytes host.wire)
+  -- no other host has the host's name
   pub once : hosts_named hosts host.name ≡ 1
 
+-- Each host has its own right name, and its wire has a right name.
 pub record HasNames (hosts : List HostPlan) : Type 0 where
+  -- each of them
   pub all : All (HasName hosts) hosts
 
 -- a wire may have so many ends
 pub record IsEndCount (ends : ℕ) : Type 0 where
+  -- at least two
   pub least : 2 ≤ ends
+  -- at most eight
   pub most : ends ≤ most_ends
 
 -- Its wire has 2 to 8 ends.
 pub record HasWire (hosts : List HostPlan) (host : HostPlan) : Type 0 where
+  -- so many hosts are on its wire
   pub ends : IsEndCount (hosts_on hosts host.wire)
 
+-- Each wire has 2 to 8 ends.
 pub record HasEnds (hosts : List HostPlan) : Type 0 where
+  -- each host's wire
   pub all : All (HasWire hosts) hosts
 
+-- There are 2 to 16 hosts.
 pub record HasHosts (hosts : List HostPlan) : Type 0 where
+  -- at least two
   pub least : 2 ≤ length hosts
+  -- at most 16
   pub most : length hosts ≤ most_hosts
 
 -- A host that has the address of another is that one, by its name.
@@ -68,18 +88,26 @@ IsSameIfAddressed host other = address_bytes other.image ≡ address_bytes host.
 
 -- Its address is an individual one, and no other host has it.
 pub record HasAddress (hosts : List HostPlan) (host : HostPlan) : Type 0 where
+  -- its address isn't one of a group
   pub individual : IsIndividual (address_bytes host.image)
+  -- no other host has it
   pub own : All (IsSameIfAddressed host) hosts
 
+-- Each host has its own individual address.
 pub record HasAddresses (hosts : List HostPlan) : Type 0 where
+  -- each of them
   pub all : All (HasAddress hosts) hosts
 
 -- Its configuration can be had in a memory that is large enough, and its link comes up after a tick at least, or never.
 pub record HasConfig (host : HostPlan) : Type 0 where
+  -- its rings, buffers, packet buffer, groups and VLANs are valid
   pub config : CanBeHad host.config (2 ^ 64 - 1)
+  -- its link needs at least one tick
   pub link : host.link ≢ After 0
 
+-- Each host has a valid configuration.
 pub record HasConfigs (hosts : List HostPlan) : Type 0 where
+  -- each of them
   pub all : All HasConfig hosts
 
 -- Which answer a plan gets: the first reason to refuse it, and Ok exactly where there is none.

@@ -59,22 +59,27 @@ accepted_in request answer = []
 
 -- The result in an answer, if the answer belongs to this kind of call.
 
+-- the result of a send, if it was one
 abbrev pub sent_in : HostAnswer (List ℕ) → Option SendAnswer
 sent_in (Sent result) = Some result
 sent_in answer = None
 
+-- the result of a receive, if it was one
 abbrev pub received_in : HostAnswer (List ℕ) → Option (Result (List ℕ) RecvError)
 received_in (Received result) = Some result
 received_in answer = None
 
+-- the result of an interrupt, if it was one
 abbrev pub interrupted_in : HostAnswer (List ℕ) → Option Handled
 interrupted_in (Interrupted result) = Some result
 interrupted_in answer = None
 
+-- the result of a join, if it was one
 abbrev pub joined_in : HostAnswer (List ℕ) → Option GroupAnswer
 joined_in (Joined result) = Some result
 joined_in answer = None
 
+-- the result of a leave, if it was one
 abbrev pub left_in : HostAnswer (List ℕ) → Option GroupAnswer
 left_in (Left result) = Some result
 left_in answer = None

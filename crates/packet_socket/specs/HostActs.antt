@@ -34,7 +34,9 @@ pub data ActKind : Type 0 where
 
 -- What a call does. An effect passes it to `Runs`.
 pub record HostAct : Type 1 where
+  -- the stages of its accesses
   pub stages : CallStages
+  -- what its accesses may be
   pub kind : ActKind
   -- the frames that it takes off the receive ring
   pub taken : List (List ℕ)
@@ -56,8 +58,11 @@ IsOfDriver counts (Stores address bytes) = ⊤
 
 -- the offset of a word of the group table
 pub record IsGroupWord (offset : ℕ) : Type 0 where
+  -- the index of the word
   pub word : ℕ
+  -- the table has such a word
   pub below : word < TABLE_WORDS
+  -- the offset is that word's
   pub is : offset ≡ MTA + REGISTER_BYTES * word
 
 -- An access of a call that changes the groups joined: a write of a word of the group table.

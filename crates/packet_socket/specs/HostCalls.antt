@@ -46,9 +46,12 @@ driver_of host world = holding (flat_map (waiting_pieces host.driver.layout worl
 -- The host is ready, with its transmit side set up or off: its driver is ready, and each queued frame has 60 to 1,518 bytes, those of its
 -- pieces.
 pub record HostReadyWith (up : Bool) (host : HostState) (world : World) : Type 0 where
+  -- each queued frame has a legal size
   pub sizes : AreFrames (all_of host.queues)
+  -- the driver is ready; the queued frames are handed out
   pub ready : ReadyWith up (driver_of host world) world
 
+-- The host is ready, with its transmit side set up.
 abbrev pub HostReady : HostState → World → Type 0
 HostReady = HostReadyWith true
 
@@ -73,7 +76,9 @@ held_for_socket host socket world =
 
 -- a frame that a socket returned
 pub record Given : Type 0 where
+  -- the socket's number
   pub socket : ℕ
+  -- the frame's bytes
   pub frame : List ℕ
 
 -- the frames that one socket returned, in order
@@ -88,18 +93,26 @@ unclaimed_in host world = host.unclaimed + without_socket host.kinds (frames_hel
 -- socket, the frames returned, then the frames held at the end, are the frames held at the beginning, then the frames stored for the
 -- socket. Frames without a socket are counted, up to the greatest u64.
 pub record Accounts (h : HostState) (a : World) (h' : HostState) (b : World) (given : List Given) (stored : List (List ℕ)) : Type 0 where
+  -- the sockets are the same
   pub kinds : h'.kinds ≡ h.kinds
+  -- for each socket, no frame is lost, doubled or reordered
   pub sockets : (socket : ℕ) → given_for socket given ++ held_for_socket h' socket b ≡ held_for_socket h socket a
       ++ socket_frames h.kinds socket stored
+  -- the count of unclaimed frames doesn't fall
   pub least : h.unclaimed ≤ h'.unclaimed
+  -- no frame is counted as unclaimed that has a socket
   pub most : unclaimed_in h' b ≤ unclaimed_in h a + without_socket h.kinds stored
+  -- each frame without a socket is counted, unless the count is at its greatest value
   pub exactly : h'.unclaimed < count_limit - 1 → unclaimed_in h' b ≡ unclaimed_in h a + without_socket h.kinds stored
 
 -- A host in its world, at a moment of a run.
 pub record HostInWorld : Type 0 where
+  -- the host
   pub host : HostState
+  -- its adapter and its memory
   pub world : World
 
+-- this host in this world
 abbrev pub in_world : HostState → World → HostInWorld
 in_world host world = record { host = host; world = world }
 
@@ -109,12 +122,16 @@ host_driver_in now = driver_in (driver_of now.host now.world) now.world
 
 -- What a host did with frames: what its driver did, and the frames that its sockets returned.
 pub record HostDid : Type 0 where
+  -- the frames that its driver took and accepted
   pub driver : DriverDid
+  -- the frames that its sockets returned, in order
   pub given : List Given
 
+-- these frames were taken, returned and accepted
 abbrev pub did : (taken : List (List ℕ)) → (given : List Given) → (accepted : List (List ℕ)) → HostDid
 did taken given accepted = record { driver = driver_did taken accepted; given = given }
 
+-- no frame was taken, returned or accepted
 abbrev pub did_nothing : HostDid
 did_nothing = did [] [] []
 
@@ -127,8 +144,11 @@ did_both first later =
 -- end: `sizes`, and what `Holds` says of the driver at the end.
 pub record HostInterval (Holds : DriverInWorld → DriverInWorld → DriverDid → Past → Type 0) (old new : HostInWorld) (done : HostDid)
     (past : Past) : Type 0 where
+  -- each queued frame has a legal size
   pub sizes : AreFrames (all_of new.host.queues)
+  -- what holds of the driver at the beginning and at the end
   pub driver : Holds (host_driver_in old) (host_driver_in new) done.driver past
+  -- the account of frames
   pub accounts : Accounts old.host old.world new.host new.world done.given past.stored
 
 -- Any register may have been read.
@@ -162,10 +182,15 @@ pub record IsReadyHost {B : Type 0} (bus : Ghosts B) (up : Bool) (now : HostMome
 
 -- The oldest entry of a socket's queue is removed, and nothing else of the sockets changes. `size` is the entry's length.
 pub record LeavesQueue (h h' : HostState) (socket size : ℕ) (received : Received) : Type 0 where
+  -- the entry was the oldest of its queue
   pub oldest : queue_at h.queues socket ≡ received ∷ queue_at h'.queues socket
+  -- no other queue changes
   pub others : h'.queues ≡ slice_set h.queues socket (queue_at h'.queues socket)
+  -- the sockets are the same
   pub kinds : h'.kinds ≡ h.kinds
+  -- the count of unclaimed frames is the same
   pub unclaimed : h'.unclaimed ≡ h.unclaimed
+  -- the entry has this length
   pub long : size ≡ received.length
 
 -- The frame is loaded, piece by piece. Then slots are offered with the buffers `offered`; the frame's buffers may be among them.
@@ -203,13 +228,18 @@ unclaimed_of kinds list = count_by (λ (received : Received). has_none kinds rec
 
 -- Entries went to the ends of their sockets' queues, in order, and no queue has another entry.
 pub record Queues (kinds : List SocketKind) (before after : List (List Received)) (kept : List Received) : Type 0 where
+  -- each socket's entries went to the end of its queue, in order
   pub ends : (socket : ℕ) → queue_at after socket ≡ queue_at before socket ++ socket_entries kinds socket kept
+  -- no other entry came, and none went
   pub all : IsPermutation (all_of before ++ kept) (all_of after)
 
 -- The frames shown went to the ends of their sockets' queues, in order. Those without a socket were counted as unclaimed.
 pub record SortsFrames (h h' : HostState) (shown : List Received) : Type 0 where
+  -- the sockets are the same
   pub kinds : h'.kinds ≡ h.kinds
+  -- the frames that have a socket were queued
   pub queues : Queues h.kinds h.queues h'.queues (claimed_of h.kinds shown)
+  -- the others were counted
   pub unclaimed : GrowsBy h.unclaimed h'.unclaimed (unclaimed_of h.kinds shown)
 
 -- Over any bus: the driver's ring was served, and the whole frames of the runs that left it were sorted.
@@ -224,7 +254,11 @@ pub record HostServes (h h' : HostState) (n : ℕ) : Type 0 where
 
 -- n frames were taken, each in the pieces of one list, and sorted.
 pub record AreSorted (n : ℕ) (h h' : HostState) (taken : List (List HandedOut)) : Type 0 where
+  -- n frames were taken
   pub count : length taken ≡ n
+  -- the buffers of each are those of one frame
   pub groups : All AreOfOneFrame (map numbers_of taken)
+  -- each is a frame of legal size, cut into full buffers
   pub each : All IsTaken taken
+  -- each was queued or counted
   pub sorted : SortsFrames h h' (map received_of taken)

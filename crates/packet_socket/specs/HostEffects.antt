@@ -38,7 +38,9 @@ use Rattle.packet_socket.specs.declared.receive.RecvError.TheVariants.{Empty, No
 
 -- The host doesn't change, and no access is made.
 pub record MakesNoAccess (h h' : HostState) (Runs : HostAct → Type 0) : Type 0 where
+  -- the host doesn't change
   pub stays : h' ≡ h
+  -- no access is made
   pub runs : Runs no_act
 
 -- Sending.
@@ -46,18 +48,25 @@ pub record MakesNoAccess (h h' : HostState) (Runs : HostAct → Type 0) : Type 0
 -- `left` transmit slots are outstanding, from the index `oldest` on. None of them is written back: each has a frame that is still to be
 -- sent.
 pub record AreLeft (oldest left : ℕ) (world : World) : Type 0 where
+  -- no outstanding slot is written back
   pub none : written_back oldest world ≡ []
+  -- so many frames are still to be sent
   pub frames : length (frames_to_send world) ≡ left
 
 -- The frame has 14 to 1,518 bytes.
 pub record IsSendable (frame : List ℕ) : Type 0 where
+  -- at least 14 bytes
   pub least : shortest_sent ≤ length frame
+  -- at most 1,518 bytes
   pub most : length frame ≤ longest_frame
 
 -- Ok: the frame is accepted. Each transmit slot that was written back when the call began is freed, and the frame's slot is outstanding.
 pub record AcceptsFrame (frame : List ℕ) (h h' : HostState) (Runs : HostAct → Type 0) (world : World) : Type 0 where
+  -- the frame has a valid size
   pub sendable : IsSendable frame
+  -- at least the slots that were written back at the beginning are freed
   pub freed : length (written_back h.driver.oldest_transmit world) + h'.driver.sending ≤ h.driver.sending + 1
+  -- the frame's slot is outstanding
   pub some : 0 < h'.driver.sending
   -- Nothing else changes than which transmit slots are outstanding.
   pub others : h' ≡ record h { driver = with_transmit_slots h.driver h'.driver.oldest_transmit h'.driver.sending }
@@ -74,10 +83,15 @@ pub record AcceptsFrame (frame : List ℕ) (h h' : HostState) (Runs : HostAct �
 -- RingFull: all transmit slots but one have frames that are to be sent, when the call begins and when its stage ends. The host doesn't
 -- change.
 pub record FindsRingFull (frame : List ℕ) (h h' : HostState) (Runs : HostAct → Type 0) (world : World) : Type 0 where
+  -- the frame has a valid size
   pub sendable : IsSendable frame
+  -- when the call begins, all slots but one have frames to be sent
   pub full : length (frames_to_send world) + 1 ≡ h.driver.layout.tx
+  -- when its stage ends, too
   pub still_full : h'.driver.sending + 1 ≡ h.driver.layout.tx
+  -- the host doesn't change
   pub stays : h' ≡ h
+  -- the descriptors of the outstanding slots are loaded
   pub runs : Runs (record {
     stages = Then (loads_to_free h.driver h'.driver.sending) (λ old past new. AreLeft h'.driver.oldest_transmit h'.driver.sending new) Ends;
     kind = MovesFrames;
@@ -105,11 +119,15 @@ given_by socket (Err error) = []
 
 -- Ok: the oldest frame of a socket's queue is returned. The call loads it, piece by piece, and then offers slots.
 pub record ReturnsFrame (socket : ℕ) (frame : List ℕ) (h h' : HostState) (Runs : HostAct → Type 0) (world : World) : Type 0 where
+  -- there is such a socket
   pub known : socket < length h.kinds
+  -- the entry of the queue
   pub received : Received
+  -- it was the oldest, and leaves the queue
   pub leaves : LeavesQueue h h' socket (length frame) received
   -- In the driver, only the owners of buffers change, and no slot is staged. So its transmit slots and its counts don't change.
   pub others : h' ≡ record h { driver = with_owners h.driver h'.driver.buffers [] h'.driver.pool []; queues = h'.queues }
+  -- the buffers of the new slots
   pub offered : List ℕ
   -- The buffers of the outstanding receive slots after the call: those before it, then those staged before it, then `offered`.
   pub newest : h'.driver.buffers ≡ h.driver.buffers ++ (h.driver.staged ++ offered)
@@ -132,14 +150,20 @@ RecvEffect socket (Err Empty) h h' Runs world =
 
 -- After a read of ICR: the value contains each cause that was recorded when the stage began, and no cause is recorded.
 pub record ClearsCauses (causes : ℕ) (old : World) (past : Past) (new : World) : Type 0 where
+  -- each cause that was recorded was read
   pub seen : (place : ℕ) → HasBit old.adapter.causes.recorded place → HasBit causes place
+  -- no cause is recorded
   pub cleared : new.adapter.causes.recorded ≡ 0
 
 -- NotMine: the value read from ICR contains no cause that a driver handles. The call makes no other access, and the host doesn't change.
 pub record FindsNoCause (h h' : HostState) (Runs : HostAct → Type 0) : Type 0 where
+  -- the value read from ICR
   pub causes : ℕ
+  -- it has no cause that the driver handles
   pub none : ¬ Meet causes handled_causes
+  -- the host doesn't change
   pub stays : h' ≡ h
+  -- there is no other access
   pub runs : Runs (record { stages = Then (Reads ICR causes ∷ []) (ClearsCauses causes) Ends; kind = HandlesInterrupt; taken = [] })
 
 -- Handled: n frames are taken. `taken` has the pieces of each. They are at least as many as the frames that ended in finished slots when
@@ -148,12 +172,17 @@ pub record FindsNoCause (h h' : HostState) (Runs : HostAct → Type 0) : Type 0 
 pub record HandlesFrames (n : ℕ) (h h' : HostState) (Runs : HostAct → Type 0) (world : World) : Type 0 where
   -- the value read from ICR
   pub causes : ℕ
+  -- it has a cause that the driver handles
   pub some : Meet causes handled_causes
   -- the value read from MPC, which is added to the driver's sum
   pub missed : ReadsMisses h.driver h'.driver
+  -- the pieces of each frame taken
   pub taken : List (List HandedOut)
+  -- each frame was queued or counted
   pub frames : AreSorted n h h' taken
+  -- the frames without a socket were counted
   pub unclaimed : GrowsBy h.unclaimed h'.unclaimed (without_socket h.kinds (joined_frames taken))
+  -- each frame that ended in finished slots at the beginning is taken
   pub least : length (frames_ended (driver_in h.driver world)) ≤ n
   -- The buffers of the frames leave the ring, those of `rest` stay outstanding, and those of `offered` are offered. The index of the oldest
   -- slot isn't stated here: it follows from the host being ready after the call.
@@ -197,25 +226,37 @@ groups_act h h' accesses = record {
 
 -- Ok of a join: the group is joined, and nothing else changes.
 pub record JoinsGroup (group : List ℕ) (h h' : HostState) (Runs : HostAct → Type 0) : Type 0 where
+  -- it is the address of a group
   pub group_is : IsGroup group
+  -- it isn't joined yet
   pub not_yet : ¬ Contains h.driver.groups group
+  -- fewer than 32 groups are joined
   pub room : length h.driver.groups < MOST_GROUPS
+  -- it is the last of the groups joined
   pub joined : h' ≡ with_joined (h.driver.groups ++ group ∷ []) h
   -- There is no access if a joined group has the same number. Otherwise one word of the group table is written.
   pub accesses : List Access
+  -- they write the group's bit, if it isn't set
   pub sets : SetsTable h.driver.groups group h'.driver.groups accesses
+  -- there is no other access
   pub runs : Runs (groups_act h h' accesses)
 
 -- Ok of a leave: the group isn't joined any more, and nothing else changes.
 pub record LeavesGroup (group : List ℕ) (h h' : HostState) (Runs : HostAct → Type 0) : Type 0 where
+  -- it is the address of a group
   pub group_is : IsGroup group
+  -- it was joined, and isn't any more
   pub left : Removes group h.driver.groups h'.driver.groups
+  -- nothing else of the host changes
   pub others : h' ≡ with_joined h'.driver.groups h
   -- There is no access if a group that stays joined has the same number. Otherwise one word of the group table is written.
   pub accesses : List Access
+  -- they clear the group's bit, if no other group needs it
   pub sets : SetsTable h'.driver.groups group h'.driver.groups accesses
+  -- there is no other access
   pub runs : Runs (groups_act h h' accesses)
 
+-- Ok, or why a group wasn't joined or left
 abbrev pub GroupAnswer : Type 0
 GroupAnswer = Result (Unit {0}) GroupError
 

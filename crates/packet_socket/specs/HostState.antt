@@ -26,9 +26,11 @@ pub record SocketsState : Type 0 where
   -- the number of frames that no socket took, up to the greatest u64
   pub unclaimed : ℕ
 
+-- a driver with the sockets of a host, and the frames that wait for them
 pub record HostState : Type 0 where
   -- the driver; `handed_out` is empty in its state
   pub driver : DriverState
+  -- which frames each socket takes
   pub kinds : List SocketKind
   -- the frames queued for each socket, the oldest first
   pub queues : List (List Received)

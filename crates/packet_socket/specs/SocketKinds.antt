@@ -35,5 +35,6 @@ goes_to kinds socket ether_type = is_at socket (socket_of kinds ether_type)
 abbrev pub has_socket : List SocketKind → ℕ → Bool
 has_socket kinds ether_type = is_some (socket_of kinds ether_type)
 
+-- whether no socket takes frames of this EtherType
 abbrev pub has_none : List SocketKind → ℕ → Bool
 has_none kinds ether_type = is_none (socket_of kinds ether_type)

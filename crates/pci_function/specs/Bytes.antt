@@ -4,6 +4,7 @@ use Rattle.std.specs.Int.{from_le_bytes, to_le_bytes, w32}
 use Rattle.pci_function.specs.declared.port_width.PortWidth.{PortWidth}
 use Rattle.pci_function.specs.declared.port_width.PortWidth.TheVariants.{Byte, Word, Long}
 
+-- the number of bytes of a width
 abbrev pub size_of : PortWidth → ℕ
 size_of Byte = 1
 size_of Word = 2

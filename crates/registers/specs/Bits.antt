@@ -36,23 +36,29 @@ IsSubset a b = bit_and a b ≡ a
 
 -- What these words mean, place by place.
 
+-- A bit is 1 in the union of two sets if and only if it is 1 in one of them.
 abbrev pub UnionByPlaces : Type 0
 UnionByPlaces = (a b place : ℕ) → HasBit (union a b) place ↔ (HasBit a place ⊎ HasBit b place)
 
+-- A bit is 1 in the intersection of two sets if and only if it is 1 in both.
 abbrev pub IntersectionByPlaces : Type 0
 IntersectionByPlaces = (a b place : ℕ) → HasBit (intersection a b) place ↔ (HasBit a place × HasBit b place)
 
+-- In registers of 32 bits: a bit is 1 in the difference if and only if it is 1 in the first set and 0 in the second.
 abbrev pub DifferenceByPlaces : Type 0
 DifferenceByPlaces =
     (a b place : ℕ) → a < 2 ^ 32 → b < 2 ^ 32
     → HasBit (difference a b) place ↔ (HasBit a place × ¬ (HasBit b place))
 
+-- In a register of 32 bits: two sets meet if and only if some bit is 1 in both.
 abbrev pub MeetByPlaces : Type 0
 MeetByPlaces = (a b : ℕ) → a < 2 ^ 32 → Meet a b ↔ ((place : ℕ) × HasBit a place × HasBit b place)
 
+-- A set is a subset of another if and only if each bit that is 1 in the first is 1 in the second.
 abbrev pub SubsetByPlaces : Type 0
 SubsetByPlaces = (a b : ℕ) → IsSubset a b ↔ ((place : ℕ) → HasBit a place → HasBit b place)
 
+-- No bit of 0 is 1.
 abbrev pub EmptyByPlaces : Type 0
 EmptyByPlaces = (place : ℕ) → ¬ (HasBit 0 place)
 

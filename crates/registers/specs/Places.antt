@@ -10,9 +10,11 @@ alone place = 2 ^ place
 abbrev pub ctrl_asde : ℕ
 ctrl_asde = 5
 
+-- Set link up: while it is set, STATUS shows the link of the PHY.
 abbrev pub ctrl_slu : ℕ
 ctrl_slu = 6
 
+-- Device reset.
 abbrev pub ctrl_rst : ℕ
 ctrl_rst = 26
 
@@ -20,6 +22,7 @@ ctrl_rst = 26
 abbrev pub status_lu : ℕ
 status_lu = 1
 
+-- The speed of the link, 2 bits.
 abbrev pub status_speed : ℕ
 status_speed = 6
 
@@ -27,27 +30,35 @@ status_speed = 6
 abbrev pub rctl_en : ℕ
 rctl_en = 1
 
+-- Unicast promiscuous: all individual addresses pass the filter.
 abbrev pub rctl_upe : ℕ
 rctl_upe = 3
 
+-- Multicast promiscuous: all group addresses pass the filter.
 abbrev pub rctl_mpe : ℕ
 rctl_mpe = 4
 
+-- Multicast offset, 2 bits: which 12 bits of a group address are its number.
 abbrev pub rctl_mo : ℕ
 rctl_mo = 12
 
+-- Broadcast accept mode: the broadcast address passes the filter.
 abbrev pub rctl_bam : ℕ
 rctl_bam = 15
 
+-- The size of the receive buffers, 2 bits: 2,048, 1,024, 512 or 256 bytes.
 abbrev pub rctl_bsize : ℕ
 rctl_bsize = 16
 
+-- VLAN filter enable: a frame with a VLAN tag passes only if the VLAN table has its number.
 abbrev pub rctl_vfe : ℕ
 rctl_vfe = 18
 
+-- Buffer size extension: while it is set, RxData is a fault if there is a frame to move (our choice).
 abbrev pub rctl_bsex : ℕ
 rctl_bsex = 25
 
+-- Strip the CRC. The model's frames have none.
 abbrev pub rctl_secrc : ℕ
 rctl_secrc = 26
 
@@ -55,12 +66,15 @@ rctl_secrc = 26
 abbrev pub tctl_en : ℕ
 tctl_en = 1
 
+-- Pad short packets: TxTake pads a frame of fewer than 60 bytes with zeros.
 abbrev pub tctl_psp : ℕ
 tctl_psp = 3
 
+-- Collision threshold, 8 bits, which has no effect in the model.
 abbrev pub tctl_ct : ℕ
 tctl_ct = 4
 
+-- Collision distance, 10 bits, which has no effect in the model.
 abbrev pub tctl_cold : ℕ
 tctl_cold = 12
 
@@ -72,20 +86,26 @@ rah_av = 31
 abbrev pub txdw : ℕ
 txdw = 0
 
+-- Transmit queue empty: the last descriptor was taken.
 abbrev pub txqe : ℕ
 txqe = 1
 
+-- Link status change: the link came up.
 abbrev pub lsc : ℕ
 lsc = 2
 
+-- Receive descriptor minimum threshold: the free descriptors became half the ring.
 abbrev pub rxdmt0 : ℕ
 rxdmt0 = 4
 
+-- Receiver overrun: a frame was missed.
 abbrev pub rxo : ℕ
 rxo = 6
 
+-- Receiver timer: the last descriptor of a frame was written back.
 abbrev pub rxt0 : ℕ
 rxt0 = 7
 
+-- MDI/O access complete: an MDIC command whose I bit is set ended.
 abbrev pub mdac : ℕ
 mdac = 9

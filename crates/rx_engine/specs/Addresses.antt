@@ -29,12 +29,15 @@ low_word address =
     slice_index address 0 + slice_index address 1 * 2 ^ 8 + slice_index address 2 * 2 ^ 16
     + slice_index address 3 * 2 ^ 24
 
+-- The high word of an address.
 abbrev pub high_word : List ℕ → ℕ
 high_word address = slice_index address 4 + slice_index address 5 * 2 ^ 8
 
 -- an address is 6 bytes
 pub record IsAddress (address : List ℕ) : Type 0 where
+  -- There are six.
   pub size : length address ≡ 6
+  -- Each is below 256.
   pub bytes : (k : ℕ) → slice_index address k < 256
 
 -- bytes 12 and 13, the higher one first

@@ -35,7 +35,9 @@ memory_after_done (Some work) memory =
 
 -- so many bytes at the address that a descriptor names lie in memory, apart from that descriptor
 pub record StandsApart (memory : List ℕ) (descriptor n : ℕ) : Type 0 where
+  -- The bytes are in memory.
   pub place : LiesIn memory (named_address memory descriptor) n
+  -- They don't overlap the descriptor.
   pub apart : AreApart (area_at (named_address memory descriptor) n) (descriptor_area descriptor)
 
 -- the descriptor at an address is finished with a piece of a frame: it is done, tells whether the frame ends in it, had no error, and its
@@ -43,7 +45,11 @@ pub record StandsApart (memory : List ℕ) (descriptor n : ℕ) : Type 0 where
 pub record IsFinished (memory : List ℕ) (descriptor : ℕ) (ends : Bool) (piece : List ℕ) : Type 0 where
   -- DD and EOP (3.2.3.1)
   pub done : HasBit (status_bits (descriptor_at memory descriptor).status) dd
+  -- EOP is set if and only if the frame ends in the piece.
   pub ended : is_set (status_bits (descriptor_at memory descriptor).status) eop ≡ ends
+  -- The errors byte is 0.
   pub has_no_errors : (descriptor_at memory descriptor).errors ≡ 0
+  -- The length is the piece's.
   pub length : (descriptor_at memory descriptor).length ≡ length piece
+  -- The address and the length name the bytes of the piece.
   pub bytes : bytes_at memory (named_address memory descriptor) (descriptor_at memory descriptor).length ≡ piece

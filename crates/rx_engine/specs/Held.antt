@@ -48,7 +48,9 @@ HasBegun memory finished engine = begun_of (in_slots memory finished engine) ≡
 -- the same frames are held, and then these; and the slots contain the bytes of the oldest frame that are moved
 pub record Holds (before after : List (List ℕ)) (more : List (List ℕ)) (memory : List ℕ) (finished : List Piece)
     (engine : Receiver) : Type 0 where
+  -- The frames afterwards are those from before, and then the additional ones.
   pub frames : after ≡ before ++ more
+  -- The slots contain the moved bytes of the oldest frame.
   pub begun : HasBegun memory finished engine
 
 -- What the steps do to that list, whichever slots are finished.
@@ -62,12 +64,17 @@ ArrivalGrowsHeld =
 
 -- the step had a piece to move, and a place for it in memory that is apart from its descriptor
 pub record MovesApart (control : ℕ) (ring : Ring) (engine : Receiver) (memory : List ℕ) (last : Bool) : Type 0 where
+  -- The outcome of the step isn't `Nothing`.
   pub has : HasFrameToMove control ring engine
+  -- The outcome of the step isn't `Fault`.
   pub can : CanMove control ring memory (length (next_piece control engine))
+  -- Whether the frame ends in the piece.
   pub last_is : is_last control engine ≡ last
+  -- The buffer doesn't overlap its descriptor.
   pub apart : AreApart (area_at (named_address memory (address_of ring ring.head)) (length (next_piece control engine)))
       (descriptor_area (address_of ring ring.head))
 
+-- If a data step moved a piece, the fact of that step; a step that moved no piece needs no fact.
 abbrev pub MovesBy : Data → ℕ → Ring → Receiver → List ℕ → Type 0
 MovesBy answers.Nothing control ring engine memory = Unit {0}
 MovesBy (answers.Part low) control ring engine memory = MovesApart control ring engine memory false
@@ -86,7 +93,9 @@ DataKeepsHeld =
 
 -- the piece in progress is finished at its descriptor, and with it among the finished ones the same frames are held
 pub record Finishes (memory : List ℕ) (finished : List Piece) (engine : Receiver) (work : Work) : Type 0 where
+  -- The descriptor is finished with the bytes of the piece.
   pub stands : IsFinished (memory_after_done engine.work memory) work.descriptor work.ends (bytes_of_work memory work)
+  -- The same frames are held before and after the step.
   pub holds :
       Holds (held memory finished engine)
       (held (memory_after_done engine.work memory) (finished ++ piece_of work.ends (bytes_of_work memory work) ∷ [])
@@ -102,7 +111,9 @@ DoneKeepsHeld =
 
 -- an area is apart from the descriptor of the piece in progress, and from the piece
 pub record IsAwayFromWork (memory : List ℕ) (area : Area) (work : Work) : Type 0 where
+  -- The area doesn't overlap the descriptor.
   pub descriptor : AreApart area (descriptor_area work.descriptor)
+  -- The area doesn't overlap the piece.
   pub piece : AreApart area (area_at (named_address memory work.descriptor) work.length)
 
 -- Bytes written apart from the piece in progress and its descriptor don't change the piece.

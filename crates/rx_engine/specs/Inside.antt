@@ -4,11 +4,17 @@ use Rattle.rx_engine.specs.Receiver.{Receiver, IsReceiver}
 use Rattle.rx_engine.specs.Room.{occupied_by}
 use Rattle.rx_engine.specs.declared.engine.RxEngine.TheInside.{Inside}
 
+-- The plain data of a receive engine, as contracts see it.
 abbrev pub receiver_of : Inside → Receiver
 receiver_of engine = record { buffer = engine.buffer.frames; moved = engine.moved; work = engine.work; stopped = engine.stopped }
 
+-- What holds of the fields at all times.
 pub record IsConsistent (engine : Inside) : Type 0 where
+  -- The packet buffer has room for 614 frames,
   pub capacity : engine.buffer.capacity ≡ 614
+  -- and its memory is 65,536 bytes.
   pub bytes : engine.buffer.room ≡ 65536
+  -- The stored number of occupied bytes is that of the frames in the packet buffer.
   pub occupied : engine.occupied ≡ occupied_by engine.buffer.frames
+  -- The plain data is that of a receive engine.
   pub keeps : IsReceiver (receiver_of engine)

@@ -14,7 +14,9 @@ table_numbers = 4096
 
 -- A table of 128 words has the bits of these numbers, and no other.
 pub record HasNumbers (table numbers : List ℕ) : Type 0 where
+  -- The table has 128 words.
   pub words : length table ≡ TABLE_WORDS
+  -- The bit of a number is 1 if and only if the number is in the list.
   pub bits : (number : ℕ) → number < table_numbers → HasTableBit table number ↔ Contains numbers number
 
 -- the numbers of groups if RCTL.MO is 00

@@ -16,13 +16,20 @@ use Rattle.scenario.specs.declared.command.Scenario.{Scenario}
 
 -- a host of the plan, without the places of its names in memory
 pub record Host : Type 0 where
+  -- the host's name
   pub name : Text
+  -- the name of its wire
   pub wire : Text
+  -- the words of its EEPROM
   pub image : List ℕ
+  -- when its link comes up
   pub link : Link
+  -- its rings, buffers, packet buffer and filter
   pub config : Config
+  -- which frames its sockets take
   pub sockets : List SocketKind
 
+-- the host of a plan
 abbrev pub host_of_plan : HostPlan → Host
 host_of_plan plan = record {
   name = string_bytes plan.name;
@@ -46,6 +53,7 @@ pub data Said : Type 0 where
   Draws : (count start : ℕ) → Said
   Drains : (host : ℕ) → Said
 
+-- what a line says that is one event
 abbrev pub event_of : Event → Said
 event_of (event.Send host frame ticks) = Sends host frame.items ticks.items
 event_of (event.Recv host socket ticks) = Receives host socket ticks.items
@@ -55,6 +63,7 @@ event_of (event.Join host group ticks) = Joins host group ticks.items
 event_of (event.Leave host group ticks) = Leaves host group ticks.items
 event_of (event.Tick tick) = Ticks tick
 
+-- what a line of a command says
 abbrev pub said_of : Command → Said
 said_of (command.Event one) = event_of one
 said_of (command.Feed host trace) = Feeds host trace
@@ -67,6 +76,7 @@ pub record SoFar : Type 0 where
   pub commands : List Said
   pub traces : List Text
 
+-- the hosts of these plans
 abbrev pub hosts_of : List HostPlan → List Host
 hosts_of plans = map host_of_plan plans
 

@@ -12,8 +12,11 @@ use Rattle.step_schedules.specs.declared.deviation.Site.TheVariants as site
 
 -- an access, or a request that begins a round, without the place of its name in memory
 pub record EventRead : Type 0 where
+  -- its round, and its number in the round
   pub place : Place
+  -- whether it is a read, a write or a request
   pub before : Before
+  -- its name
   pub name : Text
 
 abbrev pub event_read : Event → EventRead
@@ -33,6 +36,7 @@ next_place Request place = record { round = next place.round; access = 0 }
 next_place Read place = record { round = place.round; access = next place.access }
 next_place Write place = record { round = place.round; access = next place.access }
 
+-- whether two places are the same
 abbrev pub is_place : Place → Place → Bool
 is_place place other = place.round == other.round && place.access == other.access
 
@@ -41,6 +45,7 @@ abbrev pub is_at : EventRead → Site → Bool
 is_at event (site.Place place) = is_place place event.place
 is_at event (site.Number number) = true
 
+-- whether two are of the same kind
 abbrev pub is_same : Before → Before → Bool
 is_same Read Read = true
 is_same Write Write = true

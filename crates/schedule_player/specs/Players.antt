@@ -9,6 +9,7 @@ use Rattle.step_schedules.specs.declared.deviation.Action.{Action}
 use Rattle.step_schedules.specs.declared.deviation.Before.{Before}
 use Rattle.step_schedules.specs.declared.deviation.Site.TheVariants as site
 
+-- what a player of schedules knows
 pub record PlayerState : Type 0 where
   -- whether a schedule is played
   pub is_playing : Bool

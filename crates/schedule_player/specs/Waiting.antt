@@ -9,7 +9,9 @@ use Rattle.step_schedules.specs.declared.deviation.Site.TheVariants as site
 
 -- a deviation, and how often its event must still come until it is played; 0: it was met
 pub record WaitingRead : Type 0 where
+  -- the deviation
   pub deviation : DeviationRead
+  -- how often its event must still come
   pub left : ℕ
 
 abbrev pub waiting_read : Waiting → WaitingRead
@@ -32,6 +34,7 @@ abbrev pub counted : EventRead → WaitingRead → WaitingRead
 counted event waiting =
     record waiting { left = if is_met_by event waiting.deviation then waiting.left - 1 else waiting.left }
 
+-- what it plays
 abbrev pub action_of : WaitingRead → Action
 action_of waiting = waiting.deviation.action
 

@@ -23,6 +23,7 @@ pub use Rattle.server_requests.specs.Texts.{Text}
 abbrev pub joined : List (Bor Text) → Text
 joined parts = concat (map (λ (part : Bor Text). part.now) parts)
 
+-- the word for a kind of step
 abbrev pub kind_word : StepKind → Text
 kind_word TxTake = codes "txtake"
 kind_word TxPut = codes "txput"
@@ -31,6 +32,7 @@ kind_word RxDone = codes "rxdone"
 kind_word EepromTick = codes "eeprom"
 kind_word PhyTick = codes "phy"
 
+-- the word for an outcome
 abbrev pub outcome_word : Outcome (Unit {0}) → Text
 outcome_word Took = codes "took"
 outcome_word (Put frame) = codes "put"
@@ -43,6 +45,7 @@ outcome_word Ticked = codes "ticked"
 outcome_word Nothing = codes "nothing"
 outcome_word Fault = codes "fault"
 
+-- the word for a fate
 abbrev pub fate_word : Fate → Text
 fate_word Off = codes "off"
 fate_word Illegal = codes "illegal"
@@ -98,6 +101,7 @@ line_moved false false = line_told None
 
 -- Answers.
 
+-- the answer without a value
 abbrev pub ok_line : Text
 ok_line = codes "OK\n"
 
@@ -109,6 +113,7 @@ bytes_line bytes = codes "OK 0x" ++ encode_lower bytes ++ codes "\n"
 unfoldable pub number_line : ℕ → Text
 number_line number = bytes_line (to_be_bytes w64 number)
 
+-- the answer with this word
 unfoldable pub word_line : Text → Text
 word_line word = codes "OK " ++ word ++ codes "\n"
 
@@ -118,10 +123,12 @@ base64_line bytes = word_line (encode_of standard bytes)
 
 -- Faults of engines.
 
+-- the word for an engine
 abbrev pub engine_word : Engine → Text
 engine_word engines.Transmit = codes "tx"
 engine_word engines.Receive = codes "rx"
 
+-- the word for a fault's reason
 abbrev pub reason_word : Reason → Text
 reason_word reasons.Ring = codes "ring"
 reason_word reasons.Descriptor = codes "descriptor"
@@ -136,9 +143,11 @@ abbrev pub fault_words : EngineFault → Text
 fault_words fault =
     codes " " ++ engine_word fault.engine ++ codes " " ++ decimal fault.index ++ codes " " ++ reason_word fault.reason
 
+-- the line about a fault
 abbrev pub fault_line : EngineFault → Text
 fault_line fault = codes "fault" ++ fault_words fault ++ codes "\n"
 
+-- the answer with these faults
 abbrev pub faults_line : List EngineFault → Text
 faults_line faults = codes "OK" ++ flat_map fault_words faults ++ codes "\n"
 

@@ -1,9 +1,11 @@
 -- The results of reading lines (our choice). Of a reader that doesn't show its bytes to contracts nothing is said.
-use Rattle.std.specs.Prelude.{⊤, ◌≡◌, ◌≢◌, ◌<◌, ◌≤◌, ℕ, List, [], ◌∷◌, Bool, Option, Some, None, if◌then◌else◌, length}
+use Rattle.std.specs.Prelude.{⊤, ◌≡◌, ◌≢◌, ◌+◌, ◌++◌, ◌<◌, ◌≤◌, ℕ, List, [], Bool, Option, Some, None, if◌then◌else◌, length, nat_lt, take}
 use Rattle.server_requests.specs.Lines.{behind_line, first_line, most_line_bytes}
 use Rattle.server_requests.specs.Texts.{Text}
 use Rattle.server_requests.specs.declared.line_reader.NextLine.{NextLine}
 use Rattle.server_requests.specs.declared.line_reader.NextLine.TheVariants.{End, Whole, Long}
+use Rattle.server_requests.specs.declared.line_reader.Part.{Part}
+use Rattle.server_requests.specs.declared.line_reader.Part.TheVariants as parts
 
 -- This holds of the bytes that were left and of those that are left, if both are known.
 abbrev pub BothKnown : Option (List ℕ) → Option (List ℕ) → (List ℕ → List ℕ → Type 0) → Type 0
@@ -20,10 +22,36 @@ pub record AtEnd (old new : List ℕ) : Type 0 where
 abbrev pub kept_as : Bool → NextLine
 kept_as is_long = if is_long then Long else Whole
 
--- The next byte was read, or none at the end.
-abbrev pub GivesByte : Option ℕ → Option (List ℕ) → Option (List ℕ) → Type 0
-GivesByte (Some byte) before after = BothKnown before after (λ old new. old ≡ byte ∷ new)
-GivesByte None before after = BothKnown before after AtEnd
+-- These bytes were read, and none of them ends the line.
+pub record GoesOn (bytes old new : List ℕ) : Type 0 where
+  -- They were the first.
+  pub all : old ≡ bytes ++ new
+  -- The line begins with them,
+  pub first : first_line old ≡ bytes ++ first_line new
+  -- and ends after them.
+  pub behind : behind_line old ≡ behind_line new
+
+-- These bytes were read, and they are a whole line.
+pub record Ends (bytes old new : List ℕ) : Type 0 where
+  -- There was a line.
+  pub some : old ≢ []
+  -- It consists of the bytes.
+  pub first : first_line old ≡ bytes
+  -- The bytes after it are left.
+  pub rest : new ≡ behind_line old
+
+-- Bytes were appended to a line, as far as there was room, and whether a byte had no room.
+pub record Adds (is_long : Bool) (bytes : List ℕ) (line line' : Text) : Type 0 where
+  -- The line keeps the first ones.
+  pub kept : line' ≡ take most_line_bytes (line ++ bytes)
+  -- It has no room for more.
+  pub long : is_long ≡ nat_lt most_line_bytes (length line + length bytes)
+
+-- A part of a line was read and appended.
+abbrev pub TakesPart : Part → Text → Text → List ℕ → List ℕ → Type 0
+TakesPart parts.None line line' old new = AtEnd old new × (line' ≡ line)
+TakesPart (parts.More is_long) line line' old new = (bytes : List ℕ) × GoesOn bytes old new × Adds is_long bytes line line'
+TakesPart (parts.Last is_long) line line' old new = (bytes : List ℕ) × Ends bytes old new × Adds is_long bytes line line'
 
 -- The first line of what was left was read, and isn't too long. The bytes after it are left.
 pub record IsWhole (line : Text) (old new : List ℕ) : Type 0 where

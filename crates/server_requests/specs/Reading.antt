@@ -32,6 +32,7 @@ most_count = 65535
 abbrev pub sized : ℕ → ℕ → List ℕ → Result Request Refusal
 sized address size bytes = if length bytes == size then Ok (requests.Write address bytes) else Err refusals.Value
 
+-- `write ADDR SIZE HEX`
 abbrev pub write_in : List Text → Result Request Refusal
 write_in words = do
   address ← number_below greatest_number (word 1 words)
@@ -39,6 +40,7 @@ write_in words = do
   bytes ← payload_in (word 3 words)
   sized address size bytes
 
+-- `b64write ADDR SIZE BASE64`
 abbrev pub write_base64_in : List Text → Result Request Refusal
 write_base64_in words = do
   address ← number_below greatest_number (word 1 words)
@@ -46,6 +48,7 @@ write_base64_in words = do
   bytes ← base64_in (word 3 words)
   sized address size bytes
 
+-- `memset ADDR SIZE VALUE`
 abbrev pub memset_in : List Text → Result Request Refusal
 memset_in words = do
   address ← number_below greatest_number (word 1 words)
@@ -58,39 +61,48 @@ abbrev pub is_first : (first second word : Text) → Result Bool Refusal
 is_first first second word =
     if bytes_eq word first then Ok true else if bytes_eq word second then Ok false else Err refusals.Value
 
+-- `log on` or `log off`
 abbrev pub log_in : Text → Result Request Refusal
 log_in word = is_first (codes "on") (codes "off") word >>= λ on. Ok (requests.Set (settings.Log on))
 
+-- `wire free` or `wire full`
 abbrev pub wire_in : Text → Result Request Refusal
 wire_in word = is_first (codes "free") (codes "full") word >>= λ free. Ok (requests.Set (settings.Wire free))
 
+-- `events on` or `events off`
 abbrev pub events_in : Text → Result Request Refusal
 events_in word = is_first (codes "on") (codes "off") word >>= λ on. Ok (requests.Set (settings.Events on))
 
+-- a step of this kind; a word that names none is refused
 abbrev pub step_or_refusal : Option StepKind → Result Request Refusal
 step_or_refusal (Some kind) = Ok (requests.Step kind)
 step_or_refusal None = Err refusals.Value
 
+-- `step KIND`
 abbrev pub step_in : Text → Result Request Refusal
 step_in word = step_or_refusal (kind_named word)
 
+-- a read of a number of this width
 abbrev pub read_number_in : Width → List Text → Result Request Refusal
 read_number_in width words = do
   address ← number_below greatest_number (word 1 words)
   Ok (requests.Read (wanted.Number width) address)
 
+-- a write of a number of this width
 abbrev pub write_number_in : Width → List Text → Result Request Refusal
 write_number_in width words = do
   address ← number_below greatest_number (word 1 words)
   value ← number_below (greatest width) (word 2 words)
   Ok (requests.Write address (bytes_spelling width value))
 
+-- `read ADDR SIZE`
 abbrev pub read_in : List Text → Result Request Refusal
 read_in words = do
   address ← number_below greatest_number (word 1 words)
   size ← size_in (word 2 words)
   Ok (requests.Read (wanted.Bytes size) address)
 
+-- `b64read ADDR SIZE`
 abbrev pub read_base64_in : List Text → Result Request Refusal
 read_base64_in words = do
   address ← number_below greatest_number (word 1 words)
@@ -101,24 +113,30 @@ read_base64_in words = do
 abbrev pub most_port : ℕ
 most_port = 0xFFFF
 
+-- a read of a port of this width
 abbrev pub read_port_in : PortWidth → Text → Result Request Refusal
 read_port_in width word = number_below most_port word >>= λ port. Ok (requests.ReadPort width port)
 
+-- a write of a port of this width
 abbrev pub write_port_in : PortWidth → List Text → Result Request Refusal
 write_port_in width words = do
   port ← number_below most_port (word 1 words)
   value ← number_below (greatest_at_port width) (word 2 words)
   Ok (requests.WritePort width port value)
 
+-- `arrive HEX`
 abbrev pub arrive_in : Text → Result Request Refusal
 arrive_in word = bytes_in word >>= λ bytes. Ok (requests.Arrive bytes)
 
+-- `offer HEX`
 abbrev pub offer_in : Text → Result Request Refusal
 offer_in word = bytes_in word >>= λ bytes. Ok (requests.Offer bytes)
 
+-- `interleave N`
 abbrev pub interleave_in : Text → Result Request Refusal
 interleave_in word = number_below most_count word >>= λ count. Ok (requests.Set (settings.Interleave count))
 
+-- `pace N`
 abbrev pub pace_in : Text → Result Request Refusal
 pace_in word = number_below most_count word >>= λ count. Ok (requests.Set (settings.Pace count))
 
@@ -128,6 +146,7 @@ clock_step_in words =
     if length words == 1 then Ok (requests.ClockStep 0)
     else number_below greatest_number (word 1 words) >>= λ time. Ok (requests.ClockStep time)
 
+-- `clock_set TIME`
 abbrev pub clock_set_in : Text → Result Request Refusal
 clock_set_in word = number_below greatest_number word >>= λ time. Ok (requests.ClockSet time)
 
@@ -162,6 +181,7 @@ request_with Pace words = pace_in (word 1 words)
 request_with Save words = Ok requests.Save
 request_with Restore words = Ok requests.Restore
 
+-- the request of a verb and its words; an unknown verb, or a wrong number of words, is refused
 abbrev pub request_if : Option Verb → List Text → Result Request Refusal
 request_if (Some verb) words = if takes_words verb (length words) then request_with verb words else Err refusals.Count
 request_if None words = Err refusals.Unknown

@@ -29,6 +29,7 @@ abbrev pub ◌>>=◌ : {A B : Type 0} → Result A Refusal → (A → Result B R
 (Ok value) >>= next = next value
 (Err refusal) >>= next = Err refusal
 
+-- whether a byte is a digit in this radix
 abbrev pub is_digit : ℕ → ℕ → Bool
 is_digit radix digit = nat_lt (digit_value digit) radix
 
@@ -40,6 +41,7 @@ are_digits radix text = nat_lt 0 (length text) && list_all (is_digit radix) text
 abbrev pub digits_in : (radix : ℕ) → Text → Option ℕ
 digits_in radix text = if are_digits radix text then Some (digits_value radix text) else None
 
+-- whether a byte is an `x`, as in `0x10`
 abbrev pub is_x : ℕ → Bool
 is_x byte = byte == 0x78
 
@@ -66,9 +68,11 @@ abbrev pub at_most : ℕ → Option ℕ → Result ℕ Refusal
 at_most most (Some number) = if nat_le number most then Ok number else Err refusals.Value
 at_most most None = Err refusals.Value
 
+-- the number that a word spells, if it isn't greater than `most`
 abbrev pub number_below : (most : ℕ) → Text → Result ℕ Refusal
 number_below most word = at_most most (number_in word)
 
+-- numbers have 64 bits
 abbrev pub greatest_number : ℕ
 greatest_number = 0xFFFFFFFFFFFFFFFF
 
@@ -76,6 +80,7 @@ greatest_number = 0xFFFFFFFFFFFFFFFF
 abbrev pub most_bytes : ℕ
 most_bytes = 65536
 
+-- a size, if it isn't too large
 abbrev pub size_of_number : ℕ → Result ℕ Refusal
 size_of_number size = if nat_lt most_bytes size then Err refusals.Size else Ok size
 
@@ -83,6 +88,7 @@ size_of_number size = if nat_lt most_bytes size then Err refusals.Size else Ok s
 abbrev pub size_in : Text → Result ℕ Refusal
 size_in word = number_below greatest_number word >>= size_of_number
 
+-- the bytes; a word that spells none is refused
 abbrev pub bytes_or_refusal : {E : Type 0} → Result (List ℕ) E → Result (List ℕ) Refusal
 bytes_or_refusal (Ok bytes) = Ok bytes
 bytes_or_refusal (Err fault) = Err refusals.Value

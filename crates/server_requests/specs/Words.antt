@@ -8,9 +8,11 @@ use Rattle.server_requests.specs.Texts.{Text}
 abbrev pub texts : List (Bor Text) → List Text
 texts words = map (λ (word : Bor Text). word.now) words
 
+-- whether a byte is a space
 abbrev pub is_space : ℕ → Bool
 is_space byte = byte == 0x20
 
+-- whether a byte is a tab
 abbrev pub is_tab : ℕ → Bool
 is_tab byte = byte == 0x09
 

@@ -5,10 +5,14 @@ use Rattle.stations.specs.declared.tick.Tick.{Tick}
 
 -- a tick that was played, how many accesses its call had made before it, and its outcome
 pub record TickTold : Type 0 where
+  -- the tick
   pub tick : Tick
+  -- the accesses that the call had made before it
   pub accesses : ℕ
+  -- its outcome
   pub outcome : FrameOutcome
 
+-- this tick, after so many accesses, with this outcome
 abbrev pub tick_told : Tick → (accesses : ℕ) → FrameOutcome → TickTold
 tick_told tick accesses outcome = record { tick = tick; accesses = accesses; outcome = outcome }
 

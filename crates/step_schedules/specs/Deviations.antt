@@ -144,9 +144,13 @@ site_in None (Some number) before = if nat_lt 0 number then Ok (site.Number numb
 
 -- a deviation, without the place of its name in memory
 pub record DeviationRead : Type 0 where
+  -- its place
   pub site : Site
+  -- what it plays
   pub action : Action
+  -- before a read, a write or a request
   pub before : Before
+  -- the name of this event
   pub name : Text
 
 abbrev pub deviation_read : Deviation → DeviationRead

@@ -11,10 +11,15 @@ side_by_side (frame ∷ frames) [] = []
 side_by_side (frame ∷ frames) (report ∷ reports) = record { frame = frame; descriptor = report.descriptor; report = report.wanted }
     ∷ side_by_side frames reports
 
+-- The plain data of a transmit engine, as contracts see it.
 abbrev pub transmitter_of : Inside → Transmitter
 transmitter_of engine = record { buffer = side_by_side engine.frames.frames engine.reports.items; stopped = not engine.running }
 
+-- What holds of the fields at all times.
 pub record IsWhole (engine : Inside) : Type 0 where
+  -- The queue of frames has four places,
   pub frames : engine.frames.capacity ≡ 4
+  -- and so has the queue of what their descriptors ask for.
   pub reports : engine.reports.capacity ≡ 4
+  -- Both have the same number of entries.
   pub same : length engine.frames.frames ≡ length engine.reports.items

@@ -32,7 +32,9 @@ IfFront (queued ∷ buffer) P = P queued
 
 -- A frame was taken: it stands at the buffer's end, with the address of its descriptor; head has moved on.
 pub record Takes (control : ℕ) (memory : List ℕ) (ring moved : Ring) (engine grown : Transmitter) : Type 0 where
+  -- The frame is at the end of the packet buffer.
   pub buffer : grown ≡ record engine { buffer = engine.buffer ++ fetched (pads control) memory (address_of ring ring.head) ∷ [] }
+  -- The head is the next slot.
   pub head : moved ≡ record ring { head = next_of ring ring.head }
 
 -- Where the status byte of a frame's descriptor stands: byte 12 of the descriptor that was read.

@@ -16,7 +16,9 @@ to_send memory ring pad buffer = map (λ (queued : Queued). queued.frame) buffer
 -- An area is apart from what the descriptor at an address says of its frame (its first ten bytes, address and length), and
 -- from the frame.
 pub record IsAwayFrom (memory : List ℕ) (area : Area) (address : ℕ) : Type 0 where
+  -- The area doesn't overlap the descriptor's address and length.
   pub fields : AreApart area (area_at address 10)
+  -- The area doesn't overlap the frame.
   pub frame : AreApart area (area_at (descriptor_at memory address).address (descriptor_at memory address).length)
 
 -- Taking moves the frame of the slot at the head from the ring's part to the buffer's end.

@@ -38,6 +38,7 @@ most_counted = 2 ^ 64 - 1
 abbrev pub sum_of : HostState → World → ℕ
 sum_of host world = host.driver.missed + world.adapter.missed_packets
 
+-- the count of misses of a host: the driver's sum and MPC, up to the greatest u64
 abbrev pub counted : HostState → World → ℕ
 counted host world = min (sum_of host world) most_counted
 
@@ -55,7 +56,9 @@ pub record IsExact (host : HostState) (world : World) : Type 0 where
 
 -- No more is counted than was missed. If the count is exact at the end, it was exact at the beginning, and grew by exactly the misses.
 pub record CountsMisses (h : HostState) (a : World) (misses : ℕ) (h' : HostState) (b : World) : Type 0 where
+  -- it never counts too many
   pub at_most : counted h' b ≤ counted h a + misses
+  -- an exact count grew by exactly the misses
   pub exactly : IsExact h' b → IsExact h a × (counted h' b ≡ counted h a + misses)
   -- It remains exact if MPC would be below its greatest value even without a read of MPC, and the sum wouldn't saturate. MPC is read in
   -- an interrupt that is handled, once. So over several events `stays` of each event says more than that of all together.
@@ -67,9 +70,11 @@ pub record CountsMisses (h : HostState) (a : World) (misses : ℕ) (h' : HostSta
 -- `frames_to_send`: the frames in the transmit packet buffer, then those of the descriptors from TDH up to, but not including, TDT,
 -- padded with zeros to 60 bytes.
 pub record SendsDue (k : ℕ) (happened : List Happening) (a b : World) : Type 0 where
+  -- all frames that are due
   pub due : List (List ℕ)
   -- those that were to be sent, then those accepted, padded, less those that resets gave up, each taken off the end of this list
   pub are : AreDue k (frames_to_send a) happened due
+  -- the frames put, then those still to be sent
   pub sent : put k happened ++ frames_to_send b ≡ due
 
 -- Frames without a socket are counted, up to the greatest u64, or still held. `unclaimed_in` is the count (`unclaimed`), plus the number of
@@ -88,11 +93,13 @@ pub record CountsUnclaimed (h : HostState) (frames : ℕ) (h' : HostState) (b : 
 -- `socket_frames`: those of a list that go to a socket. A frame goes to the first socket for its EtherType. If there is none, it goes to
 -- the first socket for all frames, and if there is none, to no socket. `without_socket`: the number of these.
 pub record KeepsCome (k : ℕ) (happened : List Happening) (h : HostState) (a : World) (h' : HostState) (b : World) : Type 0 where
+  -- all frames that have come
   pub came : List (List ℕ)
   -- those that were held, then those stored, less those that resets gave up, each taken off the end of this list
   pub have_come : HaveCome k (frames_held h.driver.oldest_receive a) happened came
   -- The first of them have left the ring, and the others are still held.
   pub taken : List (List ℕ)
+  -- those that left the ring come first
   pub took : came ≡ taken ++ frames_held h'.driver.oldest_receive b
   -- The frames that a socket gave, then those still held for it, are those that waited in its queue, then those of `came` that go to it.
   -- `held_for_socket`: the frames in the socket's queue, then those held that go to it.
@@ -105,6 +112,7 @@ pub record KeepsCome (k : ℕ) (happened : List Happening) (h : HostState) (a : 
 -- and the size of the receive packet buffer. `wire_at stations k` is the number of the k-th host's wire, and `world_at stations k` is the
 -- k-th host's world.
 pub record KeepsPlan (k : ℕ) (old new : List StationState) (h h' : HostState) : Type 0 where
+  -- the wire
   pub wire : wire_at new k ≡ wire_at old k
   -- the table of sockets
   pub kinds : h'.kinds ≡ h.kinds
@@ -145,7 +153,9 @@ pub record Delivers (k : ℕ) (happened : List Happening) (old new : List Statio
 
 -- If the sum of what the driver read from MPC is below 0xFFFFFFFF, this sum is exact. If the whole count is, then the whole count is exact.
 pub record CountsExactly (host : HostState) (world : World) : Type 0 where
+  -- a sum below 0xFFFFFFFF is exact
   pub reads : host.driver.missed < greatest_count → IsTrue host.driver.exact
+  -- a whole count below 0xFFFFFFFF is exact
   pub counts : counted host world < greatest_count → IsExact host world
 
 -- What holds of a host before and after each event of its network.
@@ -176,7 +186,9 @@ pub record HostStands (host : HostState) (world : World) : Type 0 where
 -- Each host has its station, and stands. What holds of every adapter holds of its adapter. A station is a host's world with its end of its
 -- wire, and `IsHost network k host` says that this host is the k-th, from 0.
 pub record NetworkStands (network : NetworkState) : Type 0 where
+  -- there is a station for each host
   pub same : length network.stations ≡ length network.hosts
+  -- each host stands
   pub each : (k : ℕ) (host : HostState) → IsHost network k host → HostStands host (world_at network.stations k)
   -- its registers and its receive engine are as in every adapter, and its EEPROM has 64 words (`IsAdapter`)
   pub adapters : (k : ℕ) (host : HostState) → IsHost network k host → IsAdapter (world_at network.stations k).adapter

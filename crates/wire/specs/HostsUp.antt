@@ -32,37 +32,58 @@ use Rattle.wire.specs.Filters.{HasPlansFilter}
 
 -- No frame was counted.
 pub record CountsNothing (host : HostState) (world : World) : Type 0 where
+  -- the driver's sum of misses is 0
   pub missed : host.driver.missed ≡ 0
+  -- it is exact
   pub exact : host.driver.exact ≡ true
+  -- MPC is 0
   pub missed_packets : world.adapter.missed_packets ≡ 0
   -- RNBC, GPRC and GPTC
   pub without_descriptor : world.adapter.no_receive_buffers ≡ 0
+  -- GPRC is 0
   pub received : world.adapter.received_packets ≡ 0
+  -- GPTC is 0
   pub transmitted : world.adapter.transmitted_packets ≡ 0
+  -- no frame without a socket was counted
   pub unclaimed : host.unclaimed ≡ 0
 
 -- No frame is anywhere, and none was counted.
 pub record HostHasNoFrames (host : HostState) (station : StationState) : Type 0 where
+  -- no frame is to be sent
   pub to_send : frames_to_send station.world ≡ []
+  -- no frame is in the receive ring or in the receive packet buffer
   pub held : frames_held host.driver.oldest_receive station.world ≡ []
+  -- every socket's queue is empty
   pub queues : host.queues ≡ replicate (length host.kinds) []
+  -- no frame waits at its end of the wire
   pub backlog : station.backlog ≡ []
+  -- nothing was counted
   pub counts : CountsNothing host station.world
 
 -- Its driver is ready, no work is forgotten, the ring is refilled, and both sides of its adapter are enabled.
 pub record IsReadyToRun (host : HostState) (world : World) : Type 0 where
+  -- the host is ready
   pub ready : HostReady host world
+  -- no work is forgotten
   pub work : HasNoForgottenWork host.driver world
+  -- no buffer is free, or all slots but one are offered
   pub refilled : IsRefilled host.driver
+  -- no slot is staged
   pub offered : host.driver.staged ≡ []
+  -- both sides of its adapter are enabled
   pub can : CanAnswer world.adapter
 
 -- Its rings, buffers, sockets, packet buffer, filter and groups are the plan's, and its memory ends with its last buffer.
 pub record HasPlansSizes (plan : HostPlan) (host : HostState) (world : World) : Type 0 where
+  -- its rings and buffers have the plan's sizes
   pub layout : host.driver.layout ≡ configured_counts plan.config
+  -- its memory ends with its last buffer
   pub memory : length world.memory ≡ size_of (configured_counts plan.config)
+  -- its sockets are the plan's
   pub kinds : host.kinds ≡ plan.sockets.items
+  -- PBA.RXA is the plan's
   pub allocation : world.adapter.receive_kilobytes ≡ plan.config.rxa
+  -- its receive filter is as the plan says
   pub filter : HasPlansFilter plan world.adapter.filter
   -- its adapter has the setup that its driver keeps
   pub set_up : HasSetup host.driver.setup world.adapter
@@ -73,10 +94,15 @@ pub record HasPlansSizes (plan : HostPlan) (host : HostState) (world : World) : 
 
 -- Its EEPROM is the plan's, with a right checksum. Its link comes up as the plan says, and is up now.
 pub record HasPlansDevices (plan : HostPlan) (world : World) : Type 0 where
+  -- its EEPROM has the plan's words
   pub image : world.adapter.image ≡ plan.image
+  -- their checksum is right
   pub sum : HasRightSum plan.image
+  -- its link comes up when the plan says
   pub link_is : world.adapter.phy.link ≡ plan.link
+  -- this isn't never
   pub comes : plan.link ≢ Never
+  -- its link is up
   pub link : HasLink world
 
 -- the causes that ticks of the PHY record: LSC, MDAC, both or neither
@@ -85,16 +111,24 @@ AreOfPhy causes = (ticked : Ticked) × (causes ≡ causes_told ticked)
 
 -- Of the causes in ICR, only LSC and MDAC can be set. IMS enables neither, so the interrupt line isn't asserted.
 pub record HasNoInterrupt (world : World) : Type 0 where
+  -- no cause but LSC and MDAC is recorded
   pub recorded : AreOfPhy world.adapter.causes.recorded
+  -- the interrupt line isn't asserted
   pub line : is_asserted world.adapter ≡ false
 
 -- A host and its station are as its plan says. What holds of every adapter holds of its adapter.
 pub record ComesUp (plan : HostPlan) (host : HostState) (station : StationState) : Type 0 where
+  -- it is ready, and nothing waits for it
   pub ready : IsReadyToRun host station.world
+  -- its sizes, its filter and its groups are the plan's
   pub sizes : HasPlansSizes plan host station.world
+  -- its EEPROM and its link are the plan's
   pub devices : HasPlansDevices plan station.world
+  -- no frame is anywhere
   pub no_frames : HostHasNoFrames host station
+  -- it has no interrupt
   pub no_interrupt : HasNoInterrupt station.world
+  -- what holds of every adapter holds of its adapter
   pub adapter : IsAdapter station.world.adapter
 
 -- A link that comes up within this number of ticks is found: its state is read up to `most_reads` (1,000) times, each time by two accesses,
@@ -121,11 +155,15 @@ wire_number plans wire = position_or_len (λ (plan : HostPlan). string_eq plan.w
 
 -- The first `count` hosts of a plan are initialized, each on its wire.
 pub record AreUp (plans : List HostPlan) (count : ℕ) (hosts : List HostState) (stations : List StationState) : Type 0 where
+  -- there are so many hosts
   pub host_count : length hosts ≡ count
+  -- and so many stations
   pub station_count : length stations ≡ count
+  -- each comes up as its plan says
   pub each :
       (k : ℕ) (plan : HostPlan) (host : HostState) (station : StationState) → slice_get plans k ≡ Some plan → slice_get hosts k ≡ Some host
       → slice_get stations k ≡ Some station → ComesUp plan host station
+  -- each is on the plan's wire
   pub wires :
       (k : ℕ) (plan : HostPlan) (station : StationState) → slice_get plans k ≡ Some plan → slice_get stations k ≡ Some station
       → station.wire ≡ wire_number plans plan.wire

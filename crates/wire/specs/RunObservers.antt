@@ -23,6 +23,7 @@ ticks_played (ByCall call) = without_go is_go call.ticks
 ticks_played (ByReset host ticks) = without_go is_go ticks
 ticks_played (Alone tick) = tick ∷ []
 
+-- the ticks that are played in an event
 abbrev pub played_ticks : Event → List Tick
 played_ticks event = ticks_played (in_event event)
 

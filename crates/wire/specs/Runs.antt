@@ -75,16 +75,21 @@ said_in_call host Interrupting answer ticks outcomes = told ticks outcomes
 said_in_call host (Joining group) answer ticks outcomes = told_around (joined_of host group answer) ticks outcomes
 said_in_call host (Leaving group) answer ticks outcomes = told_around (left_of host group answer) ticks outcomes
 
+-- what happened in a call, by its reply
 abbrev pub said_by : EventCall → Reply → List Happening
 said_by call reply = said_in_call call.host call.request reply.answer call.ticks reply.outcomes.list
 
 -- What a reset answered: the frames that it gave up of those to be sent, and of those held, and the number of accesses that it had made
 -- once RCTL was written again.
 pub record ResetAnswer : Type 0 where
+  -- the frames to be sent that were given up, the oldest first
   pub sending : List (List ℕ)
+  -- the frames held that were given up, the oldest first
   pub holding : List (List ℕ)
+  -- the number of accesses up to the second write of RCTL
   pub on_after : ℕ
 
+-- the answer of a reset, if it is one
 abbrev pub reset_answer : FrameAnswer → Option ResetAnswer
 reset_answer (Reset sending holding on_after) = Some (record { sending = sending.items; holding = holding.items; on_after = on_after })
 reset_answer answer = None
@@ -105,6 +110,7 @@ said_of (ByCall call) reply = said_by call reply
 said_of (ByReset host ticks) reply = said_in_reset host (reset_answer reply.answer) ticks reply.outcomes.list
 said_of (Alone tick) reply = told_alone tick reply.outcomes.list
 
+-- what happened in an event, by its reply
 abbrev pub said : Event → Reply → List Happening
 said event reply = said_of (in_event event) reply
 
@@ -162,6 +168,7 @@ kind_of (Leaving group) = SetsGroups
 pub record AnswersCall (call : EventCall) (answer : FrameAnswer) (steps : List AtomicStep) (old new : ConnectedHost) : Type 0 where
   -- the answer, with the bytes of the frame that a socket gave
   pub result : HostAnswer (List ℕ)
+  -- the event's answer is this result
   pub is : answer ≡ event_answer result
   -- In these steps (`InSteps`, host_calls/specs/CallsInSteps) the accesses of the host's driver are exactly those of the effect's stages,
   -- in order, and what holds of a stage holds right after its last access. `given_in`: the frames that a socket gave.
@@ -171,12 +178,15 @@ pub record AnswersCall (call : EventCall) (answer : FrameAnswer) (steps : List A
   -- a write of TDT or RDT). Each access of a join or a leave writes a word of MTA (`IsGroupWrite`). Only the last access may write a
   -- register.
   pub accesses : All (IsAccessOf (kind_of call.request) old.host.driver.layout) (past_at call.host steps).accesses
+  -- only the last access may write a register
   pub last_writes : OnlyLastWrites (past_at call.host steps).accesses
 
 -- The adapter was reset, and begins again.
 pub record AnswersReset (host : ℕ) (ticks : List Tick) (answer : FrameAnswer) (steps : List AtomicStep) (old new : ConnectedHost) : Type 0
   where
+    -- what the reset answered
     pub given_up : ResetAnswer
+    -- the event's answer is this one
     pub is : reset_answer answer ≡ Some given_up
     -- `sending`: what was to be sent at the beginning, without the frames put by outcomes with numbers 0 to 2
     pub sending : put host (told_where (λ number. nat_lt number 3) ticks (noted_of 0 steps)) ++ given_up.sending
@@ -191,6 +201,7 @@ pub record AnswersReset (host : ℕ) (ticks : List Tick) (answer : FrameAnswer) 
     pub does : ResetsInSteps host steps old new
     -- both lists are what was there when CTRL.RST was written
     pub sending_then : given_up.sending ≡ frames_to_send (world_at does.last host)
+    -- the frames held when CTRL.RST was written
     pub holding_then : given_up.holding ≡ frames_held old.host.driver.oldest_receive (world_at does.last host)
 
 -- 4. What a reply says of the steps. First of a call or a reset, then of a tick that is played in no call.
@@ -229,9 +240,11 @@ pub record IsTickReply (tick : Tick) (reply : Reply) (steps : List AtomicStep) (
   pub accesses : (k : ℕ) → (past_at k steps).accesses ≡ []
   -- so the reply's number of accesses is 0
   pub counted : reply.accesses ≡ counted_of 0 steps
+  -- the tick has its outcome
   pub outcomes : AreOutcomesAlone tick steps reply.outcomes.list
   -- there is one outcome, with number 0
   pub numbered : noted_numbers reply.outcomes.list ≡ 0 ∷ []
+  -- no call answered
   pub answer : reply.answer ≡ Ticked
   -- no driver and no queue changes
   pub others : new.hosts ≡ old.hosts
@@ -245,6 +258,7 @@ caller_in (ByCall call) = call.host
 caller_in (ByReset host ticks) = host
 caller_in (Alone tick) = 0
 
+-- the host that an event is about
 abbrev pub caller_of : Event → ℕ
 caller_of event = caller_in (in_event event)
 
@@ -266,6 +280,7 @@ pub record EventRuns (old : NetworkState) (event : Event) (reply : Reply) (new :
   pub stood : NetworkStands old
   -- by these atomic steps each host satisfies the equations, each tick has its outcome, and `HostStands` holds again
   pub steps : List AtomicStep
+  -- the equations, the outcomes, and what holds of each host afterwards
   pub go : HostsGo (caller_of event) (said event reply) steps old new
   -- what the reply says of the steps
   pub replied : IsReply (in_event event) reply steps old new
@@ -285,7 +300,9 @@ StatesRun old (event ∷ events) (reply ∷ replies) new =
 
 -- These events were run, and a reply to each appended. A `NetworkState` is the list of hosts, with the list of their stations.
 pub record RunsTo (old : NetworkState) (events : List Event) (before behind : List Reply) (new : NetworkState) : Type 0 where
+  -- a reply for each event
   pub replies : List Reply
+  -- the replies come after those that were there
   pub appended : behind ≡ before ++ replies
   -- from each state to the next by one event and its reply
   pub states : StatesRun old events replies new
