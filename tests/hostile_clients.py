@@ -1,4 +1,4 @@
-"""The server with clients that send any lines, close their ends at any time or are killed; ten million requests; and the sessions of docs/FAULTS.md."""
+"""The server with clients that send any lines, close their ends at any time or are killed; ten million requests; and tests/published_faults.txt."""
 
 import os
 import re
@@ -256,9 +256,6 @@ def many_requests(server):
     os.close(talk.answers)
 
 
-HEADING = "## Faults published of emulated e1000 adapters"
-
-
 def plays_shown(server, shown):
     """Plays a session of a page: a command that prints requests into the server, with the output below it, or requests with the answers next to them."""
     begun = re.match(r"\$ ((?:printf .*? \| )?)\./nicbench serve([^\n]*)\n", shown, re.S)
@@ -279,10 +276,12 @@ def plays_shown(server, shown):
 
 
 def page(server):
-    """The sessions of the second half of docs/FAULTS.md have the output on the page."""
-    text = read_page("docs", "FAULTS.md").partition(HEADING)[2].partition("\n## ")[0]
+    """The sessions of tests/published_faults.txt have the output in this file; docs/FAULTS.md has the session that it shows from there."""
+    text = read_page("tests", "published_faults.txt")
     sessions = re.findall(r"^```\n(.*?)^```$", text, re.M | re.S)
     server.check("page: there are sessions", len(sessions) > 20, True)
+    shown = re.findall(r"^```\n(\$ .*?)^```$", read_page("docs", "FAULTS.md"), re.M | re.S)
+    server.check("page: the sessions of docs/FAULTS.md", [one for one in shown if one not in sessions] or len(shown) > 0, True)
     for shown in sessions:
         plays_shown(server, shown)
 

@@ -1,4 +1,4 @@
-"""The finder of races: its charts in docs/RACES.md, the picture, the value change dump, and the files of `--out`.
+"""The finder of races: its charts in docs/RACES.md and race_charts.txt, the picture, the value change dump, and the files of `--out`.
 
 The dump is read by a small parser here, and by `vcd2fst` of GTKWave if it is installed (Debian: package gtkwave).
 """
@@ -19,7 +19,7 @@ from server_pages import TOP, read_page
 FILES = ["chart.svg", "chart.txt", "log.txt", "run.vcd", "schedule.txt"]
 MOST_LINES, LONGEST = 25, 155
 
-# The charts of docs/RACES.md
+# The charts of docs/RACES.md and race_charts.txt
 
 FINISHED = "A frame is finished while the handler runs"
 SECTIONS = {
@@ -49,17 +49,21 @@ def command_of(test, bug, deviations):
 
 
 def pages(server):
-    """Each bug has a chart in the section of its race, which the finder prints character by character."""
-    found = {bug: rest for bug, *rest in charts_of(read_page("docs", "RACES.md"))}
+    """Each bug has a chart in the section of its race, which the finder prints character by character, and a word in this section."""
+    races = read_page("docs", "RACES.md")
+    text = f"{races}\n{read_page('tests', 'race_charts.txt')}"
+    found = {bug: rest for bug, *rest in charts_of(text)}
     wanted = {*BUGS, *MORE_BUGS, *ARRIVAL_BUGS, *RESET_BUGS} - {*NO_RACES}
     server.check("pages: all races have a chart", sorted(found), sorted(wanted))
-    server.check("pages: there is one chart for each", len(list(charts_of(read_page("docs", "RACES.md")))), len(found))
+    server.check("pages: there is one chart for each", len(list(charts_of(text))), len(found))
+    sections = {section.partition("\n")[0]: section for section in re.split("^## ", races, flags=re.M)[1:]}
     finder = " ".join([*FINDER, "--server", server.program])
     for bug, test, _, _, deviations in rows():
         if bug in NO_RACES:
             continue
         heading, command, shown = found.get(bug, ("", "false", ""))
         server.check(f"pages: {bug}, its section", heading, SECTIONS.get(bug))
+        server.check(f"pages: {bug}, a word of it", f"`{bug}`" in sections.get(heading, ""), True)
         server.check(f"pages: {bug}, its command", command, command_of(test, bug, deviations))
         shell = command.replace("tools/races", finder, 1).replace("-- python3", f"-- {sys.executable} -S -E", 1)
         ran = subprocess.run(shell, shell=True, cwd=TOP, capture_output=True, timeout=LIMIT)

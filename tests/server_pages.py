@@ -31,7 +31,7 @@ def commands(server):
     shown = []
     for names in (("examples", "drivers", "README.md"), ("docs", "SERVE.md"), ("README.md",)):
         shown += re.findall(r"^```\n\$ ((?:python3|printf) [^\n]*)\n(.*?)^```$", read_page(*names), re.M | re.S)
-    words = ["python3"] * 4 + ["printf", "python3", "printf", "printf"]
+    words = ["python3"] * 4 + ["printf"] * 3
     server.check("commands: these are shown", [command.split()[0] for command, _ in shown], words)
     for command, wanted in shown:
         command = command.replace(".build/nicbench", server.program).replace("./nicbench", server.program)
@@ -42,7 +42,7 @@ def commands(server):
 
 # The sessions with an answer next to each request: the page, the first word of each, and the column of the answers
 SESSIONS = [
-    (("crates", "adapter_server", "README.md"), ["readl"], 30), (("docs", "REQUESTS.md"), ["memset", "memset", "events", "outl"], 48)]
+    (("crates", "adapter_server", "README.md"), ["readl"], 30), (("docs", "REQUESTS.md"), ["memset", "events", "outl"], 48)]
 
 
 def columns(server):
@@ -59,7 +59,7 @@ def columns(server):
 
 
 def prints(server, name, words, printed):
-    """Compiles a driver of docs/SERVE.md, and checks what it prints."""
+    """Compiles a driver of examples/drivers, and checks what it prints."""
     built = subprocess.run(words, cwd=server.folder, capture_output=True)
     server.check(f"page: the driver in {name} is compiled", (built.returncode, built.stderr), (0, b""))
     ran = subprocess.run([server.path("page"), server.program], cwd=server.folder, capture_output=True, timeout=LIMIT)
@@ -67,21 +67,18 @@ def prints(server, name, words, printed):
 
 
 def page(server):
-    """The drivers in C and Rust of docs/SERVE.md print the output on the page. Without a compiler for Rust, a line says so."""
-    text = read_page("docs", "SERVE.md")
-    code, printed = re.search(r"```c\n(.*?)```.*?It prints\n\n```\n(.*?)```", text, re.S).groups()
+    """The drivers pipe.c and pipe.rs print the output in docs/SERVE.md. Without a compiler for Rust, a line says so."""
+    printed = re.search(r"^\$ \./first \.build/nicbench\n(.*?)^```$", read_page("docs", "SERVE.md"), re.M | re.S)[1]
+    code = {name: os.path.join(TOP, "examples", "drivers", f"pipe.{name}") for name in ("c", "rs")}
     cc = next((path for path in map(shutil.which, ["cc", "clang", "gcc"]) if path), None)
     server.check("page: a C compiler is here", cc is not None, True)
     if cc:
-        server.put("page.c", code.encode())
-        prints(server, "C", [cc, "-std=c99", "-D_POSIX_C_SOURCE=200809L", "-Wall", "-Wextra", "-Werror", "-o", "page", "page.c"], printed)
+        options = ["-std=c99", "-D_POSIX_C_SOURCE=200809L", "-Wall", "-Wextra", "-Werror"]
+        prints(server, "C", [cc, *options, "-o", "page", code["c"]], printed)
     if shutil.which("rustc") is None:
         print("not played, because there is no rustc: the driver in Rust of docs/SERVE.md")
         return
-    code, again = re.search(r"```rust\n(.*?)```.*?```\n\$ rustc .*?\n\$ .*?\n(.*?)```", text, re.S).groups()
-    server.check("page: both drivers print the same", again, printed)
-    server.put("page.rs", code.encode())
-    prints(server, "Rust", ["rustc", "--edition", "2021", "-D", "warnings", "-o", "page", "page.rs"], printed)
+    prints(server, "Rust", ["rustc", "--edition", "2021", "-D", "warnings", "-o", "page", code["rs"]], printed)
 
 
 def shown_in_help(server):

@@ -121,8 +121,8 @@ class Blocks:
     # Functions
 
     def function_rows(self, page, function, comment: str, after=nothing_below) -> str:
-        """The rows of a function: a comment beside its signature, its clauses with their edits, and the edits of the
-        whole contract."""
+        """The rows of a function: a comment beside its signature, its clauses with their headings and edits, and the
+        edits of the whole contract."""
         signature, clauses = self.site.linked(function)
         page.skip = set(re.findall(r"(\w+)\s*:", function.text)) | {"self", "result", "true", "false"}
         said = self.prose.block(page, comment, function.scope, function.owner)
@@ -130,7 +130,10 @@ class Blocks:
         edits = self.site.edits_of.get(function, [])
         ensured = [name for keyword, name, _, _ in clauses if keyword == "ensures"]
         placed = []
-        for keyword, name, _, tokens in clauses:
+        for number, (keyword, name, _, tokens) in enumerate(clauses):
+            if number in function.headings:
+                above = self.prose.inline(page, function.headings[number], function.scope, function.owner)
+                out.append(f'<p class="over">{above}</p>')
             label = f'<p class="clause"><b class="{keyword}">{keyword}</b> {html.escape(name)}</p>'
             only = keyword == "ensures" and len(ensured) == 1
             here = [edit for edit, clause in edits if keyword == "ensures" and clause == (name or keyword) or only]

@@ -45,6 +45,7 @@ def make_site(out: str, kit: str) -> Site:
         overview.crate_page(crate)
     overview.first_page([statements.make(*statement) for statement in STATEMENTS])
     overview.names_page()
+    overview.notation_page()
     for name in ("style.css", "search.js"):
         site.copy(name)
     site.store(MARK, "")

@@ -37,6 +37,8 @@ class Definition:
     scope: object = None
     # The clauses of a contract: keyword, name, text, line.
     clauses: list = field(default_factory=list)
+    # The comments above clauses, by the number of the clause below.
+    headings: dict = field(default_factory=dict)
     # The bounds of type parameters: name to trait.
     generics: dict = field(default_factory=dict)
     # What a type is in contracts: the text of its `ghost Value`, and the scope of this text.

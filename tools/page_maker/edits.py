@@ -5,7 +5,6 @@ public calls or types whose contracts state the rule. `CALL/CLAUSE` also names t
 """
 
 import os
-import re
 from dataclasses import dataclass, field
 
 
@@ -65,16 +64,3 @@ def target(repository, crate: str, call: str):
         if len(members) == 1:
             return members[0]
     return None
-
-
-def changed_function(repository, edit: Edit) -> str:
-    """The name of the function that an edit changes; empty if it changes a constant."""
-    names = []
-    for file, old, _ in edit.changes:
-        module = repository.modules.get(f"{edit.crate}.src.{re.sub(r'[.]rt$', '', file)[4:].replace('/', '.')}")
-        if module is None or old not in module.text:
-            continue
-        line = module.text[:module.text.index(old) + len(old) - len(old.lstrip())].count("\n") + 1
-        inside = [one for one in module.all if one.kind == "fn" and one.line <= line <= one.end]
-        names += [one.name for one in inside if one.name not in names]
-    return names[0] if names else ""

@@ -1,11 +1,12 @@
-"""The pages that lead to others: the first page, the pages of crates, and the index of names."""
+"""The pages that lead to others: the first page, the pages of crates, the index of names, and the notation."""
 
 import html
 import json
 import re
 
 from .definitions import KINDS
-from .site import HOME, Page
+from .notation import read_notation, table_rows
+from .site import HOME, NOTATION, Page
 from .texts import first_paragraph, first_sentence
 
 
@@ -16,6 +17,12 @@ def one_line(tokens: list) -> list:
         return tokens
     out = [(re.sub(r"\s*\n\s*", " ", text), found, kind) for text, found, kind in tokens]
     return [(text.replace("( ", "(").replace(", )", ")"), found, kind) for text, found, kind in out]
+
+
+def plain_markdown(text: str) -> str:
+    """A text of a Markdown page as HTML, without its links."""
+    text = re.sub(r"\[([^\]]*)\]\([^)]*\)", r"\1", text)
+    return re.sub(r"`([^`]+)`", r"<code>\1</code>", html.escape(text, False))
 
 
 class OverviewPages:
@@ -121,7 +128,19 @@ class OverviewPages:
             body.append("</dl>")
         self.site.write(page, HOME, [(HOME, None)], "".join(body))
 
-    # Names
+    # Notation and names
+
+    def notation_page(self):
+        """The notation of contracts, from docs/CONTRACTS.md."""
+        page, body = Page(NOTATION), ["<h1>Notation</h1>"]
+        for block in read_notation(self.repository.root).split("\n\n"):
+            text = plain_markdown(block)
+            if not block.startswith("|"):
+                body.append(f'<p class="intro">{text}</p>')
+                continue
+            lines = "".join(f"<tr><td>{'</td><td>'.join(row)}</td></tr>" for row in table_rows(text))
+            body.append(f"<table>{lines}</table>")
+        self.site.write(page, "Notation", [(HOME, "index.html"), ("notation", None)], "".join(body))
 
     def names_page(self):
         """The index of names, and the names that the search looks in."""

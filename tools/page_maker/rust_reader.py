@@ -218,6 +218,9 @@ class RustReader:
             if not clause:
                 break
             end = closing(self.clear, clause.end() - 1)
+            above = re.findall(r"^\s*// ?(.*)$", self.text[place:clause.start(1)], re.M)
+            if above:
+                new.headings[len(new.clauses)] = " ".join(above)
             new.clauses.append((clause.group(1), clause.group(2) or "", self.text[clause.end():end - 1].strip(),
                                 self.line_of(clause.end() - 1)))
             place = end

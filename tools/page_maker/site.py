@@ -9,10 +9,13 @@ from urllib.parse import quote
 from .contract_links import ContractLinker
 from .definitions import KINDS, PARTS_OF_TYPES
 from .edits import read_edits, target
+from .notation import meanings, read_notation
 from .texts import first_sentence
 
 HERE = os.path.dirname(os.path.abspath(__file__))
 HOME = "nicbench"
+# The page that explains the notation of contracts.
+NOTATION = "notation.html"
 KEYWORDS = re.compile(r"record|where|abbrev|pub|data|let|in|elim|unfolding|unfoldable|if|then|else")
 # Kinds of definitions of the kit that have a place only if something uses them.
 HIDDEN_UNUSED = ("word", "fn", "const", "ghost", "type")
@@ -39,6 +42,7 @@ class Site:
         self.repository, self.out = repository, out
         self.linker = ContractLinker(repository)
         self.tokens, self.titles, self.pages = {}, {}, 0
+        self.meanings = meanings(read_notation(repository.root))
         self.edits = read_edits(repository.root, repository.crates)
         # Definition -> its edits, each with the name of a clause or an empty text.
         self.edits_of = {}
@@ -112,6 +116,9 @@ class Site:
         if definition not in self.titles:
             text = first_sentence(definition.comment) or f"{KINDS.get(definition.kind, '')} of {definition.crate}"
             text = re.sub(r"[\[\]`]|\]\([^)]*\)", "", text)[:TITLE]
+            is_word = definition.owner is None or definition.kind == "case"
+            if definition.kit and is_word and not (definition.module and definition.module.rust):
+                text = self.meanings.get(definition.name.strip("◌"), text)
             self.titles[definition] = html.escape(text, True)
         return self.titles[definition]
 
@@ -180,6 +187,7 @@ class Site:
             '<meta name="viewport" content="width=device-width, initial-scale=1">'
             f'<title>{html.escape(title)}</title><link rel="stylesheet" href="{up}style.css">'
             f'<script src="{up}search.js" defer></script></head>\n<body data-up="{up}"><header><nav>{trail}</nav>'
+            f'<a class="all" href="{page.relative(NOTATION)}">Notation</a>'
             f'<a class="all" href="{page.relative("names.html")}">All names</a></header>\n'
             f"<main>{body}</main></body></html>\n"))
         self.pages += 1

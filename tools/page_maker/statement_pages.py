@@ -4,7 +4,7 @@ import html
 import re
 
 from .definitions import KINDS
-from .site import HOME, Page
+from .site import HOME, NOTATION, Page
 from .texts import first_paragraph, first_sentence
 
 # The statements: the crate and the call whose contract it is, and a title.
@@ -83,9 +83,10 @@ class StatementPages:
         rest = function.comment.strip("\n").partition("\n\n")[2]
         rows = self.blocks.function_rows(page, function, rest, self.opener(page, function))
         body = (f"<h1>{html.escape(target)} <small>{html.escape(title)}</small></h1>"
-                f'<p class="sentence">{sentence}</p><p class="facts">Below is the contract that the prover has '
-                "checked. A line with ▸ opens the definition of a word. Point at a name to read its first sentence; "
-                f"click on it to open it here. In all {len(words)} definitions, in {self.levels.count} levels.</p>"
+                f'<p class="sentence">{sentence}</p><p class="facts">Below is the contract that the prover has checked '
+                f'(<a href="{page.relative(NOTATION)}">notation</a>). A line with ▸ opens the definition of a word. '
+                "Point at a name to read its first sentence; click on it to open it here. The contract uses "
+                f"{len(words)} definitions, in up to {self.levels.count} levels.</p>"
                 f'<section class="def fn">{rows}</section>')
         self.site.write(page, target, [(HOME, "index.html"), ("statements", None), (target, None)], body)
         return page.url, function, title, len(words)

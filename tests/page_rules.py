@@ -1,0 +1,70 @@
+"""Rules that pages may state in at most three places each.
+
+A rule is written once, in Rust or in `specs/`; a page links to it or quotes it. A place is a paragraph, an item of a
+list or a row of a table, of Markdown that is written by hand: generated parts, quotes and blocks of code don't count.
+"""
+
+import re
+
+MOST_PLACES = 3
+MADE = re.compile(r"^<!-- (?:generated|words quoted|code quoted) by .*?^<!-- end of [a-z]+ -->$", re.M | re.S)
+CODE = re.compile(r"^```.*?^```$", re.M | re.S)
+
+# For each rule, a sentence that states it, and patterns of which one is in a place that states it. Words of a place are
+# separated by single spaces.
+RULES = {
+    "receive buffers have 256 bytes": ("A receive buffer has 256 bytes, so a frame has one to six pieces.", [
+        r"buffers?\b[^.|]{0,60}\b256 bytes", r"256 bytes each", r"buffers of 256 bytes",
+        r"one to six (?:pieces|slots)"]),
+    "a legal frame has 60 to 1,518 bytes": ("A legal frame has 60 to 1,518 bytes.", [
+        r"\b60 (?:to|or more than) 1,518", r"fewer than 60 or more than 1,518", r"below 60 or above 1,518"]),
+    "E20 and E21: 14 to 1,518 bytes": ("E20 is the answer to a frame of fewer than 14 bytes.", [
+        r"\b14 to 1,518", r"fewer than 14 (?:bytes|or)", r"E20\b[^.|]{0,80}\b14\b"]),
+    "RingFull: all slots but one are outstanding": ("E22: all slots except one are outstanding.", [
+        r"all (?:transmit )?slots (?:but|except) one\b", r"all but one (?:transmit )?slots?\b"]),
+    "NotMine: none of four causes": ("A handler handles TXDW, RXDMT0, RXO and RXT0.", [
+        r"TXDW[^.|]{0,20}RXDMT0[^.|]{0,20}RXO[^.|]{0,20}RXT0"]),
+    "the order of the fates": ("The fate is the first of Off, Illegal, Filtered, Missed and Stored that applies.", [
+        r"\b[Oo]ff\b[^|]{0,160}\b[Ii]llegal\b[^|]{0,160}\b[Ff]iltered\b[^|]{0,260}\b[Mm]issed\b"]),
+    "the transmit packet buffer has room for 4 frames": ("The transmit packet buffer has room for 4 frames.", [
+        r"packet buffer[^.|]{0,40}\b(?:4|four) frames", r"(?:4|four) frames[^.|]{0,40}packet buffer"]),
+    "64 frames wait at an end": ("TxPut waits while 64 frames wait at another end.", [r"\b64 frames\b"]),
+    "a reset leaves PBA, PHY and EEPROM": ("A reset sets all registers except PBA to their reset values.", [
+        r"except PBA", r"all but PBA", r"reset[^.|]{0,80}doesn't change[^.|]{0,40}(?:PBA|PHY)[^.|]{0,40}EEPROM"]),
+    "the six steps and what they do": ("| `TxPut` | the oldest frame moves to the wire |", [
+        r"^\| `?TxPut`? \|", r"^\| `?txput`? \|"]),
+    "the bytes that a frame occupies": ("A frame occupies its length, rounded up to a multiple of 16.", [
+        r"rounded up to a multiple of 16"]),
+    "RXDMT0 at half the ring": ("RXDMT0 is recorded when half of the ring is left.", [
+        r"half (?:of )?the (?:size of the )?ring", r"half of (?:the|its) ring", r"is half\b[^.|]{0,30}descriptors"]),
+    "the equations of delivery": ("reached ++ waiting = waiting0 ++ toward", [
+        r"put ?`? ?\+\+", r"reached ?`? ?\+\+", r"given[^|.]{0,40} \+\+ "]),
+    "the offset of RDT": ("RDT is at 0x2818.", [r"0x0?2818\b", r"0xFEB02818"]),
+    "the number of a drain's steps": ("A drain takes at most 4k + 1 steps.", [r"4k \+ 1"]),
+    "a host joins at most 32 groups": ("A host is in at most 32 groups.", [
+        r"32 groups", r"at most 32\b[^.|]{0,40}groups"]),
+    "counts end at 2^64 - 1": ("The count saturates at 2^64 - 1.", [
+        r"saturat\w+ at (?:2\^64 - 1|the maximum of `?u64`?)"]),
+}
+
+
+def places(text):
+    """The paragraphs, items and rows of a page, without what is made from sources, and without code."""
+    text = CODE.sub("", MADE.sub("", text))
+    for block in re.split(r"\n\s*\n|\n(?=\||\s*[-*] |\s*\d+\. )", text):
+        block = " ".join(block.split())
+        if block and not re.fullmatch(r"[|\s:-]+", block):
+            yield block
+
+
+def stated(rule, text):
+    """The places of a page that state a rule."""
+    return [place for place in places(text) if any(re.search(pattern, place) for pattern in RULES[rule][1])]
+
+
+def check_rules(check, texts):
+    """Counts the places of each rule in pages, path to text; `check(name, got, want)` counts one comparison."""
+    for rule, (sentence, _) in RULES.items():
+        found = [f"{page}: {place[:90]}" for page, text in texts.items() for place in stated(rule, text)]
+        check(f"at most {MOST_PLACES} places on pages: {rule}", found if len(found) > MOST_PLACES else [], [])
+        check(f"a sentence is found: {rule}", stated(rule, f"## Heading\n\n{sentence}\n"), [sentence])
