@@ -182,7 +182,7 @@ abbrev pub MovesClock : (time : Option ℕ) → Session → Session → Text →
 MovesClock (Some time) a b text = Answered (SettlesUntil time a b) (decimal_line time) text
 MovesClock None a b text = Refuses refusals.Value a b text
 
--- the time after so many nanoseconds, if the clock can show it
+-- the time after this number of nanoseconds, if the clock can show it
 abbrev pub time_after : (clock nanoseconds : ℕ) → Option ℕ
 time_after clock nanoseconds = if nat_lt (clock + nanoseconds) (2 ^ 64) then Some (clock + nanoseconds) else None
 

@@ -68,7 +68,7 @@ fn settle<W: Write>(session: &mut Session, alloc: Global, out: &mut W) -> Result
         (AnswersSettle session.old) session.new }
 {
     let moved = settle_all(session, alloc, out)?;
-    say_number(alloc, out, moved)
+    say_number(out, moved)
 }
 
 /// Answers a request to the adapter that is served. At `save` and `restore` it does nothing.
@@ -87,7 +87,7 @@ fn answer_session<W: Write>(
         Request::Write(address, bytes) => {
             write(session, alloc, out, said, *address, bytes.as_slice())
         }
-        Request::ReadPort(width, port) => read_port(session, alloc, out, *width, *port),
+        Request::ReadPort(width, port) => read_port(session, out, *width, *port),
         Request::WritePort(width, port, value) => {
             write_port(session, out, *width, *port, *value)
         }
@@ -96,8 +96,8 @@ fn answer_session<W: Write>(
         Request::Arrive(frame) => deliver(session, alloc, out, said, frame.as_slice()),
         Request::Settle => settle(session, alloc, out),
         Request::Set(setting) => change(session, out, *setting),
-        Request::Line => say_level(session, alloc, out),
-        Request::Digest => say_digest(session, alloc, out),
+        Request::Line => say_level(session, out),
+        Request::Digest => say_digest(session, out),
         Request::ClockStep(nanoseconds) => step_clock(session, alloc, out, *nanoseconds),
         Request::ClockSet(time) => set_clock(session, alloc, out, *time),
         Request::Intercept => say(out, b"OK\n"),

@@ -13,7 +13,7 @@ pub struct ServeOptions {
     pub memory: u64,
     /// The address of the first of the 131,072 bytes of registers.
     pub registers: u64,
-    /// The contents of the EEPROM. A wrong checksum stays wrong.
+    /// The contents of the EEPROM. A wrong checksum isn't corrected.
     pub image: Image,
     /// When the link is up.
     pub link: Link,

@@ -33,7 +33,6 @@ pub(crate) fn change<W: Write>(
 /// `inb`, `inw`, `inl`.
 pub(crate) fn read_port<W: Write>(
     session: &mut Session,
-    alloc: Global,
     out: &mut W,
     width: PortWidth,
     port: u16,
@@ -43,7 +42,6 @@ pub(crate) fn read_port<W: Write>(
 {
     let asserted = session.device.machine.line();
     say_number(
-        alloc,
         out,
         u64::from(session.function.read_port(port, width, asserted)),
     )
@@ -65,27 +63,19 @@ pub(crate) fn write_port<W: Write>(
 }
 
 /// `line`.
-pub(crate) fn say_level<W: Write>(
-    session: &mut Session,
-    alloc: Global,
-    out: &mut W,
-) -> Result<(), AnswerError>
+pub(crate) fn say_level<W: Write>(session: &mut Session, out: &mut W) -> Result<(), AnswerError>
     ensures { TellsAnswer result (W.contents out.old) (W.contents out.new) session.old.device
         (AnswersLevel session.old) session.new }
 {
-    say_number(alloc, out, u64::from(session.device.machine.line()))
+    say_number(out, u64::from(session.device.machine.line()))
 }
 
 /// `digest`.
-pub(crate) fn say_digest<W: Write>(
-    session: &mut Session,
-    alloc: Global,
-    out: &mut W,
-) -> Result<(), AnswerError>
+pub(crate) fn say_digest<W: Write>(session: &mut Session, out: &mut W) -> Result<(), AnswerError>
     ensures { TellsAnswer result (W.contents out.old) (W.contents out.new) session.old.device
         (AnswersDigest session.old) session.new }
 {
-    say_number(alloc, out, session.device.machine.digest())
+    say_number(out, session.device.machine.digest())
 }
 
 /// `offer`.

@@ -1,5 +1,5 @@
 pub mod Adding
 pub mod Commands
+pub mod Getters
 pub mod Uses
-pub mod Values
 pub mod Walks

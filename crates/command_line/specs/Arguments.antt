@@ -1,16 +1,21 @@
 -- The subcommands and arguments that the code gives clap, as clap's contracts see them (our choice).
-use Rattle.std.specs.Prelude.{List, [], ◌∷◌, map}
-use Rattle.clap.specs.Words.{App, Rule, new_app, with_rule, with_subcommand}
+use Rattle.std.specs.Prelude.{List, [], ◌∷◌, codes, map, true}
+use Rattle.clap.specs.Simple.{on_top}
+use Rattle.clap.specs.Words.{App, Rule, Text, new_app, with_rule, with_subcommand}
 use Rattle.command_line.specs.Shape.{file_rule, flag_rule, option_rule, required_rule}
 use Rattle.command_line.specs.declared.command.Argument.{Argument}
-use Rattle.command_line.specs.declared.command.Argument.TheVariants.{File, Flag, Required, Value}
+use Rattle.command_line.specs.declared.command.Form.{Form}
+use Rattle.command_line.specs.declared.command.Form.TheVariants.{File, Flag, Required, Value}
 use Rattle.command_line.specs.declared.command.Subcommand.{Subcommand}
 
+abbrev pub rule_of_form : Form → Text → Rule
+rule_of_form (Value value) name = option_rule name
+rule_of_form (Required value) name = required_rule name
+rule_of_form Flag name = flag_rule name
+rule_of_form File name = file_rule name
+
 abbrev pub rule_for : Argument → Rule
-rule_for (Value name value help) = option_rule name.now
-rule_for (Flag name help) = flag_rule name.now
-rule_for (Required name value help) = required_rule name.now
-rule_for (File name help) = file_rule name.now
+rule_for argument = rule_of_form argument.1 argument.0.now
 
 -- a command with these rules more, in this order
 abbrev pub with_rules : App → List Rule → App
@@ -25,3 +30,9 @@ app_for subcommand = with_rules (new_app subcommand.name.now) (map rule_for subc
 abbrev pub with_subcommands : App → List App → App
 with_subcommands program [] = program
 with_subcommands program (command ∷ others) = with_subcommands (with_subcommand program command.top) others
+
+-- the program without its subcommands
+abbrev pub bare_app : App
+bare_app =
+    on_top (λ s. record s { has_version = true; subcommand_required = true; arg_required_else_help = true })
+    (new_app (codes "nicbench"))

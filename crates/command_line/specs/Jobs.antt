@@ -4,8 +4,10 @@ use Rattle.std.specs.Borrow.{Bor}
 use Rattle.std.specs.Prelude.{⊤, IsNone, IsSome, codes, option_map}
 use Rattle.clap.specs.Words.{Row, Text, first_of}
 use Rattle.command_line.specs.Shape.{found_in, refusals}
-use Rattle.command_line.specs.Spelling.{IsGroup, IsKilobytes, IsLink, SpellsAddress, SpellsCount, SpellsDecimal, SpellsGroup}
+use Rattle.text.specs.Addresses.{SpellsAddress}
+use Rattle.command_line.specs.Spelling.{IsGroup, IsKilobytes, IsLink, SpellsCount, SpellsDecimal, SpellsGroup}
 use Rattle.command_line.specs.Spelling.{SpellsKilobytes, SpellsLink, SpellsRingSize, SpellsVlan, SpellsWord}
+use Rattle.command_line.specs.declared.drive.Sizes.{Sizes}
 use Rattle.command_line.specs.declared.error.InvalidValue.{InvalidValue}
 use Rattle.command_line.specs.declared.job.DriveJob.{DriveJob}
 use Rattle.command_line.specs.declared.job.Job.{Job}
@@ -20,6 +22,7 @@ use Rattle.command_line.specs.declared.job.ServeLink.{ServeLink}
 use Rattle.command_line.specs.declared.job.ServeLink.TheVariants as links
 use Rattle.command_line.specs.declared.job.ShowJob.{ShowJob}
 use Rattle.command_line.specs.declared.job.ValueOption.{ValueOption}
+use Rattle.command_line.specs.declared.serve.ServedAdapter.{ServedAdapter}
 use Rattle.command_line.specs.declared.job.ValueOption.TheVariants as options
 
 -- the value that an option's text spells, and none exactly where the option isn't there
@@ -70,6 +73,12 @@ IsImageOf rows (images.Address address) =
     IsNone (first_of (codes "image") rows)
     × IsValueOr SpellsAddress (2 ∷ 0 ∷ 0 ∷ 0 ∷ 0 ∷ 1 ∷ []) (first_of (codes "address") rows) address
 
+-- the image, the link and the kilobytes of a `serve`
+pub record IsAdapterOf (rows : List Row) (adapter : ServedAdapter) : Type 0 where
+  pub image : IsImageOf rows adapter.image
+  pub link : IsValueOr SpellsLink (links.After 1) (first_of (codes "link") rows) adapter.link
+  pub kilobytes : IsValueOr SpellsKilobytes 48 (first_of (codes "rxa") rows) adapter.receive_kilobytes
+
 -- each option of a `serve` has the value of its text, or its default
 pub record IsServeJobOf (rows : List Row) (job : ServeJob) : Type 0 where
   pub memory : IsValueOr SpellsWord 0x100000 (first_of (codes "memory") rows) job.memory
@@ -81,6 +90,12 @@ pub record IsServeJobOf (rows : List Row) (job : ServeJob) : Type 0 where
   pub missed : IsValueOr SpellsCount 0 (first_of (codes "missed") rows) job.missed
   pub schedule : IsTextOf (first_of (codes "schedule") rows) job.schedule
   pub «record» : IsTextOf (first_of (codes "record") rows) job.«record»
+
+-- the sizes of a `drive`
+pub record AreSizesOf (rows : List Row) (sizes : Sizes) : Type 0 where
+  pub rx : IsValueOr SpellsRingSize 64 (first_of (codes "rx") rows) sizes.rx
+  pub tx : IsValueOr SpellsRingSize 64 (first_of (codes "tx") rows) sizes.tx
+  pub buffers : IsValueOr SpellsRingSize 512 (first_of (codes "buffers") rows) sizes.buffers
 
 -- each option of a `drive` has the value of its text, or its default, and both traces are there
 pub record IsDriveJobOf (rows : List Row) (job : DriveJob) : Type 0 where
@@ -174,10 +189,16 @@ IsSpelled rows options.Buffers text = (n : ℕ) × SpellsRingSize text n
 IsSpelled rows options.Expect text = (n : ℕ) × SpellsDecimal text n
 IsSpelled rows options.Idle text = (n : ℕ) × SpellsDecimal text n
 
--- the matches have this text for the option, and it isn't of the option's form, or stands beside another option
+-- the matches have this text for the option, and it isn't of the option's form, or it excludes another option that is given
 pub record IsInvalidIn (rows : List Row) (value : InvalidValue) : Type 0 where
   pub given : first_of (name_of value.option) rows ≡ Some value.text.now
   pub unspelled : ¬ IsSpelled rows value.option value.text.now
+
+-- the same of an option alone, whose text the matches have
+pub record IsMisspelled (rows : List Row) (option : ValueOption) : Type 0 where
+  pub text : Text
+  pub given : first_of (name_of option) rows ≡ Some text
+  pub unspelled : ¬ IsSpelled rows option text
 
 -- clap takes the words, and the job is that of the subcommand that it finds in them
 abbrev pub IsAskedBy : List Text → Job → Type 0

@@ -5,15 +5,15 @@ use Rattle.clap.specs.Kinds.{Kinds}
 use Rattle.clap.specs.Simple.{on_top}
 use Rattle.clap.specs.declared.builder.ArgAction.TheVariants as action
 
--- an option with one value, which help calls by one name, and which may stand once
+-- an option with one value, which has one name in the help text and may occur once
 abbrev pub option_rule : Text → Rule
 option_rule name = record (new_rule name) { long = Some name; action = Some action.Set; value_names = 1 }
 
--- an option without a value, which may stand once
+-- an option without a value, which may occur once
 abbrev pub flag_rule : Text → Rule
 flag_rule name = record (new_rule name) { long = Some name; action = Some action.SetTrue }
 
--- an option with one value, which must stand once
+-- an option with one value, which must occur once
 abbrev pub required_rule : Text → Rule
 required_rule name = record (option_rule name) { required = true }
 

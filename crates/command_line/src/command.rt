@@ -1,11 +1,9 @@
 //! The commands of the program, built with clap.
 ghost use Rattle.std.specs.Prelude.{◌≡◌, IfOk, false, map};
-ghost use Rattle.std.specs.List.{All};
 ghost use Rattle.clap.specs.Words.{app_of, rule_of};
 ghost use Rattle.clap.specs.declared.builder.command.Command.TheViews.{out-Command as fields_of};
-ghost use Rattle.command_line.specs.Arguments.{app_for, rule_for};
-ghost use Rattle.command_line.specs.Shape.{drive_app, file_rule, flag_rule, option_rule, pass_app, program_app};
-ghost use Rattle.command_line.specs.Shape.{required_rule, run_app, serve_app, show_app};
+ghost use Rattle.command_line.specs.Arguments.{app_for, bare_app, rule_for, with_subcommands};
+ghost use Rattle.command_line.specs.Shape.{program_app};
 
 use crate::help::{
     ADDRESS_HELP, BUFFERS_HELP, DRIVE_ABOUT, DRIVE_MEMORY_HELP, DRIVE_NOTE, EEPROM_ADDRESS_HELP,
@@ -17,18 +15,22 @@ use crate::help::{
 use clap::{Arg, ArgAction, Command};
 use std::alloc::{AllocError, Global};
 
-/// An argument of a command.
+/// How an argument is used.
 #[derive(Clone, Copy)]
-enum Argument<'a> {
-    /// An option `--NAME VALUE`, which may be used once: its name, the name of its value in help, and its help.
-    Value(&'a str, &'a str, &'a str),
-    /// An option `--NAME` without a value, which may be used once: its name and its help.
-    Flag(&'a str, &'a str),
-    /// An option `--NAME VALUE`, which must be used once: its name, the name of its value in help, and its help.
-    Required(&'a str, &'a str, &'a str),
-    /// A file, which is required: its name and its help.
-    File(&'a str, &'a str),
+enum Form<'a> {
+    /// As an option `--NAME VALUE`, at most once. Help has this name for the value.
+    Value(&'a str),
+    /// As an option `--NAME VALUE`, exactly once. Help has this name for the value.
+    Required(&'a str),
+    /// As an option `--NAME` without a value, at most once.
+    Flag,
+    /// As a file, which is required.
+    File,
 }
+
+/// An argument of a command: its name, its form, and its help.
+#[derive(Clone, Copy)]
+struct Argument<'a>(&'a str, Form<'a>, &'a str);
 
 /// A subcommand of the program.
 #[derive(Clone, Copy)]
@@ -41,220 +43,182 @@ struct Subcommand<'a> {
     arguments: &'a [Argument<'a>],
 }
 
-/// An option `--NAME VALUE`, which may be used once.
-fn value_option<'a>(alloc: Global, name: &'a str, value: &'a str, help: &'a str) -> Arg<'a>
-    ensures rule { rule_of result ≡ option_rule name.entry.now }
-    ensures local { result.global ≡ false }
-{
-    Arg::new(alloc, name)
-        .long(name)
-        .value_name(value)
-        .help(help)
-        .action(ArgAction::Set)
-}
-
-/// An option `--NAME` without a value, which may be used once.
-fn flag<'a>(alloc: Global, name: &'a str, help: &'a str) -> Arg<'a>
-    ensures rule { rule_of result ≡ flag_rule name.entry.now }
-    ensures local { result.global ≡ false }
-{
-    Arg::new(alloc, name)
-        .long(name)
-        .help(help)
-        .action(ArgAction::SetTrue)
-}
-
-/// An option `--NAME VALUE`, which must be used once.
-fn required_option<'a>(alloc: Global, name: &'a str, value: &'a str, help: &'a str) -> Arg<'a>
-    ensures rule { rule_of result ≡ required_rule name.entry.now }
-    ensures local { result.global ≡ false }
-{
-    value_option(alloc, name, value, help).required(true)
-}
-
-/// A file, which is required.
-fn file<'a>(alloc: Global, name: &'a str, help: &'a str) -> Arg<'a>
-    ensures rule { rule_of result ≡ file_rule name.entry.now }
-    ensures local { result.global ≡ false }
-{
-    Arg::new(alloc, name)
-        .required(true)
-        .help(help)
-        .action(ArgAction::Set)
-}
-
-/// An argument in the form that clap takes.
+/// An argument as clap takes it.
 fn clap_argument<'a>(alloc: Global, argument: &Argument<'a>) -> Arg<'a>
     ensures rule { rule_of result ≡ rule_for argument.now }
     ensures local { result.global ≡ false }
 {
-    match *argument {
-        Argument::Value(name, value, help) => value_option(alloc, name, value, help),
-        Argument::Flag(name, help) => flag(alloc, name, help),
-        Argument::Required(name, value, help) => required_option(alloc, name, value, help),
-        Argument::File(name, help) => file(alloc, name, help),
+    let Argument(name, form, help) = *argument;
+    let arg = Arg::new(alloc, name).help(help);
+    match form {
+        Form::Value(value) => arg.long(name).value_name(value).action(ArgAction::Set),
+        Form::Required(value) => arg
+            .long(name)
+            .value_name(value)
+            .action(ArgAction::Set)
+            .required(true),
+        Form::Flag => arg.long(name).action(ArgAction::SetTrue),
+        Form::File => arg.required(true).action(ArgAction::Set),
     }
 }
 
-/// Arguments in the form that clap takes.
-fn clap_arguments<'a>(alloc: Global, arguments: &[Argument<'a>]) -> Result<Vec<Arg<'a>>, AllocError>
-    ensures rules { IfOk result (λ args. map rule_of args.items ≡ map rule_for arguments.now) }
-    ensures local { IfOk result (λ args. All (λ arg. arg.global ≡ false) args.items) }
-{
-    let mut args = Vec::new(alloc);
-    for argument in arguments {
-        args.push(clap_argument(alloc, argument))?;
-    }
-    Ok(args)
-}
-
-/// A subcommand in the form that clap takes.
+/// A subcommand as clap takes it.
 fn clap_command<'a>(alloc: Global, subcommand: &Subcommand<'a>) -> Result<Command<'a>, AllocError>
     ensures app { IfOk result (λ command. app_of command ≡ app_for subcommand.now) }
     ensures local { IfOk result (λ command. (fields_of command).has_globals ≡ false) }
 {
-    let arguments = clap_arguments(alloc, subcommand.arguments)?;
-    Command::new(alloc, subcommand.name)
+    let mut command = Command::new(alloc, subcommand.name)
         .about(subcommand.about)
-        .after_help(subcommand.note)
-        .args(arguments)
-}
-
-/// Subcommands in the form that clap takes.
-fn clap_commands<'a>(
-    alloc: Global,
-    subcommands: &[Subcommand<'a>],
-) -> Result<Vec<Command<'a>>, AllocError>
-    ensures apps { IfOk result (λ commands. map app_of commands.items ≡ map app_for subcommands.now) }
-    ensures local { IfOk result (λ commands. All (λ command. (fields_of command).has_globals ≡ false) commands.items) }
-{
-    let mut commands = Vec::new(alloc);
-    for subcommand in subcommands {
-        commands.push(clap_command(alloc, subcommand)?)?;
+        .after_help(subcommand.note);
+    for argument in subcommand.arguments {
+        command = command.arg(clap_argument(alloc, argument))?;
     }
-    Ok(commands)
+    Ok(command)
 }
 
+/// Adds subcommands to a program.
+fn add_commands<'a>(
+    alloc: Global,
+    program: Command<'a>,
+    subcommands: &[Subcommand<'a>],
+) -> Result<Command<'a>, AllocError>
+    requires { (fields_of program).has_globals ≡ false }
+    ensures app { IfOk result (λ command. app_of command
+        ≡ with_subcommands (app_of program.entry) (map app_for subcommands.now)) }
+    ensures local { IfOk result (λ command. (fields_of command).has_globals ≡ false) }
+{
+    let mut program = program;
+    for subcommand in subcommands {
+        let command = clap_command(alloc, subcommand)?;
+        program = program.subcommand(command)?;
+    }
+    Ok(program)
+}
+
+/// `pass [--address A] [--group G] [--vlan N] [--nanos] IN OUT`.
 const PASS_ARGUMENTS: [Argument<'static>; 6] = [
-    Argument::Value("address", "A", ADDRESS_HELP),
-    Argument::Value("group", "G", GROUP_HELP),
-    Argument::Value("vlan", "N", VLAN_HELP),
-    Argument::Flag("nanos", NANOS_HELP),
-    Argument::File(
+    Argument("address", Form::Value("A"), ADDRESS_HELP),
+    Argument("group", Form::Value("G"), GROUP_HELP),
+    Argument("vlan", Form::Value("N"), VLAN_HELP),
+    Argument("nanos", Form::Flag, NANOS_HELP),
+    Argument(
         "IN",
+        Form::File,
         "The trace to read, a pcap file, or - for standard input",
     ),
-    Argument::File(
+    Argument(
         "OUT",
+        Form::File,
         "The trace to write, a pcap file, or - for standard output",
     ),
 ];
 
-/// `pass [--address A] [--group G] [--vlan N] [--nanos] IN OUT`.
-fn pass<'a>() -> Subcommand<'a>
-    ensures { app_for result ≡ pass_app }
-{
+/// `run [--wires] [--nanos] [--events FILE] SCENARIO OUTDIR`.
+const RUN_ARGUMENTS: [Argument<'static>; 5] = [
+    Argument("wires", Form::Flag, WIRES_HELP),
+    Argument("nanos", Form::Flag, NANOS_HELP),
+    Argument("events", Form::Value("FILE"), EVENTS_HELP),
+    Argument(
+        "SCENARIO",
+        Form::File,
+        "The scenario to run, a text file, or - for standard input",
+    ),
+    Argument(
+        "OUTDIR",
+        Form::File,
+        "The folder to write traces into; it must exist",
+    ),
+];
+
+/// `show TRACE`.
+const SHOW_ARGUMENTS: [Argument<'static>; 1] = [Argument(
+    "TRACE",
+    Form::File,
+    "The trace to read, a pcap file, or - for standard input",
+)];
+
+/// `serve [--memory BYTES] [--registers ADDRESS] [--address A | --image FILE] [--link N|never] [--rxa N] [--seed N]
+/// [--missed N] [--schedule FILE] [--record FILE]`.
+const SERVE_ARGUMENTS: [Argument<'static>; 10] = [
+    Argument("memory", Form::Value("BYTES"), MEMORY_HELP),
+    Argument("registers", Form::Value("ADDRESS"), REGISTERS_HELP),
+    Argument("address", Form::Value("A"), EEPROM_ADDRESS_HELP),
+    Argument("image", Form::Value("FILE"), IMAGE_HELP),
+    Argument("link", Form::Value("N|never"), LINK_HELP),
+    Argument("rxa", Form::Value("N"), RXA_HELP),
+    Argument("seed", Form::Value("N"), SEED_HELP),
+    Argument("missed", Form::Value("N"), MISSED_HELP),
+    Argument("schedule", Form::Value("FILE"), SCHEDULE_HELP),
+    Argument("record", Form::Value("FILE"), RECORD_HELP),
+];
+
+/// `drive [--registers ADDRESS] [--memory BYTES] [--rx N] [--tx N] [--buffers N] [--expect N] [--idle N] --send IN
+/// --receive OUT`.
+const DRIVE_ARGUMENTS: [Argument<'static>; 9] = [
+    Argument("registers", Form::Value("ADDRESS"), REGISTERS_HELP),
+    Argument("memory", Form::Value("BYTES"), DRIVE_MEMORY_HELP),
+    Argument("rx", Form::Value("N"), RX_HELP),
+    Argument("tx", Form::Value("N"), TX_HELP),
+    Argument("buffers", Form::Value("N"), BUFFERS_HELP),
+    Argument("expect", Form::Value("N"), EXPECT_HELP),
+    Argument("idle", Form::Value("N"), IDLE_HELP),
+    Argument(
+        "send",
+        Form::Required("IN"),
+        "The trace whose frames are sent, a pcap file",
+    ),
+    Argument(
+        "receive",
+        Form::Required("OUT"),
+        "The trace to write received frames into, a pcap file",
+    ),
+];
+
+/// The commands, in the order of help.
+const SUBCOMMANDS: [Subcommand<'static>; 5] = [
     Subcommand {
         name: "pass",
         about: PASS_ABOUT,
         note: PASS_NOTE,
         arguments: &PASS_ARGUMENTS,
-    }
-}
-
-const RUN_ARGUMENTS: [Argument<'static>; 5] = [
-    Argument::Flag("wires", WIRES_HELP),
-    Argument::Flag("nanos", NANOS_HELP),
-    Argument::Value("events", "FILE", EVENTS_HELP),
-    Argument::File(
-        "SCENARIO",
-        "The scenario to run, a text file, or - for standard input",
-    ),
-    Argument::File("OUTDIR", "The folder to write traces into; it must exist"),
-];
-
-/// `run [--wires] [--nanos] [--events FILE] SCENARIO OUTDIR`.
-fn run<'a>() -> Subcommand<'a>
-    ensures { app_for result ≡ run_app }
-{
+    },
     Subcommand {
         name: "run",
         about: RUN_ABOUT,
         note: RUN_NOTE,
         arguments: &RUN_ARGUMENTS,
-    }
-}
-
-const SHOW_ARGUMENTS: [Argument<'static>; 1] = [Argument::File(
-    "TRACE",
-    "The trace to read, a pcap file, or - for standard input",
-)];
-
-/// `show TRACE`.
-fn show<'a>() -> Subcommand<'a>
-    ensures { app_for result ≡ show_app }
-{
+    },
     Subcommand {
         name: "show",
         about: SHOW_ABOUT,
         note: SHOW_NOTE,
         arguments: &SHOW_ARGUMENTS,
-    }
-}
-
-const SERVE_ARGUMENTS: [Argument<'static>; 10] = [
-    Argument::Value("memory", "BYTES", MEMORY_HELP),
-    Argument::Value("registers", "ADDRESS", REGISTERS_HELP),
-    Argument::Value("address", "A", EEPROM_ADDRESS_HELP),
-    Argument::Value("image", "FILE", IMAGE_HELP),
-    Argument::Value("link", "N|never", LINK_HELP),
-    Argument::Value("rxa", "N", RXA_HELP),
-    Argument::Value("seed", "N", SEED_HELP),
-    Argument::Value("missed", "N", MISSED_HELP),
-    Argument::Value("schedule", "FILE", SCHEDULE_HELP),
-    Argument::Value("record", "FILE", RECORD_HELP),
-];
-
-/// `serve [--memory BYTES] [--registers ADDRESS] [--address A | --image FILE] [--link N|never] [--rxa N] [--seed N]
-/// [--missed N] [--schedule FILE] [--record FILE]`.
-fn serve<'a>() -> Subcommand<'a>
-    ensures { app_for result ≡ serve_app }
-{
+    },
     Subcommand {
         name: "serve",
         about: SERVE_ABOUT,
         note: SERVE_NOTE,
         arguments: &SERVE_ARGUMENTS,
-    }
-}
-
-const DRIVE_ARGUMENTS: [Argument<'static>; 9] = [
-    Argument::Value("registers", "ADDRESS", REGISTERS_HELP),
-    Argument::Value("memory", "BYTES", DRIVE_MEMORY_HELP),
-    Argument::Value("rx", "N", RX_HELP),
-    Argument::Value("tx", "N", TX_HELP),
-    Argument::Value("buffers", "N", BUFFERS_HELP),
-    Argument::Value("expect", "N", EXPECT_HELP),
-    Argument::Value("idle", "N", IDLE_HELP),
-    Argument::Required("send", "IN", "The trace whose frames are sent, a pcap file"),
-    Argument::Required(
-        "receive",
-        "OUT",
-        "The trace to write received frames into, a pcap file",
-    ),
-];
-
-/// `drive [--registers ADDRESS] [--memory BYTES] [--rx N] [--tx N] [--buffers N] [--expect N] [--idle N] --send IN
-/// --receive OUT`.
-fn drive<'a>() -> Subcommand<'a>
-    ensures { app_for result ≡ drive_app }
-{
+    },
     Subcommand {
         name: "drive",
         about: DRIVE_ABOUT,
         note: DRIVE_NOTE,
         arguments: &DRIVE_ARGUMENTS,
-    }
+    },
+];
+
+/// The program without its subcommands.
+fn bare_program<'a>(alloc: Global) -> Command<'a>
+    ensures app { app_of result ≡ bare_app }
+    ensures local { (fields_of result).has_globals ≡ false }
+{
+    Command::new(alloc, "nicbench")
+        .about("A bench for a driver of the Intel 82540EM and a model of that adapter")
+        .after_help(PROGRAM_NOTE)
+        .version(VERSION)
+        .subcommand_required(true)
+        .arg_required_else_help(true)
 }
 
 /// The command line of the program.
@@ -262,14 +226,5 @@ pub(crate) fn program<'a>(alloc: Global) -> Result<Command<'a>, AllocError>
     ensures app { IfOk result (λ command. app_of command ≡ program_app) }
     ensures local { IfOk result (λ command. (fields_of command).has_globals ≡ false) }
 {
-    let about = "A bench for a driver of the Intel 82540EM and a model of that adapter";
-    let subcommands = [pass(), run(), show(), serve(), drive()];
-    let subcommands = clap_commands(alloc, &subcommands)?;
-    Command::new(alloc, "nicbench")
-        .about(about)
-        .after_help(PROGRAM_NOTE)
-        .version(VERSION)
-        .subcommand_required(true)
-        .arg_required_else_help(true)
-        .subcommands(subcommands)
+    add_commands(alloc, bare_program(alloc), &SUBCOMMANDS)
 }

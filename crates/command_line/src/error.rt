@@ -21,7 +21,8 @@ pub enum LineError<'a> {
     /// clap took the words, and the value of an option isn't of its form, or can't be used with another option.
     #[error("{0}")]
     Value(InvalidValue<'a>),
-    /// A word isn't UTF-8. Told by who takes the words from the system, never by [`line`](crate::line).
+    /// A word isn't UTF-8. Only the caller that takes the words from the system returns this, never
+    /// [`line`](crate::line).
     #[error("{NOT_UNICODE}")]
     NotUnicode,
     /// E57: memory was refused.

@@ -5,7 +5,7 @@
 pub enum Job<'a> {
     /// `pass`: the frames of a trace go through a receive filter and a ring to another trace.
     Pass(PassJob<'a>),
-    /// `run`: a scenario is run, and what its sockets give goes to traces, on request also what is put on its wires.
+    /// `run`: runs a scenario, and writes the frames of its sockets to traces, on request also those on its wires.
     Run(RunJob<'a>),
     /// `show`: the frames of a trace are listed.
     Show(ShowJob<'a>),
@@ -71,7 +71,7 @@ pub struct ServeJob<'a> {
     pub registers: u64,
     /// The contents of the adapter's EEPROM (`--address`, `--image`, an image of 02:00:00:00:00:01).
     pub image: ServeImage<'a>,
-    /// When the link comes up (`--link`, after one tick).
+    /// When the link is up (`--link`; by default after one tick).
     pub link: ServeLink,
     /// The kilobytes of the adapter's receive packet buffer, an even number from 2 to 48 (`--rxa`, 48).
     pub receive_kilobytes: u8,
@@ -118,10 +118,10 @@ pub enum ServeImage<'a> {
     File(&'a str),
 }
 
-/// When the link of an adapter that is served comes up.
+/// When the link of a served adapter is up.
 #[derive(Clone, Copy, PartialEq, Eq)]
 pub enum ServeLink {
-    /// After so many ticks of the PHY, 1 or more.
+    /// After this number of ticks of the PHY, 1 or more.
     After(u16),
     /// Never.
     Never,

@@ -5,7 +5,6 @@
 #![tactic(auto)]
 
 mod command;
-mod common;
 mod drive;
 mod error;
 mod help;
@@ -15,7 +14,8 @@ mod reader;
 mod run;
 mod serve;
 mod show;
-pub mod spelling;
+mod spelling;
+mod values;
 
 pub use error::{InvalidValue, LineError};
 pub use job::{
@@ -23,3 +23,9 @@ pub use job::{
     ValueOption,
 };
 pub use reader::line;
+
+/// The size of memory in bytes if no option gives it, 1 MiB.
+const DEFAULT_MEMORY: u64 = 1 << 20;
+
+/// The address of the first register if no option gives it.
+const DEFAULT_REGISTERS: u64 = 0xFEB0_0000;

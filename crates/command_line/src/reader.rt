@@ -2,7 +2,7 @@
 ghost use Rattle.std.specs.Prelude.{◌≡◌, ◌≢◌, IfErr, IfOk, OnOk, [], map, true};
 ghost use Rattle.clap.specs.Words.{found_of, has_subcommand, rows_of, subcommand_rows_of};
 ghost use Rattle.command_line.specs.Errors.{IfValue, IfWords, IsRefusalOf, IsRefusedBy};
-ghost use Rattle.command_line.specs.Jobs.{HasBounds, IsAskedBy, IsInvalidIn, IsJobOf};
+ghost use Rattle.command_line.specs.Jobs.{HasBounds, IsAskedBy, IsJobOf, IsMisspelled};
 ghost use Rattle.command_line.specs.Jobs.{IsRefusedIn, IsSubcommand};
 ghost use Rattle.command_line.specs.Shape.{found_in, refusals};
 ghost use Rattle.command_line.specs.declared.error.LineError.TheVariants.{NotUnicode};
@@ -13,17 +13,18 @@ use crate::pass::pass_job;
 use crate::run::run_job;
 use crate::serve::serve_job;
 use crate::show::show_job;
-use crate::{InvalidValue, Job, LineError};
+use crate::values::invalid;
+use crate::{Job, LineError, ValueOption};
 use clap::ArgMatches;
 use std::alloc::Global;
 use std::convert::AsStr;
 
 /// The job of a command with these matches.
-fn job_of<'a>(name: &str, matches: &ArgMatches<'a>) -> Result<Job<'a>, InvalidValue<'a>>
+fn job_of<'a>(name: &str, matches: &ArgMatches<'a>) -> Result<Job<'a>, ValueOption>
     requires { IsSubcommand name.now (rows_of (found_of matches.now)) }
     ensures bounds { IfOk result HasBounds }
     ensures job { IfOk result (IsJobOf (name.now, rows_of (found_of matches.now))) }
-    ensures refused { IfErr result (IsInvalidIn (rows_of (found_of matches.now))) }
+    ensures refused { IfErr result (IsMisspelled (rows_of (found_of matches.now))) }
 {
     match name {
         "pass" => Ok(Job::Pass(pass_job(matches)?)),
@@ -47,7 +48,7 @@ fn matches_of<'a, S: AsStr>(alloc: Global, words: &'a [S]) -> Result<ArgMatches<
     Ok(matches)
 }
 
-/// Reads the program's words, of which the first is the program's name.
+/// Reads the program's words. The first word is the program's name.
 ///
 /// # Errors
 ///
@@ -64,6 +65,6 @@ pub fn line<'a, S: AsStr>(alloc: Global, words: &'a [S]) -> Result<Job<'a>, Line
     let (name, found) = matches.subcommand().unwrap();
     match job_of(name, found) {
         Ok(job) => Ok(job),
-        Err(value) => Err(LineError::Value(value)),
+        Err(option) => Err(LineError::Value(invalid(found, option))),
     }
 }

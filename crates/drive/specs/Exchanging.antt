@@ -71,7 +71,7 @@ pub record Exchanges {B : Type 0} (bus : Ghosts B) (accepted : List (List ℕ)) 
   pub flows : IsReadyHost bus true (host_moment old) → HostFlows bus accepted received (host_moment old) (host_moment new)
 
 -- The first frames of a list were handed to the driver, in order, and counted: those that it accepted, and those that have fewer than 14 or
--- more than 1,518 bytes. A count stays at the greatest u64. The frames `left` are left.
+-- more than 1,518 bytes. A count saturates. The frames `left` are left.
 pub record SendsUpTo {B : Type 0} (bus : Ghosts B) (frames left : List (List ℕ)) (sent illegal : ℕ) (old new : ExchangeMoment B) : Type 0
   where
     pub handed : List (List ℕ)

@@ -34,7 +34,7 @@ impl DriveLimits {
     }
 }
 
-/// How many frames were sent and received. Each count stays at the greatest `u64`.
+/// How many frames were sent and received. Each count saturates.
 #[derive(Clone, Copy, Debug, PartialEq, Eq)]
 pub struct DriveCounts {
     /// The frames that the driver accepted for sending.

@@ -11,7 +11,7 @@ use std::io::{self, ErrorKind, Input, Read};
 use std::os::unix::fs::{FileTypeExt, MetadataExt};
 use std::rt::Files;
 
-/// The path that stands for standard input.
+/// The path that means standard input.
 const STANDARD_INPUT: &str = "-";
 
 /// The path of the file that is standard input, if it is one.
@@ -51,7 +51,7 @@ fn read_pipe<S: Read + Drop>(alloc: Global, reader: S) -> Result<Vec<u8>, FileEr
     Ok(bytes)
 }
 
-/// Opens a path, and looks what it is.
+/// Opens a path, and returns what it is.
 fn open_path<R: Files + AllocGlobal>(rt: &R, path: &str) -> Result<(R::File, Metadata), FileError> {
     let Ok(file) = fs::open(rt, path) else {
         return Err(FileError::open(rt.alloc(), path));
@@ -170,7 +170,7 @@ pub fn create_all<R: Files + AllocGlobal>(
     Ok(sinks)
 }
 
-/// Looks whether a folder is there.
+/// Checks that a folder exists.
 pub fn find_folder<R: Files + AllocGlobal>(rt: &R, path: &str) -> Result<(), FileError> {
     match fs::metadata(rt, path) {
         Ok(metadata) if metadata.is_dir() => Ok(()),

@@ -3,8 +3,8 @@
 use std::fs::OpenFile;
 use std::io::{self, Write};
 
-/// A file that is written from its front. What it had is dropped before the first byte is written: a program that ends
-/// before that leaves the file as it was.
+/// A file that is written from its front. Its old bytes are dropped just before the first byte is written, so a program
+/// that ends earlier doesn't change the file.
 #[derive(Drop)]
 pub struct LateFile<F> {
     file: F,
@@ -20,7 +20,7 @@ impl<F: OpenFile> LateFile<F> {
         }
     }
 
-    /// Drops what the file had. A device or a pipe has nothing to drop.
+    /// Drops the file's old bytes. A device or a pipe has nothing to drop.
     fn drop_old_bytes(&mut self) -> io::Result<()> {
         if self.file.metadata()?.is_file() {
             self.file.set_len(0)?;

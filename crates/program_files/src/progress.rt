@@ -1,20 +1,20 @@
-//! How far a long job is, for somebody who waits at a terminal.
+//! Reports the progress of a long job on a terminal.
 
 use pcap_trace::Trace;
 use std::io::{self, IsTerminal, Read};
 
-/// The shortest file of which it is reported how much was read: 256 MiB.
+/// The shortest file whose progress is reported: 256 MiB.
 const LONG_FILE: u64 = 1 << 28;
 
 /// How often that is reported.
 const STEPS: u64 = 10;
 
-/// The fewest frames of traces of which it is reported that they are fed.
+/// The smallest number of fed frames for which the start of a run is reported.
 const MANY_FRAMES: u64 = 100_000;
 
 const MEBIBYTE: u64 = 1 << 20;
 
-/// Standard error, with the knowledge whether somebody reads it while the program runs.
+/// Standard error, and whether it is a terminal.
 pub trait Watched: Eprint {
     /// Whether standard error is a terminal.
     fn is_watched(&self) -> bool;
@@ -48,7 +48,7 @@ impl<'a, R: Watched, F> ReportingReader<'a, R, F> {
         }
     }
 
-    /// So many bytes more were read.
+    /// This number of further bytes was read.
     fn count(&mut self, bytes: u64) {
         let step = self.length / STEPS + 1;
         let before = self.done / step;
@@ -77,7 +77,7 @@ fn frames_of(traces: &[Trace]) -> u64 {
     frames
 }
 
-/// Reports that a run begins to play its scenario, if it feeds many frames and somebody watches.
+/// Reports that a run begins to play its scenario, if it feeds many frames and standard error is a terminal.
 pub fn report_play<R: Watched>(rt: &R, traces: &[Trace]) {
     let frames = frames_of(traces);
     if frames >= MANY_FRAMES && rt.is_watched() {

@@ -1,4 +1,4 @@
-//! An output file that is never there in part.
+//! An output file that is never incomplete.
 ghost use Rattle.std.specs.Prelude.{◌≡◌, IfOk};
 
 use crate::file_error::FileError;
@@ -15,8 +15,9 @@ const MOST_PARTS: u32 = 100;
 
 /// An output that was opened.
 ///
-/// If it can be replaced, its new bytes are written beside it, into a part, and [`finish`](WholeFile::finish) gives the
-/// part the name of the output. So the output has its old bytes or all new bytes, also if the program is killed.
+/// If it can be replaced, its new bytes are written to a part, another file in the same folder, and
+/// [`finish`](WholeFile::finish) renames the part to the output. So the output has its old bytes or all new bytes, also
+/// if the program is killed.
 #[derive(Drop)]
 pub struct WholeFile<F> {
     /// Takes the new bytes.
@@ -137,7 +138,7 @@ fn open_replaceable<R: Files + AllocGlobal>(
 
 /// Opens an output. A plain file with one name keeps its bytes until [`finish`](WholeFile::finish), and a new file gets
 /// its name then. Any other output is written in place, as by [`create`]: a link, a file with several names, a device
-/// or a pipe. So is a file that can't get a part with its owner and permissions beside it.
+/// or a pipe. So is a file for which no part with its owner and permissions can be made.
 pub fn create_whole<R: Files + AllocGlobal>(
     rt: &R,
     path: &str,

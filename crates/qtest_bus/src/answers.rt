@@ -52,8 +52,8 @@ fn kind_of(line: &[u8]) -> Line {
     }
 }
 
-/// Fills `into` from the digits in an answer. Returns whether it has exactly the digits of so many bytes; if not,
-/// `into` doesn't change.
+/// Fills `into` from the digits in an answer. Returns whether the answer has exactly two digits for each byte of
+/// `into`; if not, `into` doesn't change.
 fn take_bytes(answer: &[u8], into: &mut [u8]) -> bool
     ensures length { length into.new ≡ length into.old }
 {
@@ -101,7 +101,7 @@ impl<R: BufRead> Answers<R> {
         }
     }
 
-    /// The answer to a read of bytes, as many as `into` has.
+    /// The answer to a read of bytes, which fills `into`.
     pub(crate) fn bytes(&mut self, into: &mut [u8]) -> Result<(), BusFault>
         ensures length { length into.new ≡ length into.old }
     {
@@ -113,7 +113,7 @@ impl<R: BufRead> Answers<R> {
         }
     }
 
-    /// The answer to a read of a register: 16 digits, of which the first eight are 0.
+    /// The answer to a read of a register: 16 digits. The first eight are 0.
     pub(crate) fn value(&mut self) -> Result<u32, BusFault> {
         let mut bytes = [0; VALUE_BYTES];
         self.bytes(&mut bytes)?;

@@ -1,7 +1,7 @@
 -- The one address that a text spells.
 use Rattle.std.proofs.Common.{◌≡◌, ℕ, List, [], ◌∷◌, Option, Some, None, IfSome, IfNone, lit<, subst, arith}
 use Rattle.std.specs.Option.{SomeIff}
-use Rattle.command_line.specs.Spelling.{SpellsAddress}
+use Rattle.text.specs.Addresses.{SpellsAddress}
 use Rattle.scenario.specs.Spellings.{IsAddress, address_in}
 
 pub same-address : (text address : List ℕ) → SpellsAddress text address → address ≡ address_in text

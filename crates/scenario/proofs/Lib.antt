@@ -3,8 +3,6 @@ pub mod CallTicks
 pub mod Changes
 pub mod FirstFaults
 pub mod LineAnswers
-pub mod Numbers
 pub mod Places
 pub mod ReadLines
-pub mod Slices
 pub mod TextLines

@@ -130,7 +130,7 @@ abbrev pub IsLineAnswer : SoFar → Text → Result (Unit {0}) Stop → SoFar �
 IsLineAnswer before line (Ok u) after = IsGoodLine before line × (after ≡ after_words before (words_of line))
 IsLineAnswer before line (Err stop) after = IfFault stop (IsFaultyLine before line)
 
--- what good lines say
+-- what good lines add
 abbrev pub said_by : List Text → SoFar
 said_by lines = fold (λ before line. after_words before (words_of line)) nothing_read lines
 
@@ -138,7 +138,7 @@ said_by lines = fold (λ before line. after_words before (words_of line)) nothin
 abbrev pub AreGood : ℕ → List Text → Type 0
 AreGood count all = (k : ℕ) → k < count → IsGoodLine (said_by (take k all)) (word k all)
 
--- A text is read: all its lines are good, and say this.
+-- A text is read: all its lines are good, and this is what they add.
 pub record IsRead (text : Text) (read : SoFar) : Type 0 where
   pub good : AreGood (length (lines text)) (lines text)
   pub said : read ≡ said_by (lines text)

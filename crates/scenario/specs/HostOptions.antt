@@ -5,8 +5,8 @@ use Rattle.std.specs.List.{fold}
 use Rattle.std.specs.Str.{bytes_eq}
 use Rattle.mdic_phy.specs.declared.phy.Link.{Link}
 use Rattle.mdic_phy.specs.declared.phy.Link.TheVariants as link
-use Rattle.scenario.specs.Spellings.{number_in}
-use Rattle.scenario.specs.Tables.{value_in}
+use Rattle.text.specs.Numbers.{number_in}
+use Rattle.text.specs.Tables.{value_in}
 use Rattle.scenario.specs.Words.{Text}
 use Rattle.scenario.specs.declared.host_use.HostOptions.{HostOptions}
 use Rattle.scenario.specs.declared.host_use.HostUse.{HostUse}
@@ -67,7 +67,7 @@ abbrev pub use_without : Option OptionKind → HostUse
 use_without (Some kind) = lone_use kind
 use_without None = uses.Unknown
 
--- The uses that words spell: an option that takes a value takes the word after it, each other word is alone.
+-- The uses that words spell: an option with a value takes the word after it; every other word is a use by itself.
 abbrev pub uses_in : List Text → List HostUse
 uses_in [] = []
 uses_in (word ∷ []) = use_without (option_named word) ∷ []

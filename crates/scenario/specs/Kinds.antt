@@ -1,6 +1,6 @@
 -- The words that lines begin with (our choice).
 use Rattle.std.specs.Prelude.{List, [], ◌∷◌, Option, codes}
-use Rattle.scenario.specs.Tables.{value_in}
+use Rattle.text.specs.Tables.{value_in}
 use Rattle.scenario.specs.Words.{Text}
 use Rattle.scenario.specs.declared.line_kind.GroupChange.TheVariants as change
 use Rattle.scenario.specs.declared.line_kind.LineKind.{LineKind}

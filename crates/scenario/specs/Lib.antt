@@ -7,6 +7,5 @@ pub mod SoFar
 pub mod Spellings
 pub mod Statuses
 pub mod Stops
-pub mod Tables
 pub mod TickWords
 pub mod Words

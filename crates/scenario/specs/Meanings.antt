@@ -1,8 +1,7 @@
 -- The meaning of lines, by their kinds (our choice). Words are numbered from 0; word 0 decides the kind of a line.
-use Rattle.std.specs.Prelude.{◌≡◌, ◌<◌, ◌≤◌, ◌+◌, ◌&&◌, ℕ, Bool, true, List, [], ◌∷◌, ◌++◌, Some, None, find, if◌then◌else◌}
-use Rattle.std.specs.Prelude.{IsSome, IsSomeAnd, codes, drop, false, is_some, length, map, nat_le, take, unwrap_or}
-use Rattle.std.specs.List.{list_all, position_or_len}
-use Rattle.std.specs.Str.{bytes_eq}
+use Rattle.std.specs.Prelude.{◌≡◌, ◌<◌, ◌≤◌, ◌&&◌, ℕ, Bool, true, List, [], ◌∷◌, ◌++◌, Some, None, find, if◌then◌else◌}
+use Rattle.std.specs.Prelude.{IsSome, IsSomeAnd, codes, drop, false, is_some, length, map, nat_le, unwrap_or}
+use Rattle.std.specs.List.{list_all}
 use Rattle.std.specs.Str.Parse.{digits_value}
 use Rattle.eeprom.specs.Image.{image_with}
 use Rattle.bring_up.specs.Configuration.{vlans_of}
@@ -13,7 +12,9 @@ use Rattle.stations.specs.declared.tick.Tick.TheVariants as tick
 use Rattle.scenario.specs.HostOptions.{AreCounted, AreRead, options_asked, uses_in}
 use Rattle.scenario.specs.SoFar.{Host, Said, SoFar, Sends, Receives, Interrupts, Resets, Joins, Leaves, Ticks, Feeds, Draws, Drains}
 use Rattle.scenario.specs.SoFar.{has_name, place_of}
-use Rattle.scenario.specs.Spellings.{IsAddress, IsFrame, address_in, frame_in, is_number, socket_in}
+use Rattle.scenario.specs.Spellings.{IsAddress, IsFrame, address_in, frame_in, socket_in}
+use Rattle.text.specs.Numbers.{is_number}
+use Rattle.text.specs.Words.{words_after, words_before}
 use Rattle.scenario.specs.TickWords.{is_tick, tick_named}
 use Rattle.scenario.specs.Words.{Text, word}
 use Rattle.scenario.specs.declared.host_use.HostOptions.{HostOptions}
@@ -35,19 +36,12 @@ most_sockets = 8
 abbrev pub most_events : ℕ
 most_events = 1000000
 
-abbrev pub is_slash : Text → Bool
-is_slash part = bytes_eq part (codes "/")
-
--- the place of the first lone slash, or the number of words if there is none
-abbrev pub slash_place : List Text → ℕ
-slash_place words = position_or_len is_slash words
-
--- the words of a call and the words of its ticks: those before and those after the slash
+-- the words of a call and the words of its ticks: those before and those after the first lone slash
 abbrev pub call_words : List Text → List Text
-call_words words = take (slash_place words) words
+call_words words = words_before (codes "/") words
 
 abbrev pub tick_words : List Text → List Text
-tick_words words = drop (slash_place words + 1) words
+tick_words words = words_after (codes "/") words
 
 -- the words of the options of a host
 abbrev pub option_words : List Text → List Text

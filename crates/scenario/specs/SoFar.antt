@@ -22,7 +22,7 @@ pub record Host : Type 0 where
   pub wire : Text
   -- the words of its EEPROM
   pub image : List ℕ
-  -- when its link comes up
+  -- the number of ticks until its link is up, if it ever is
   pub link : Link
   -- its rings, buffers, packet buffer and filter
   pub config : Config
@@ -53,7 +53,7 @@ pub data Said : Type 0 where
   Draws : (count start : ℕ) → Said
   Drains : (host : ℕ) → Said
 
--- what a line says that is one event
+-- what a line with one event adds
 abbrev pub event_of : Event → Said
 event_of (event.Send host frame ticks) = Sends host frame.items ticks.items
 event_of (event.Recv host socket ticks) = Receives host socket ticks.items
@@ -63,7 +63,7 @@ event_of (event.Join host group ticks) = Joins host group ticks.items
 event_of (event.Leave host group ticks) = Leaves host group ticks.items
 event_of (event.Tick tick) = Ticks tick
 
--- what a line of a command says
+-- what a line with a command adds
 abbrev pub said_of : Command → Said
 said_of (command.Event one) = event_of one
 said_of (command.Feed host trace) = Feeds host trace

@@ -1,28 +1,15 @@
 -- Which words spell a number, an address, a frame and an EtherType, and which one (our choice).
-use Rattle.std.specs.Prelude.{◌≤◌, ◌+◌, ◌*◌, ◌^◌, ◌&&◌, ℕ, Bool, List, [], ◌∷◌, Option, Some, None, if◌then◌else◌}
-use Rattle.std.specs.Prelude.{IsOk, ◌==◌, codes, Ok, Err, Result, length, map, nat_lt, slice_index}
-use Rattle.std.specs.Char.{digit_value}
-use Rattle.std.specs.List.{list_all}
+use Rattle.std.specs.Prelude.{◌≤◌, ◌+◌, ◌*◌, ℕ, List, [], ◌∷◌, Option, Some, None, if◌then◌else◌}
+use Rattle.std.specs.Prelude.{IsOk, ◌==◌, codes, Ok, Err, Result, length, map, slice_index}
 use Rattle.std.specs.Option.{option_map}
 use Rattle.std.specs.Str.{bytes_eq}
-use Rattle.std.specs.Str.Parse.{digits_value}
-use Rattle.command_line.specs.Spelling.{SpellsAddress, hexadecimal_value}
+use Rattle.text.specs.Addresses.{SpellsAddress, hexadecimal_value}
+use Rattle.text.specs.Numbers.{number_in}
 use Rattle.hex.specs.Hex.{decode_of}
 use Rattle.hex.specs.declared.error.FromHexError.{FromHexError}
 use Rattle.packet_socket.specs.declared.socket_kind.SocketKind.{SocketKind}
 use Rattle.packet_socket.specs.declared.socket_kind.SocketKind.TheVariants as socket
 use Rattle.scenario.specs.Words.{Text}
-
-abbrev pub is_digit : ℕ → ℕ → Bool
-is_digit radix digit = nat_lt (digit_value digit) radix
-
--- one or more digits of this radix and nothing else, which spell a number of this many bits
-abbrev pub is_number : (radix bits : ℕ) → Text → Bool
-is_number radix bits text = nat_lt 0 (length text) && list_all (is_digit radix) text && nat_lt (digits_value radix text) (2 ^ bits)
-
--- the number that they spell
-abbrev pub number_in : (radix bits : ℕ) → Text → Option ℕ
-number_in radix bits text = if is_number radix bits text then Some (digits_value radix text) else None
 
 -- the byte whose two digits are at this place of a text
 abbrev pub byte_at : Text → ℕ → ℕ

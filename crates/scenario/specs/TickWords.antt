@@ -6,7 +6,7 @@ use Rattle.adapter.specs.declared.step.StepKind.TheVariants as step
 use Rattle.stations.specs.declared.tick.Tick.{Tick}
 use Rattle.stations.specs.declared.tick.Tick.TheVariants as tick
 use Rattle.scenario.specs.SoFar.{Host, place_of}
-use Rattle.scenario.specs.Tables.{value_in}
+use Rattle.text.specs.Tables.{value_in}
 use Rattle.scenario.specs.Words.{Text}
 use Rattle.scenario.specs.declared.tick_word.TickKind.{TickKind}
 use Rattle.scenario.specs.declared.tick_word.TickKind.TheVariants as ticks

@@ -21,7 +21,7 @@ pub enum Command {
         /// The seed.
         start: u64,
     },
-    /// A host delivers all frames that it holds for its sockets.
+    /// A host delivers all frames that it has for its sockets.
     Drain {
         /// The host, numbered from 0 in the order of the plan.
         host: usize,

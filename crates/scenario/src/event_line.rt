@@ -15,14 +15,17 @@ use crate::command::{Command, Scenario};
 use crate::line_kind::GroupChange;
 use crate::refusal::{Fault, Stop};
 use crate::spelling::{address_of, frame_of, number_of};
-use crate::text::{split_call, word_at};
 use crate::tick_word::{host_named, is_tick, tick_of};
 use network_plan::{Event, HostPlan};
 use stations::Tick;
 use std::alloc::{AllocError, Global};
+use text::{split_at_word, word_at};
 
 /// The maximum number of events that an `auto` line draws (our choice).
 const MOST_EVENTS: u64 = 1_000_000;
+
+/// The word between those of a call and those of its ticks.
+const SLASH: &str = "/";
 
 /// Whether each word spells a tick.
 fn are_ticks(words: &[&str]) -> bool
@@ -87,7 +90,7 @@ fn say(scenario: &mut Scenario, command: Command) -> Result<(), AllocError>
 pub(crate) fn read_send(alloc: Global, scenario: &mut Scenario, words: &[&str]) -> Result<(), Stop>
     ensures { IsAnswer line.Send (so_far scenario.old) (texts words.now) result (so_far scenario.new) }
 {
-    let (call, ticks) = split_call(words);
+    let (call, ticks) = split_at_word(words, SLASH);
     if call.len() != 3 {
         return Err(Stop::Fault(Fault::Count));
     }
@@ -103,7 +106,7 @@ pub(crate) fn read_send(alloc: Global, scenario: &mut Scenario, words: &[&str]) 
 pub(crate) fn read_recv(alloc: Global, scenario: &mut Scenario, words: &[&str]) -> Result<(), Stop>
     ensures { IsAnswer line.Recv (so_far scenario.old) (texts words.now) result (so_far scenario.new) }
 {
-    let (call, ticks) = split_call(words);
+    let (call, ticks) = split_at_word(words, SLASH);
     if call.len() != 3 {
         return Err(Stop::Fault(Fault::Count));
     }
@@ -130,7 +133,7 @@ pub(crate) fn read_interrupt(
 ) -> Result<(), Stop>
     ensures { IsAnswer line.Interrupt (so_far scenario.old) (texts words.now) result (so_far scenario.new) }
 {
-    let (call, ticks) = split_call(words);
+    let (call, ticks) = split_at_word(words, SLASH);
     if call.len() != 2 {
         return Err(Stop::Fault(Fault::Count));
     }
@@ -145,7 +148,7 @@ pub(crate) fn read_interrupt(
 pub(crate) fn read_reset(alloc: Global, scenario: &mut Scenario, words: &[&str]) -> Result<(), Stop>
     ensures { IsAnswer line.Reset (so_far scenario.old) (texts words.now) result (so_far scenario.new) }
 {
-    let (call, ticks) = split_call(words);
+    let (call, ticks) = split_at_word(words, SLASH);
     if call.len() != 2 {
         return Err(Stop::Fault(Fault::Count));
     }
@@ -177,7 +180,7 @@ pub(crate) fn read_membership(
 ) -> Result<(), Stop>
     ensures { IsAnswer (line.Membership change) (so_far scenario.old) (texts words.now) result (so_far scenario.new) }
 {
-    let (call, ticks) = split_call(words);
+    let (call, ticks) = split_at_word(words, SLASH);
     if call.len() != 3 {
         return Err(Stop::Fault(Fault::Count));
     }

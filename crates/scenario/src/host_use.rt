@@ -5,9 +5,9 @@ ghost use Rattle.scenario.specs.HostOptions as options;
 ghost use Rattle.scenario.specs.Words.{texts};
 
 use crate::spelling::{number8_of, number16_of};
-use crate::table::value_of;
 use mdic_phy::Link;
 use std::alloc::{AllocError, Global};
+use text::value_of;
 
 /// The options of a `host` line.
 #[derive(Clone, Copy, PartialEq)]
@@ -96,7 +96,7 @@ impl OptionKind {
         }
     }
 
-    /// Whether a value follows it.
+    /// Whether a value follows the option.
     fn takes_value(self) -> bool
         ensures { result ≡ options.takes_value self }
     {
@@ -106,7 +106,7 @@ impl OptionKind {
         }
     }
 
-    /// Whether it is the other.
+    /// Whether this option and `other` are the same.
     fn is(self, other: OptionKind) -> bool
         ensures { result ≡ options.is_same self other }
     {

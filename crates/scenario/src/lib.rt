@@ -15,8 +15,6 @@ mod refusal;
 mod scenario;
 mod setup_line;
 mod spelling;
-mod table;
-mod text;
 mod tick_word;
 
 pub use command::{Command, Scenario};

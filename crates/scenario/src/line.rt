@@ -13,9 +13,9 @@ use crate::event_line::{
 use crate::line_kind::{LineKind, kind_of};
 use crate::refusal::{Fault, Stop};
 use crate::setup_line::{read_group, read_host, read_socket, read_vlan};
-use crate::text::words_in;
 use std::alloc::Global;
 use std::str;
+use text::words_in;
 
 /// The maximum number of bytes of a line (our choice).
 const MOST_LINE_BYTES: usize = 8192;

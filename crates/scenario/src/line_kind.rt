@@ -3,7 +3,7 @@
 ghost use Rattle.std.specs.Prelude.{◌≡◌};
 ghost use Rattle.scenario.specs.Kinds.{kind_named};
 
-use crate::table::value_of;
+use text::value_of;
 
 /// How a line changes the groups of a host in a run.
 #[derive(Clone, Copy)]
@@ -41,7 +41,7 @@ pub(crate) enum LineKind {
     Feed,
     /// `auto`: events drawn at random.
     Auto,
-    /// `drain`: a host delivers all frames that it holds for its sockets.
+    /// `drain`: a host delivers all frames that it has for its sockets.
     Drain,
 }
 

@@ -29,7 +29,7 @@ pub enum Fault {
     /// VLAN.
     #[error("E53 Name")]
     Name,
-    /// It sets up after an event.
+    /// It is a `host`, `group`, `vlan` or `socket` line after an event.
     #[error("E54 Order")]
     Order,
     /// It has more than 8,192 bytes.

@@ -75,7 +75,7 @@ fn empty_scenario(alloc: Global) -> Scenario
     }
 }
 
-/// Gives the command of a line, if it has one, the line's number. Each command before it has its number.
+/// If the line had a command, stores the line's number for it. The commands before it already have their numbers.
 fn number_command(scenario: &mut Scenario, line: usize) -> Result<(), Stop>
     ensures same { so_far scenario.new ≡ so_far scenario.old }
     ensures memory { IfErr result (λ stopped. stopped ≡ stop.Memory) }

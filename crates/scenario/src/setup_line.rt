@@ -1,8 +1,8 @@
 // The lines that set up hosts, and their groups, VLANs and sockets.
 
-ghost use Rattle.std.specs.Prelude.{◌≡◌, IfErr, IfOk, OnOk, length};
+ghost use Rattle.std.specs.Prelude.{◌≡◌, ◌≤◌, IfErr, IfOk, OnOk, length};
 ghost use Rattle.scenario.specs.Answers.{IsAnswer, IsFaulty, IsGood, IsHostRead};
-ghost use Rattle.scenario.specs.Meanings.{HasCount, HasValues, host_of_words};
+ghost use Rattle.scenario.specs.Meanings.{HasCount, HasValues, host_of_words, option_words};
 ghost use Rattle.scenario.specs.SoFar.{SoFar, host_of_plan, so_far};
 ghost use Rattle.scenario.specs.Stops.{IfFault};
 ghost use Rattle.scenario.specs.Words.{texts};
@@ -14,13 +14,25 @@ use crate::host_change::{add_group, add_socket, add_vlan, new_host};
 use crate::host_use::{HostOptions, are_counted, are_read, options_of, uses_of};
 use crate::refusal::{Fault, Stop};
 use crate::spelling::{address_of, number16_of, socket_of};
-use crate::text::{HOST_WORDS, option_words, word_at};
 use crate::tick_word::host_named;
 use network_plan::HostPlan;
 use std::alloc::Global;
+use text::word_at;
+
+/// The number of words before the options of a `host` line.
+const HOST_WORDS: usize = 4;
 
 /// The number of words of a `group`, a `vlan` and a `socket` line.
 const GIFT_WORDS: usize = 3;
+
+/// The words of the options of a `host` line.
+fn option_words<'a, 'b>(words: &'b [&'a str]) -> &'b [&'a str]
+    requires { HOST_WORDS ≤ length words.now }
+    ensures { texts result.now ≡ option_words (texts words.entry.now) }
+{
+    let (_, options) = words.split_at(HOST_WORDS);
+    options
+}
 
 /// Checks that no event comes before this line.
 fn check_order(scenario: &Scenario) -> Result<(), Fault>

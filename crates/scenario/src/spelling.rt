@@ -3,14 +3,16 @@
 ghost use Rattle.std.specs.Prelude.{◌≡◌, IfErr, IfOk};
 ghost use Rattle.std.specs.Option.{SomeIff};
 ghost use Rattle.scenario.specs.Spellings.{IsAddress, IsFrame, address_in, ether_type_in, frame_in};
-ghost use Rattle.scenario.specs.Spellings.{number_in, socket_in};
+ghost use Rattle.scenario.specs.Spellings.{socket_in};
 ghost use Rattle.scenario.specs.Stops.{IfFault};
 ghost use Rattle.scenario.specs.declared.refusal.Fault.TheVariants as faults;
+ghost use Rattle.text.specs.Numbers.{number_in};
 
 use crate::refusal::{Fault, Stop};
 use hex::FromHexError;
 use packet_socket::SocketKind;
 use std::alloc::Global;
+use text::digits_of;
 
 /// The maximum number of digits of a frame (our choice).
 const MOST_FRAME_DIGITS: usize = 8000;
@@ -18,16 +20,15 @@ const MOST_FRAME_DIGITS: usize = 8000;
 /// The number of digits of a socket's EtherType (our choice).
 const ETHER_TYPE_DIGITS: usize = 4;
 
+const DECIMAL: u32 = 10;
+
 const HEXADECIMAL: u32 = 16;
 
 /// The number of 64 bits that decimal digits spell, if there is nothing else.
 pub(crate) fn number_of(text: &str) -> Option<u64>
     ensures { result ≡ number_in 10 64 text.now }
 {
-    if text.starts_with('+') {
-        return None;
-    }
-    text.parse::<u64>().ok()
+    digits_of(text, DECIMAL)
 }
 
 /// The same with 16 bits.
@@ -48,10 +49,7 @@ pub(crate) fn number8_of(text: &str) -> Option<u8>
 fn hexadecimal_of(text: &str) -> Option<u16>
     ensures { result ≡ number_in 16 16 text.now }
 {
-    if text.starts_with('+') {
-        return None;
-    }
-    u16::from_str_radix(text, HEXADECIMAL).ok()
+    u16::try_from(digits_of(text, HEXADECIMAL)?).ok()
 }
 
 /// The number that four hexadecimal digits spell.
@@ -78,7 +76,7 @@ pub(crate) fn socket_of(text: &str) -> Option<SocketKind>
 pub(crate) fn address_of(text: &str) -> Option<[u8; 6]>
     ensures { SomeIff result (IsAddress text.now) (address_in text.now) }
 {
-    command_line::spelling::address_of(text)
+    text::address_of(text)
 }
 
 /// The bytes that pairs of hexadecimal digits spell.

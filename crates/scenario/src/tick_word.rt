@@ -4,10 +4,10 @@ ghost use Rattle.std.specs.Prelude.{◌≡◌, ◌<◌, IfSome, length};
 ghost use Rattle.scenario.specs.SoFar.{has_name, host_of_plan, hosts_of, place_of};
 ghost use Rattle.scenario.specs.TickWords as words;
 
-use crate::table::value_of;
 use adapter::StepKind;
 use network_plan::HostPlan;
 use stations::Tick;
+use text::value_of;
 
 /// The kinds of ticks at a host.
 #[derive(Clone, Copy)]
@@ -56,7 +56,7 @@ fn is_named(host: &HostPlan, name: &str) -> bool
     host.name.as_str() == name
 }
 
-/// The number of the host of this name.
+/// The number of the host with this name.
 pub(crate) fn host_named(hosts: &[HostPlan], name: &str) -> Option<usize>
     ensures place { result ≡ place_of name.now (hosts_of hosts.now) }
     ensures there { IfSome result (λ host. host < length hosts.now) }

@@ -3,7 +3,7 @@
 ghost use Rattle.std.specs.Prelude.{◌≡◌, ◌++◌, ◌∷◌, [], IfOk, OnOk, flat_map};
 ghost use Rattle.server_output.specs.Texts.{fault_words};
 
-use crate::text::push_fault;
+use crate::lines::push_fault;
 use engine_faults::EngineFault;
 use std::alloc::{AllocError, Global};
 use std::marker::Model;

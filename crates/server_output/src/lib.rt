@@ -7,16 +7,16 @@
 mod answer_error;
 mod faults;
 mod frames;
+mod lines;
 mod output;
 mod reads;
-mod text;
 
 pub use answer_error::AnswerError;
 pub use faults::Faults;
 pub use frames::Frames;
-pub use output::{refuse, say, say_decimal, say_faults, say_frames, say_number, say_word, send};
-pub use reads::say_read;
-pub use text::{
+pub use lines::{
     arrived_line, event_text, fate_word, frame_line, kind_word, outcome_word, push_fault_line,
     restored_text,
 };
+pub use output::{refuse, say, say_decimal, say_faults, say_frames, say_number, say_word, send};
+pub use reads::say_read;

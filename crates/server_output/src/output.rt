@@ -9,7 +9,9 @@ ghost use Rattle.server_requests.specs.Refusals.{refusal_line};
 use crate::answer_error::AnswerError;
 use crate::faults::Faults;
 use crate::frames::Frames;
-use crate::text::{base64_line, bytes_line, decimal_line, faults_line, frames_line, word_line};
+use crate::lines::{
+    base64_line, bytes_line, decimal_line, faults_line, frames_line, number_line, word_line,
+};
 use server_requests::Refusal;
 use std::alloc::Global;
 use std::io::{ErrorKind, Write};
@@ -66,11 +68,10 @@ pub(crate) fn say_bytes<W: Write>(
 }
 
 /// Writes the line of an answer with a number.
-#[tactic(auto, unfolding(crate::specs::Texts::number_line))]
-pub fn say_number<W: Write>(alloc: Global, out: &mut W, number: u64) -> Result<(), AnswerError>
+pub fn say_number<W: Write>(out: &mut W, number: u64) -> Result<(), AnswerError>
     ensures { Says result (W.contents out.old) (W.contents out.new) (texts.number_line number) }
 {
-    say_bytes(alloc, out, &number.to_be_bytes())
+    say(out, &number_line(number))
 }
 
 /// Writes the line of an answer with a word.

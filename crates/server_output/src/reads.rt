@@ -36,7 +36,7 @@ pub fn say_read<W: Write>(
     ensures { Says result (W.contents out.old) (W.contents out.new) (answer_line wanted bytes.now) }
 {
     match wanted {
-        Wanted::Number(_) => say_number(alloc, out, number_of(bytes)),
+        Wanted::Number(_) => say_number(out, number_of(bytes)),
         Wanted::Bytes(_) => say_bytes(alloc, out, bytes),
         Wanted::Base64(_) => say_base64(alloc, out, bytes),
     }

@@ -1,4 +1,2 @@
 pub mod FewWords
-pub mod Numbers
 pub mod ReadingLines
-pub mod Slices

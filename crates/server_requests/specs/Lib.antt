@@ -1,7 +1,6 @@
 pub mod Texts
 pub mod Words
 pub mod Spellings
-pub mod Tables
 pub mod Verbs
 pub mod Widths
 pub mod Reading

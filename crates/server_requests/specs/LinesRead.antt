@@ -1,4 +1,4 @@
--- The results of reading lines (our choice). Of a reader that doesn't show its bytes to contracts nothing is said.
+-- The results of reading lines (our choice). They state nothing about a reader whose bytes contracts don't know.
 use Rattle.std.specs.Prelude.{⊤, ◌≡◌, ◌≢◌, ◌+◌, ◌++◌, ◌<◌, ◌≤◌, ℕ, List, [], Bool, Option, Some, None, if◌then◌else◌, length, nat_lt, take}
 use Rattle.server_requests.specs.Lines.{behind_line, first_line, most_line_bytes}
 use Rattle.server_requests.specs.Texts.{Text}
@@ -7,7 +7,7 @@ use Rattle.server_requests.specs.declared.line_reader.NextLine.TheVariants.{End,
 use Rattle.server_requests.specs.declared.line_reader.Part.{Part}
 use Rattle.server_requests.specs.declared.line_reader.Part.TheVariants as parts
 
--- This holds of the bytes that were left and of those that are left, if both are known.
+-- `Holds` relates the bytes that were left before and those that are left now, if both are known.
 abbrev pub BothKnown : Option (List ℕ) → Option (List ℕ) → (List ℕ → List ℕ → Type 0) → Type 0
 BothKnown None after Holds = ⊤
 BothKnown (Some old) None Holds = ⊥
@@ -18,7 +18,7 @@ pub record AtEnd (old new : List ℕ) : Type 0 where
   pub none : old ≡ []
   pub still : new ≡ []
 
--- the result for a line, or for one that is too long
+-- the result for a line, which is too long if the argument is true
 abbrev pub kept_as : Bool → NextLine
 kept_as is_long = if is_long then Long else Whole
 
@@ -40,11 +40,11 @@ pub record Ends (bytes old new : List ℕ) : Type 0 where
   -- The bytes after it are left.
   pub rest : new ≡ behind_line old
 
--- Bytes were appended to a line, as far as there was room, and whether a byte had no room.
+-- Bytes were appended to a line, as far as there was room; `is_long` is whether they didn't all fit.
 pub record Adds (is_long : Bool) (bytes : List ℕ) (line line' : Text) : Type 0 where
   -- The line keeps the first ones.
   pub kept : line' ≡ take most_line_bytes (line ++ bytes)
-  -- It has no room for more.
+  -- whether the line has no room for all bytes
   pub long : is_long ≡ nat_lt most_line_bytes (length line + length bytes)
 
 -- A part of a line was read and appended.

@@ -1,10 +1,6 @@
 -- Which words spell a number and bytes, and which ones (QEMU, docs/devel/testing/qtest; only decimal digits and 0x: our choice).
-use Rattle.std.specs.Prelude.{⊤, ◌≡◌, ◌^◌, ◌&&◌, ◌==◌, ℕ, Bool, List, Option, Some, None, if◌then◌else◌}
-use Rattle.std.specs.Prelude.{codes, Ok, Err, Result, length, nat_le, nat_lt}
-use Rattle.std.specs.Char.{digit_value}
-use Rattle.std.specs.List.{after_first, before_first, list_all, position_or_len}
-use Rattle.std.specs.Str.{bytes_eq}
-use Rattle.std.specs.Str.Parse.{digits_value}
+use Rattle.std.specs.Prelude.{⊤, ◌≡◌, ℕ, List, Option, Some, None, if◌then◌else◌, Ok, Err, Result, nat_le, nat_lt}
+use Rattle.text.specs.Numbers.{begins_0x, behind_0x, has_x, number_spelled}
 use Rattle.hex.specs.Hex as hex
 use Rattle.base64.specs.Engines.{standard}
 use Rattle.base64.specs.GeneralPurpose.{decode_of}
@@ -29,40 +25,6 @@ abbrev pub ◌>>=◌ : {A B : Type 0} → Result A Refusal → (A → Result B R
 (Ok value) >>= next = next value
 (Err refusal) >>= next = Err refusal
 
--- whether a byte is a digit in this radix
-abbrev pub is_digit : ℕ → ℕ → Bool
-is_digit radix digit = nat_lt (digit_value digit) radix
-
--- one or more digits of this radix and nothing else, which spell a number of 64 bits
-abbrev pub are_digits : (radix : ℕ) → Text → Bool
-are_digits radix text = nat_lt 0 (length text) && list_all (is_digit radix) text && nat_lt (digits_value radix text) (2 ^ 64)
-
--- the number that they spell
-abbrev pub digits_in : (radix : ℕ) → Text → Option ℕ
-digits_in radix text = if are_digits radix text then Some (digits_value radix text) else None
-
--- whether a byte is an `x`, as in `0x10`
-abbrev pub is_x : ℕ → Bool
-is_x byte = byte == 0x78
-
--- it has an x
-abbrev pub has_x : Text → Bool
-has_x word = nat_lt (position_or_len is_x word) (length word)
-
--- the part before its first x is 0
-abbrev pub begins_0x : Text → Bool
-begins_0x word = bytes_eq (before_first is_x word) (codes "0")
-
--- the part after it
-abbrev pub behind_0x : Text → Text
-behind_0x word = after_first is_x word
-
--- decimal digits, or hexadecimal digits after 0x
-abbrev pub number_in : Text → Option ℕ
-number_in word =
-    if has_x word then (if begins_0x word then digits_in 16 (behind_0x word) else None)
-    else digits_in 10 word
-
 -- a number, if it is at most this large
 abbrev pub at_most : ℕ → Option ℕ → Result ℕ Refusal
 at_most most (Some number) = if nat_le number most then Ok number else Err refusals.Value
@@ -70,7 +32,7 @@ at_most most None = Err refusals.Value
 
 -- the number that a word spells, if it isn't greater than `most`
 abbrev pub number_below : (most : ℕ) → Text → Result ℕ Refusal
-number_below most word = at_most most (number_in word)
+number_below most word = at_most most (number_spelled word)
 
 -- numbers have 64 bits
 abbrev pub greatest_number : ℕ

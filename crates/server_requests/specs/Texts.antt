@@ -1,6 +1,2 @@
 -- Texts.
-use Rattle.std.specs.Prelude.{ℕ, List}
-
--- a text, as its bytes
-abbrev pub Text : Type 0
-Text = List ℕ
+pub use Rattle.text.specs.Words.{Text}

@@ -2,7 +2,7 @@
 use Rattle.std.specs.Prelude.{◌==◌, ◌||◌, ℕ, Bool, List, [], ◌∷◌, Option, codes}
 use Rattle.adapter.specs.declared.step.StepKind.{StepKind}
 use Rattle.adapter.specs.declared.step.StepKind.TheVariants as kinds
-use Rattle.server_requests.specs.Tables.{value_in}
+use Rattle.text.specs.Tables.{value_in}
 use Rattle.server_requests.specs.Texts.{Text}
 use Rattle.pci_function.specs.declared.port_width.PortWidth.TheVariants as port
 use Rattle.server_requests.specs.declared.request.Width.TheVariants as width

@@ -9,7 +9,6 @@ mod reading;
 mod refusal;
 mod request;
 mod spelling;
-mod table;
 mod verb;
 mod width;
 mod words;

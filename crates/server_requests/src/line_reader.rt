@@ -24,11 +24,11 @@ pub enum NextLine {
     End,
     /// A line.
     Whole,
-    /// A line that is too long, of which the beginning is kept.
+    /// A line that is too long. Only its beginning is kept.
     Long,
 }
 
-/// The result for a line, or for one that is too long.
+/// The result for a line, which is too long if `is_long` is set.
 fn kept_as(is_long: bool) -> NextLine
     ensures { result ≡ kept_as is_long }
 {
@@ -39,18 +39,18 @@ fn kept_as(is_long: bool) -> NextLine
     }
 }
 
-/// The bytes of a line that a reader holds.
+/// A part of a line: what a reader has in its buffer.
 #[derive(Clone, Copy)]
 enum Part {
     /// The input is at its end.
     None,
-    /// Bytes after which the line goes on. If it is long, a byte of them had no room.
+    /// Bytes that don't end the line. `is_long` is set if they didn't all fit.
     More { is_long: bool },
-    /// The last bytes of the line. If it is long, a byte of them had no room.
+    /// The last bytes of the line. `is_long` is set if they didn't all fit.
     Last { is_long: bool },
 }
 
-/// Appends bytes to a line, as far as there is room. Returns whether a byte had no room.
+/// Appends bytes to a line, as far as there is room. Returns whether there wasn't room for all.
 fn push_bytes(line: &mut Vec<u8>, bytes: &[u8]) -> bool
     requires room { MOST_LINE_BYTES ≤ vec_capacity line.old }
     requires fits { length line.old.items ≤ MOST_LINE_BYTES }
@@ -81,7 +81,7 @@ fn length_before_feed(bytes: &[u8]) -> usize
     count
 }
 
-/// Reads what a reader holds of a line, and appends it as far as there is room. Skips the line feed.
+/// Reads a part of a line from the reader's buffer, and appends it as far as there is room. Skips the line feed.
 fn take_part<R: BufRead>(reader: &mut R, line: &mut Vec<u8>) -> io::Result<Part>
     requires room { MOST_LINE_BYTES ≤ vec_capacity line.old }
     requires fits { length line.old.items ≤ MOST_LINE_BYTES }

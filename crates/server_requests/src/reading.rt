@@ -12,10 +12,11 @@ use crate::request::{Payload, Request, Setting, Wanted, Width};
 use crate::spelling::{base64_at, bytes_at, number_at, payload_at, size_at};
 use crate::verb::{Verb, kind_of, verb_of};
 use crate::width::greatest_at_port;
-use crate::words::{word_at, words_in};
+use crate::words::words_in;
 use pci_function::PortWidth;
 use std::alloc::Global;
 use std::str;
+use text::word_at;
 
 /// The maximum number of steps before an access, or of rounds after it, that a request may set (our choice).
 const MOST_COUNT: u64 = 65_535;

@@ -25,9 +25,9 @@ pub enum Width {
 pub enum Wanted {
     /// `readb`, `readw`, `readl`, `readq`: a number, whose lowest byte is at the address.
     Number(Width),
-    /// `read`: so many bytes, from the address on.
+    /// `read`: this number of bytes, from the address on.
     Bytes(u64),
-    /// `b64read`: so many bytes, from the address on, answered in base64.
+    /// `b64read`: this number of bytes, from the address on, answered in base64.
     Base64(u64),
 }
 
@@ -111,7 +111,7 @@ pub enum Request {
     Arrive(Payload),
     /// `settle`: offered frames arrive, and steps are played until none has anything to do.
     Settle,
-    /// `interleave`, `pace`, `log`, `events`, `wire`: this holds from now on.
+    /// `interleave`, `pace`, `log`, `events`, `wire`: sets this for later requests.
     Set(Setting),
     /// `line`: whether the interrupt line is asserted.
     Line,
@@ -123,7 +123,7 @@ pub enum Request {
     Frames,
     /// `faults`: which faults stopped an engine while events weren't printed.
     Faults,
-    /// `clock_step`: settles, and the clock advances by so many nanoseconds.
+    /// `clock_step`: settles, and the clock advances by this number of nanoseconds.
     ClockStep(u64),
     /// `clock_set`: settles, and the clock becomes this one, if it is earlier.
     ClockSet(u64),

@@ -1,8 +1,8 @@
 // What words spell: numbers and bytes.
 
-ghost use Rattle.std.specs.Prelude.{◌≡◌, ◌≤◌};
-ghost use Rattle.server_requests.specs.Spellings.{Gives, base64_in, bytes_in, digits_in, number_in, number_below};
-ghost use Rattle.server_requests.specs.Spellings.{payload_in, size_in};
+ghost use Rattle.std.specs.Prelude.{◌≡◌};
+ghost use Rattle.server_requests.specs.Spellings.{Gives, base64_in, bytes_in, number_below, payload_in};
+ghost use Rattle.server_requests.specs.Spellings.{size_in};
 
 use crate::refusal::{Refusal, Stop};
 use crate::request::Payload;
@@ -10,43 +10,10 @@ use base64::DecodeAllocError;
 use base64::engine::general_purpose::STANDARD;
 use hex::FromHexError;
 use std::alloc::Global;
+use text::number_of;
 
 /// The maximum number of bytes that a request reads or writes (our choice).
 pub(crate) const MOST_BYTES: u64 = 65_536;
-
-const HEXADECIMAL: u32 = 16;
-
-/// The number of 64 bits that digits of this radix spell, if there is nothing else.
-#[tactic(auto, using(crate::proofs::Numbers::bad_digit, crate::proofs::Numbers::overflows))]
-fn digits_of(text: &str, radix: u32) -> Option<u64>
-    requires low { 2 ≤ radix }
-    requires high { radix ≤ 36 }
-    ensures { result ≡ digits_in radix text.now }
-{
-    let bytes = text.as_bytes();
-    let mut value: u64 = 0;
-    for byte in bytes {
-        let digit = char::from(*byte).to_digit(radix)?;
-        value = value
-            .checked_mul(u64::from(radix))?
-            .checked_add(u64::from(digit))?;
-    }
-    if bytes.is_empty() { None } else { Some(value) }
-}
-
-/// The number of 64 bits that a word spells: decimal digits, or hexadecimal digits after `0x`.
-fn number_of(text: &str) -> Option<u64>
-    ensures { result ≡ number_in text.now }
-{
-    match text.split_once('x') {
-        Some((front, digits)) => if front == "0" {
-            digits_of(digits, HEXADECIMAL)
-        } else {
-            None
-        },
-        None => digits_of(text, 10),
-    }
-}
 
 /// The number, at most `most`, that a word spells.
 pub(crate) fn number_at(text: &str, most: u64) -> Result<u64, Refusal>

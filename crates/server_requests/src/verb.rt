@@ -4,9 +4,9 @@ ghost use Rattle.std.specs.Prelude.{◌≡◌};
 ghost use Rattle.server_requests.specs.Verbs.{kind_named, takes_words, verb_named};
 
 use crate::request::Width;
-use crate::table::value_of;
 use adapter::StepKind;
 use pci_function::PortWidth;
+use text::value_of;
 
 /// What a line asks for, by its first word.
 #[derive(Clone, Copy)]

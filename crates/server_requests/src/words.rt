@@ -1,8 +1,8 @@
 // The words of a line.
 
-ghost use Rattle.std.specs.Prelude.{◌≡◌, ◌<◌, ◌+◌, IfOk, length, take};
+ghost use Rattle.std.specs.Prelude.{◌≡◌, ◌+◌, IfOk, take};
 ghost use Rattle.server_requests.specs.Reading.{request_in};
-ghost use Rattle.server_requests.specs.Words.{texts, word, words_of};
+ghost use Rattle.server_requests.specs.Words.{texts, words_of};
 
 use std::alloc::{AllocError, Global};
 
@@ -20,13 +20,4 @@ pub(crate) fn words_in<'a>(alloc: Global, line: &'a str) -> Result<Vec<&'a str>,
         .filter(|word| !word.is_empty())
         .take(MOST_WORDS + 1)
         .collect(alloc)
-}
-
-/// The word with this number, from 0.
-#[tactic(auto, using(crate::proofs::Slices::at_texts))]
-pub(crate) fn word_at<'a>(words: &[&'a str], place: usize) -> &'a str
-    requires { place < length words.now }
-    ensures { result.now ≡ word place (texts words.entry.now) }
-{
-    words[place]
 }

@@ -4,8 +4,9 @@ use Rattle.std.specs.Prelude.{if◌then◌else◌, codes, drop, is_some, length,
 use Rattle.std.specs.List.{after_first, before_first, position_or_len}
 use Rattle.std.specs.Str.{bytes_eq}
 use Rattle.step_schedules.specs.Results.{◌>>=◌}
-use Rattle.step_schedules.specs.Spellings.{number_in, place_in}
-use Rattle.step_schedules.specs.Words.{Text, action_words, event_words, value_in, word}
+use Rattle.step_schedules.specs.Spellings.{digits_in, place_in}
+use Rattle.step_schedules.specs.Words.{Text, action_words, event_words, word}
+use Rattle.text.specs.Tables.{value_in}
 use Rattle.step_schedules.specs.declared.deviation.Before.{Before}
 use Rattle.step_schedules.specs.declared.deviation.Before.TheVariants.{Read, Request, Write}
 use Rattle.step_schedules.specs.declared.deviation.Action.{Action}
@@ -102,7 +103,7 @@ some_number None = Err faults.Access
 
 -- the number after its first #
 abbrev pub number_after : Text → Result (Option ℕ) Fault
-number_after word = if has_hash word then some_number (number_in (after_first is_hash word)) else Ok None
+number_after word = if has_hash word then some_number (digits_in (after_first is_hash word)) else Ok None
 
 -- what words name: one word a request, two words an access
 abbrev pub before_in : List Text → Option Before

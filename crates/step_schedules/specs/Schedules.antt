@@ -49,7 +49,7 @@ nothing_read = record {
   last = record { round = 0; access = 0 };
 }
 
--- `options` must be the first line that says something
+-- `options` must be the first line with words
 abbrev pub has_begun : ScheduleRead → Bool
 has_begun schedule = is_some schedule.options || nat_lt 0 (length schedule.deviations)
 
@@ -58,7 +58,7 @@ after_options words before =
     if has_begun before.schedule then Err faults.Options
     else Ok (record before { schedule = record before.schedule { options = Some (drop 1 words) } })
 
--- the last place after a deviation, which isn't before the last one
+-- the last place after a deviation; a place before the last one is rejected
 abbrev pub place_after : Site → Place → Result Place Fault
 place_after (site.Place place) last = if is_before place last then Err faults.Order else Ok place
 place_after (site.Number number) last = Ok last
@@ -71,7 +71,7 @@ after_deviation deviation before = do
     last = last;
   })
 
--- after the words of a line
+-- what was read after the words of a line, or the line's fault
 abbrev pub after_words : List Text → SoFar → Result SoFar Fault
 after_words [] before = Ok before
 after_words (first ∷ rest) before =
@@ -81,17 +81,17 @@ after_words (first ∷ rest) before =
 abbrev pub after_line : Text → SoFar → Result SoFar Fault
 after_line line before = after_words (words_of line) before
 
--- A call has left what was read like this, or memory was refused.
+-- The call returned Ok, and this is what was read so far; or memory was refused.
 abbrev pub Becomes : Result (Unit {0}) Stop → Result SoFar Fault → SoFar → Type 0
 Becomes (Ok u) read after = read ≡ Ok after
 Becomes (Err stop) read after = Fails stop read
 
--- what follows a line: the rest, or the end of the reading, with the line's number and its fault
+-- after a line: the reading goes on, or it ends with the number and the fault of this line
 abbrev pub then_rest : Result SoFar Fault → (number : ℕ) → (SoFar → Result SoFar (ℕ × Fault)) → Result SoFar (ℕ × Fault)
 then_rest (Ok after) number rest = rest after
 then_rest (Err fault) number rest = Err (number, fault)
 
--- after lines, of which the first has this number
+-- what was read after lines, numbered from `number`
 abbrev pub after_lines : List Text → (number : ℕ) → SoFar → Result SoFar (ℕ × Fault)
 after_lines [] number before = Ok before
 after_lines (line ∷ rest) number before = then_rest (after_line line before) number (after_lines rest (number + 1))
@@ -106,7 +106,7 @@ Stops (Line line fault) read = read ≡ Err (line, fault)
 Stops NoText read = ⊥
 Stops Memory read = ⊤
 
--- A call has left what was read like this, or reading has ended.
+-- The call returned Ok, and this is what was read so far; or reading has ended.
 abbrev pub AreLinesRead : Result SoFar (ℕ × Fault) → Result (Unit {0}) ScheduleError → SoFar → Type 0
 AreLinesRead read (Ok u) after = read ≡ Ok after
 AreLinesRead read (Err error) after = Stops error read

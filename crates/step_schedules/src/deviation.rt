@@ -26,9 +26,9 @@ impl Place {
 /// Which access or request a deviation happens before.
 #[derive(Clone, Copy, Debug, PartialEq, Eq)]
 pub enum Site {
-    /// The one at this place.
+    /// The access or the request at this place.
     Place(Place),
-    /// The one with this number, from 1, among those of the run with its name.
+    /// The access or the request with this number, from 1, among those of the run with the deviation's name.
     Number(u32),
 }
 
@@ -53,9 +53,9 @@ pub enum Action {
     HoldEeprom,
     /// The default step of the PHY is left out.
     HoldPhy,
-    /// The EEPROM takes a step more.
+    /// The EEPROM takes one more step.
     EepromTick,
-    /// The PHY takes a step more.
+    /// The PHY takes one more step.
     PhyTick,
 }
 
@@ -77,7 +77,7 @@ pub struct Deviation {
     pub site: Site,
     /// What happens before it.
     pub action: Action,
-    /// Whether it reads, writes, or is a request.
+    /// Whether the deviation is for a read, a write or a request.
     pub before: Before,
     /// The name of what the access reads or writes, such as `ICR` or `rx[1]+8`; or the word of the request.
     pub name: String,

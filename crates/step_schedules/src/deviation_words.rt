@@ -8,9 +8,8 @@ ghost use Rattle.step_schedules.specs.Words.{texts};
 use crate::deviation::{Action, Before, Deviation, Place, Site};
 use crate::schedule_error::{Fault, Stop};
 use crate::spelling::{number_of, place_of};
-use crate::table::value_of;
-use crate::words::{split_before, word_at};
 use std::alloc::Global;
+use text::{split_at_word, value_of, word_at};
 
 /// The actions of one word.
 const ACTIONS: [(&str, Action); 9] = [
@@ -216,7 +215,7 @@ fn site_of(place: Option<Place>, number: Option<u32>, before: Before) -> Result<
 fn deviation_after(alloc: Global, place: Option<Place>, words: &[&str]) -> Result<Deviation, Stop>
     ensures { Gives spec.deviation_read result (spec.deviation_after place (texts words.now)) }
 {
-    let (action, event) = split_before(words);
+    let (action, event) = split_at_word(words, "before");
     let Some(action) = action_of(action) else {
         return Err(Stop::Fault(Fault::Action));
     };

@@ -10,7 +10,6 @@ mod reader;
 mod schedule;
 mod schedule_error;
 mod spelling;
-mod table;
 mod words;
 
 pub use deviation::{Action, Before, Deviation, Place, Site};

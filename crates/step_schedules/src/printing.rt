@@ -67,11 +67,11 @@ impl fmt::Display for Deviation {
 fn write_options<W: fmt::Write>(options: &[String], f: &mut fmt::Formatter<W>) -> fmt::Result
     ensures { WritesOnOk W.write_str_gives f.old result (options_line (map string_bytes options.now)) f.new }
 {
-    write!(f, "options")?;
+    f.write_str("options")?;
     for option in options {
         write!(f, " {option}")?;
     }
-    write!(f, "\n")
+    f.write_str("\n")
 }
 
 /// Writes the lines of deviations.

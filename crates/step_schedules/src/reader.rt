@@ -15,14 +15,14 @@ use std::alloc::Global;
 /// The part of a schedule that was read.
 #[derive(Drop)]
 pub(crate) struct Reader {
-    /// Its options and deviations.
+    /// The options and deviations so far.
     pub(crate) schedule: Schedule,
     /// The place of the last deviation that has one.
     pub(crate) last: Place,
 }
 
 impl Reader {
-    /// Before the first line.
+    /// The reader before the first line.
     fn new(alloc: Global) -> Reader
         ensures { spec.so_far result ≡ spec.nothing_read }
     {
@@ -38,7 +38,7 @@ impl Reader {
         }
     }
 
-    /// Stores the words of a line `options`.
+    /// Stores the options of a line `options`. Rejects a line that isn't the first one with words.
     fn set_options(&mut self, alloc: Global, words: &[&str]) -> Result<(), Stop>
         requires { 0 < length words.now }
         ensures { spec.Becomes result (spec.after_options (texts words.now) (spec.so_far self.old))
@@ -52,7 +52,7 @@ impl Reader {
         Ok(())
     }
 
-    /// Appends a deviation, whose place isn't before that of an earlier one.
+    /// Appends a deviation. Rejects one whose place is before the last place.
     fn push(&mut self, deviation: Deviation) -> Result<(), Stop>
         ensures { spec.Becomes result (spec.after_deviation (deviation_read deviation) (spec.so_far self.old))
             (spec.so_far self.new) }
@@ -90,7 +90,7 @@ impl Reader {
         self.read_words(alloc, words.as_slice())
     }
 
-    /// Reads lines, of which the first has number 1.
+    /// Reads lines, numbered from 1.
     fn read_lines(&mut self, alloc: Global, lines: &[&str]) -> Result<(), ScheduleError>
         ensures { spec.AreLinesRead (spec.after_lines (texts lines.now) 1 (spec.so_far self.old)) result
             (spec.so_far self.new) }

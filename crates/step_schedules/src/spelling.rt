@@ -4,28 +4,21 @@ ghost use Rattle.std.specs.Prelude.{◌≡◌};
 ghost use Rattle.step_schedules.specs.Spellings as spec;
 
 use crate::deviation::Place;
+use text::digits_of;
 
 /// The maximum number of digits of a number.
 const MOST_DIGITS: usize = 9;
 
-/// The number of 32 bits that decimal digits spell, if there is nothing else.
-fn digits_of(text: &str) -> Option<u32>
-    ensures { result ≡ spec.digits_in text.now }
-{
-    if text.starts_with('+') {
-        return None;
-    }
-    text.parse::<u32>().ok()
-}
+const DECIMAL: u32 = 10;
 
 /// The number that one to nine decimal digits spell, if there is nothing else.
 pub(crate) fn number_of(text: &str) -> Option<u32>
-    ensures { result ≡ spec.number_in text.now }
+    ensures { result ≡ spec.digits_in text.now }
 {
     if text.len() > MOST_DIGITS {
         return None;
     }
-    digits_of(text)
+    u32::try_from(digits_of(text, DECIMAL)?).ok()
 }
 
 /// The place that a word such as `4.6` spells. No request begins round 0.

@@ -1,25 +1,34 @@
-use Rattle.std.proofs.Common.{◌≡◌, ◌∙◌, ap, ap₂, rules}
-use Rattle.std.proofs.lemmas.Result.{IfOk-weaker}
+use Rattle.std.proofs.Common.{◌∙◌, ap, arith, map, rules}
+use Rattle.std.proofs.lemmas.List.{take_all}
 use Rattle.clap.specs.Simple.{app_of_fields}
-use Rattle.clap.specs.Words.{AddsArg, AddsInTurn, app_of, new_app}
-use Rattle.command_line.specs.Arguments.{app_for, with_rules}
-use Rattle.command_line.proofs.Adding.{IsLocal, local_with_args, with_args}
+use Rattle.clap.specs.Words.{new_app}
+use Rattle.command_line.specs.Arguments.{rule_for, with_rules}
+use Rattle.command_line.proofs.Adding.{local_argument, with_argument}
 use Rattle.command_line.proofs.command.clap_command.Goals as goal
+
+pub loop-argument-init : goal.loop-argument-init
+loop-argument-init c = record {
+  app = ap app_of_fields c.after_help-command.ensures ∙ ap app_of_fields c.about.ensures ∙ c.new.ensures.app;
+  local = search rules;
+}
+
+pub loop-argument-preserved : goal.loop-argument-preserved
+loop-argument-preserved c =
+    let old = c.loop-argument.command in
+    let new = c.in_ok-command.command in
+    let arg = c.clap_argument.result in
+    record {
+      app = with_argument old new arg (new_app c.args.subcommand.now.name.now) c.args.subcommand.now.arguments.now
+          c.loop-argument.argument-index _ (omega arith) c.in_ok-command.ensures c.clap_argument.ensures.local c.clap_argument.ensures.rule
+          c.loop-argument.invariant.app;
+      local = local_argument old new arg c.in_ok-command.ensures c.clap_argument.ensures.local c.loop-argument.invariant.local;
+    }
 
 pub returns-clause-app : goal.returns-clause-app
 returns-clause-app c =
-    let described = c.after_help.result in
-    let args = c.in_ok-arguments.arguments.items in
-    let named : app_of described ≡ new_app c.args.subcommand.now.name.now =
-    ap app_of_fields c.after_help.ensures ∙ ap app_of_fields c.about.ensures ∙ c.new.ensures.app in
-    IfOk-weaker c.args-2.result (AddsInTurn AddsArg described args) (λ command. app_of command ≡ app_for c.args.subcommand.now)
-    (λ command added. with_args described command args added c.in_ok-arguments.ensures.local
-    ∙ ap₂ with_rules named c.in_ok-arguments.ensures.rules) c.args-2.ensures
+    c.loop-argument.invariant.app
+    ∙ ap (λ arguments. with_rules (new_app c.args.subcommand.now.name.now) (map rule_for arguments))
+    (take_all c.loop-argument.argument-index c.args.subcommand.now.arguments.now (omega arith))
 
 pub returns-clause-local : goal.returns-clause-local
-returns-clause-local c =
-    let described = c.after_help.result in
-    let args = c.in_ok-arguments.arguments.items in
-    let local : IsLocal described = search rules in
-    IfOk-weaker c.args-2.result (AddsInTurn AddsArg described args) IsLocal
-    (λ command added. local_with_args described command args added c.in_ok-arguments.ensures.local local) c.args-2.ensures
+returns-clause-local c = c.loop-argument.invariant.local

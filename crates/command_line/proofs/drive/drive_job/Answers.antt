@@ -1,6 +1,6 @@
 use Rattle.std.proofs.Common.{codes}
 use Rattle.clap.specs.Words.{found_of}
-use Rattle.command_line.proofs.Values.{is_got, some_text}
+use Rattle.command_line.proofs.Getters.{is_got, some_text}
 use Rattle.command_line.proofs.drive.drive_job.Goals as goal
 
 pub unwrap-send-requires : goal.unwrap-send-requires
@@ -13,9 +13,9 @@ pub returns-clause-job : goal.returns-clause-job
 returns-clause-job c = record {
   registers = c.in_ok-registers.ensures.value;
   memory = c.in_ok-memory.ensures.value;
-  rx = c.in_ok-rx.ensures.value;
-  tx = c.in_ok-tx.ensures.value;
-  buffers = c.in_ok-buffers.ensures.value;
+  rx = c.in_ok-sizes.ensures.sizes.rx;
+  tx = c.in_ok-sizes.ensures.sizes.tx;
+  buffers = c.in_ok-sizes.ensures.sizes.buffers;
   expect = c.in_ok-expect.ensures.value;
   idle = c.in_ok-idle.ensures.value;
   send = some_text (found_of c.args.matches.now) (codes "send") c.get_str.result c.unwrap-send.result c.get_str.ensures

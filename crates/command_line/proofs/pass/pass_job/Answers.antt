@@ -1,7 +1,6 @@
-use Rattle.std.proofs.Common.{◌≤◌, codes, refl}
-use Rattle.clap.specs.Words.{first_of, found_of, rows_of}
-use Rattle.command_line.specs.Spelling.{IsGroup, SpellsGroup, SpellsVlan}
-use Rattle.command_line.proofs.Values.{flag_value, is_got, of_value, some_text, text_of}
+use Rattle.std.proofs.Common.{codes, refl}
+use Rattle.clap.specs.Words.{found_of}
+use Rattle.command_line.proofs.Getters.{flag_value, is_got, some_text, text_of}
 use Rattle.command_line.proofs.pass.pass_job.Goals as goal
 
 pub unwrap-input-requires : goal.unwrap-input-requires
@@ -12,7 +11,7 @@ unwrap-output-requires c = is_got (found_of c.args.matches.now) (codes "OUT") c.
 
 pub returns-clause-job : goal.returns-clause-job
 returns-clause-job c = record {
-  filter = record { address = c.in_ok-address.ensures.value; group = c.in_ok-group.ensures.value; vlan = c.in_ok-vlan.ensures.value };
+  filter = c.in_ok-filter.ensures.filter;
   input = some_text (found_of c.args.matches.now) (codes "IN") c.get_str.result c.unwrap-input.result c.get_str.ensures
       c.unwrap-input.ensures;
   output = some_text (found_of c.args.matches.now) (codes "OUT") c.get_str-2.result c.unwrap-output.result c.get_str-2.ensures
@@ -20,10 +19,3 @@ returns-clause-job c = record {
   nanos = flag_value _ c.get_str-3.result _ c.eq-nanos.result refl
       (text_of (found_of c.args.matches.now) (codes "nanos") c.get_str-3.result c.get_str-3.ensures) c.eq-nanos.ensures;
 }
-
-pub returns-clause-bounds : goal.returns-clause-bounds
-returns-clause-bounds c =
-    let rows = rows_of (found_of c.args.matches.now) in (
-      of_value SpellsGroup IsGroup (λ text group h. h.1) (first_of (codes "group") rows) c.in_ok-group.group c.in_ok-group.ensures.value,
-      of_value SpellsVlan (λ n. n ≤ 4095) (λ text vlan h. h.1) (first_of (codes "vlan") rows) c.in_ok-vlan.vlan c.in_ok-vlan.ensures.value,
-    )

@@ -1,6 +1,6 @@
 use Rattle.std.proofs.Common.{codes, refl}
 use Rattle.clap.specs.Words.{found_of}
-use Rattle.command_line.proofs.Values.{flag_value, is_got, some_text, text_of}
+use Rattle.command_line.proofs.Getters.{flag_value, is_got, some_text, text_of}
 use Rattle.command_line.proofs.run.run_job.Goals as goal
 
 pub unwrap-scenario-requires : goal.unwrap-scenario-requires

@@ -1,7 +1,8 @@
-use Rattle.std.proofs.Common.{◌≡◌, Option, None, Some, codes, refl, subst, sym, true≢false}
+use Rattle.std.proofs.Common.{◌≡◌, Option, None, Some, ◌∷◌, [], refl, subst, sym, true≢false}
 use Rattle.std.specs.Prelude.{IsNone}
-use Rattle.clap.specs.Words.{Text, first_of, found_of, rows_of}
-use Rattle.command_line.proofs.Values.{no_text, some_text}
+use Rattle.clap.specs.Words.{Text}
+use Rattle.text.specs.Addresses.{SpellsAddress}
+use Rattle.command_line.proofs.Getters.{none_is, or_default, text_is}
 use Rattle.command_line.proofs.serve.image.Goals as goal
 
 is_none : (first : Option Text) → first ≡ None → IsNone first
@@ -11,26 +12,20 @@ not_none : (first : Option Text) (text : Text) → first ≡ Some text → ¬ Is
 not_none first text e none = true≢false (subst (λ (o : Option Text). IsNone o) e none)
 
 pub returns-in_default-clause-value : goal.returns-in_default-clause-value
-returns-in_default-clause-value c =
-    let found = found_of c.args.matches.now in (
-      is_none (first_of (codes "image") (rows_of found)) (no_text found (codes "image") c.get_str.result c.get_str.ensures c.in_default.is),
-      c.in_ok-address.ensures.value,
-    )
+returns-in_default-clause-value c = (
+  is_none _ (none_is _ _ c.text_of.ensures c.in_default.is),
+  rw c.unwrap_or.ensures (or_default SpellsAddress (2 ∷ 0 ∷ 0 ∷ 0 ∷ 0 ∷ 1 ∷ []) _ c.in_ok-address.address c.in_ok-address.ensures.value),
+)
 
-pub returns-in-Some-get_str-clause-refused : goal.returns-in-Some-get_str-clause-refused
-returns-in-Some-get_str-clause-refused c =
-    let found = found_of c.args.matches.now in
-    let address = c.in-Some-get_str.field-0 in
-    record {
-      given = some_text found (codes "image") c.get_str.result c.in-Some.text c.get_str.ensures c.in-Some.is;
-      unspelled = not_none (first_of (codes "address") (rows_of found)) address.now
-          (some_text found (codes "address") c.get_str-2.result address c.get_str-2.ensures c.in-Some-get_str.is);
-    }
+pub returns-in-Some-text_of-clause-refused : goal.returns-in-Some-text_of-clause-refused
+returns-in-Some-text_of-clause-refused c = record {
+  text = c.in-Some.path.now;
+  given = text_is _ _ c.text_of.ensures c.in-Some.is;
+  unspelled = not_none _ c.in-Some-text_of.field-0.now (text_is _ _ c.text_of-2.ensures c.in-Some-text_of.is);
+}
 
 pub returns-in-None-clause-value : goal.returns-in-None-clause-value
-returns-in-None-clause-value c =
-    let found = found_of c.args.matches.now in (
-      some_text found (codes "image") c.get_str.result c.in-Some.text c.get_str.ensures c.in-Some.is,
-      is_none (first_of (codes "address") (rows_of found))
-          (no_text found (codes "address") c.get_str-2.result c.get_str-2.ensures c.in-None.is),
-    )
+returns-in-None-clause-value c = (
+  text_is _ _ c.text_of.ensures c.in-Some.is,
+  is_none _ (none_is _ _ c.text_of-2.ensures c.in-None.is),
+)

@@ -1,30 +1,8 @@
-use Rattle.clap.specs.Words.{Text, first_of, found_of, rows_of}
-use Rattle.std.proofs.Common.{arith, codes, refl}
-use Rattle.command_line.specs.Spelling.{IsKilobytes, IsLink, SpellsKilobytes, SpellsLink}
-use Rattle.command_line.specs.declared.job.ServeLink.{ServeLink}
-use Rattle.command_line.specs.declared.job.ServeLink.TheVariants.{After, Never}
-use Rattle.command_line.proofs.Values.{of_given_or_default, text_of}
+use Rattle.clap.specs.Words.{first_of, found_of, rows_of}
+use Rattle.std.proofs.Common.{codes}
+use Rattle.command_line.specs.Spelling.{SpellsDecimal}
+use Rattle.command_line.proofs.Getters.{or_default, text_of}
 use Rattle.command_line.proofs.serve.serve_job.Goals as goal
-
-default_kilobytes : IsKilobytes 48
-default_kilobytes = (omega arith, omega arith, refl)
-
-default_link : IsLink (After 1)
-default_link = (omega arith, omega arith)
-
-spelled_link : (text : Text) (link : ServeLink) → SpellsLink text link → IsLink link
-spelled_link text (After ticks) h = h.1
-spelled_link text Never h = tt
-
-pub returns-clause-bounds : goal.returns-clause-bounds
-returns-clause-bounds c =
-    let rows = rows_of (found_of c.args.matches.now) in
-    let kilobytes = c.in_ok-receive_kilobytes in (
-      of_given_or_default SpellsKilobytes 48 IsKilobytes default_kilobytes (λ text n h. h.1) (first_of (codes "rxa") rows)
-          kilobytes.receive_kilobytes kilobytes.ensures.value,
-      of_given_or_default SpellsLink (After 1) IsLink default_link spelled_link (first_of (codes "link") rows) c.in_ok-link.link
-          c.in_ok-link.ensures.value,
-    )
 
 pub returns-clause-job : goal.returns-clause-job
 returns-clause-job c =
@@ -32,11 +10,12 @@ returns-clause-job c =
     record {
       memory = c.in_ok-memory.ensures.value;
       registers = c.in_ok-registers.ensures.value;
-      image = c.in_ok-image.ensures.value;
-      link = c.in_ok-link.ensures.value;
-      kilobytes = c.in_ok-receive_kilobytes.ensures.value;
-      seed = c.in_ok-seed.ensures.value;
+      image = c.in_ok-adapter.ensures.adapter.image;
+      link = c.in_ok-adapter.ensures.adapter.link;
+      kilobytes = c.in_ok-adapter.ensures.adapter.kilobytes;
+      seed = rw c.unwrap_or-seed.ensures
+          (or_default SpellsDecimal 0 (first_of (codes "seed") (rows_of found)) c.in_ok-decimal.field-0 c.in_ok-decimal.ensures.value);
       missed = c.in_ok-missed.ensures.value;
-      schedule = text_of found (codes "schedule") c.get_str-schedule.result c.get_str-schedule.ensures;
-      «record» = text_of found (codes "record") c.get_str-record.result c.get_str-record.ensures;
+      schedule = text_of found (codes "schedule") c.get_str.result c.get_str.ensures;
+      «record» = text_of found (codes "record") c.get_str-2.result c.get_str-2.ensures;
     }

@@ -1,6 +1,6 @@
 use Rattle.std.proofs.Common.{codes}
 use Rattle.clap.specs.Words.{found_of}
-use Rattle.command_line.proofs.Values.{is_got, some_text}
+use Rattle.command_line.proofs.Getters.{is_got, some_text}
 use Rattle.command_line.proofs.show.show_job.Goals as goal
 
 pub unwrap-trace-requires : goal.unwrap-trace-requires

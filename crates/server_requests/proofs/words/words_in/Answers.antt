@@ -8,7 +8,7 @@ use Rattle.std.proofs.lemmas.Iterator.Adapters.{YieldsList-from_flat_map}
 use Rattle.std.proofs.lemmas.Iterator.Consumers.{YieldsList-at, YieldsList-from_filter, map_from_collect}
 use Rattle.std.proofs.lemmas.Iterator.Splits.{YieldsList-from_str_split}
 use Rattle.server_requests.specs.Reading.{request_in}
-use Rattle.server_requests.specs.Words.{is_tab, is_word, words_of}
+use Rattle.text.specs.Words.{is_tab, is_word, words_of}
 use Rattle.server_requests.proofs.FewWords.{asked_by_few}
 use Rattle.server_requests.proofs.words.words_in.Goals as goal
 

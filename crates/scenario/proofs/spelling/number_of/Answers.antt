@@ -1,6 +1,0 @@
-use Rattle.std.proofs.Common.{rules}
-use Rattle.scenario.proofs.Numbers.{same-number}
-use Rattle.scenario.proofs.spelling.number_of.Goals as goal
-
-pub returns : goal.returns
-returns c = same-number 10 64 c.args.text.now c.ok.result (search rules)

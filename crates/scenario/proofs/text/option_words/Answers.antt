@@ -1,7 +1,0 @@
-use Rattle.std.proofs.Common.{◌∙◌, Bor, ap, sym}
-use Rattle.std.proofs.lemmas.List.{drop-map}
-use Rattle.scenario.specs.Words.{Text, texts}
-use Rattle.scenario.proofs.text.option_words.Goals as goal
-
-pub returns : goal.returns
-returns c = ap texts c.split_at.ensures.back ∙ sym (drop-map (λ (one : Bor Text). one.now) 4 c.args.words.now)

@@ -1,0 +1,278 @@
+// The lines that a server writes.
+
+ghost use Rattle.std.specs.Prelude.{◌≡◌, ◌++◌, ◌-◌, [], IfOk, OnOk, flat_map, length};
+ghost use Rattle.server_output.specs.Texts as texts;
+
+use crate::faults::Faults;
+use crate::frames::Frames;
+use adapter::{Fate, Outcome, StepKind};
+use base64::engine::general_purpose::STANDARD;
+use engine_faults::{Engine, EngineFault, Reason};
+use itoa::Buffer;
+use std::alloc::{AllocError, Global};
+
+/// The word of a kind of step.
+pub fn kind_word(kind: StepKind) -> &'static [u8]
+    ensures { result.now ≡ texts.kind_word kind }
+{
+    match kind {
+        StepKind::TxTake => b"txtake",
+        StepKind::TxPut => b"txput",
+        StepKind::RxData => b"rxdata",
+        StepKind::RxDone => b"rxdone",
+        StepKind::EepromTick => b"eeprom",
+        StepKind::PhyTick => b"phy",
+    }
+}
+
+/// The word of the outcome of a step. No step delivers a frame.
+pub fn outcome_word(outcome: Outcome<()>) -> &'static [u8]
+    ensures { result.now ≡ texts.outcome_word outcome }
+{
+    match outcome {
+        Outcome::Took => b"took",
+        Outcome::Put(()) => b"put",
+        Outcome::WireFull => b"wirefull",
+        Outcome::Part => b"part",
+        Outcome::Moved => b"moved",
+        Outcome::Done => b"done",
+        Outcome::Delivered((), _) => b"delivered",
+        Outcome::Ticked => b"ticked",
+        Outcome::Nothing => b"nothing",
+        Outcome::Fault => b"fault",
+    }
+}
+
+/// The word of the fate of a frame that arrived.
+pub fn fate_word(fate: Fate) -> &'static [u8]
+    ensures { result.now ≡ texts.fate_word fate }
+{
+    match fate {
+        Fate::Off => b"off",
+        Fate::Illegal => b"illegal",
+        Fate::Filtered => b"filtered",
+        Fate::Missed => b"missed",
+        Fate::Stored => b"stored",
+    }
+}
+
+/// Appends parts of a text, in order.
+fn push_parts(text: &mut Vec<u8>, parts: &[&[u8]]) -> Result<(), AllocError>
+    ensures { OnOk result (text.new.items ≡ text.old.items ++ texts.joined parts.now) }
+{
+    for part in parts {
+        text.extend_from_slice(part)?;
+    }
+    Ok(())
+}
+
+/// Parts of a text, joined.
+fn joined(alloc: Global, parts: &[&[u8]]) -> Result<Vec<u8>, AllocError>
+    ensures { IfOk result (λ text. text.items ≡ texts.joined parts.now) }
+{
+    let mut length: usize = 0;
+    for part in parts {
+        length = length.saturating_add(part.len());
+    }
+    let mut text = Vec::with_capacity(alloc, length)?;
+    push_parts(&mut text, parts)?;
+    Ok(text)
+}
+
+/// Appends what the log says, in parts, if the log is on.
+fn push_said(text: &mut Vec<u8>, log: bool, said: &[&[u8]]) -> Result<(), AllocError>
+    ensures { OnOk result (text.new.items ≡ text.old.items ++ texts.said_log log (texts.joined said.now)) }
+{
+    if !log {
+        return Ok(());
+    }
+    text.extend_from_slice(b"# ")?;
+    push_parts(text, said)?;
+    text.extend_from_slice(b"\n")
+}
+
+/// The line of the level of the interrupt line, if there is one to print.
+fn line_text(level: Option<bool>) -> &'static [u8]
+    ensures { result.now ≡ texts.line_told level }
+{
+    match level {
+        Some(true) => b"IRQ raise 0\n",
+        Some(false) => b"IRQ lower 0\n",
+        None => b"",
+    }
+}
+
+/// What is printed of an event: what the log says of it, if the log is on; what is always printed of it; and the level
+/// of the interrupt line, if there is one to print.
+pub fn event_text(
+    alloc: Global,
+    log: bool,
+    said: &[&[u8]],
+    shown: &[u8],
+    level: Option<bool>,
+) -> Result<Vec<u8>, AllocError>
+    ensures { IfOk result (λ text. text.items
+        ≡ texts.said_log log (texts.joined said.now) ++ (shown.now ++ texts.line_told level)) }
+{
+    let mut text = Vec::new(alloc);
+    push_said(&mut text, log, said)?;
+    text.extend_from_slice(shown)?;
+    text.extend_from_slice(line_text(level))?;
+    Ok(text)
+}
+
+/// The line of a frame that was put onto the wire, from its digits.
+pub fn frame_line(alloc: Global, digits: &[u8]) -> Result<Vec<u8>, AllocError>
+    ensures { IfOk result (λ text. text.items ≡ texts.digits_line digits.now) }
+{
+    joined(alloc, &[b"frame ", digits, b"\n"])
+}
+
+/// The line of an offered frame that arrived, from the word of its fate and its digits.
+#[tactic(auto, unfolding(crate::specs::Texts::digits_arrived))]
+pub fn arrived_line<'a>(
+    alloc: Global,
+    fate: &'a [u8],
+    digits: &'a [u8],
+) -> Result<Vec<u8>, AllocError>
+    ensures { IfOk result (λ text. text.items ≡ texts.digits_arrived fate.now digits.now) }
+{
+    joined(alloc, &[b"arrived ", fate, b" ", digits, b"\n"])
+}
+
+/// What `restore` prints: a change of the interrupt line, and `OK`.
+pub fn restored_text(was: bool, is: bool) -> &'static [u8]
+    ensures { result.now ≡ texts.line_moved was is ++ texts.ok_line }
+{
+    match (was, is) {
+        (false, true) => b"IRQ raise 0\nOK\n",
+        (true, false) => b"IRQ lower 0\nOK\n",
+        _ => b"OK\n",
+    }
+}
+
+/// The line of an answer with bytes.
+#[tactic(auto, unfolding(crate::specs::Texts::bytes_line))]
+pub(crate) fn bytes_line(alloc: Global, bytes: &[u8]) -> Result<Vec<u8>, AllocError>
+    ensures { IfOk result (λ text. text.items ≡ texts.bytes_line bytes.now) }
+{
+    let digits = hex::encode(alloc, bytes)?;
+    joined(alloc, &[b"OK 0x", digits.as_bytes(), b"\n"])
+}
+
+/// The line of an answer with a number. It takes no memory.
+#[tactic(auto, unfolding(crate::specs::Texts::bytes_line, crate::specs::Texts::number_line))]
+pub(crate) fn number_line(number: u64) -> [u8; 22]
+    ensures { result ≡ texts.number_line number }
+{
+    let mut line = *b"OK 0x0000000000000000\n";
+    hex::encode_to_slice(number.to_be_bytes(), &mut line[5..21]).unwrap();
+    line
+}
+
+/// The line of an answer with a word.
+#[tactic(auto, unfolding(crate::specs::Texts::word_line))]
+pub(crate) fn word_line(alloc: Global, word: &[u8]) -> Result<Vec<u8>, AllocError>
+    ensures { IfOk result (λ text. text.items ≡ texts.word_line word.now) }
+{
+    joined(alloc, &[b"OK ", word, b"\n"])
+}
+
+/// The line of an answer with bytes in base64.
+pub(crate) fn base64_line(alloc: Global, bytes: &[u8]) -> Result<Vec<u8>, AllocError>
+    ensures { IfOk result (λ text. text.items ≡ texts.base64_line bytes.now) }
+{
+    let word = STANDARD.encode(alloc, bytes)?;
+    word_line(alloc, word.as_bytes())
+}
+
+/// The line of an answer with a number in decimal digits.
+pub(crate) fn decimal_line(alloc: Global, number: u64) -> Result<Vec<u8>, AllocError>
+    ensures { IfOk result (λ text. text.items ≡ texts.decimal_line number) }
+{
+    let mut digits = Buffer::new();
+    word_line(alloc, digits.format(number).as_bytes())
+}
+
+/// Appends the word of the oldest frame, and removes the frame.
+fn push_frame(alloc: Global, text: &mut Vec<u8>, frames: &mut Frames) -> Result<(), AllocError>
+    ensures same { OnOk result (text.new.items ++ flat_map texts.frame_word frames.new
+        ≡ text.old.items ++ flat_map texts.frame_word frames.old) }
+    ensures few { OnOk result (length frames.new ≡ length frames.old - 1) }
+{
+    let Some(frame) = frames.pop() else {
+        return Ok(());
+    };
+    let digits = hex::encode(alloc, frame.as_slice())?;
+    text.extend_from_slice(b" 0x")?;
+    text.extend_from_slice(digits.as_bytes())
+}
+
+/// The line of an answer with frames, the oldest first. Removes them.
+pub(crate) fn frames_line(alloc: Global, frames: &mut Frames) -> Result<Vec<u8>, AllocError>
+    ensures text { IfOk result (λ text. text.items ≡ texts.frames_line frames.old) }
+    ensures none { OnOk result (frames.new ≡ []) }
+{
+    let mut text = Vec::from_slice(alloc, b"OK")?;
+    let count = frames.len();
+    for _frame in 0..count {
+        push_frame(alloc, &mut text, frames)?;
+    }
+    text.extend_from_slice(b"\n")?;
+    Ok(text)
+}
+
+/// The word of an engine.
+fn engine_word(engine: Engine) -> &'static [u8]
+    ensures { result.now ≡ texts.engine_word engine }
+{
+    match engine {
+        Engine::Transmit => b"tx",
+        Engine::Receive => b"rx",
+    }
+}
+
+/// The word of the reason of a fault.
+fn reason_word(reason: Reason) -> &'static [u8]
+    ensures { result.now ≡ texts.reason_word reason }
+{
+    match reason {
+        Reason::Ring => b"ring",
+        Reason::Descriptor => b"descriptor",
+        Reason::Dext => b"dext",
+        Reason::Eop => b"eop",
+        Reason::Length => b"length",
+        Reason::Buffer => b"buffer",
+        Reason::Bsex => b"bsex",
+    }
+}
+
+/// Appends the words of a fault.
+pub(crate) fn push_fault(text: &mut Vec<u8>, fault: EngineFault) -> Result<(), AllocError>
+    ensures { OnOk result (text.new.items ≡ text.old.items ++ texts.fault_words fault) }
+{
+    let mut digits = Buffer::new();
+    text.extend_from_slice(b" ")?;
+    text.extend_from_slice(engine_word(fault.engine))?;
+    text.extend_from_slice(b" ")?;
+    text.extend_from_slice(digits.format(fault.index).as_bytes())?;
+    text.extend_from_slice(b" ")?;
+    text.extend_from_slice(reason_word(fault.reason))
+}
+
+/// Appends the line of a fault.
+pub fn push_fault_line(text: &mut Vec<u8>, fault: EngineFault) -> Result<(), AllocError>
+    ensures { OnOk result (text.new.items ≡ text.old.items ++ texts.fault_line fault) }
+{
+    text.extend_from_slice(b"fault")?;
+    push_fault(text, fault)?;
+    text.extend_from_slice(b"\n")
+}
+
+/// The line of an answer with faults, the oldest first.
+pub(crate) fn faults_line(alloc: Global, faults: &Faults) -> Result<Vec<u8>, AllocError>
+    ensures { IfOk result (λ text. text.items ≡ texts.faults_line faults.now) }
+{
+    let words = faults.words(alloc)?;
+    joined(alloc, &[b"OK", words.as_slice(), b"\n"])
+}

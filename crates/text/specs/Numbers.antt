@@ -1,0 +1,41 @@
+-- Which texts spell a number, and which one (our choice).
+use Rattle.std.specs.Prelude.{◌^◌, ◌&&◌, ◌==◌, ℕ, Bool, Option, Some, None, codes, if◌then◌else◌, length, nat_lt}
+use Rattle.std.specs.Char.{digit_value}
+use Rattle.std.specs.List.{after_first, before_first, list_all, position_or_len}
+use Rattle.std.specs.Str.{bytes_eq}
+use Rattle.std.specs.Str.Parse.{digits_value}
+use Rattle.text.specs.Words.{Text}
+
+-- whether a byte is a digit in this radix
+abbrev pub is_digit : (radix byte : ℕ) → Bool
+is_digit radix byte = nat_lt (digit_value byte) radix
+
+-- one or more digits of this radix and nothing else, which spell a number of this many bits
+abbrev pub is_number : (radix bits : ℕ) → Text → Bool
+is_number radix bits text = nat_lt 0 (length text) && list_all (is_digit radix) text && nat_lt (digits_value radix text) (2 ^ bits)
+
+-- the number that they spell
+abbrev pub number_in : (radix bits : ℕ) → Text → Option ℕ
+number_in radix bits text = if is_number radix bits text then Some (digits_value radix text) else None
+
+-- whether a byte is an `x`, as in `0x10`
+abbrev pub is_x : ℕ → Bool
+is_x byte = byte == 0x78
+
+-- it has an x
+abbrev pub has_x : Text → Bool
+has_x text = nat_lt (position_or_len is_x text) (length text)
+
+-- the part before its first x is 0
+abbrev pub begins_0x : Text → Bool
+begins_0x text = bytes_eq (before_first is_x text) (codes "0")
+
+-- the part after it
+abbrev pub behind_0x : Text → Text
+behind_0x text = after_first is_x text
+
+-- decimal digits, or hexadecimal digits after 0x; a number of 64 bits
+abbrev pub number_spelled : Text → Option ℕ
+number_spelled text =
+    if has_x text then (if begins_0x text then number_in 16 64 (behind_0x text) else None)
+    else number_in 10 64 text

@@ -1,0 +1,45 @@
+-- The words of a line (our choice).
+use Rattle.std.specs.Prelude.{◌==◌, ◌+◌, ℕ, Bool, List, [], drop, filter, flat_map, length, map, nat_lt, take}
+use Rattle.std.specs.Borrow.{Bor}
+use Rattle.std.specs.List.{position_or_len, slice_index_or, slice_split}
+use Rattle.std.specs.Str.{bytes_eq}
+
+-- a text, as its bytes
+abbrev pub Text : Type 0
+Text = List ℕ
+
+-- the texts of words in memory
+abbrev pub texts : List (Bor Text) → List Text
+texts words = map (λ (word : Bor Text). word.now) words
+
+abbrev pub is_space : ℕ → Bool
+is_space byte = byte == 0x20
+
+abbrev pub is_tab : ℕ → Bool
+is_tab byte = byte == 0x09
+
+-- a word has at least a byte
+abbrev pub is_word : Text → Bool
+is_word part = nat_lt 0 (length part)
+
+-- the words of a line, which spaces and tabs separate
+abbrev pub words_of : Text → List Text
+words_of line = filter is_word (flat_map (slice_split is_tab) (slice_split is_space line))
+
+-- the word with this number, from 0
+abbrev pub word : ℕ → List Text → Text
+word k words = slice_index_or words k []
+
+abbrev pub is_same : (mark word : Text) → Bool
+is_same mark word = bytes_eq word mark
+
+-- the place of the first word that is this one, or the number of words if there is none
+abbrev pub place_of : (mark : Text) → List Text → ℕ
+place_of mark words = position_or_len (is_same mark) words
+
+-- the words before it, and those after it
+abbrev pub words_before : (mark : Text) → List Text → List Text
+words_before mark words = take (place_of mark words) words
+
+abbrev pub words_after : (mark : Text) → List Text → List Text
+words_after mark words = drop (place_of mark words + 1) words

@@ -1,0 +1,50 @@
+// Ethernet addresses.
+
+ghost use Rattle.std.specs.Prelude.{ℕ, List, IfNone, IfSome};
+ghost use Rattle.std.specs.Option.{SomeIff};
+ghost use Rattle.text.specs.Addresses.{IsHexadecimalDigit, SpellsAddress, SpellsByte, hexadecimal_value};
+
+/// The bytes of an Ethernet address (IEEE 802.3 3.2.3).
+const ADDRESS_BYTES: usize = 6;
+
+/// The characters of an address: six pairs of digits and five colons.
+const ADDRESS_TEXT_LENGTH: usize = 17;
+
+const HEXADECIMAL: u32 = 16;
+
+#[tactic(auto, unfolding(crate::specs::Addresses::hexadecimal_value))]
+fn hexadecimal_digit(digit: u8) -> Option<u8>
+    ensures { SomeIff result (IsHexadecimalDigit digit) (hexadecimal_value digit) }
+{
+    let value = char::from(digit).to_digit(HEXADECIMAL)?;
+    Some(value as u8)
+}
+
+fn byte_of(high: u8, low: u8) -> Option<u8>
+    ensures spelled { IfSome result (SpellsByte high low) }
+    ensures refused { IfNone result ((byte : ℕ) → ¬ SpellsByte high low byte) }
+{
+    let high = hexadecimal_digit(high)?;
+    let low = hexadecimal_digit(low)?;
+    Some(high * 16 + low)
+}
+
+/// The address that a text spells: six pairs of hexadecimal digits in either case, joined by colons, such as
+/// `02:00:00:00:00:01`.
+pub fn address_of(text: &str) -> Option<[u8; 6]>
+    ensures spelled { IfSome result (SpellsAddress text.now) }
+    ensures refused { IfNone result ((address : List ℕ) → ¬ SpellsAddress text.now address) }
+{
+    let text = text.as_bytes();
+    if text.len() != ADDRESS_TEXT_LENGTH {
+        return None;
+    }
+    let mut address = [0; ADDRESS_BYTES];
+    for k in 0..ADDRESS_BYTES {
+        if k + 1 < ADDRESS_BYTES && text[3 * k + 2] != b':' {
+            return None;
+        }
+        address[k] = byte_of(text[3 * k], text[3 * k + 1])?;
+    }
+    Some(address)
+}

@@ -1,0 +1,41 @@
+// Numbers in decimal and hexadecimal digits.
+
+ghost use Rattle.std.specs.Prelude.{◌≡◌, ◌≤◌};
+ghost use Rattle.text.specs.Numbers.{number_in, number_spelled};
+
+const DECIMAL: u32 = 10;
+
+const HEXADECIMAL: u32 = 16;
+
+/// The number that digits of this radix spell, if there is nothing else and it is below 2^64. Digits above 9 are
+/// letters in either case; leading zeros are taken, a sign isn't.
+#[tactic(auto, using(crate::proofs::Numbers::bad_digit, crate::proofs::Numbers::overflows))]
+pub fn digits_of(text: &str, radix: u32) -> Option<u64>
+    requires low { 2 ≤ radix }
+    requires high { radix ≤ 36 }
+    ensures { result ≡ number_in radix 64 text.now }
+{
+    let bytes = text.as_bytes();
+    let mut value: u64 = 0;
+    for byte in bytes {
+        let digit = char::from(*byte).to_digit(radix)?;
+        value = value
+            .checked_mul(u64::from(radix))?
+            .checked_add(u64::from(digit))?;
+    }
+    if bytes.is_empty() { None } else { Some(value) }
+}
+
+/// The number below 2^64 that a text spells: decimal digits, or hexadecimal digits after `0x`.
+pub fn number_of(text: &str) -> Option<u64>
+    ensures { result ≡ number_spelled text.now }
+{
+    match text.split_once('x') {
+        Some((front, digits)) => if front == "0" {
+            digits_of(digits, HEXADECIMAL)
+        } else {
+            None
+        },
+        None => digits_of(text, DECIMAL),
+    }
+}

@@ -1,0 +1,16 @@
+// Tables of words.
+
+ghost use Rattle.std.specs.Prelude.{◌≡◌, map};
+ghost use Rattle.text.specs.Tables.{entry_of, value_in};
+
+/// The value of a word in a table of words and values, if the word is in it.
+pub fn value_of<T: Copy>(table: &[(&str, T)], word: &str) -> Option<T>
+    ensures { result ≡ value_in (map entry_of table.now) word.now }
+{
+    for entry in table {
+        if word == entry.0 {
+            return Some(entry.1);
+        }
+    }
+    None
+}

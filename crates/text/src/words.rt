@@ -1,0 +1,44 @@
+// The words of a line.
+
+ghost use Rattle.std.specs.Prelude.{◌≡◌, ◌<◌, IfOk, IfSome, length, position};
+ghost use Rattle.text.specs.Words.{is_same, texts, word, words_after, words_before, words_of};
+
+use std::alloc::{AllocError, Global};
+
+/// The words of a line, which spaces and tabs separate.
+pub fn words_in<'a>(alloc: Global, line: &'a str) -> Result<Vec<&'a str>, AllocError>
+    ensures { IfOk result (λ words. texts words.items ≡ words_of line.entry.now) }
+{
+    line.split(' ')
+        .flat_map(|part| part.split('\t'))
+        .filter(|word| !word.is_empty())
+        .collect(alloc)
+}
+
+/// The word with this number, from 0.
+#[tactic(auto, using(crate::proofs::Slices::at_texts))]
+pub fn word_at<'a>(words: &[&'a str], place: usize) -> &'a str
+    requires { place < length words.now }
+    ensures { result.now ≡ word place (texts words.entry.now) }
+{
+    words[place]
+}
+
+/// The place of a word, if it is among these.
+fn place_of(words: &[&str], mark: &str) -> Option<usize>
+    ensures place { result ≡ position (is_same mark.now) (texts words.now) }
+    ensures within { IfSome result (λ place. place < length words.now) }
+{
+    words.iter().position(|word| *word == mark)
+}
+
+/// The words before and after the first word that is this one. Without one, no word is after it.
+pub fn split_at_word<'a, 'b>(words: &'b [&'a str], mark: &str) -> (&'b [&'a str], &'b [&'a str])
+    ensures before { texts result.0.now ≡ words_before mark.now (texts words.entry.now) }
+    ensures after { texts result.1.now ≡ words_after mark.now (texts words.entry.now) }
+{
+    match place_of(words, mark) {
+        Some(place) => (&words[..place], &words[place + 1..]),
+        None => words.split_at(words.len()),
+    }
+}
