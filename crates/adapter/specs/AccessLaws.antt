@@ -65,12 +65,12 @@ OthersStayAtRead =
 
 -- What those read.
 pub record TouchedRead (value : ℕ) (state : AdapterState) : Type 0 where
-  -- behind a write of CTRL, STATUS shows the link where SLU, bit 6, was written
+  -- after a write of CTRL, STATUS shows the link where SLU, bit 6, was written
   pub link_shown : is_reset Ctrl value ≡ false
       → answer Status (write_of Ctrl value state) ≡ (if link_is_up state.phy && is_set value ctrl_slu then status_of_link_up else 0)
-  -- behind a write of ICS, ICR reads the causes written, too
+  -- after a write of ICS, ICR reads the causes written, too
   pub causes_set : answer Icr (write_of Ics value state) ≡ union (answer Icr state) (causes_of value)
-  -- behind a write of IMC, IMS reads the mask without them
+  -- after a write of IMC, IMS reads the mask without them
   pub mask_cleared : answer Ims (write_of Imc value state) ≡ difference (answer Ims state) (causes_of value)
 
 abbrev pub TouchedByWrites : Type 0

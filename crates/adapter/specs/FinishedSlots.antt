@@ -7,7 +7,7 @@ use Rattle.rx_engine.specs.Pieces.{Piece}
 use Rattle.adapter.specs.HostFrames.{named, piece_in}
 use Rattle.adapter.specs.Slots.{done_slots, is_done}
 
--- of so many slots from a place on, those before the first that isn't done
+-- of this number of slots from a place on, those before the first that isn't done
 abbrev pub done_from : List ℕ → Ring → ℕ → ℕ → List ℕ
 done_from memory ring place left = take_while (is_done memory) (map (address_of ring) (slots_from (count_of ring) place left))
 

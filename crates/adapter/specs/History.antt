@@ -31,7 +31,7 @@ after_event (Write offset value) state = after_write offset value state
 after_event (Step kind answer memory) state = after_step kind answer memory state
 after_event (Arrive fate frame) state = after_arrive fate frame state
 
--- The adapter behind a list of events, the oldest first, by the steps of the calls.
+-- The adapter after a list of events, the oldest first, one after another.
 abbrev pub after_events : List AdapterEvent → AdapterState → AdapterState
 after_events [] state = state
 after_events (event ∷ later) state = after_events later (after_event event state)
@@ -61,21 +61,21 @@ sets_register place (Arrive fate frame) = false
 abbrev pub NoneSets : ℕ → List AdapterEvent → Type 0
 NoneSets place events = list_any (sets_register place) events ≡ false
 
--- What a read at an offset answers behind a list of events since power-on.
+-- What a read at an offset returns after a list of events since power-on.
 abbrev pub reads : List ℕ → Link → List AdapterEvent → ℕ → ℕ
 reads words link events offset = answer_at offset (after_events events (new_adapter words link))
 
 -- A register whose kept bits are its rule follows from the last write to it and the last reset, whatever else was read and
 -- written, at any offset, and whatever steps came between.
 pub record ReadsByHistory (register : Register) (kept : ℕ) (words : List ℕ) (link : Link) : Type 0 where
-  -- It reads its reset value where it wasn't written;
+  -- If it was never written, it reads its reset value.
   pub never_written : (all : List AdapterEvent) → NoneSets (row_of register).offset all
       → reads words link all (row_of register).offset ≡ (row_of register).reset words
-  -- behind the last write, with no reset behind it, the kept bits of what was written;
+  -- If no reset came after the last write to it, it reads the kept bits of the value written.
   pub written : (before : List AdapterEvent) (value : ℕ) (after : List AdapterEvent)
       → is_reset_event (Write (row_of register).offset value) ≡ false → NoneSets (row_of register).offset after
       → reads words link (before ++ Write (row_of register).offset value ∷ after) (row_of register).offset ≡ bit_and value kept
-  -- and behind the last reset, with no write behind it, its reset value again.
+  -- If no write to it came after the last reset, it reads its reset value.
   pub reset : (before : List AdapterEvent) (event : AdapterEvent) (after : List AdapterEvent)
       → is_reset_event event ≡ true → NoneSets (row_of register).offset after
       → reads words link (before ++ event ∷ after) (row_of register).offset ≡ (row_of register).reset words

@@ -264,7 +264,7 @@ plain-events (event ∷ later) register kept state plain none =
     let parts = or_parts (sets_register (row_of register).offset event) (list_any (sets_register (row_of register).offset) later) none in
     plain-events later register kept (after_event event state) plain parts.1 ∙ plain-event event register kept state plain parts.0
 
--- one list of events behind another
+-- one list of events after another
 pub after_events-append : (before after : List AdapterEvent) (state : AdapterState)
     → after_events (before ++ after) state ≡ after_events after (after_events before state)
 after_events-append [] after state = refl

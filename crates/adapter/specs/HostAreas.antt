@@ -22,7 +22,7 @@ abbrev pub work_areas : List ℕ → Option Work → List Area
 work_areas memory None = []
 work_areas memory (Some work) = record { address = receive.named_address memory work.descriptor; size = work.length } ∷ []
 
--- how many bytes each receive buffer has, as RCTL.BSIZE names it
+-- the size of each receive buffer in bytes, by RCTL.BSIZE
 abbrev pub buffer_size : World → ℕ
 buffer_size world = buffer_size_of (field world.adapter.filter.rctl rctl_bsize 2)
 

@@ -3,7 +3,7 @@ use Rattle.std.specs.Prelude.{◌≤◌, ◌∷◌, [], ℕ, Bool, List, All, le
 use Rattle.rx_engine.specs.Held.{piece_of}
 use Rattle.rx_engine.specs.Pieces.{Piece, begun_from, frames_from}
 
--- Behind these bytes, the frames that end in these pieces, and what is begun after the last end, have at most 1,518 bytes.
+-- After these bytes, the frames that end in these pieces, and what is begun after the last end, have at most 1,518 bytes.
 pub record AreShort (begun : List ℕ) (pieces : List Piece) : Type 0 where
   -- Each frame that ends in these pieces has at most 1,518 bytes,
   pub frames : All (λ frame. length frame ≤ 1518) (frames_from begun pieces)

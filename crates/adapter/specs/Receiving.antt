@@ -50,7 +50,8 @@ abbrev pub no_buffers_counted : AdapterState → ℕ
 no_buffers_counted state = if state.receive_ring.head == state.receive_ring.tail then one_more state.no_receive_buffers
     else state.no_receive_buffers
 
--- A frame that is stored is behind the others in the packet buffer; one that is missed is counted by MPC, and RXO, bit 6, is recorded.
+-- The adapter after a frame with this fate: a stored frame is the last one in the packet buffer; MPC counts a missed frame, and RXO, bit 6,
+-- is recorded for it.
 abbrev pub after_arrive : Fate → List ℕ → AdapterState → AdapterState
 after_arrive Off frame state = state
 after_arrive Illegal frame state = state
@@ -70,11 +71,11 @@ HasFrameAndDescriptor state = HasFrameToMove state.filter.rctl (ring_of state.re
 abbrev pub piece_size : AdapterState → ℕ
 piece_size state = length (next_piece state.filter.rctl state.receiver)
 
--- it is the frame's last piece
+-- whether the next piece of the oldest frame is the frame's last one
 abbrev pub is_last_piece : AdapterState → Bool
 is_last_piece state = is_last state.filter.rctl state.receiver
 
--- it can be moved to the buffer that the descriptor at RDH names
+-- the next piece of the oldest frame can be moved to the buffer that the descriptor at RDH names
 abbrev pub CanMovePiece : List ℕ → AdapterState → Type 0
 CanMovePiece memory state = CanMove state.filter.rctl (ring_of state.receive_ring) memory (piece_size state)
 
@@ -86,7 +87,7 @@ DataAnswers memory state Part = HasFrameAndDescriptor state × CanMovePiece memo
 DataAnswers memory state Moved = HasFrameAndDescriptor state × CanMovePiece memory state × (is_last_piece state ≡ true)
 DataAnswers memory state _ = ⊥
 
--- RXDMT0, bit 4, where the free descriptors become half the ring (13.4.17; 13.4.22, RDMTS 00)
+-- the causes that a data step records: RXDMT0, bit 4, if the free descriptors become half the ring (13.4.17; 13.4.22, RDMTS 00)
 abbrev pub causes_of_moving : RingRegisters → ℕ
 causes_of_moving ring = if is_half_free (ring_of (moved_on ring)) then alone rxdmt0 else 0
 
@@ -107,7 +108,7 @@ after_data Fault state =
     record state { receiver = engine_after_data answers.Fault state.filter.rctl (ring_of state.receive_ring) state.receiver }
 after_data _ state = state
 
--- The piece is in the buffer that the descriptor at RDH names.
+-- The memory after a data step with this outcome: the piece moved is in the buffer that the descriptor at RDH names.
 abbrev pub memory_after_data_step : FrameOutcome → List ℕ → AdapterState → List ℕ
 memory_after_data_step Part memory state =
     memory_after_data (answers.Part (is_half_free (ring_of (moved_on state.receive_ring))))
@@ -137,22 +138,22 @@ abbrev pub is_ending : Option Work → Bool
 is_ending None = false
 is_ending (Some work) = work.ends
 
--- then RXT0, bit 7, is recorded (13.4.17)
+-- the causes that a done step records: RXT0, bit 7, if the piece in progress is the last of its frame (13.4.17)
 abbrev pub causes_of_finishing : Option Work → ℕ
 causes_of_finishing work = if is_ending work then alone rxt0 else 0
 
--- and GPRC counts the frame (that it counts here is our choice)
+-- GPRC after a done step: it counts a frame when the descriptor of its last piece is written back (our choice)
 abbrev pub received_counted : AdapterState → ℕ
 received_counted state = if is_ending state.receiver.work then one_more state.received_packets else state.received_packets
 
--- Nothing is in progress any more.
+-- The adapter after a done step with this outcome: no piece is in progress.
 abbrev pub after_done : FrameOutcome → AdapterState → AdapterState
 after_done Done state =
     with_causes (causes_of_finishing state.receiver.work)
     (record state { receiver = engine_after_done state.receiver; received_packets = received_counted state })
 after_done _ state = state
 
--- Bytes 8 to 15 of the descriptor in work are written, where it lies in memory.
+-- The memory after a done step: bytes 8 to 15 of the descriptor of the piece in progress are written, if it is inside memory.
 abbrev pub memory_after_done_step : List ℕ → AdapterState → List ℕ
 memory_after_done_step memory state = memory_after_done state.receiver.work memory
 

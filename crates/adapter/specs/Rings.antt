@@ -6,7 +6,7 @@ use Rattle.adapter.specs.declared.register.RingRegister.{RingRegister}
 use Rattle.adapter.specs.declared.register.RingRegister.TheVariants.{BaseLow, BaseHigh, Length, Head, Tail}
 use Rattle.adapter.specs.declared.ring.RingRegisters.{RingRegisters}
 
--- how far behind RDBAL or TDBAL the register stands
+-- the distance of the register from RDBAL or TDBAL, in bytes
 abbrev pub ring_distance : RingRegister → ℕ
 ring_distance BaseLow = 0x00
 ring_distance BaseHigh = 0x04

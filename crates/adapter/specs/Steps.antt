@@ -1,4 +1,4 @@
--- The steps that an adapter takes by itself.
+-- The steps of an adapter: what each one changes, and which outcome it has.
 use Rattle.std.specs.Prelude.{◌≡◌, ◌≢◌, ◌↔◌, ℕ, List, Bool, IsTrue, Option, Some, None, if◌then◌else◌}
 use Rattle.eeprom.specs.Eerd as eeprom
 use Rattle.mdic_phy.specs.declared.mdic.Ticked.{Ticked}
@@ -21,12 +21,12 @@ use Rattle.registers.specs.Places.{alone, lsc, mdac}
 abbrev pub after_eeprom_tick : AdapterState → AdapterState
 after_eeprom_tick state = record state { eerd = eeprom.after_tick state.image state.eerd }
 
--- the causes that a tick of the PHY records: LSC, bit 2, where the link came up, and MDAC, bit 9, where a command has ended whose end is
--- told (13.4.17 "Interrupt Cause Read Register")
+-- the causes that a tick of the PHY records: LSC, bit 2, if the link came up, and MDAC, bit 9, if a command whose I bit is set ended
+-- (13.4.17 "Interrupt Cause Read Register")
 abbrev pub causes_told : Ticked → ℕ
 causes_told ticked = union (if ticked.link_changed then alone lsc else 0) (if ticked.access_complete then alone mdac else 0)
 
--- a tick of the PHY that tells this
+-- the adapter after a tick of the PHY with this result: `None` if the tick had nothing to do
 abbrev pub after_phy_told : Option Ticked → AdapterState → AdapterState
 after_phy_told (Some ticked) state =
     with_causes (causes_told ticked)
@@ -37,7 +37,7 @@ after_phy_told None state = state
 abbrev pub after_phy_tick : AdapterState → AdapterState
 after_phy_tick state = after_phy_told (mdi.told state.mdic state.phy) state
 
--- a tick answers whether there was something to do
+-- the outcome of a tick: `Ticked` if it had something to do, else `Nothing`
 abbrev pub ticked : Bool → FrameOutcome
 ticked has_work = if has_work then DidTick else Nothing
 

@@ -33,11 +33,12 @@ TakeAnswers memory state _ = ⊥
 abbrev pub moved_on : RingRegisters → RingRegisters
 moved_on ring = record ring { head = next_of (ring_of ring) ring.head }
 
--- TXQE, bit 1, where head has become tail (13.4.17)
+-- the causes that a step that takes records: TXQE, bit 1, if TDH has become TDT (13.4.17)
 abbrev pub causes_of_taking : RingRegisters → ℕ
 causes_of_taking ring = if (moved_on ring).head == ring.tail then alone txqe else 0
 
--- The frame is behind the others in the packet buffer, and TDH has moved on. A fault stops the engine.
+-- The adapter after a step that takes: the frame is the last one in the packet buffer, and TDH is the next descriptor. A fault stops the
+-- engine.
 abbrev pub after_take : FrameOutcome → List ℕ → AdapterState → AdapterState
 after_take Took memory state =
     with_causes (causes_of_taking state.transmit_ring) (record state {

@@ -27,10 +27,9 @@ const VLAN_TYPE_BITS: u32 = 0xFFFF;
 /// An 82540EM: its registers, its EEPROM and PHY, and the two engines that move frames between its
 /// wire and a host's memory.
 ///
-/// A contract sees it as an `AdapterState`, plain data that `specs/State.antt` lists. Whatever a
-/// driver reads and writes, in whatever order, the answers are those of the table in
-/// [`offsets`](crate::offsets). What the adapter does by itself it does in steps, when
-/// [`step`](Adapter::step) is called.
+/// A contract sees it as an `AdapterState`, plain data that `specs/State.antt` lists. Each register access has
+/// the effect that the table in [`offsets`](crate::offsets) gives. The adapter does all other work in steps:
+/// one call of [`step`](Adapter::step) is one step.
 #[derive(Clone, Drop)]
 pub struct Adapter {
     image: Image,
@@ -65,12 +64,12 @@ impl Adapter {
     ghost use Rattle.eeprom.specs.Eerd.{is_pending};
     ghost use Rattle.mdic_phy.specs.Mdic.{has_work};
 
-    /// An adapter after power-on, with this EEPROM and a PHY whose link comes up as `link` says. Both
+    /// An adapter after power-on, with this EEPROM and a PHY whose link is up after the ticks of `link`, or never. Both
     /// packet buffers are empty; their memory is taken here, and no later call takes any.
     ///
     /// # Errors
     ///
-    /// Want of memory alone.
+    /// Only if memory is refused.
     pub fn new(alloc: Global, image: &Image, link: Link) -> Result<Adapter, AllocError>
         ensures { IfOk result (λ adapter. adapter ≡ new_adapter image.now link) }
     {
@@ -84,8 +83,8 @@ impl Adapter {
         })
     }
 
-    /// A driver's read of the register at an offset in bytes. Where there is none it answers 0 and
-    /// changes nothing (our choice).
+    /// A driver's read of the register at an offset in bytes. If no register is at the offset, the result is 0 and
+    /// nothing changes (our choice).
     pub fn read(&mut self, offset: u32) -> u32
         ensures answer { result ≡ answer_at offset self.old }
         ensures state { self.new ≡ after_read offset self.old }
@@ -103,7 +102,7 @@ impl Adapter {
         self.value_of(Register::at(offset))
     }
 
-    /// A driver's write of the register at an offset in bytes. Where there is none it is ignored
+    /// A driver's write of the register at an offset in bytes. If no register is at the offset, nothing changes
     /// (our choice).
     #[inline(always)]
     pub fn write(&mut self, offset: u32, value: u32)
@@ -156,9 +155,9 @@ impl Adapter {
         self.packet_buffer.bytes()
     }
 
-    /// A step that the adapter takes by itself, on its host's memory; `wire_free` says whether the wire
-    /// has room for a frame. `Nothing` changes nothing. A fault stops the engine until a reset, and
-    /// leaves memory and the indices of the rings (our choice).
+    /// Performs one step of the adapter on its host's memory. `wire_free` means that the wire has room for a frame.
+    /// If the outcome is `Nothing`, the adapter and the memory are unchanged. A fault stops the engine until a reset,
+    /// and changes neither memory nor the head or tail of a ring (our choice).
     ///
     /// Of memory a step changes at most the buffer that the receive descriptor at RDH names
     /// ([`RxData`](StepKind::RxData)), bytes 8 to 15 of the descriptor of the piece in progress
@@ -204,6 +203,7 @@ impl Adapter {
     ghost use Rattle.adapter.specs.Table.{IsInTable};
 
     /// Reads a register, if there is one: ICR and the counters are cleared by it.
+    #[inline(always)]
     fn read_register(&mut self, register: Option<Register>) -> u32
         requires { IfSome register IsInTable }
         ensures answer { result ≡ answer_of register self.old }
@@ -222,6 +222,7 @@ impl Adapter {
     }
 
     /// The value of a register, if there is one.
+    #[inline(always)]
     fn value_of(&self, register: Option<Register>) -> u32
         requires { IfSome register IsInTable }
         ensures answer { result ≡ answer_of register self.now }
@@ -325,7 +326,7 @@ impl Adapter {
         }
     }
 
-    /// A moment of the PHY passes, and the causes that it tells are recorded.
+    /// A step of the PHY, which records LSC if the link came up, and MDAC if a command whose I bit is set ended.
     fn tick_phy(&mut self) -> Outcome<()>
         ensures state { self.new ≡ after_phy_tick self.old }
         ensures answer { framed result self.old ≡ ticked (has_work self.old.mdic self.old.phy) }
@@ -347,8 +348,8 @@ fn asks_for_reset(value: u32) -> bool
     Ctrl::written(value).resets()
 }
 
-/// The causes that a tick of the PHY records: LSC where the link came up, MDAC where a command has
-/// ended whose end is told.
+/// The causes that a tick of the PHY records: LSC if the link came up, and MDAC if a command whose I bit is set
+/// ended.
 fn causes_of(ticked: Ticked) -> Cause
     ensures { result.0 ≡ causes_told ticked }
 {

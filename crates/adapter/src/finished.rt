@@ -18,7 +18,7 @@ use bitflags::Flags;
 use descriptors::{Frame, RX_DESC_BYTES, Ring, RxDesc, RxStatus};
 use dma_memory::HostMemory;
 
-/// The next piece joins the frame that is begun. If it's the last one, the frame is behind the others.
+/// The next piece joins the frame that is begun. If it's the last one, the frame is the last one in the list.
 pub(crate) fn append_piece(
     bytes: &[u8],
     ends: bool,

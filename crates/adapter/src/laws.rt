@@ -8,9 +8,9 @@ ghost use Rattle.adapter.specs.Frames.{TakingLeavesFrames};
 ghost use Rattle.adapter.specs.History.{PlainByHistory};
 ghost use Rattle.adapter.specs.Parts.{PartsHaveTheirLaws};
 
-/// Where registers stand, by the table: each at its offset, and no other there; all offsets are
-/// multiples of 4 below 0x5800. An access at an offset is one of the register that stands there;
-/// and where none stands, a read answers 0 and nothing changes.
+/// The offsets of the registers, by the table: each register has one offset, and no two registers share one; all
+/// offsets are multiples of 4 below 0x5800. An access at an offset is an access of the register at this offset. If no
+/// register is at an offset, a read returns 0, and neither a read nor a write changes anything.
 pub fn offsets_by_table()
     ensures offsets { OffsetsByTable }
     ensures register { AccessesByOffset }
@@ -19,9 +19,9 @@ pub fn offsets_by_table()
 
 /// What accesses do to registers, by the table, in every state:
 /// - a register whose kept bits are its rule reads those bits of what was last written;
-/// - a write of one register changes what no other reads, CTRL's RST apart, but that STATUS follows
-///   CTRL.SLU, ICR what is written to ICS, and IMS what is written to IMC, and these exactly so;
-/// - a read of one register changes what no other reads.
+/// - a write of one register doesn't change what other registers read, with these exceptions: a write of CTRL with
+///   RST resets, CTRL.SLU changes STATUS, a write of ICS changes ICR, and a write of IMC changes IMS;
+/// - a read of one register doesn't change what any other register reads.
 pub fn accesses_by_table()
     ensures read_back { PlainReadsBack }
     ensures others_at_write { OthersStayAtWrite }
@@ -38,15 +38,15 @@ pub fn resets_by_table()
 {}
 
 /// What a register whose kept bits are its rule reads after any list of accesses and steps since
-/// power-on, by the history alone: the kept bits of the last write to it with no reset behind that,
+/// power-on, by the history alone: the kept bits of the last write to it, if no reset came after that write,
 /// else its reset value.
 pub fn plain_by_history()
     ensures { PlainByHistory }
 {}
 
-/// What comes to EERD, and to MDIC and the PHY, of any list of accesses and steps since power-on:
-/// the words written and the ticks, with a reset as a new EERD, and to MDIC as a word without a
-/// command. The registers read what the laws of the crates `eeprom` and `mdic_phy` say of that.
+/// The laws of the crates `eeprom` and `mdic_phy` hold of an adapter's EERD, MDIC and PHY after any list of
+/// accesses and steps since power-on. To these laws EERD is new after a reset by CTRL.RST, and for MDIC such a reset
+/// is a write of a word without a command.
 pub fn parts_have_their_laws()
     ensures { PartsHaveTheirLaws }
 {}

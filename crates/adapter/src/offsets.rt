@@ -121,7 +121,7 @@ pub const MTA: u32 = 0x5200;
 /// The last word of MTA.
 pub const MTA_LAST: u32 = 0x53FC;
 
-/// RAL(0), receive address low, the first of 16 (13.5.2). RAH(n) stands behind RAL(n).
+/// RAL(0), receive address low, the first of 16 (13.5.2). RAH(n) follows RAL(n).
 pub const RAL: u32 = 0x5400;
 
 /// RAH(15), the last receive address high (13.5.3).

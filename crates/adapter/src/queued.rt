@@ -11,7 +11,7 @@ use arrayvec::ArrayVec;
 use descriptors::{Frame, Ring, SHORTEST_LEGAL, TX_DESC_BYTES, TxDesc};
 use dma_memory::HostMemory;
 
-/// How many zeros are behind a frame as it goes onto the wire.
+/// The number of zeros that pad a frame on the wire.
 fn zeros_behind(length: usize, pad: bool) -> usize
     ensures zeros { result ≡ (if pad then 60 - length else 0) }
     ensures most { result ≤ 60 }

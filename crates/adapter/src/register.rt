@@ -15,7 +15,7 @@ pub enum RingRegister {
     Length,
     /// RDH, TDH: the first descriptor that is the adapter's.
     Head,
-    /// RDT, TDT: the first descriptor behind the adapter's.
+    /// RDT, TDT: the first descriptor that the adapter doesn't own.
     Tail,
 }
 
@@ -71,7 +71,7 @@ pub enum Register {
 impl Register {
     ghost use Rattle.adapter.specs.Table.{IsInTable, register_at};
 
-    /// The register at an offset in bytes, or `None` where there is none.
+    /// The register at an offset in bytes, or `None` if there is none.
     #[tactic(auto, unfolding(crate::specs::Table::register_at, crate::specs::Table::array_register_at))]
     #[inline(always)]
     pub fn at(offset: u32) -> Option<Register>
@@ -116,7 +116,7 @@ impl Register {
     }
 }
 
-/// The register at so many bytes behind RAL(0), which is below RAH(15) or there.
+/// The register at this number of bytes after RAL(0), up to RAH(15).
 fn address_register(distance: u32) -> Register
     requires { distance < 128 }
     ensures even { distance % 8 ≡ 0 → result ≡ Register.Ral (distance / 8) }

@@ -30,7 +30,7 @@ pub struct RingRegisters {
     pub length_bytes: u32,
     /// The first descriptor that is the adapter's.
     pub head: u16,
-    /// The first descriptor behind the adapter's.
+    /// The first descriptor that the adapter doesn't own.
     pub tail: u16,
 }
 
@@ -85,7 +85,7 @@ impl RingRegisters {
         hasher.write_u16(self.tail);
     }
 
-    /// The ring that the registers tell.
+    /// The ring that the registers define.
     pub(crate) fn ring(&self) -> Ring
         ensures { result ≡ ring_of self.now }
     {

@@ -1,6 +1,6 @@
-// What an adapter does by itself.
+// The kinds of steps of an adapter.
 
-/// A step that an adapter may take by itself, between two accesses of its driver.
+/// The kind of a step. Any steps may happen between two accesses of a driver.
 #[derive(Clone, Copy, Debug, PartialEq, Eq)]
 pub enum StepKind {
     /// Takes the frame that the transmit descriptor at TDH points to into the transmit packet buffer.

@@ -44,7 +44,7 @@ DriversStoresLeaveFrames =
     → IsDriversArea oldest_receive oldest_transmit world (record { address = address; size = length bytes })
     → LeavesFrames oldest_receive oldest_transmit world (world_after_store address bytes world)
 
--- What isn't the adapter's to write stays so behind such a store.
+-- What isn't the adapter's to write stays so after such a store.
 abbrev pub DriversStoresLeaveForeign : Type 0
 DriversStoresLeaveForeign =
     (oldest_receive oldest_transmit : ℕ) (world : World) (address : ℕ) (bytes : List ℕ)

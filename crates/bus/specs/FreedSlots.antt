@@ -6,7 +6,7 @@ use Rattle.adapter.specs.Conditions.{Sound}
 use Rattle.bus.specs.DriversSlots.{IsDriversSlot}
 use Rattle.adapter.specs.World.{transmit_ring, World}
 
--- the transmit slot behind the oldest
+-- the transmit slot after the oldest
 abbrev pub behind_oldest_transmit : ℕ → World → ℕ
 behind_oldest_transmit oldest world = next_of (transmit_ring world) oldest
 

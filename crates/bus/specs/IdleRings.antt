@@ -71,7 +71,7 @@ OtherWritesKeepIdle =
     (register : Register) (value : ℕ) (world : World)
     → ¬ (IsOfRing register) → IsIdle world → IsIdle (record world { adapter = write_of register value world.adapter })
 
--- and a write of any register behind which the rings are so.
+-- and a write of any register after which the rings are so.
 abbrev pub WritesKeepIdle : Type 0
 WritesKeepIdle =
     (offset value : ℕ) (world : World) → IsIdle world → HasIdleRings (world_after_write offset value world)

@@ -25,7 +25,7 @@ use Rattle.registers.specs.Places.{rctl_en, rxt0}
 
 -- Registers.
 
--- MDIC and the PHY behind it
+-- MDIC and its PHY
 pub record Management : Type 0 where
   pub mdic : MdicState
   pub phy : PhyState
@@ -33,7 +33,7 @@ pub record Management : Type 0 where
 abbrev pub management_of : AdapterState → Management
 management_of adapter = record { mdic = adapter.mdic; phy = adapter.phy }
 
--- a tick of the PHY does something where its count runs or a command is pending
+-- a tick of the PHY does something if the countdown of its link runs or a command of MDIC is pending
 abbrev pub phy_ticked : Management → Management
 phy_ticked management =
     if has_work management.mdic management.phy
@@ -62,7 +62,7 @@ pub record OnlyHeadMoves (a b : RingRegisters) : Type 0 where
 
 -- Frames that were stored or missed.
 pub record CountsArrivals (a b : World) (past : Past) : Type 0 where
-  -- MPC grows by what was missed, and sticks at its greatest value; one that stands there already stays.
+  -- MPC grows by the number of missed frames, up to its greatest value, where it remains.
   pub missed : b.adapter.missed_packets ≡ max a.adapter.missed_packets (min (a.adapter.missed_packets + past.missed) greatest_count)
   -- Where RCTL.EN is 0 no frame is stored or missed.
   pub off : ¬ (HasBit a.adapter.filter.rctl rctl_en) → (past.stored ≡ []) × (past.missed ≡ 0)

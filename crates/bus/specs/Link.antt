@@ -28,7 +28,7 @@ IsNotOfPhy _ = ⊤
 abbrev pub LeavesPhy : Write → Type 0
 LeavesPhy write = IsNotOfPhy (register_at write.offset)
 
--- Where neither is written in a stretch, a link that is up at its beginning is up at its end.
+-- Where neither is written in an interval, a link that is up at its beginning is up at its end.
 abbrev pub KeepsLink : World → World → Past → Type 0
 KeepsLink a b past = All LeavesPhy (writes_in past.accesses) → HasLink a → HasLink b
 
@@ -41,6 +41,6 @@ abbrev pub AccessesKeepLink : Type 0
 AccessesKeepLink =
     (access : Access) (world : World) → All LeavesPhy (writes_in (access ∷ [])) → HasLink world → HasLink (world_after_access access world)
 
--- and over two stretches, where it is over each.
+-- and over two intervals, where it is over each.
 abbrev pub LinkStretchesJoin : Type 0
 LinkStretchesJoin = (a b c : World) (first later : Past) → KeepsLink a b first → KeepsLink b c later → KeepsLink a c (joined first later)

@@ -1,4 +1,4 @@
--- What happened in a stretch of time (our choice).
+-- What happened in an interval (our choice).
 use Rattle.std.specs.Prelude.{ℕ, ◌+◌, List, [], ◌++◌}
 use Rattle.bus.specs.declared.event.Access.{Access}
 
@@ -21,7 +21,7 @@ pub record Past : Type 0 where
 abbrev pub nothing : Past
 nothing = record { put = []; stored = []; missed = 0; eeprom_ticks = 0; phy_ticks = 0; accesses = [] }
 
--- one stretch, then another
+-- one interval, then another
 abbrev pub joined : Past → Past → Past
 joined first later = record {
   put = first.put ++ later.put;

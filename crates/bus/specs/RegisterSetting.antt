@@ -1,5 +1,5 @@
 -- What a driver does while the conditions of the law hold, besides offering slots one by one and storing to memory of its own: it writes
--- and reads registers, as in initialisation behind the first slot offered (our choice).
+-- and reads registers, as in initialisation after the first slot offered (our choice).
 use Rattle.std.specs.Prelude.{⊤, ◌≡◌, ◌≤◌, ◌<◌, ◌+◌, ◌%◌, ◌++◌, ℕ, zero, suc, [], false, All, None, map}
 use Rattle.dma_memory.specs.Areas.{AreSeparate}
 use Rattle.registers.specs.Bits.{HasBit}
@@ -23,7 +23,7 @@ use Rattle.adapter.specs.World.{receive_ring, transmit_ring, World, world_after_
 
 -- Many slots are offered at once.
 
--- so many slots can be offered, one behind the other
+-- this number of slots can be offered, one after the other
 abbrev pub CanOfferMany : ℕ → ℕ → World → Type 0
 CanOfferMany oldest zero world = ⊤
 CanOfferMany oldest (suc k) world = CanOffer oldest world × CanOfferMany oldest k (offering world)

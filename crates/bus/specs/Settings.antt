@@ -21,7 +21,7 @@ use Rattle.bus.specs.declared.event.Access.TheVariants.{Loads, Reads, Stores, Wr
 pub record Settings : Type 0 where
   -- the words of the EEPROM, and how the PHY's link comes up, which nothing changes
   pub image : List ℕ
-  -- When the PHY's link comes up.
+  -- When the PHY's link is up.
   pub link : Link
   -- PBA
   pub receive_kilobytes : ℕ
@@ -82,12 +82,12 @@ writes_in (Stores address bytes ∷ later) = writes_in later
 abbrev pub settings_after : Write → Settings → Settings
 settings_after write settings = settings_of (after_write write.offset write.value (adapter_with settings))
 
--- what writes leave of them, one behind the other
+-- what writes leave of them, one after the other
 abbrev pub settings_after_all : List Write → Settings → Settings
 settings_after_all [] settings = settings
 settings_after_all (write ∷ later) settings = settings_after_all later (settings_after write settings)
 
--- In a stretch the settings become what the driver's writes make of them, whatever else happens.
+-- In an interval the settings become what the driver's writes make of them, whatever else happens.
 abbrev pub AreSet : World → World → Past → Type 0
 AreSet a b past = settings_of b.adapter ≡ settings_after_all (writes_in past.accesses) (settings_of a.adapter)
 

@@ -7,7 +7,7 @@ abbrev pub group_of : {T : Type 0} → (T → Bool) → List T → List T
 group_of is_go [] = []
 group_of is_go (tick ∷ later) = if is_go tick then [] else tick ∷ group_of is_go later
 
--- the ticks behind it and its Go
+-- the ticks after it and its Go
 abbrev pub behind_group : {T : Type 0} → (T → Bool) → List T → List T
 behind_group is_go [] = []
 behind_group is_go (tick ∷ later) = if is_go tick then later else behind_group is_go later
@@ -16,7 +16,7 @@ behind_group is_go (tick ∷ later) = if is_go tick then later else behind_group
 abbrev pub without_go : {T : Type 0} → (T → Bool) → List T → List T
 without_go is_go ticks = filter (λ tick. not (is_go tick)) ticks
 
--- the ticks behind a group for each of these accesses
+-- the ticks after a group for each of these accesses
 abbrev pub waiting_after : {T : Type 0} → (T → Bool) → List Access → List T → List T
 waiting_after is_go [] ticks = ticks
 waiting_after is_go (access ∷ later) ticks = waiting_after is_go later (behind_group is_go ticks)

@@ -1,4 +1,4 @@
--- Which interrupt causes the events of a trail record, each as the adapter does by itself (13.4.17 "Interrupt Cause Read Register").
+-- Which interrupt causes each event of a trail records (13.4.17 "Interrupt Cause Read Register").
 use Rattle.std.specs.Prelude.{◌≡◌, ℕ, Bool, true, List, [], ◌∷◌, Option, Some, None, All, if◌then◌else◌}
 use Rattle.mdic_phy.specs.declared.mdic.Ticked.{Ticked}
 use Rattle.mdic_phy.specs.Mdic.{told}
@@ -30,7 +30,7 @@ abbrev pub causes_by_tick : Option Ticked → ℕ
 causes_by_tick (Some ticked) = causes_told ticked
 causes_by_tick None = 0
 
--- a step with this answer, of the adapter that it finds
+-- a step of this adapter with this outcome
 abbrev pub causes_by_step : StepKind → FrameOutcome → AdapterState → ℕ
 causes_by_step TxTake Took adapter = causes_of_taking adapter.transmit_ring
 causes_by_step TxPut (Put frame) adapter = causes_of_putting adapter.transmitter.buffer
@@ -94,6 +94,6 @@ pub record IsRecorded (later : List Event) (a b : World) : Type 0 where
       → (ticked : Ticked) → told a.adapter.mdic a.adapter.phy ≡ Some ticked → ticked.access_complete ≡ true
       → HasBit b.adapter.causes.recorded mdac
 
--- It is, where no access behind it moves causes; accesses in front of it may.
+-- It is, where no access after it moves causes; accesses in front of it may.
 abbrev pub RecordedCausesStay : Type 0
 RecordedCausesStay = (later : List Event) (a b : World) → All LeavesCauses (past_of later).accesses → IsRecorded later a b

@@ -31,7 +31,7 @@ DriversTransmitSlotsCanBeWritten =
     → Sound oldest_receive oldest_transmit world → IsDriversSlot (transmit_ring world) oldest_transmit slot
     → CanBeWritten oldest_receive oldest_transmit world (address_of (transmit_ring world) slot)
 
--- The slots from the tail on up to the driver's oldest are its own: those that stand no nearer behind the oldest than the tail does.
+-- The driver owns the slots from the tail on up to its oldest one.
 abbrev pub SlotsFromTailBelongToDriver : Type 0
 SlotsFromTailBelongToDriver =
     (ring : Ring) (oldest slot : ℕ) → oldest < count_of ring → slot < count_of ring

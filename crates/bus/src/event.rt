@@ -33,7 +33,7 @@ impl StoredBytes {
     ///
     /// # Errors
     ///
-    /// Want of memory alone.
+    /// Only if memory is refused.
     pub fn from_slice(alloc: Global, bytes: &[u8]) -> Result<StoredBytes, AllocError>
         ensures { IfOk result (λ stored. stored ≡ bytes.now) }
     {

@@ -22,10 +22,10 @@ ghost use Rattle.bus.specs.FreedSlots.{WrittenSlotsCanBeFreed};
 ghost use Rattle.bus.specs.Trails.{TrailsHappen};
 
 /// What may happen between two accesses composes.
-/// - `joins`: what happens in two stretches happens in both together, with the frames of both in
+/// - `joins`: what happens in two intervals happens in both together, with the frames of both in
 ///   order, the misses and ticks of both added.
 /// - `nothing`: of an adapter nothing at all may happen.
-/// - `sound`: the conditions of the law hold behind what happened, for the slots for which they held
+/// - `sound`: the conditions of the law hold after what happened, for the slots for which they held
 ///   before it.
 pub fn between_composes()
     ensures joins { HappeningsJoin }
@@ -33,15 +33,14 @@ pub fn between_composes()
     ensures sound { SoundStays }
 {}
 
-/// Any list of adapter steps and deliveries, each as the adapter's own contract tells it, may happen
+/// Any list of adapter steps and deliveries, each as the adapter's own contract defines it, may happen
 /// between two accesses.
 pub fn any_steps_may_happen()
     ensures { TrailsHappen }
 {}
 
-/// Each step that an adapter takes by itself, and each delivery of a frame to it, is one of the things
-/// that may happen between two accesses, in every state of the adapter and its memory, and whichever
-/// slots a driver counts as its oldest.
+/// Each step of an adapter, and each delivery of a frame to it, is one of the events that may happen between two
+/// accesses, in every state of the adapter and its memory, and whichever slots a driver counts as its oldest.
 pub fn steps_are_instances()
     ensures steps { StepsHappen }
     ensures arrivals { ArrivalsHappen }
@@ -153,7 +152,7 @@ pub fn idle_rings_are_sound()
 
 /// Idle rings stay idle, until a write of a ring's own registers: whatever happens between two accesses,
 /// whatever is read or stored, and at a write of any other register, a reset among them. A write of a
-/// ring's registers leaves them idle where head equals tail behind it and both rings are apart, in memory.
+/// ring's registers leaves them idle where head equals tail after it and both rings are apart, in memory.
 /// So the conditions of the law hold in each state of initialisation up to the first slot offered.
 pub fn idle_rings_stay_idle()
     ensures happenings { HappeningsKeepIdle }
@@ -163,7 +162,7 @@ pub fn idle_rings_stay_idle()
     ensures writes { WritesKeepIdle }
 {}
 
-/// A driver may offer many receive slots by one write of RDT, where each could be offered behind the one
+/// A driver may offer many receive slots by one write of RDT, where each could be offered after the one
 /// before it.
 pub fn many_slots_can_be_offered()
     ensures { ManySlotsCanBeOffered }

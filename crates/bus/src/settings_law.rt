@@ -5,7 +5,7 @@ ghost use Rattle.bus.specs.Settings.{HappeningsLeaveSettings, SettingsJoin, Stay
 
 /// What a driver has set of an adapter, in its own registers of control, mask, filter, rings and packet
 /// buffer: whatever happens between two accesses leaves it; a write of any register, a reset among them,
-/// sets what it would set of an adapter at rest; and two stretches set what they set together. RCTL.EN stays
+/// sets what it would set of an adapter at rest; and two intervals set what they set together. RCTL.EN stays
 /// 0 where it isn't written.
 pub fn writes_alone_set()
     ensures happenings { HappeningsLeaveSettings }

@@ -6,7 +6,7 @@ ghost use Rattle.bus.specs.TrailCauses.{CausesAreThoseOfSteps, MasksStay, Record
 ghost use Rattle.bus.specs.TrailFaults.{FaultsStay, RunningEnginesMetNoFault};
 
 /// A fault stays visible until the next reset.
-/// - `stays`: behind any steps, deliveries and accesses without a reset, an engine that was stopped is
+/// - `stays`: after any steps, deliveries and accesses without a reset, an engine that was stopped is
 ///   still stopped.
 /// - `none`: where both engines run there, no answer of a step was a fault.
 pub fn faults_stay_visible()
@@ -14,12 +14,12 @@ pub fn faults_stay_visible()
     ensures none { RunningEnginesMetNoFault }
 {}
 
-/// Which interrupt causes are recorded, and which are in the mask, behind any steps, deliveries and
+/// Which interrupt causes are recorded, and which are in the mask, after any steps, deliveries and
 /// accesses.
 /// - `recorded`: those that were recorded, and those that each step and each delivery records, where no
 ///   access reads or writes ICR, writes ICS or resets.
 /// - `mask`: the mask stays, where no access writes IMS or IMC or resets.
-/// - `stay`: a cause that a step or a delivery records is recorded at the end, where no access behind it
+/// - `stay`: a cause that a step or a delivery records is recorded at the end, where no access after it
 ///   reads or writes ICR, writes ICS or resets.
 pub fn causes_are_those_of_steps()
     ensures recorded { CausesAreThoseOfSteps }

@@ -1,4 +1,4 @@
--- A ring of descriptors as its registers tell it ("13.4.25 Receive Descriptor Base Address Low" and its neighbours up to
+-- A ring of descriptors as its registers define it ("13.4.25 Receive Descriptor Base Address Low" and its neighbours up to
 -- "13.4.29 Receive Descriptor Tail", "13.4.36 Transmit Descriptor Base Address Low" up to "13.4.40 Transmit Descriptor
 -- Tail" of Intel's manual). Slots are numbered from 0.
 use Rattle.std.specs.Prelude.{◌≡◌, ◌<◌, ◌+◌, ◌-◌, ◌*◌, ◌/◌, ◌%◌, ℕ, zero, suc, min, List, [], ◌∷◌, ◌++◌, length}
@@ -16,7 +16,7 @@ pub record HasValidIndices (ring : Ring) : Type 0 where
   -- tail is the index of a slot
   pub tail : ring.tail < count_of ring
 
--- The slot behind an index; behind the last one stands the first.
+-- The slot after an index; after the last one, the first.
 abbrev pub next_of : Ring → ℕ → ℕ
 next_of ring index = (index + 1) % count_of ring
 
@@ -40,7 +40,7 @@ offered_places ring = slots_from (count_of ring) ring.head (distance_of ring rin
 
 -- Laws of rings whose head and tail are slots.
 
--- Where head differs from tail, the slot at the head comes first, and then those behind it.
+-- Where head differs from tail, the slot at the head comes first, and then those after it.
 abbrev pub OfferedBeginAtHead : Type 0
 OfferedBeginAtHead = (ring : Ring) → HasValidIndices ring → ¬ (ring.head ≡ ring.tail)
     → offered_places ring ≡ ring.head ∷ offered_places (record ring { head = next_of ring ring.head })
@@ -53,7 +53,7 @@ NoneIsOffered = (ring : Ring) → ring.head ≡ ring.tail → offered_places rin
 abbrev pub OfferedAreDistance : Type 0
 OfferedAreDistance = (ring : Ring) → length (offered_places ring) ≡ distance_of ring ring.head ring.tail
 
--- Where the slot behind tail isn't the head, moving tail on by one gives the slot at the old tail to the adapter, as the
+-- Where the slot after tail isn't the head, moving tail on by one gives the slot at the old tail to the adapter, as the
 -- last one.
 abbrev pub OfferedGrowAtTail : Type 0
 OfferedGrowAtTail =

@@ -6,14 +6,14 @@ use Rattle.std.proofs.Math.Nat.{mod-eq_of_lt, mod_self, add-mod_left}
 use Rattle.descriptors.specs.Ring.{count_of, distance_of, slots_from, offered_places, OfferedBeginAtHead, NoneIsOffered, OfferedAreDistance}
 use Rattle.descriptors.specs.Ring.{OfferedGrowAtTail}
 
--- The slot behind an index, where it isn't the last one, and where it is.
+-- The slot after an index, where it isn't the last one, and where it is.
 pub next-inner : (n i : ℕ) → i + 1 < n → (i + 1) % n ≡ i + 1
 next-inner n i inner = mod-eq_of_lt inner
 
 pub next-last : (n i : ℕ) → i + 1 ≡ n → (i + 1) % n ≡ 0
 next-last n i last = ap (λ (k : ℕ). k % n) last ∙ mod_self n
 
--- The slot behind a slot is a slot.
+-- The slot after a slot is a slot.
 pub next-below : (n i : ℕ) → i < n → (i + 1) % n < n
 next-below n i slot = mod_below (i + 1) n (omega arith)
 
@@ -47,7 +47,7 @@ distance-step n from to slot_from slot_to apart =
     (omega arith))
     (cases_lt to from)
 
--- To a slot behind another it is one more.
+-- To a slot after another it is one more.
 pub distance-grows : (n from to : ℕ) → from < n → to < n → ¬ ((to + 1) % n ≡ from)
     → ((to + 1) % n + n - from) % n ≡ suc ((to + n - from) % n)
 distance-grows n from to slot_from slot_to apart =
@@ -71,7 +71,7 @@ pub length-slots_from : (n index k : ℕ) → length (slots_from n index k) ≡ 
 length-slots_from n index zero = refl
 length-slots_from n index (suc k) = ap suc (length-slots_from n ((index + 1) % n) k)
 
--- The slot so many places behind an index.
+-- The slot this number of places after an index.
 abbrev pub place : ℕ → ℕ → ℕ → ℕ
 place n index zero = index
 place n index (suc k) = place n ((index + 1) % n) k
@@ -81,7 +81,7 @@ pub slots_from-push : (n index k : ℕ) → slots_from n index (suc k) ≡ slots
 slots_from-push n index zero = refl
 slots_from-push n index (suc k) = ap (λ (slots : List ℕ). index ∷ slots) (slots_from-push n ((index + 1) % n) k)
 
--- The slot as many places behind one slot as it is to another is that other.
+-- The slot as many places after one slot as it is to another is that other.
 pub place-distance : (n k from to : ℕ) → from < n → to < n → (to + n - from) % n ≡ k → place n from k ≡ to
 place-distance n zero from to slot_from slot_to none =
     ⊎_elim

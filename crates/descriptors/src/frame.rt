@@ -20,7 +20,7 @@ pub const LONGEST_SENDABLE: usize = LONGEST_LEGAL;
 
 /// An Ethernet frame of at most 1,518 bytes: destination address to end of data, without the check sequence.
 ///
-/// Its bytes lie in the value itself, so no call takes memory.
+/// Its bytes are in the value itself, so no call allocates.
 #[derive(Debug, Drop, PartialEq, Eq)]
 pub struct Frame {
     bytes: ArrayVec<u8, LONGEST_LEGAL>,
@@ -63,7 +63,7 @@ impl Frame {
         frame
     }
 
-    /// The frame of these bytes, or `None` exactly where there are more than 1,518.
+    /// The frame of these bytes, or `None` exactly if there are more than 1,518.
     pub fn try_from_slice(bytes: &[u8]) -> Option<Frame>
         ensures fits { IsSome result ↔ (length bytes.now ≤ 1518) }
         ensures value { IfSome result (λ frame. frame ≡ bytes.now) }

@@ -22,7 +22,7 @@ pub fn transmit_descriptors_come_back()
 {}
 
 /// Laws of rings whose head and tail are slots: the slots that the adapter owns begin at the head, and are those
-/// behind it once head moves on; there are none where head equals tail, and else as many as it is from head to tail;
+/// after it once head moves on; there are none where head equals tail, and else as many as it is from head to tail;
 /// moving tail on gives the slot at the old tail to the adapter, as the last one.
 ///
 /// It does nothing: its contract is the laws.

@@ -6,7 +6,7 @@ const DESCRIPTOR_BYTES: u32 = 16;
 /// How many descriptors an index of 16 bits reaches.
 const MOST_INDEXED: u32 = 1 << 16;
 
-/// A ring of descriptors as its registers tell it: base address, length, head and tail (Intel's manual, "13.4.25
+/// A ring of descriptors as its registers define it: base address, length, head and tail (Intel's manual, "13.4.25
 /// Receive Descriptor Base Address Low" up to "13.4.29 Receive Descriptor Tail", and the same of transmit
 /// descriptors).
 ///
@@ -19,7 +19,7 @@ pub struct Ring {
     pub bytes: u32,
     /// The slot that the adapter uses next.
     pub head: u16,
-    /// The slot behind the last one that the adapter owns.
+    /// The slot after the last one that the adapter owns.
     pub tail: u16,
 }
 
@@ -42,7 +42,7 @@ impl Ring {
         (self.head as u32) < count && (self.tail as u32) < count
     }
 
-    /// The slot behind this one; behind the last one stands the first.
+    /// The next slot; after the last one, the first.
     pub fn next(&self, index: u16) -> u16
         requires { index < count_of self.now }
         ensures { result ≡ next_of self.now index }
@@ -64,7 +64,7 @@ impl Ring {
         }
     }
 
-    /// Where the descriptor of a slot stands in memory, or `None` exactly where that is no address of 64 bits:
+    /// Where the descriptor of a slot stands in memory, or `None` exactly if that is no address of 64 bits:
     /// addresses don't wrap.
     pub fn descriptor(&self, index: u16) -> Option<u64>
         ensures in_range { IsSome result ↔ (address_of self.now index < 2 ^ 64) }

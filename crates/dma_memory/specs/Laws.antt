@@ -70,7 +70,7 @@ bytes_at-before memory (x ∷ xs) address i n fits before =
     ∙ sym (bytes_at-front (take address memory) (drop address memory) i n (omega (arith, len)))
     ∙ ap (λ (m : List ℕ). bytes_at m i n) (take-append-drop address memory)
 
--- The bytes behind what was stored stay.
+-- A store doesn't change the bytes after it.
 pub bytes_at-after : (memory bytes : List ℕ) (address i n : ℕ) → LiesIn memory address (length bytes) → address + length bytes ≤ i
     → bytes_at (with_bytes memory address bytes) i n ≡ bytes_at memory i n
 bytes_at-after memory [] address i n fits after = ap (λ (m : List ℕ). bytes_at m i n) (with_bytes-none memory address)
@@ -105,7 +105,7 @@ adjacent memory first second address fits =
     drop-drop (length second) (address + length first) memory ∙ ap (λ (i : ℕ). drop i memory) (omega (arith, length-append first second)) in
     rw (kept, behind, both, append_assoc (take address memory) first second) refl
 
--- Two stores, the second right behind the first, are one.
+-- Two stores, the second right after the first, are one.
 pub with_bytes-adjacent : (memory first second : List ℕ) (address : ℕ) → LiesIn memory address (length (first ++ second))
     → with_bytes (with_bytes memory address first) (address + length first) second ≡ with_bytes memory address (first ++ second)
 with_bytes-adjacent memory [] second address fits =
@@ -114,7 +114,7 @@ with_bytes-adjacent memory [] second address fits =
     ∙ ap (λ (m : List ℕ). with_bytes m address second) (with_bytes-none memory address)
 with_bytes-adjacent memory (x ∷ xs) second address fits = adjacent memory (x ∷ xs) second address (omega arith)
 
--- So many bytes that lie in the memory are so many.
+-- `load` of n bytes inside memory returns n bytes.
 pub length-bytes_at : (memory : List ℕ) (address n : ℕ) → LiesIn memory address n → length (bytes_at memory address n) ≡ n
 length-bytes_at memory address n fits = length-take-le n (drop address memory) (omega (arith, length-drop address memory))
 
@@ -129,7 +129,7 @@ pub bytes_at-parts : (memory : List ℕ) (address n k : ℕ)
 bytes_at-parts memory address n k = take-add n k (drop address memory)
     ∙ ap (λ (xs : List ℕ). bytes_at memory address n ++ take k xs) (drop-drop n address memory)
 
--- So many bytes lie in a memory exactly where each of them does.
+-- So many bytes lie in a memory exactly if each of them does.
 pub LiesIn-each : (memory : List ℕ) (address n : ℕ) → LiesIn memory address n → (i : ℕ) → i < n → address + i < length memory
 LiesIn-each memory address n lies i below = omega arith
 

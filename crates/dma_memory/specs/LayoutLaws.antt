@@ -1,4 +1,4 @@
--- The places of a layout are apart, and lie in the memory that it needs.
+-- The places of a layout don't overlap, and are inside the memory that it needs.
 use Rattle.std.proofs.Common.{◌≢◌, ◌+◌, ◌*◌, inl, inr, ℕ, refl, ap, arith}
 use Rattle.std.proofs.lemmas.Bool.{cases_lt}
 use Rattle.dma_memory.specs.Areas.{area_at, AreApart}

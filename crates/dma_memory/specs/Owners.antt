@@ -1,4 +1,4 @@
--- Who owns which number (our choice). An owner's numbers are a list, those of several owners their lists one behind the other,
+-- Who owns which number (our choice). An owner's numbers are a list, those of several owners their lists one after the other,
 -- and a number has as many owners as it has places there.
 use Rattle.std.specs.Prelude.{◌≡◌, ◌≤◌, ◌<◌, ◌+◌, ◌↔◌, ◌==◌, ◌++◌, ◌∷◌, ℕ, List, Some, length, count_by, nat_lt, slice_get, if◌then◌else◌}
 

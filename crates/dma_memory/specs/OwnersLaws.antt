@@ -45,14 +45,14 @@ copies-cons k x xs = sum_by-cons (λ y. if k == y then 1 else 0) x xs
 pub copies-itself : (k : ℕ) (xs : List ℕ) → copies k (k ∷ xs) ≡ 1 + copies k xs
 copies-itself k xs = omega (arith, copies-cons k k xs, if_same-yes k k refl)
 
--- A number behind a list.
+-- A number after a list.
 pub copies-push : (k x : ℕ) (xs : List ℕ) → copies k (xs ++ x ∷ []) ≡ copies k xs + if_same k x
 copies-push k x xs = sum_by_push (λ y. if k == y then 1 else 0) xs x
 
 pub copies-last : (k : ℕ) (xs : List ℕ) → copies k (xs ++ k ∷ []) ≡ copies k xs + 1
 copies-last k xs = omega (arith, copies-push k k xs, if_same-yes k k refl)
 
--- One list behind the other.
+-- One list after the other.
 pub copies-append : OwnersAddUp
 copies-append k xs ys = sum_by-append (λ y. if k == y then 1 else 0) xs ys
 

@@ -3,7 +3,7 @@ use Rattle.std.specs.Prelude.{◌≡◌, ◌<◌, ◌+◌, ◌↔◌, ◌++◌, 
 use Rattle.dma_memory.specs.HostMemory.{bytes_at, with_bytes, LiesIn}
 use Rattle.dma_memory.specs.Areas.{Area, area_at, bytes_in, AreApart}
 
--- So many bytes lie in a memory exactly where the address of each is below its size.
+-- So many bytes lie in a memory exactly if the address of each is below its size.
 abbrev pub LieWhereEachLies : Type 0
 LieWhereEachLies = (memory : List ℕ) (address n : ℕ) → LiesIn memory address n ↔ ((i : ℕ) → i < n → address + i < length memory)
 
@@ -22,7 +22,7 @@ abbrev pub OthersStay : Type 0
 OthersStay = (memory bytes : List ℕ) (address : ℕ) (other : Area) → LiesIn memory address (length bytes)
     → AreApart (area_at address (length bytes)) other → bytes_in (with_bytes memory address bytes) other ≡ bytes_in memory other
 
--- Two stores, the second right behind the first, are one.
+-- Two stores, the second right after the first, are one.
 abbrev pub AdjacentStoresAreOne : Type 0
 AdjacentStoresAreOne = (memory first second : List ℕ) (address : ℕ) → LiesIn memory address (length (first ++ second))
     → with_bytes (with_bytes memory address first) (address + length first) second ≡ with_bytes memory address (first ++ second)

@@ -32,7 +32,7 @@ impl HostMemory {
     ///
     /// # Errors
     ///
-    /// Want of memory alone.
+    /// Only if memory is refused.
     pub fn new(alloc: Global, size: u64) -> Result<HostMemory, AllocError>
         ensures zeros { IfOk result (λ memory. memory ≡ replicate size 0) }
     {
@@ -59,7 +59,7 @@ impl HostMemory {
     ///
     /// # Errors
     ///
-    /// E1 [`OutOfRange`] exactly where one of these bytes doesn't lie below the size; `into` is then
+    /// E1 [`OutOfRange`] exactly if one of these bytes doesn't lie below the size; `into` is then
     /// as it was.
     pub fn load(&self, address: u64, into: &mut [u8]) -> Result<(), OutOfRange>
         ensures in_range { IsOk result ↔ LiesIn self.now address (length into.old) }
@@ -75,7 +75,7 @@ impl HostMemory {
     ///
     /// # Errors
     ///
-    /// E1 [`OutOfRange`] exactly where one of these bytes doesn't lie below the size; the memory is
+    /// E1 [`OutOfRange`] exactly if one of these bytes doesn't lie below the size; the memory is
     /// then as it was.
     pub fn store(&mut self, address: u64, bytes: &[u8]) -> Result<(), OutOfRange>
         ensures in_range { IsOk result ↔ LiesIn self.old address (length bytes.now) }
@@ -96,7 +96,7 @@ impl HostMemory {
     ///
     /// # Errors
     ///
-    /// E1 [`OutOfRange`] exactly where one of these bytes doesn't lie below the size.
+    /// E1 [`OutOfRange`] exactly if one of these bytes doesn't lie below the size.
     pub fn view(&self, address: u64, count: usize) -> Result<&[u8], OutOfRange>
         ensures in_range { IsOk result ↔ LiesIn self.now address count }
         ensures viewed { IfOk result (λ bytes. bytes.now ≡ bytes_at self.now address count) }

@@ -4,7 +4,7 @@ ghost use Rattle.dma_memory.specs.Owners.{OneOwnerCounts, NoSecondOwnerBounds, M
 ghost use Rattle.dma_memory.specs.Stores.{LieWhereEachLies, StoreKeepsSize, StoredIsLoaded, OthersStay};
 ghost use Rattle.dma_memory.specs.Stores.{AdjacentStoresAreOne, StoreOfNoneStays};
 
-/// Laws of memory, over all memories, addresses and bytes: bytes lie in it exactly where each of them lies below its
+/// Laws of memory, over all memories, addresses and bytes: bytes lie in it exactly if each of them lies below its
 /// size; a store keeps the size; what was stored is what is loaded; all other bytes stay; two stores side by side are
 /// one; a store of no bytes changes nothing, whatever its address.
 ///

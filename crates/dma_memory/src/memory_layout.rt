@@ -82,8 +82,8 @@ impl Layout {
     ///
     /// # Errors
     ///
-    /// E2 [`RingSize`](LayoutError::RingSize) exactly where `rx` or `tx` isn't a multiple of 8 from 8 to 4,096, and
-    /// otherwise E3 [`BufferCount`](LayoutError::BufferCount) exactly where `buffers` is below `rx` or above 8,192.
+    /// E2 [`RingSize`](LayoutError::RingSize) exactly if `rx` or `tx` isn't a multiple of 8 from 8 to 4,096, and
+    /// otherwise E3 [`BufferCount`](LayoutError::BufferCount) exactly if `buffers` is below `rx` or above 8,192.
     pub fn of(rx: u16, tx: u16, buffers: u16) -> Result<Layout, LayoutError>
         ensures allowed { IsOk result ↔ IsAllowed (record { rx = rx; tx = tx; buffers = buffers }) }
         ensures counts { IfOk result (λ layout. layout ≡ record { rx = rx; tx = tx; buffers = buffers }) }

@@ -55,7 +55,7 @@ impl Pool {
     ///
     /// # Errors
     ///
-    /// Want of memory alone.
+    /// Only if memory is refused.
     pub fn new(alloc: Global, buffers: u16) -> Result<Pool, AllocError>
         ensures buffers { IfOk result (λ pool. pool.buffers ≡ buffers) }
         ensures all_in { IfOk result (λ pool. HasOneOwner buffers pool.free) }
@@ -82,7 +82,7 @@ impl Pool {
         self.free.is_empty()
     }
 
-    /// Takes a number out of the pool; `None` exactly where the pool is empty. Which of its numbers that is, is left
+    /// Takes a number out of the pool; `None` exactly if the pool is empty. Which of its numbers that is, is left
     /// open.
     pub fn take(&mut self) -> Option<BufId>
         ensures none { IsNone result ↔ (self.old.free ≡ []) }

@@ -15,7 +15,7 @@ abbrev pub after_operation : List ℕ → Operation → ReadState → ReadState
 after_operation words (Write value) = after_write value
 after_operation words Tick = after_tick words
 
--- The register behind a list of operations, the oldest first, by the steps of the calls.
+-- The register after a list of operations, the oldest first, by the steps of the calls.
 abbrev pub after_all : List ℕ → List Operation → ReadState → ReadState
 after_all words [] state = state
 after_all words (operation ∷ later) state = after_all words later (after_operation words operation state)
@@ -40,7 +40,7 @@ NoTick operations = list_any is_tick operations ≡ false
 abbrev pub HasTick : List Operation → Type 0
 HasTick operations = IsTrue (list_any is_tick operations)
 
--- What a register that was new reads behind a list of operations.
+-- What a register that was new reads after a list of operations.
 abbrev pub reads_after : List ℕ → List Operation → ℕ
 reads_after words operations = shown (after_all words operations Idle)
 
@@ -49,11 +49,11 @@ reads_after words operations = shown (after_all words operations Idle)
 pub record AnswersByHistory : Type 0 where
   -- Without a write with START the register reads 0.
   pub never_asked : (words : List ℕ) (all : List Operation) → NoStart all → reads_after words all ≡ 0
-  -- Behind the last write with START, and no tick yet, it reads that write's ADDR in its place.
+  -- After the last write with START, and no tick yet, it reads that write's ADDR in its place.
   pub no_tick_yet : (words : List ℕ) (before : List Operation) (value : ℕ) (after : List Operation) → IsTrue (has_start value)
       → NoStart after → NoTick after
       → reads_after words (before ++ Write value ∷ after) ≡ shown_before (addr value)
-  -- Behind the last write with START and a tick, it reads the word at that write's ADDR, the ADDR, and DONE.
+  -- After the last write with START and a tick, it reads the word at that write's ADDR, the ADDR, and DONE.
   pub ticked : (words : List ℕ) (before : List Operation) (value : ℕ) (after : List Operation) → IsTrue (has_start value) → NoStart after
       → HasTick after
       → reads_after words (before ++ Write value ∷ after) ≡ shown_after (addr value) (word_at words (addr value))

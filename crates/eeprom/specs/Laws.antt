@@ -8,7 +8,7 @@ use Rattle.eeprom.specs.Image.{word_at}
 use Rattle.eeprom.specs.Eerd.{has_start, addr, after_write, shown}
 use Rattle.eeprom.specs.History.{Operation, Write, Tick, after_operation, after_all, is_start, NoStart, NoTick, HasTick, AnswersByHistory}
 
--- one list of operations behind another
+-- one list of operations after another
 pub after_all-append : (words : List ℕ) (before after : List Operation) (state : ReadState)
     → after_all words (before ++ after) state ≡ after_all words after (after_all words before state)
 after_all-append words [] after state = refl
@@ -57,7 +57,7 @@ ends_pending words (Write value ∷ all) address none ticks =
     ap (after_all words all) (after_write-no_start value (Pending address) parts.0) ∙ ends_pending words all address parts.1 ticks
 ends_pending words (Tick ∷ all) address none ticks = stays_done words all address (word_at words address) none
 
--- the register behind a write with START and what came after it
+-- the register after a write with START and what came after it
 pub after_all-start : (words : List ℕ) (before : List Operation) (value : ℕ) (after : List Operation) → has_start value ≡ true
     → after_all words (before ++ Write value ∷ after) Idle ≡ after_all words after (Pending (addr value))
 after_all-start words before value after starts =

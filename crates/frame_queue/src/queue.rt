@@ -59,7 +59,7 @@ impl FrameQueue {
     ///
     /// # Errors
     ///
-    /// Want of memory alone.
+    /// Only if memory is refused.
     #[tactic(auto, unfolding(crate::specs::Places::frames_from))]
     pub fn new(alloc: Global, capacity: u8) -> Result<FrameQueue, AllocError>
         ensures empty { IfOk result (λ queue. queue ≡ record { capacity = capacity; frames = [] }) }
@@ -101,7 +101,7 @@ impl FrameQueue {
         self.lengths.is_full()
     }
 
-    /// The oldest frame, where it stands; `None` exactly where the queue is empty.
+    /// The oldest frame, where it stands; `None` exactly if the queue is empty.
     pub fn front(&self) -> Option<&[u8]>
         ensures none { IsNone result ↔ (self.now.frames ≡ []) }
         ensures oldest { IfSome result (λ frame. slice_get self.now.frames 0 ≡ Some frame.now) }
@@ -112,7 +112,7 @@ impl FrameQueue {
         Some(&self.bytes.as_slice()[start..start + length])
     }
 
-    /// Puts a frame behind the others. The queue isn't full, and the frame has at most 1,518 bytes.
+    /// Puts a frame after the others. The queue isn't full, and the frame has at most 1,518 bytes.
     pub fn push(&mut self, frame: &[u8])
         requires room { length self.old.frames < self.old.capacity }
         requires fits { length frame.now ≤ PLACE_BYTES }
@@ -121,7 +121,7 @@ impl FrameQueue {
         self.push_padded(frame, 0);
     }
 
-    /// Puts a frame behind the others, followed by zeros where it has less than `least` bytes, up to that length. The
+    /// Puts a frame after the others, followed by zeros where it has less than `least` bytes, up to that length. The
     /// queue isn't full, and neither the frame nor `least` is above 1,518 bytes.
     pub fn push_padded(&mut self, frame: &[u8], least: usize)
         requires room { length self.old.frames < self.old.capacity }

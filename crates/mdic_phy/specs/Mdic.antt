@@ -101,7 +101,7 @@ has_work mdic state = phy.is_counting state || is_some mdic.pending
 abbrev pub tells_end : MdicState → Bool
 tells_end mdic = is_some mdic.pending && is_set mdic.value mdic_i
 
--- What a tick gives the adapter to record: the cause LSC where the link comes up, and the cause MDAC.
+-- What a tick gives the adapter to record: the cause LSC where the link is up, and the cause MDAC.
 abbrev pub told : MdicState → PhyState → Option Ticked
 told mdic state =
     if has_work mdic state

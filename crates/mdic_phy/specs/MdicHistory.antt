@@ -26,12 +26,12 @@ abbrev pub after_mdic_event : MdicEvent → MdicAndPhy → MdicAndPhy
 after_mdic_event (Write value) both = record { mdic = after_write value; phy = both.phy }
 after_mdic_event Tick both = record { mdic = mdic_after_tick both.mdic both.phy; phy = phy_after_tick both.mdic both.phy }
 
--- The two behind a list of events, the oldest first, by the steps of the calls.
+-- MDIC and the PHY after a list of events, the oldest first, by the steps of the calls.
 abbrev pub after_mdic_events : List MdicEvent → MdicAndPhy → MdicAndPhy
 after_mdic_events [] both = both
 after_mdic_events (event ∷ later) both = after_mdic_events later (after_mdic_event event both)
 
--- A register that was new, and a PHY that stood so, behind a list of events.
+-- A new register, and this PHY, after a list of events.
 abbrev pub both_behind : PhyState → List MdicEvent → MdicAndPhy
 both_behind state events = after_mdic_events events (record { mdic = new_mdic; phy = state })
 
@@ -41,8 +41,8 @@ access_of None value = []
 access_of (Some operation.Write) value = if reaches_phy value then phy.Write (regadd value) (data_of value) ∷ [] else []
 access_of (Some operation.Read) value = if reaches_phy value then phy.Read (regadd value) ∷ [] else []
 
--- What comes to the PHY: each tick, and behind it the access of the write that stands right before that tick. A
--- write with another one behind it, or with no tick yet, comes to nothing.
+-- What comes to the PHY: each tick, and after it the access of the write that stands right before that tick. A
+-- write with another one after it, or with no tick yet, comes to nothing.
 abbrev pub accesses : List MdicEvent → List PhyEvent
 accesses [] = []
 accesses (Tick ∷ later) = phy.Tick ∷ accesses later
@@ -61,7 +61,7 @@ is_write Tick = false
 abbrev pub NoWrite : List MdicEvent → Type 0
 NoWrite events = list_any is_write events ≡ false
 
--- What MDIC reads behind a list of events.
+-- What MDIC reads after a list of events.
 abbrev pub mdic_reads : PhyState → List MdicEvent → ℕ
 mdic_reads state events = (both_behind state events).mdic.value
 
@@ -69,7 +69,7 @@ mdic_reads state events = (both_behind state events).mdic.value
 abbrev pub ticked_phy : PhyState → List MdicEvent → PhyState
 ticked_phy state events = after_events (accesses events ++ phy.Tick ∷ []) state
 
--- What a tick gives the adapter to record, behind a list of events.
+-- What a tick gives the adapter to record, after a list of events.
 abbrev pub told_behind : PhyState → List MdicEvent → Option Ticked
 told_behind state events = told (both_behind state events).mdic (both_behind state events).phy
 
@@ -93,7 +93,7 @@ pub record ToldByHistory : Type 0 where
       → told_behind state (before ++ Write value ∷ [])
       ≡ Some (record { link_changed = comes_up (phy_of state (before ++ Write value ∷ [])); access_complete = is_set value mdic_i })
 
--- What MDIC reads follows from the last write, from whether a tick came behind it, and from what the PHY's register
+-- What MDIC reads follows from the last write, from whether a tick came after it, and from what the PHY's register
 -- was at that tick (manual, 13.4.7). Commands of writes before the last have no part in it.
 pub record MdicByHistory : Type 0 where
   -- Without a write it reads 0.
@@ -104,7 +104,7 @@ pub record MdicByHistory : Type 0 where
   pub no_command : (state : PhyState) (before : List MdicEvent) (value : ℕ) (after : List MdicEvent) → operation_of value ≡ None
       → NoWrite after
       → mdic_reads state (before ++ Write value ∷ after) ≡ kept value
-  -- Behind a tick, a write command has R set;
+  -- After a tick, a write command has R set;
   pub written : (state : PhyState) (before : List MdicEvent) (value : ℕ) (after : List MdicEvent)
       → operation_of value ≡ Some operation.Write → phyadd value ≡ 1 → NoWrite after
       → mdic_reads state (before ++ Write value ∷ Tick ∷ after) ≡ with_ready (kept value)

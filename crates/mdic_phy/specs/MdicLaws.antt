@@ -102,7 +102,7 @@ value-stays [] value s none = refl
 value-stays (Tick ∷ later) value s none = value-stays later value (after_tick s) none
 value-stays (Write written ∷ later) value s none = absurd (true≢false none)
 
--- the register behind its last write
+-- the register after its last write
 pub reads-behind : (state : PhyState) (before after : List MdicEvent)
     → mdic_reads state (before ++ after) ≡ (after_mdic_events after (both_behind state before)).mdic.value
 reads-behind state before after = ap (λ (both : MdicAndPhy). both.mdic.value)
@@ -112,7 +112,7 @@ reads-behind state before after = ap (λ (both : MdicAndPhy). both.mdic.value)
 phy-ticked : (s : PhyState) (before : List MdicEvent) → after_tick (both_behind s before).phy ≡ ticked_phy s before
 phy-ticked s before = ap after_tick (accesses_by_history s before) ∙ sym (after_events-append (accesses before) (phy.Tick ∷ []) s)
 
--- the register behind a write and a tick
+-- the register after a write and a tick
 pub reads-ended : (s : PhyState) (before : List MdicEvent) (value : ℕ) (after : List MdicEvent) → NoWrite after
     → mdic_reads s (before ++ Write value ∷ Tick ∷ after) ≡ ended (operation_of value) (kept value) (ticked_phy s before)
 reads-ended s before value after none =

@@ -8,10 +8,10 @@ use Rattle.mdic_phy.specs.declared.phy.Negotiation.{Negotiation}
 use Rattle.mdic_phy.specs.declared.phy.Negotiation.TheVariants.{NotStarted, Running, Complete}
 use Rattle.mdic_phy.specs.Places.{control_enable, control_reset, control_restart, status_complete, status_link}
 
--- What a PHY knows: when its link comes up, whether negotiation is enabled (register 0, bit 12), how far
+-- What a PHY knows: when its link is up, whether negotiation is enabled (register 0, bit 12), how far
 -- negotiation stands, and whether the link status (register 1, bit 2) is latched low.
 pub record PhyState : Type 0 where
-  -- when the link comes up
+  -- when the link is up
   pub link : Link
   -- whether negotiation is enabled (register 0, bit 12)
   pub negotiation_enabled : Bool
@@ -31,7 +31,7 @@ is_complete NotStarted = false
 is_complete (Running left) = false
 is_complete Complete = true
 
--- The link is up exactly where negotiation is complete (our choice).
+-- The link is up exactly if negotiation is complete (our choice).
 abbrev pub link_is_up : PhyState → Bool
 link_is_up phy = is_complete phy.negotiation
 
@@ -40,13 +40,13 @@ abbrev pub negotiation_of : Link → Negotiation
 negotiation_of (After ticks) = Running ticks
 negotiation_of Never = NotStarted
 
--- Negotiation starts anew: the link goes down, and its status is latched low (22.2.4.1, "Restart Auto-Negotiation"; 22.2.4.2, "Link
+-- Negotiation restarts: the link goes down, and its status is latched low (22.2.4.1, "Restart Auto-Negotiation"; 22.2.4.2, "Link
 -- Status").
 abbrev pub restarted : PhyState → PhyState
 restarted phy = record phy { negotiation = negotiation_of phy.link; latched_low = true }
 
 -- A write of register 0 (22.2.4.1): bit 15 resets the PHY, and nothing else happens (our choice); else bit 12 is kept,
--- and with it bit 9 starts negotiation anew; bit 9 without bit 12 does nothing.
+-- and with it bit 9 restarts negotiation; bit 9 without bit 12 does nothing.
 abbrev pub after_control : ℕ → PhyState → PhyState
 after_control value phy =
     if is_set value control_reset then new_phy phy.link else

@@ -25,7 +25,7 @@ abbrev pub after_events : List PhyEvent → PhyState → PhyState
 after_events [] phy = phy
 after_events (event ∷ later) phy = after_events later (after_event event phy)
 
--- A PHY that was new, behind a list of events.
+-- A PHY that was new, after a list of events.
 abbrev pub phy_behind : Link → List PhyEvent → PhyState
 phy_behind link events = after_events events (new_phy link)
 
@@ -65,7 +65,7 @@ takes_down event = is_reset event || is_restart event
 abbrev pub HasNo : (PhyEvent → Bool) → List PhyEvent → Type 0
 HasNo test events = list_any test events ≡ false
 
--- The link is up exactly where at least d ticks came since the write that last started negotiation, with no reset behind it.
+-- The link is up exactly if at least d ticks came since the write that last started negotiation, with no reset after it.
 pub record LinkByHistory : Type 0 where
   -- It is down where negotiation was never started,
   pub never_started : (link : Link) (all : List PhyEvent) → HasNo is_restart all → link_is_up (phy_behind link all) ≡ false
@@ -73,36 +73,36 @@ pub record LinkByHistory : Type 0 where
   pub reset : (link : Link) (before : List PhyEvent) (event : PhyEvent) (after : List PhyEvent) → IsTrue (is_reset event)
       → HasNo is_restart after
       → link_is_up (phy_behind link (before ++ event ∷ after)) ≡ false
-  -- from the last start on, if no reset came behind it, it is up once there were d ticks;
+  -- from the last start on, if no reset came after it, it is up once there were d ticks;
   pub started : (d : ℕ) (before : List PhyEvent) (event : PhyEvent) (after : List PhyEvent) → 1 ≤ d → IsTrue (is_restart event)
       → HasNo takes_down after
       → link_is_up (phy_behind (After d) (before ++ event ∷ after)) ≡ nat_le d (count_by is_tick after)
-  -- and a link that never comes up is down.
+  -- and a link that is never up is down.
   pub never : (all : List PhyEvent) → link_is_up (phy_behind Never all) ≡ false
 
--- What the status register reads behind a list of events.
+-- What the status register reads after a list of events.
 abbrev pub status_behind : Link → List PhyEvent → ℕ
 status_behind link events = read_value 1 (phy_behind link events)
 
--- The value where the link is up, and 0 where it is down.
+-- The value if the link is up, and 0 if it is down.
 abbrev pub where_up : Link → List PhyEvent → ℕ → ℕ
 where_up link events value = if link_is_up (phy_behind link events) then value else 0
 
--- A read of the status register has bit 2 exactly where the link is up, the register was read before, and neither a reset nor a
--- restart came since that read (22.2.4.2, "Link Status": latched low until read); and bit 5 exactly where the link is up.
+-- A read of the status register has bit 2 exactly if the link is up, the register was read before, and neither a reset nor a
+-- restart came since that read (22.2.4.2, "Link Status": latched low until read); and bit 5 exactly if the link is up.
 pub record LatchByHistory : Type 0 where
   -- The first read has no bit 2.
   pub never_read : (link : Link) (all : List PhyEvent) → HasNo is_status_read all → status_behind link all ≡ where_up link all link_unseen
-  -- A read has no bit 2 where a reset or a restart came and no read behind it.
+  -- A read has no bit 2 where a reset or a restart came and no read after it.
   pub taken_down : (link : Link) (before : List PhyEvent) (event : PhyEvent) (after : List PhyEvent) → IsTrue (takes_down event)
       → HasNo is_status_read after
       → status_behind link (before ++ event ∷ after) ≡ where_up link (before ++ event ∷ after) link_unseen
-  -- A read has bit 2, where the link is up, if a read came before it and neither a reset nor a restart behind that.
+  -- A read has bit 2, where the link is up, if a read came before it and neither a reset nor a restart after that.
   pub stayed : (link : Link) (before : List PhyEvent) (event : PhyEvent) (after : List PhyEvent) → IsTrue (is_status_read event)
       → HasNo takes_down after
       → status_behind link (before ++ event ∷ after) ≡ where_up link (before ++ event ∷ after) link_seen
 
--- What the control register reads behind a list of events.
+-- What the control register reads after a list of events.
 abbrev pub control_behind : Link → List PhyEvent → ℕ
 control_behind link events = read_value 0 (phy_behind link events)
 

@@ -19,7 +19,7 @@ use Rattle.mdic_phy.specs.WriteLaws.{latch-by_tests, latched-by_tests, still_lat
 use Rattle.mdic_phy.specs.WriteLaws.{enabled_stays-by_tests}
 use Rattle.mdic_phy.specs.Places.{control_enable, control_reset, control_restart}
 
--- one list of events behind another
+-- one list of events after another
 pub after_events-append : (before after : List PhyEvent) (phy : PhyState)
     → after_events (before ++ after) phy ≡ after_events after (after_events before phy)
 after_events-append [] after phy = refl
@@ -83,7 +83,7 @@ restart-after_event (Read register) phy is = absurd (false≢true is)
 restart-after_event (Write register value) phy is = restart-by_tests (register == 0) (is_set value control_reset)
     (is_set value control_enable) (is_set value control_restart) phy is
 
--- a link that never comes up
+-- a link that is never up
 pub never-after_event : (event : PhyEvent) (phy : PhyState) → phy.link ≡ Never → phy.negotiation ≡ NotStarted
     → (after_event event phy).negotiation ≡ NotStarted
 never-after_event Tick phy never idle = ap counted idle
@@ -277,7 +277,7 @@ enabled-after_events (event ∷ later) phy none =
     enabled-after_events later (after_event event phy) (later_fail is_control_write event later none)
     ∙ enabled-after_event event phy (first_fails is_control_write event later none)
 
--- bit 12 behind the last write of the control register
+-- bit 12 after the last write of the control register
 enabled-behind : (link : Link) (before : List PhyEvent) (value : ℕ) (after : List PhyEvent) → HasNo is_control_write after
     → (phy_behind link (before ++ Write 0 value ∷ after)).negotiation_enabled
     ≡ cond (is_set value control_reset) true (is_set value control_enable)

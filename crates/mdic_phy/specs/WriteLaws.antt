@@ -18,7 +18,7 @@ pub after_write-by_tests : (register value : ℕ) (phy : PhyState)
     ≡ by_tests (register == 0) (is_set value control_reset) (is_set value control_enable) (is_set value control_restart) phy
 after_write-by_tests register value phy = refl
 
--- whether it resets, and whether it starts negotiation anew
+-- whether it resets, and whether it restarts negotiation
 abbrev pub resets : Bool → Bool → Bool
 resets control reset = control && reset
 
@@ -92,7 +92,7 @@ still_latched-by_tests true false true true phy was = refl
 still_latched-by_tests true false true false phy was = was
 still_latched-by_tests true false false a phy was = was
 
--- a link that never comes up
+-- a link that is never up
 pub never-by_tests : (c r e a : Bool) (phy : PhyState) → phy.link ≡ Never → phy.negotiation ≡ NotStarted
     → (by_tests c r e a phy).negotiation ≡ NotStarted
 never-by_tests false r e a phy never idle = idle

@@ -4,14 +4,14 @@ ghost use Rattle.mdic_phy.specs.MdicHistory.{AccessesByHistory, MdicByHistory, T
 ghost use Rattle.mdic_phy.specs.PhyHistory.{ControlByHistory, LatchByHistory, LinkByHistory};
 
 /// When the link is up, by the history alone: at least d ticks came since the write that last
-/// started negotiation, with no reset behind it; and never, where the link never comes up.
+/// started negotiation, with no reset after it; and never, where the link is never up.
 pub fn link_by_history()
     ensures { LinkByHistory }
 {}
 
-/// What the status register reads, by the history alone: bit 2 exactly where the link is up, the
+/// What the status register reads, by the history alone: bit 2 exactly if the link is up, the
 /// register was read before, and neither a reset nor a restart came since that read; and bit 5
-/// exactly where the link is up.
+/// exactly if the link is up.
 pub fn latch_by_history()
     ensures { LatchByHistory }
 {}
@@ -22,14 +22,14 @@ pub fn control_by_history()
     ensures { ControlByHistory }
 {}
 
-/// What comes to the PHY, by the history of MDIC alone: each tick, and behind it the access of
-/// the command that was written right before that tick. A write with another one behind it
+/// What comes to the PHY, by the history of MDIC alone: each tick, and after it the access of
+/// the command that was written right before that tick. A write with another one after it
 /// comes to nothing.
 pub fn accesses_by_history()
     ensures { AccessesByHistory }
 {}
 
-/// What MDIC reads, by its history alone: what was last written, whether a tick came behind it,
+/// What MDIC reads, by its history alone: what was last written, whether a tick came after it,
 /// and what the register of the PHY was at that tick.
 pub fn mdic_by_history()
     ensures { MdicByHistory }

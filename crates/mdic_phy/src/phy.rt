@@ -32,21 +32,21 @@ const RUNNING_TAG: u8 = 1;
 
 const COMPLETE_TAG: u8 = 2;
 
-/// When the link of a PHY comes up, once negotiation was started.
+/// How long negotiation takes until the link is up.
 #[derive(Clone, Copy, Debug, PartialEq, Eq)]
 pub enum Link {
-    /// After so many ticks of the PHY, 1 to 65,535. (0 acts as 1.)
+    /// After this number of ticks of the PHY, 1 to 65,535. (0 acts as 1.)
     After(u16),
     /// Never.
     Never,
 }
 
-/// How far negotiation stands. The link is up exactly where it is complete (our choice).
+/// How far negotiation stands. The link is up exactly if it is complete (our choice).
 #[derive(Clone, Copy, Debug, PartialEq, Eq)]
 pub enum Negotiation {
     /// It was not started since the PHY was new or reset, or it never ends.
     NotStarted,
-    /// It ends after so many ticks.
+    /// It ends after this number of ticks.
     Running(u16),
     /// It has ended, and the link is up.
     Complete,
@@ -90,7 +90,7 @@ impl Phy {
     ghost use Rattle.mdic_phy.specs.Hashed.{phy_writes};
     ghost use Rattle.mdic_phy.specs.Phy.{comes_up, is_counting};
 
-    /// A PHY without link, whose negotiation was not started. Its link comes up as `link` says.
+    /// A PHY without link, whose negotiation was not started. Its link is up after the ticks of `link`, or never.
     pub fn new(link: Link) -> Self
         ensures { result ≡ new_phy link }
     {
@@ -198,7 +198,7 @@ fn feed_negotiation<H: Hasher>(negotiation: Negotiation, hasher: &mut H)
     }
 }
 
-/// What stands behind the registers.
+/// The state of the PHY that its registers show.
 impl Phy {
     ghost use Rattle.mdic_phy.specs.Phy.{after_control, control_value, restarted, status_value};
 

@@ -10,7 +10,7 @@ pub record PciState : Type 0 where
   pub address : ℕ
   -- the command register
   pub command : ℕ
-  -- the address of the adapter's first register, of which base address register 0 shows a part
+  -- the address of the adapter's first register, a part of which is in base address register 0
   pub registers : ℕ
   -- the interrupt line register
   pub interrupt_line : ℕ

@@ -1,7 +1,7 @@
 //! An 82540EM that is played: the adapter, its host's memory and its wire, and the steps before accesses.
 //!
-//! Whoever plays a [`PlayedAdapter`] chooses its steps and arrivals, or lets a generator or a schedule choose them. An
-//! [`Observer`] is told what happens. Nothing is printed, and no call allocates but `new` and `copy`.
+//! The caller of a [`PlayedAdapter`] chooses its steps and arrivals, or lets a generator or a schedule choose them. An
+//! [`Observer`] is told what happens. Nothing is printed, and only `new` and `copy` allocate.
 #![tactic(auto)]
 
 mod accesses;

@@ -51,8 +51,8 @@ pub trait Observer {
     fn line(&mut self, level: bool)
         ensures { heard self.old self.new (told.Line level ∷ []) };
 
-    /// From a state to itself it was told nothing, and what it was told in two consecutive intervals it was told in
-    /// both together.
+    /// From a state to itself, it was told nothing. What it was told in two consecutive intervals is what it was told
+    /// in both together.
     ghost composes: { Composes heard };
 }
 

@@ -46,7 +46,7 @@ pub fn moved_by(outcome: Outcome<()>) -> u64
 }
 
 impl PlayedAdapter {
-    /// Tells a change of the interrupt line.
+    /// Reports a change of the interrupt line.
     #[inline(always)]
     pub(crate) fn report<O: Observer>(&mut self, observer: &mut O)
         ensures { Tells O.heard observer.old observer.new (Reports self.old self.new) }
@@ -79,7 +79,7 @@ impl PlayedAdapter {
         self.machine.step(kind, wire_free)
     }
 
-    /// Tells the step that puts the oldest frame on the wire, before the step: the frame is lent to the observer.
+    /// Reports the step that puts the oldest frame on the wire, before the step: the frame is lent to the observer.
     #[inline(always)]
     fn tell_put<O: Observer>(&self, observer: &mut O)
         ensures { O.heard observer.old observer.new (told.Stepped TxPut

@@ -32,7 +32,7 @@ impl PlayedAdapter {
     }
 
     /// Takes the oldest frame off the wire, if it fits into `into`. Returns its length in bytes, or 0 if no frame
-    /// waits. If the length is greater than that of `into`, the frame stays, and nothing changed.
+    /// waits. If the length is greater than that of `into`, the frame keeps waiting, and nothing changes.
     pub fn take_put(&mut self, into: &mut [u8]) -> usize
         ensures { AnswersTaking into.old into.new result self.old self.new }
     {

@@ -6,11 +6,11 @@ use Rattle.std.specs.Prelude.{◌≡◌, ◌==◌, ◌<◌, ◌-◌, ◌/◌, �
 abbrev pub HasBit : ℕ → ℕ → Type 0
 HasBit value place = value / 2 ^ place % 2 ≡ 1
 
--- whether it is
+-- whether the bit at this place is 1
 abbrev pub is_set : ℕ → ℕ → Bool
 is_set value place = value / 2 ^ place % 2 == 1
 
--- the number that stands in the `width` bits from the place `lowest` on
+-- the number in the `width` bits from the place `lowest` on
 abbrev pub field : ℕ → ℕ → ℕ → ℕ
 field value lowest width = value / 2 ^ lowest % 2 ^ width
 

@@ -1,12 +1,12 @@
--- Where the bits of registers stand, by the names of chapter 13, "Register Descriptions", of Intel's "PCI/PCI-X Family of Gigabit Ethernet
+-- The places of the bits of registers, by the names of chapter 13, "Register Descriptions", of Intel's "PCI/PCI-X Family of Gigabit Ethernet
 -- Controllers Software Developer's Manual". Of a field of several bits it is the lowest place.
 use Rattle.std.specs.Prelude.{ℕ, ◌^◌}
 
--- a word in which the bit at this place is 1, and no other
+-- the word in which only the bit at this place is 1
 abbrev pub alone : ℕ → ℕ
 alone place = 2 ^ place
 
--- CTRL (13.4.1 "Device Control Register")
+-- Auto-speed detection enable, which has no effect in the model. This and the next two are bits of CTRL (13.4.1 "Device Control Register").
 abbrev pub ctrl_asde : ℕ
 ctrl_asde = 5
 
@@ -18,7 +18,7 @@ ctrl_slu = 6
 abbrev pub ctrl_rst : ℕ
 ctrl_rst = 26
 
--- STATUS (13.4.2 "Device Status Register")
+-- Link up: the link of the PHY is up and CTRL.SLU is set. This and the next are fields of STATUS (13.4.2 "Device Status Register").
 abbrev pub status_lu : ℕ
 status_lu = 1
 
@@ -26,7 +26,8 @@ status_lu = 1
 abbrev pub status_speed : ℕ
 status_speed = 6
 
--- RCTL (13.4.22 "Receive Control Register")
+-- Receive enable: while it is 0, no frame is stored and no piece is moved. This and the next eight are fields of RCTL (13.4.22 "Receive
+-- Control Register").
 abbrev pub rctl_en : ℕ
 rctl_en = 1
 
@@ -62,7 +63,8 @@ rctl_bsex = 25
 abbrev pub rctl_secrc : ℕ
 rctl_secrc = 26
 
--- TCTL (13.4.33 "Transmit Control Register")
+-- Transmit enable: while it is 0, no frame is taken from the ring. This and the next three are fields of TCTL (13.4.33 "Transmit Control
+-- Register").
 abbrev pub tctl_en : ℕ
 tctl_en = 1
 
@@ -78,11 +80,12 @@ tctl_ct = 4
 abbrev pub tctl_cold : ℕ
 tctl_cold = 12
 
--- RAH (13.5.3 "Receive Address High")
+-- Address valid: the entry's address passes the filter. A bit of RAH (13.5.3 "Receive Address High").
 abbrev pub rah_av : ℕ
 rah_av = 31
 
--- the causes of ICR, ICS, IMS and IMC (13.4.17 "Interrupt Cause Read Register")
+-- Transmit descriptor written back. This and the next six are causes, bits of ICR, ICS, IMS and IMC (13.4.17 "Interrupt Cause Read
+-- Register").
 abbrev pub txdw : ℕ
 txdw = 0
 

@@ -58,7 +58,7 @@ impl Ctrl {
         Ctrl::from_bits_truncate(value)
     }
 
-    /// What a write of this word leaves in CTRL. RST is not kept; where it is set the whole write is a reset
+    /// What a write of this word leaves in CTRL. RST is not kept; if it is set the whole write is a reset
     /// ([`Ctrl::resets`]).
     pub fn kept(value: u32) -> Ctrl
         ensures { result.0 ≡ bit_and value control_mask }
@@ -118,7 +118,7 @@ impl Flags for Status {
     }
 }
 
-/// Link speed, as STATUS.SPEED tells it.
+/// The link speed in STATUS.SPEED.
 #[derive(Clone, Copy, PartialEq, Eq, Debug)]
 pub enum Speed {
     /// 10 Mb/s.

@@ -53,7 +53,7 @@ pub record Holds (before after : List (List ℕ)) (more : List (List ℕ)) (memo
   -- The slots contain the moved bytes of the oldest frame.
   pub begun : HasBegun memory finished engine
 
--- What the steps do to that list, whichever slots are finished.
+-- What the steps do to the list of frames held, whichever slots are finished.
 
 -- A frame that is stored is after the others; any other fate doesn't change them.
 abbrev pub ArrivalGrowsHeld : Type 0
@@ -81,8 +81,8 @@ MovesBy (answers.Part low) control ring engine memory = MovesApart control ring 
 MovesBy (answers.Moved low) control ring engine memory = MovesApart control ring engine memory true
 MovesBy answers.Fault control ring engine memory = Unit {0}
 
--- A data step doesn't change them: the next piece of the packet buffer's oldest frame becomes the piece in progress, and with the last one
--- the frame leaves the packet buffer. The pieces in finished slots are the same before and after.
+-- A data step doesn't change the frames held: the next piece of the packet buffer's oldest frame becomes the piece in progress, and with
+-- its last piece the frame leaves the packet buffer. The pieces in finished slots are the same before and after.
 abbrev pub DataKeepsHeld : Type 0
 DataKeepsHeld =
     (control : ℕ) (ring : Ring) (engine : Receiver) (memory : List ℕ) (finished : List Piece) (answer : Data)
@@ -102,7 +102,7 @@ pub record Finishes (memory : List ℕ) (finished : List Piece) (engine : Receiv
       (engine_after_done engine))
       [] (memory_after_done engine.work memory) (finished ++ piece_of work.ends (bytes_of_work memory work) ∷ []) (engine_after_done engine)
 
--- A done step doesn't change them either: the piece in progress is then a finished one, if it is apart from its descriptor.
+-- A done step doesn't change the frames held: the piece in progress is then a finished one, if it is apart from its descriptor.
 abbrev pub DoneKeepsHeld : Type 0
 DoneKeepsHeld =
     (engine : Receiver) (memory : List ℕ) (finished : List Piece) → IsReceiver engine → HasBegun memory finished engine

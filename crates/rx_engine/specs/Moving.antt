@@ -30,11 +30,11 @@ buffer_bytes control = buffer_size_of (field control rctl_bsize 2)
 abbrev pub left_bytes : Receiver → ℕ
 left_bytes engine = length (oldest engine.buffer) - engine.moved
 
--- the next piece of it: these bytes, at most a buffer's size
+-- the next piece of the oldest frame: the bytes that haven't been moved yet, at most a buffer's size
 abbrev pub next_piece : ℕ → Receiver → List ℕ
 next_piece control engine = take (buffer_bytes control) (drop engine.moved (oldest engine.buffer))
 
--- it is the last one
+-- whether the next piece of the oldest frame is its last one: the rest of the frame fits into a buffer
 abbrev pub is_last : ℕ → Receiver → Bool
 is_last control engine = nat_le (left_bytes engine) (buffer_bytes control)
 
@@ -67,7 +67,7 @@ IsMoved (Part low) = ⊥
 IsMoved (Moved low) = ⊤
 IsMoved Fault = ⊥
 
--- a fact of what it told of the free descriptors
+-- if the step moved a piece, the fact of its `low`: whether the free descriptors have become half the ring
 abbrev pub IfMoved : Data → (Bool → Type 0) → Type 0
 IfMoved Nothing fact = ⊤
 IfMoved (Part low) fact = fact low

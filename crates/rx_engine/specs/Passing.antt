@@ -47,7 +47,7 @@ AcceptsVlan filter frame =
     ⊎ ((ether_type frame ≢ filter.vlan_type)
     ⊎ filter.vlans (vlan_number frame))
 
--- a frame passes where its destination and its VLAN are accepted
+-- a frame passes if the filter accepts both its destination and its VLAN
 pub record Passes (filter : ReceiveFilter) (frame : List ℕ) : Type 0 where
   -- The filter accepts the frame's destination address.
   pub address : AcceptsAddress filter (destination frame)

@@ -29,12 +29,12 @@ frames_of pieces = frames_from [] pieces
 abbrev pub begun_of : List Piece → List ℕ
 begun_of pieces = begun_from [] pieces
 
--- its frame goes on
+-- whether the frame of the piece continues in the next piece
 abbrev pub IsPart : Piece → Type 0
 IsPart (Part bytes) = ⊤
 IsPart (Last bytes) = ⊥
 
--- a frame ends in it
+-- whether a frame ends in the piece
 abbrev pub IsLast : Piece → Type 0
 IsLast (Part bytes) = ⊥
 IsLast (Last bytes) = ⊤

@@ -25,7 +25,7 @@ abbrev pub oldest : List (List ℕ) → List ℕ
 oldest [] = []
 oldest (frame ∷ frames) = frame
 
--- the engine could begin with its oldest frame
+-- the engine can begin with the next piece of its oldest frame, be it the frame's first piece or a later one
 pub record IsReady (engine : Receiver) : Type 0 where
   -- No fault has stopped the engine.
   pub running : engine.stopped ≡ false

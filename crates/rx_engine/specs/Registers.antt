@@ -1,4 +1,4 @@
--- The registers of the receive filter, and the filter that their contents stand for.
+-- The registers of the receive filter, and the filter that their contents set.
 use Rattle.std.specs.Prelude.{◌≡◌, ◌<◌, ◌/◌, ◌%◌, ◌^◌, ℕ, List, [], ◌∷◌, slice_index}
 use Rattle.registers.specs.Bits.{HasBit, field}
 use Rattle.registers.specs.Places.{rah_av, rctl_bam, rctl_mo, rctl_mpe, rctl_upe, rctl_vfe}
@@ -47,7 +47,7 @@ HasEntry ral rah address = (n : ℕ) × (n < 16) × HoldsAddress (slice_index ra
 abbrev pub HasTableBit : List ℕ → ℕ → Type 0
 HasTableBit table number = HasBit (slice_index table (number / 32)) (number % 32)
 
--- the filter that the registers stand for
+-- the filter that the registers set
 unfoldable pub filter_of : FilterRegisters → ReceiveFilter
 filter_of registers = record {
   addresses = HasEntry registers.ral registers.rah;

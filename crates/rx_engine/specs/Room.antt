@@ -22,6 +22,6 @@ most_room = 49152
 abbrev pub HasRoomFor : (room : ℕ) → (buffered : List (List ℕ)) → (frame : List ℕ) → Type 0
 HasRoomFor room buffered frame = occupied_by buffered + cost frame ≤ room
 
--- it has no room for the frame
+-- a packet buffer of `room` bytes that contains these frames has no room for one more frame
 abbrev pub LacksRoomFor : (room : ℕ) → (buffered : List (List ℕ)) → (frame : List ℕ) → Type 0
 LacksRoomFor room buffered frame = room < occupied_by buffered + cost frame

@@ -1,9 +1,10 @@
 -- Lemmas on the room in the receive packet buffer, for proofs of this crate and of those above it: how many frames fit, and how many bytes
 -- they have.
-use Rattle.std.proofs.Common.{◌≡◌, ◌≤◌, ◌+◌, ◌*◌, ◌++◌, ◌∷◌, [], ℕ, List, All, length, drop, sym, ap, ◌∙◌, arith, suc}
+use Rattle.std.proofs.Common.{◌≡◌, ◌≢◌, ◌≤◌, ◌+◌, ◌*◌, ◌++◌, ◌∷◌, [], ℕ, List, All, length, drop, refl, sym, ap, ◌∙◌, arith, suc}
 use Rattle.std.specs.Prelude.{sum_by, slice_get, Some}
 use Rattle.std.proofs.lemmas.List.Sums.{sum_by-append, sum_by-cons}
 use Rattle.descriptors.specs.Frames.{IsLegal}
+use Rattle.rx_engine.specs.Receiver.{oldest}
 use Rattle.rx_engine.specs.Room.{cost, most_room, occupied_by}
 
 -- A frame occupies at least as many bytes as it has, and a legal frame at least 80.
@@ -53,3 +54,18 @@ occupied-first [] frame is = absurd (cc)
 occupied-first (first ∷ later) frame is =
     let same : first ≡ frame = cc in
     ap (λ (f : List ℕ). cost f + occupied_by later) (sym same) ∙ sym (sum_by-cons cost first later)
+
+-- Without the oldest frame of a buffer that isn't empty, its bytes are free.
+pub occupied_oldest : (frames : List (List ℕ)) → frames ≢ [] → cost (oldest frames) + occupied_by (drop 1 frames) ≡ occupied_by frames
+occupied_oldest [] some = absurd (some refl)
+occupied_oldest (first ∷ later) some = sym (sum_by-cons cost first later)
+
+-- The oldest frame is at most as long as the longest legal frame.
+pub legal_oldest : (frames : List (List ℕ)) → All IsLegal frames → length (oldest frames) ≤ 1518
+legal_oldest [] legal = omega arith
+legal_oldest (first ∷ later) legal = omega (arith, (all-first IsLegal first later legal).most)
+
+-- The frames after the oldest one have legal lengths, too.
+pub legal_later : (frames : List (List ℕ)) → All IsLegal frames → All IsLegal (drop 1 frames)
+legal_later [] legal = legal
+legal_later (first ∷ later) legal = all-later IsLegal first later legal

@@ -1,18 +1,18 @@
 // The data step: a piece of a frame goes into a host's memory.
 
-ghost use Rattle.std.specs.Prelude.{◌≡◌, ◌≤◌, ◌*◌, ◌↔◌, length, nat_le, true, false, IsTrue, IsSome, IfSome};
+ghost use Rattle.std.specs.Prelude.{◌≡◌, ◌≤◌, ◌*◌, ◌↔◌, length, nat_le, true, false, IsTrue, IsNone, IsSome, IfSome};
 ghost use Rattle.registers.specs.Bits.{HasBit, field};
 ghost use Rattle.registers.specs.ReceiveControl.{buffer_size_of};
 ghost use Rattle.descriptors.specs.Ring.{HasValidIndices, address_of, count_of, distance_of};
 ghost use Rattle.dma_memory.specs.Areas.{ChangesOnly, area_at};
-ghost use Rattle.dma_memory.specs.HostMemory.{LiesIn};
+ghost use Rattle.dma_memory.specs.HostMemory.{LiesIn, with_bytes};
 ghost use Rattle.rx_engine.specs.Descriptors.{named_address};
 ghost use Rattle.rx_engine.specs.Receiver.{IsReceiver};
 ghost use Rattle.rx_engine.specs.Moving.{HasFrameToMove, CanMove, engine_after_data, is_last, next_piece};
 ghost use Rattle.rx_engine.specs.Moving.{ring_after_data};
 ghost use Rattle.rx_engine.specs.Moving.{memory_after_data, IsMoved, IsPartMoved, IfMoved, is_half_free};
 
-use crate::storing::store_within;
+use crate::storing::store_in;
 use crate::{RxEngine, Work};
 use descriptors::{RX_DESC_BYTES, Ring, RxDesc};
 use dma_memory::HostMemory;
@@ -35,15 +35,6 @@ pub enum Data {
     },
     /// The engine moved no piece, and is stopped (our choice).
     Fault,
-}
-
-/// Where a piece goes.
-#[derive(Clone, Copy)]
-struct Target {
-    /// The address of the descriptor at the head.
-    descriptor: u64,
-    /// The address of the buffer that it names.
-    buffer: u64,
 }
 
 /// Writes the next piece of the packet buffer's oldest frame to the buffer that the descriptor at the head names: the
@@ -92,13 +83,12 @@ pub fn rx_data(
     let ends = is_last_piece(left.len(), size);
     let piece = &left[..left.len().min(size)];
     let length = piece.len() as u16;
-    let Some(target) = target_of(ring, control, memory, length) else {
+    let Some(descriptor) = store_piece(ring, control, memory, piece) else {
         engine.stop();
         return Data::Fault;
     };
-    store_within(memory, target.buffer, piece);
     engine.begin(Work {
-        descriptor: target.descriptor,
+        descriptor,
         length,
         ends,
     });
@@ -118,31 +108,35 @@ pub fn has_frame_to_move(engine: &RxEngine, ring: &Ring, control: Rctl) -> bool
     engine.left().is_some() && control.is_enabled() && ring.head != ring.tail
 }
 
-/// Whether the next piece is a frame's last: so many bytes of the frame are left, and a buffer has this size.
+/// Whether the next piece is the last of a frame of which `left` bytes are left, for buffers of this size.
 fn is_last_piece(left: usize, size: usize) -> bool
     ensures { result ≡ nat_le left size }
 {
     left <= size
 }
 
-/// Where a piece of this length goes, or `None` exactly if the step is a fault.
-fn target_of(ring: &Ring, control: Rctl, memory: &HostMemory, length: u16) -> Option<Target>
-    ensures can { IsSome result ↔ CanMove control.0 ring.now memory.now length }
-    ensures descriptor { IfSome result (λ target. target.descriptor ≡ address_of ring.now ring.now.head) }
-    ensures buffer { IfSome result (λ target.
-        target.buffer ≡ named_address memory.now (address_of ring.now ring.now.head)) }
+/// Writes a piece to the buffer that the descriptor at the head names. Returns the address of this descriptor, or `None`
+/// exactly if the step is a fault, which doesn't change memory.
+fn store_piece(ring: &Ring, control: Rctl, memory: &mut HostMemory, piece: &[u8]) -> Option<u64>
+    ensures can { IsSome result ↔ CanMove control.0 ring.now memory.old (length piece.now) }
+    ensures descriptor { IfSome result (λ descriptor. descriptor ≡ address_of ring.now ring.now.head) }
+    ensures stored { IfSome result (λ _. memory.new
+        ≡ with_bytes memory.old (named_address memory.old (address_of ring.now ring.now.head)) piece.now) }
+    ensures fault { IsNone result → memory.new ≡ memory.old }
+    ensures only { ChangesOnly memory.old memory.new
+        (area_at (named_address memory.old (address_of ring.now ring.now.head)) (length piece.now)) }
 {
     if !ring.has_valid_indices() || control.extends_buffer_size() {
         return None;
     }
-    let size = memory.size();
+    let _size = memory.size();
     let descriptor = ring.descriptor(ring.head)?;
-    if descriptor >= size {
-        return None;
-    }
     let buffer = buffer_named_at(memory, descriptor)?;
-    memory.view(buffer, usize::from(length)).ok()?;
-    Some(Target { descriptor, buffer })
+    if store_in(memory, buffer, piece) {
+        Some(descriptor)
+    } else {
+        None
+    }
 }
 
 /// The address that the descriptor at an address names, or `None` exactly if that descriptor isn't in memory.
@@ -150,9 +144,8 @@ fn buffer_named_at(memory: &HostMemory, descriptor: u64) -> Option<u64>
     ensures lies { IsSome result ↔ LiesIn memory.now descriptor 16 }
     ensures value { IfSome result (λ address. address ≡ named_address memory.now descriptor) }
 {
-    let mut bytes = [0; RX_DESC_BYTES];
-    memory.load(descriptor, &mut bytes).ok()?;
-    Some(RxDesc::from_bytes(&bytes).address)
+    let bytes = memory.view(descriptor, RX_DESC_BYTES).ok()?;
+    Some(RxDesc::from_bytes(bytes.first_chunk()?).address)
 }
 
 /// Whether the free descriptors, those from head to tail, are half the ring.

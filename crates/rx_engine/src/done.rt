@@ -11,7 +11,7 @@ ghost use Rattle.rx_engine.specs.Finishing.{StandsApart};
 ghost use Rattle.rx_engine.specs.Finishing.{IsFinished};
 
 use crate::RxEngine;
-use crate::storing::store_within;
+use crate::storing::store_in;
 use bitflags::Flags;
 use descriptors::{RX_DESC_BYTES, RxDesc, RxStatus};
 use dma_memory::HostMemory;
@@ -85,7 +85,7 @@ fn write_back(memory: &mut HostMemory, descriptor: u64, length: u16, ends: bool)
     };
     let bytes = finished.to_bytes();
     prove!(descriptor < memory.size());
-    store_within(
+    store_in(
         memory,
         descriptor + LENGTH_PLACE,
         &bytes[LENGTH_PLACE as usize..],

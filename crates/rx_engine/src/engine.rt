@@ -1,6 +1,6 @@
 // What the receive engine holds.
 
-ghost use Rattle.std.specs.Prelude.{◌≡◌, ◌+◌, ◌<◌, ◌≤◌, ◌↔◌, [], ◌∷◌, ◌++◌, true, false, drop, fold, length, option_copied};
+ghost use Rattle.std.specs.Prelude.{◌≡◌, ◌≢◌, ◌+◌, ◌<◌, ◌≤◌, ◌↔◌, [], ◌∷◌, ◌++◌, true, false, drop, fold, length, option_copied};
 ghost use Rattle.std.specs.Prelude.{All, IsSome, Some, slice_get};
 ghost use Rattle.std.specs.Prelude.{IfSome, IfOk};
 ghost use Rattle.rx_engine.specs.Hashed.{work_writes};
@@ -66,7 +66,7 @@ impl RxEngine {
     ///
     /// # Errors
     ///
-    /// Want of memory alone.
+    /// Only if memory is refused.
     pub fn new(alloc: Global) -> Result<RxEngine, AllocError>
         ensures { IfOk result (λ engine. engine ≡ new_receiver) }
     {
@@ -166,26 +166,32 @@ impl RxEngine {
     }
 
     /// A piece of the oldest frame is in progress. With the last one the frame leaves the packet buffer.
+    #[tactic(auto, using(crate::specs::RoomLaws::legal_oldest))]
     pub(crate) fn begin(&mut self, work: Work)
         requires least { 1 ≤ work.length }
         requires most { work.length ≤ 1518 }
         requires left { work.ends ≡ false → work.length < left_bytes self.old }
+        requires last { work.ends ≡ true → work.length ≡ left_bytes self.old }
         ensures begun { self.new ≡ begun_with work self.old }
         ensures sound { IsReceiver self.new }
     {
         if work.ends {
-            self.drop_oldest();
+            self.drop_oldest(self.moved + work.length);
         } else {
             self.moved += work.length;
         }
         self.work = Some(work);
     }
 
-    /// The oldest frame, if there is one, leaves the packet buffer. No byte of the next one is moved yet.
-    fn drop_oldest(&mut self)
+    /// The oldest frame, which has `size` bytes, leaves the packet buffer. No byte of the next one is moved yet.
+    #[tactic(auto, using(crate::specs::RoomLaws::occupied_oldest))]
+    fn drop_oldest(&mut self, size: u16)
+        requires some { self.old.buffer ≢ [] }
+        requires size { size ≡ length (oldest self.old.buffer) }
+        requires most { size ≤ 1518 }
         ensures dropped { self.new ≡ record self.old { buffer = drop 1 self.old.buffer; moved = 0 } }
     {
-        self.occupied -= cost_of_oldest(&self.buffer);
+        self.occupied -= cost(usize::from(size));
         self.buffer.pop();
         self.moved = 0;
     }
@@ -216,17 +222,6 @@ fn feed_work<H: Hasher>(work: Option<Work>, hasher: &mut H)
         hasher.write_u64(work.descriptor);
         hasher.write_u16(work.length);
         work.ends.hash(hasher);
-    }
-}
-
-/// The number of bytes that the oldest frame occupies, 0 if there is none.
-fn cost_of_oldest(buffer: &PackedQueue) -> u32
-    requires { All IsLegal buffer.now.frames }
-    ensures { result + occupied_by (drop 1 buffer.now.frames) ≡ occupied_by buffer.now.frames }
-{
-    match buffer.front() {
-        Some(frame) => cost(frame.len()),
-        None => 0,
     }
 }
 

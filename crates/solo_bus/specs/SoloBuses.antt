@@ -1,4 +1,4 @@
--- What a solo bus is, and what its calls leave.
+-- A solo bus, and how its calls change it.
 use Rattle.std.specs.Prelude.{⊤, ◌≡◌, ◌+◌, ◌++◌, ℕ, Bool, true, false, List, [], ◌∷◌, All, length, map, min, nat_lt, sum_by}
 use Rattle.std.specs.Prelude.{if◌then◌else◌}
 use Rattle.rx_engine.specs.declared.arrival.Fate.{Fate}
@@ -31,7 +31,7 @@ pub record SoloState : Type 0 where
   -- how many accesses there were
   pub accesses : ℕ
 
--- at most so many frames are on the wire, and so many ticks wait (our choice)
+-- at most so many frames are on the wire, and this number of ticks wait (our choice)
 abbrev pub wire_frames : ℕ
 wire_frames = 64
 
@@ -75,7 +75,7 @@ solo_tick_of (Accesses access) = Go
 abbrev pub lively_ticks : Bool → List SoloTick
 lively_ticks lively = if lively then Step EepromTick ∷ Step PhyTick ∷ [] else []
 
--- each step found the wire free exactly where it had room, with so many frames before the first
+-- each step found the wire free exactly if it had room, with so many frames before the first
 abbrev pub AreFree : List Event → ℕ → Type 0
 AreFree [] frames = ⊤
 AreFree (Steps kind wire_free answer ∷ later) frames =
@@ -85,7 +85,7 @@ AreFree (Accesses access ∷ later) frames = AreFree later frames
 
 -- What events put on the wire.
 pub record PutOnWire (a b : SoloState) (events : List Event) (put : List (List ℕ)) : Type 0 where
-  -- Each step found the wire free exactly where it had room.
+  -- Each step found the wire free exactly if it had room.
   pub free : AreFree events (length a.wire)
   -- These frames come after those that were there.
   pub frames : b.wire ≡ a.wire ++ put
@@ -95,7 +95,7 @@ pub record Recounts (a b : SoloState) (past : Past) : Type 0 where
   pub events : List Event
   pub trail : Trail events a.world b.world
   pub past_is : past ≡ past_of events
-  -- before each access the bus's own ticks and those of the next group, one event for each in order; nothing behind the last access
+  -- before each access the bus's own ticks and those of the next group, one event for each in order; nothing after the last access
   pub played : map solo_tick_of events ≡ played_in is_go Go (lively_ticks a.lively) past.accesses a.waiting
   -- a group for each access waits no longer, and all other ticks do
   pub waiting : b.waiting ≡ waiting_after is_go past.accesses a.waiting

@@ -30,7 +30,7 @@ pub enum SoloTick {
     Arrive(Frame),
 }
 
-/// A bus with one adapter and its memory, and nobody else at its wire.
+/// A bus with one adapter and its memory, and no other device at its wire.
 ///
 /// In contracts it is a `SoloState`, plain data that `specs/SoloBuses.antt` lists. All memory is taken when
 /// it is made.
@@ -72,7 +72,7 @@ impl SoloBus {
     ///
     /// # Errors
     ///
-    /// Want of memory alone.
+    /// Only if memory is refused.
     pub fn new(
         alloc: Global,
         adapter: Adapter,
@@ -97,7 +97,7 @@ impl SoloBus {
     }
 
     /// A step of the adapter. The wire has room while less than 64 frames are on it; a frame that is put
-    /// stands there behind the others, and is taken off it by [`take_put`](SoloBus::take_put).
+    /// stands there after the others, and is taken off it by [`take_put`](SoloBus::take_put).
     pub fn step(&mut self, kind: StepKind) -> Outcome<()>
         ensures answer { Answers kind (has_room self.old) self.old.world.memory self.old.world.adapter
             (solo_framed result self.old) }
@@ -132,7 +132,7 @@ impl SoloBus {
         self.machine.arrive(frame)
     }
 
-    /// Takes the oldest frame off the wire; `None` exactly where there is none.
+    /// Takes the oldest frame off the wire; `None` exactly if there is none.
     pub fn take_put(&mut self) -> Option<Frame>
         ensures none { IsNone result ↔ (self.old.wire ≡ []) }
         ensures oldest { IfSome result (λ frame. slice_get self.old.wire 0 ≡ Some frame) }
@@ -143,7 +143,7 @@ impl SoloBus {
         Some(frame)
     }
 
-    /// Lets ticks be played, behind those that wait already, before the accesses that follow: before
+    /// Lets ticks be played, after those that wait already, before the accesses that follow: before
     /// each those up to the next [`Go`](SoloTick::Go). With them at most 32 wait.
     pub fn play(&mut self, ticks: &[SoloTick])
         requires room { length self.old.waiting + length ticks.now ≤ MOST_TICKS }

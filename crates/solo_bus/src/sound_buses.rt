@@ -1,6 +1,6 @@
 //! Buses on which the conditions of the law hold: none of these is empty.
 //!
-//! Each has a new adapter whose link never comes up, and 4,096 bytes of memory: a receive buffer at 0,
+//! Each has a new adapter whose link is never up, and 4,096 bytes of memory: a receive buffer at 0,
 //! the receive ring of eight slots at 2,048, the transmit ring of eight at 2,176, and data to be sent at
 //! 2,304. Slot 0 is the driver's oldest in both rings.
 
@@ -20,7 +20,7 @@ use std::alloc::{AllocError, Global};
 /// The bytes of memory.
 const MEMORY_BYTES: u64 = 4096;
 
-/// Where the receive ring stands, behind the buffer at 0.
+/// The address of the receive ring, after the buffer at 0.
 const RECEIVE_RING: u32 = 2048;
 
 /// Where the transmit ring stands.
@@ -45,7 +45,7 @@ const REQUEST: [u8; 16] = [0, 9, 0, 0, 0, 0, 0, 0, 60, 0, 0, 0x0B, 0, 0, 0, 0];
 ///
 /// # Errors
 ///
-/// Want of memory alone.
+/// Only if memory is refused.
 pub fn with_rings(alloc: Global, image: &Image) -> Result<SoloBus, AllocError>
     ensures world { IfOk result (λ bus. bus.world ≡ ready MEMORY_BYTES image.now) }
     ensures sound { IfOk result (λ bus. Sound 0 0 bus.world) }
@@ -60,7 +60,7 @@ pub fn with_rings(alloc: Global, image: &Image) -> Result<SoloBus, AllocError>
 ///
 /// # Errors
 ///
-/// Want of memory alone.
+/// Only if memory is refused.
 pub fn with_work(alloc: Global, image: &Image) -> Result<SoloBus, AllocError>
     ensures world { IfOk result (λ bus. bus.world ≡ working MEMORY_BYTES image.now) }
     ensures sound { IfOk result (λ bus. Sound 0 0 bus.world) }
@@ -76,7 +76,7 @@ pub fn with_work(alloc: Global, image: &Image) -> Result<SoloBus, AllocError>
 ///
 /// # Errors
 ///
-/// Want of memory alone.
+/// Only if memory is refused.
 pub fn with_finished_slot(alloc: Global, image: &Image) -> Result<SoloBus, AllocError>
     ensures world { IfOk result (λ bus. bus.world ≡ finished_slot MEMORY_BYTES image.now) }
     ensures sound { IfOk result (λ bus. Sound 0 0 bus.world) }
@@ -91,7 +91,7 @@ pub fn with_finished_slot(alloc: Global, image: &Image) -> Result<SoloBus, Alloc
 ///
 /// # Errors
 ///
-/// Want of memory alone.
+/// Only if memory is refused.
 pub fn with_frame_to_send(alloc: Global, image: &Image) -> Result<SoloBus, AllocError>
     ensures world { IfOk result (λ bus. bus.world ≡ sending MEMORY_BYTES image.now) }
     ensures sound { IfOk result (λ bus. Sound 0 0 bus.world) }
@@ -107,7 +107,7 @@ pub fn with_frame_to_send(alloc: Global, image: &Image) -> Result<SoloBus, Alloc
 ///
 /// # Errors
 ///
-/// Want of memory alone.
+/// Only if memory is refused.
 pub fn with_buffered_frame(alloc: Global, image: &Image) -> Result<SoloBus, AllocError>
     ensures world { IfOk result (λ bus. bus.world ≡ taken MEMORY_BYTES image.now) }
     ensures sound { IfOk result (λ bus. Sound 0 0 bus.world) }

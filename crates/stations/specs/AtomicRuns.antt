@@ -60,7 +60,7 @@ past_at k steps = past_of (events_at k steps)
 abbrev pub numbered : ℕ → AtomicStep → List Numbered
 numbered n step = record { accesses = n; outcome = outcome_of step } ∷ []
 
--- what is noted of an atomic step behind so many accesses, and how many there are then
+-- what is noted of an atomic step after this number of accesses, and how many there are then
 abbrev pub noted_by : ℕ → AtomicStep → List Numbered
 noted_by n (At host (Steps kind wire_free answer)) = numbered n (At host (Steps kind wire_free answer))
 noted_by n (At host (Arrives frame fate)) = numbered n (At host (Arrives frame fate))

@@ -19,7 +19,7 @@ use Rattle.stations.specs.declared.tick.Tick.TheVariants.{Deliver, Go, Step}
 pub data AtomicStep : Type 0 where
   -- an event at a host
   At : (host : ℕ) (event : Event) → AtomicStep
-  -- a tick that does nothing, for want of a host or of a frame that waits
+  -- a tick that does nothing, because its host isn't there or no frame waits
   Idles : (tick : Tick) → AtomicStep
 
 -- the tick that an event answers; an access stands where Go does
@@ -44,7 +44,7 @@ abbrev pub outcome_of : AtomicStep → FrameOutcome
 outcome_of (At host event) = outcome_of_event event
 outcome_of (Idles tick) = Nothing
 
--- what an event asks of the wire: TxPut finds it free exactly where each other end has room, and a delivery is of the oldest frame
+-- what an event asks of the wire: TxPut finds it free exactly if each other end has room, and a delivery is of the oldest frame
 abbrev pub SuitsWire : (host wire : ℕ) → Event → List StationState → Type 0
 SuitsWire host wire (Steps kind wire_free answer) stations = kind ≡ TxPut → IsTrue wire_free ↔ WireHasRoom stations host wire
 SuitsWire host wire (Arrives frame fate) stations = slice_get (backlog_at stations host) 0 ≡ Some frame
@@ -108,7 +108,7 @@ pub record Watched (O : Type 0) : Type 0 where
 abbrev pub watched : {O : Type 0} → List StationState → O → Watched O
 watched stations observer = record { stations = stations; observer = observer }
 
--- A tick is played, after so many accesses, and the observer is told its outcome.
+-- A tick is played, after this number of accesses, and the observer is told its outcome.
 pub record PlaysNoted {O : Type 0} (observers : OfObserver O) (tick : Tick) (accesses : ℕ) (old new : Watched O) : Type 0 where
   pub outcome : FrameOutcome
   pub plays : Plays old.stations tick outcome new.stations

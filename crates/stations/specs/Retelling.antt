@@ -1,4 +1,4 @@
--- What a lent bus is, and what it tells of what happened.
+-- A lent bus, and its record of what happened.
 use Rattle.std.specs.Prelude.{◌≡◌, ◌+◌, ℕ, List, [], length, map, min}
 use Rattle.adapter.specs.World.{World}
 use Rattle.bus.specs.PastOfStretch.{Past}
@@ -55,7 +55,7 @@ pub record Prepared {O : Type 0} {g : OfObserver O} (a b : LentBus O g) : Type 0
   pub waiting : b.ticks.now ≡ behind_group is_go a.ticks.now
   pub count : b.accesses ≡ min (a.accesses + 1) most_accesses
 
--- What comes behind the last access: all ticks that are left are played.
+-- What comes after the last access: all ticks that are left are played.
 pub record Finished {O : Type 0} {g : OfObserver O} (a b : LentBus O g) : Type 0 where
   pub lent : SameLent a b
   pub plays : PlaysTicks g (without_go is_go a.ticks.now) a.accesses (watched_by a) (watched_by b)

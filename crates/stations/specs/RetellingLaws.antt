@@ -1,4 +1,4 @@
--- What a lent bus tells of two stretches it tells of both together.
+-- The record of a lent bus over two intervals is the two records joined.
 use Rattle.std.proofs.Common.{◌≡◌, ◌+◌, ◌++◌, ℕ, List, [], length, map, min, refl, sym, ap, subst, ◌∙◌, arith, length-append}
 use Rattle.std.proofs.lemmas.List.{map-append}
 use Rattle.bus.specs.PastOfStretch.{Past, joined, nothing}

@@ -93,6 +93,6 @@ abbrev pub all_after : Option StationState → (host : ℕ) → Event → List S
 all_after None host event stations = stations
 all_after (Some station) host event stations = at_each (each_after host station.wire event) 0 stations
 
--- all stations behind an event at a host
+-- all stations after an event at a host
 abbrev pub stations_after : (host : ℕ) → Event → List StationState → List StationState
 stations_after host event stations = all_after (slice_get stations host) host event stations

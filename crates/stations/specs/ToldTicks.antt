@@ -12,7 +12,7 @@ pub record TickTold : Type 0 where
   -- its outcome
   pub outcome : FrameOutcome
 
--- this tick, after so many accesses, with this outcome
+-- this tick, after this number of accesses, with this outcome
 abbrev pub tick_told : Tick → (accesses : ℕ) → FrameOutcome → TickTold
 tick_told tick accesses outcome = record { tick = tick; accesses = accesses; outcome = outcome }
 

@@ -36,7 +36,7 @@ impl HeapFrame {
     ///
     /// # Errors
     ///
-    /// Want of memory alone.
+    /// Only if memory is refused.
     pub fn with_room(alloc: Global) -> Result<HeapFrame, AllocError>
         ensures { IfOk result (λ frame. frame ≡ []) }
     {

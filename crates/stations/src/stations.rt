@@ -130,7 +130,7 @@ impl Stations {
         self.machine(host).pending(oldest, sending, holding);
     }
 
-    /// A host's adapter takes a step by itself. No other station and no wire changes. The step isn't TxPut, so it
+    /// Performs one step of a host's adapter. No other station and no wire changes. The step isn't TxPut, so it
     /// doesn't matter whether the wire is free.
     pub fn step(&mut self, host: usize, kind: StepKind) -> Outcome<()>
         requires there { host < length self.old }

@@ -20,7 +20,7 @@ length-side_by_side (frame ∷ frames) (report ∷ reports) same =
     let rest = length-side_by_side frames reports (omega arith) in
     omega arith
 
--- A frame more stands behind the others.
+-- A frame more follows the others.
 pub side_by_side-push : (frames : List (List ℕ)) (reports : List Report) (frame : List ℕ) (report : Report) → length frames ≡ length reports
     → side_by_side (frames ++ frame ∷ []) (reports ++ report ∷ [])
     ≡ side_by_side frames reports ++ record { frame = frame; descriptor = report.descriptor; report = report.wanted } ∷ []
@@ -31,7 +31,7 @@ side_by_side-push (first ∷ frames) (other ∷ reports) frame report same =
     let q : Queued = record { frame = first; descriptor = other.descriptor; report = other.wanted } in
     ap (λ (rest : List Queued). q ∷ rest) (side_by_side-push frames reports frame report (omega arith))
 
--- There are none exactly where there is no frame.
+-- There are none exactly if there is no frame.
 pub side_by_side-none : (frames : List (List ℕ)) (reports : List Report) → length frames ≡ length reports → (frames ≡ [])
     ↔ (side_by_side frames reports ≡ [])
 side_by_side-none [] reports same = (λ none. refl, λ none. refl)

@@ -15,7 +15,7 @@ use Rattle.tx_engine.specs.Transmitter.{Queued, Transmitter}
 abbrev pub pads : ℕ → Bool
 pads control = is_set control tctl_psp
 
--- The descriptor that stands at an address.
+-- The descriptor at an address.
 abbrev pub descriptor_at : List ℕ → ℕ → TxDesc
 descriptor_at memory address = tx_desc_of (bytes_at memory address 16)
 

@@ -19,7 +19,7 @@ use Rattle.tx_engine.specs.Laws.{to_send-put}
 use Rattle.tx_engine.specs.Steps.{IfFront, status_place, written_back}
 use Rattle.tx_engine.specs.ToSend.{to_send, IsAwayFrom, OtherBytesLeaveFrames}
 
--- A number behind a place is the number from that place on.
+-- A number after a place is the number from that place on.
 little_from-drop : (j n i : ℕ) (bytes : List ℕ) → little_from j n (drop i bytes) ≡ little_from (i + j) n bytes
 little_from-drop j zero i bytes = refl
 little_from-drop j (suc n) i bytes =

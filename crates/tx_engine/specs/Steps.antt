@@ -30,14 +30,14 @@ abbrev pub IfFront : List Queued → (Queued → Type 0) → Type 0
 IfFront [] P = Unit {0}
 IfFront (queued ∷ buffer) P = P queued
 
--- A frame was taken: it stands at the buffer's end, with the address of its descriptor; head has moved on.
+-- A frame was taken: it is the last one in the packet buffer, with the address of its descriptor, and head is the next slot.
 pub record Takes (control : ℕ) (memory : List ℕ) (ring moved : Ring) (engine grown : Transmitter) : Type 0 where
   -- The frame is at the end of the packet buffer.
   pub buffer : grown ≡ record engine { buffer = engine.buffer ++ fetched (pads control) memory (address_of ring ring.head) ∷ [] }
   -- The head is the next slot.
   pub head : moved ≡ record ring { head = next_of ring ring.head }
 
--- Where the status byte of a frame's descriptor stands: byte 12 of the descriptor that was read.
+-- The address of the status byte of a frame's descriptor: byte 12 of the descriptor that was read.
 abbrev pub status_place : Queued → ℕ
 status_place queued = queued.descriptor + 12
 

@@ -62,7 +62,7 @@ impl TxEngine {
     ///
     /// # Errors
     ///
-    /// Want of memory alone.
+    /// Only if memory is refused.
     pub fn new(alloc: Global) -> Result<TxEngine, AllocError>
         ensures { IfOk result (λ engine. engine ≡ new_transmitter) }
     {
@@ -112,7 +112,7 @@ impl TxEngine {
         !self.running
     }
 
-    /// The oldest frame of the buffer as it goes onto the wire, where it stands; `None` exactly where the buffer is
+    /// The oldest frame of the buffer as it goes onto the wire, where it stands; `None` exactly if the buffer is
     /// empty. It has 1,518 bytes at most.
     pub fn front(&self) -> Option<&[u8]>
         ensures none { IsNone result ↔ (self.now.buffer ≡ []) }
@@ -149,7 +149,7 @@ impl TxEngine {
         self.running = false;
     }
 
-    /// Puts a frame behind the others, followed by zeros up to `least` bytes. The buffer isn't full.
+    /// Puts a frame after the others, followed by zeros up to `least` bytes. The buffer isn't full.
     pub(crate) fn push(&mut self, named: Named<'_>, least: usize)
         requires room { length self.old.buffer < 4 }
         requires fits { length named.bytes.now ≤ 1518 }
@@ -170,7 +170,7 @@ impl TxEngine {
         });
     }
 
-    /// Drops the oldest frame and answers what is to be done of it; `None` exactly where the buffer is empty.
+    /// Drops the oldest frame and answers what is to be done of it; `None` exactly if the buffer is empty.
     pub(crate) fn pop(&mut self) -> Option<Report>
         ensures none { IsNone result ↔ (self.old.buffer ≡ []) }
         ensures rest { self.new ≡ record self.old { buffer = drop 1 self.old.buffer } }

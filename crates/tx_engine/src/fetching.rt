@@ -41,7 +41,7 @@ fn asks_report(command: TxCommand) -> bool
     command.contains(TxCommand::RS)
 }
 
-/// The descriptor at the head, with its address; `None` exactly where it doesn't lie in memory.
+/// The descriptor at the head, with its address; `None` exactly if it doesn't lie in memory.
 fn descriptor_at_head(ring: &Ring, memory: &HostMemory) -> Option<(u64, TxDesc)>
     ensures lies { IsSome result ↔ LiesIn memory.now (address_of ring.now ring.now.head) 16 }
     ensures address { IfSome result (λ found. found.0 ≡ address_of ring.now ring.now.head) }
@@ -58,7 +58,7 @@ fn descriptor_at_head(ring: &Ring, memory: &HostMemory) -> Option<(u64, TxDesc)>
     Some((address, TxDesc::from_bytes(&bytes)))
 }
 
-/// The bytes that a descriptor names, or `None` exactly where it can't be transmitted.
+/// The bytes that a descriptor names, or `None` exactly if it can't be transmitted.
 fn bytes_of<'a>(desc: &TxDesc, memory: &'a HostMemory) -> Option<&'a [u8]>
     ensures transmittable { IsSome result ↔ IsTransmittable memory.now desc.now }
     ensures value { IfSome result (λ bytes. bytes.now ≡ named_by memory.now desc.now) }
@@ -73,7 +73,7 @@ fn bytes_of<'a>(desc: &TxDesc, memory: &'a HostMemory) -> Option<&'a [u8]>
     memory.view(desc.address, length).ok()
 }
 
-/// The frame that the descriptor at the head names, or `None` exactly where that descriptor can't be taken.
+/// The frame that the descriptor at the head names, or `None` exactly if that descriptor can't be taken.
 pub fn fetch<'a>(ring: &Ring, memory: &'a HostMemory) -> Option<Named<'a>>
     ensures fetchable { IsSome result ↔ IsFetchable memory.now ring.now }
     ensures bytes { IfSome result (λ named. named.bytes.now

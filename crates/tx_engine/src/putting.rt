@@ -17,8 +17,8 @@ const STATUS_PLACE: u64 = 12;
 /// One step of transmission: puts the oldest frame of the packet buffer onto the wire. The caller finds its bytes in
 /// [`TxEngine::front`] before the step.
 ///
-/// - `Nothing` exactly where the buffer is empty.
-/// - Otherwise `WireFull` exactly where the wire isn't free.
+/// - `Nothing` exactly if the buffer is empty.
+/// - Otherwise `WireFull` exactly if the wire isn't free.
 /// - Otherwise `Put`: the frame has left the buffer. Where its descriptor asks for a report (RS), the status byte of
 ///   that descriptor, at the address where it was read, becomes 1 (DD); in a memory that ends before that byte
 ///   nothing is written. `reported` tells whether it asks.
