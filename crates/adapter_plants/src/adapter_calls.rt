@@ -1,108 +1,108 @@
-//! The calls of `Adapter`.
+//! The calls of `Adapter`, each made twice.
 
-ghost use Rattle.std.specs.Prelude.{◌≡◌, fold, length};
-ghost use Rattle.adapter.specs.Hashed.{adapter_writes};
-ghost use Rattle.adapter.specs.Outcomes.{framed};
-ghost use Rattle.adapter.specs.Receiving.{IsFate, after_arrive, after_data, after_done};
-ghost use Rattle.adapter.specs.Registers.{after_read, after_write, answer_at};
-ghost use Rattle.adapter.specs.State.{IsAdapter};
-ghost use Rattle.adapter.specs.Steps.{Answers, ChangesAtMost, TellsWork, after_step, memory_after_step};
-ghost use Rattle.adapter.specs.declared.outcome.Outcome.TheVariants.{Fault, Nothing};
+ghost use Rattle.std.specs.Prelude.{◌≡◌, ◌≢◌, ◌↔◌, IfSome, IsNone, IsTrue};
+ghost use Rattle.adapter.specs.declared.outcome.Outcome.TheVariants.{Nothing};
 
 use adapter::{Adapter, Fate, Outcome, StepKind};
 use dma_memory::HostMemory;
 use std::hash::Hasher;
 
-/// A twin of [`Adapter::step`].
+/// [`Adapter::step`] twice.
+#[tactic(auto, using(crate::specs::OneAnswer::one_answer))]
 pub fn step(
+    one: &mut Adapter,
+    other: &mut Adapter,
+    kind: StepKind,
+    memory: &mut HostMemory,
+    other_memory: &mut HostMemory,
+    wire_free: bool,
+) -> (Outcome<()>, Outcome<()>)
+    requires adapter { one.old ≡ other.old }
+    requires memory { memory.old ≡ other_memory.old }
+    ensures outcome { result.0 ≡ result.1 }
+    ensures adapter { one.new ≡ other.new }
+    ensures memory { memory.new ≡ other_memory.new }
+{
+    (
+        one.step(kind, memory, wire_free),
+        other.step(kind, other_memory, wire_free),
+    )
+}
+
+/// [`Adapter::arrive`] twice.
+#[tactic(auto, using(crate::specs::OneFate::one_fate))]
+pub fn arrive(one: &mut Adapter, other: &mut Adapter, frame: &[u8]) -> (Fate, Fate)
+    requires { one.old ≡ other.old }
+    ensures fate { result.0 ≡ result.1 }
+    ensures adapter { one.new ≡ other.new }
+{
+    (one.arrive(frame), other.arrive(frame))
+}
+
+/// [`Adapter::read`] twice.
+pub fn read(one: &mut Adapter, other: &mut Adapter, offset: u32) -> (u32, u32)
+    requires { one.old ≡ other.old }
+    ensures answer { result.0 ≡ result.1 }
+    ensures adapter { one.new ≡ other.new }
+{
+    (one.read(offset), other.read(offset))
+}
+
+/// [`Adapter::value`] twice.
+pub fn value(one: &Adapter, other: &Adapter, offset: u32) -> (u32, u32)
+    requires { one.now ≡ other.now }
+    ensures { result.0 ≡ result.1 }
+{
+    (one.value(offset), other.value(offset))
+}
+
+/// [`Adapter::write`] twice.
+pub fn write(one: &mut Adapter, other: &mut Adapter, offset: u32, value: u32)
+    requires { one.old ≡ other.old }
+    ensures { one.new ≡ other.new }
+{
+    one.write(offset, value);
+    other.write(offset, value);
+}
+
+/// [`Adapter::line`] twice.
+pub fn line(one: &Adapter, other: &Adapter) -> (bool, bool)
+    requires { one.now ≡ other.now }
+    ensures { result.0 ≡ result.1 }
+{
+    (one.line(), other.line())
+}
+
+/// [`Adapter::to_put`] twice.
+pub fn to_put<'a>(one: &'a Adapter, other: &'a Adapter) -> (Option<&'a [u8]>, Option<&'a [u8]>)
+    requires { one.now ≡ other.now }
+    ensures none { IsNone result.0 ↔ IsNone result.1 }
+    ensures frame { IfSome result.0 (λ frame. IfSome result.1 (λ another. frame.now ≡ another.now)) }
+{
+    (one.to_put(), other.to_put())
+}
+
+/// [`Adapter::has_work`], and the [`Adapter::step`] whose outcome it tells.
+pub fn has_work(
     adapter: &mut Adapter,
     kind: StepKind,
     memory: &mut HostMemory,
     wire_free: bool,
-) -> Outcome<()>
-    ensures answer { Answers kind wire_free memory.old adapter.old (framed result adapter.old) }
-    ensures state { adapter.new ≡ after_step kind (framed result adapter.old) memory.old adapter.old }
-    ensures memory { memory.new ≡ memory_after_step kind (framed result adapter.old) memory.old adapter.old }
-    ensures nothing { result ≡ Nothing → (adapter.new ≡ adapter.old) × (memory.new ≡ memory.old) }
-    ensures fault { result ≡ Fault → (memory.new ≡ memory.old)
-        × (adapter.new.receive_ring ≡ adapter.old.receive_ring)
-        × (adapter.new.transmit_ring ≡ adapter.old.transmit_ring) }
-    ensures only { ChangesAtMost kind adapter.old memory.old memory.new }
-    ensures size { length memory.new ≡ length memory.old }
-    ensures adapter { IsAdapter adapter.new }
+) -> (bool, Outcome<()>)
+    ensures { IsTrue result.0 ↔ (result.1 ≢ Nothing) }
 {
-    match adapter.step(kind, memory, wire_free) {
-        Outcome::Fault => Outcome::Fault,
-        Outcome::Moved => Outcome::Moved,
-        outcome => outcome,
-    }
+    (
+        adapter.has_work(kind),
+        adapter.step(kind, memory, wire_free),
+    )
 }
 
-/// A twin of an [`Adapter::step`] of RxData, and of the step of RxDone after it.
-pub fn piece(adapter: &mut Adapter, memory: &mut HostMemory) -> (Outcome<()>, Outcome<()>)
-    ensures { adapter.new ≡ after_done (framed result.1 adapter.old)
-        (after_data (framed result.0 adapter.old) adapter.old) }
+/// [`Adapter::feed`] twice.
+pub fn feed<H: Hasher>(one: &Adapter, other: &Adapter, hasher: &mut H, another: &mut H)
+    requires adapter { one.now ≡ other.now }
+    requires hasher { hasher.old ≡ another.old }
+    ensures { hasher.new ≡ another.new }
 {
-    let data = adapter.step(StepKind::RxData, memory, true);
-    let done = adapter.step(StepKind::RxDone, memory, true);
-    (data, done)
-}
-
-/// A twin of [`Adapter::arrive`].
-pub fn arrive(adapter: &mut Adapter, frame: &[u8]) -> Fate
-    ensures fate { IsFate adapter.old frame.now result }
-    ensures state { adapter.new ≡ after_arrive result frame.now adapter.old }
-    ensures adapter { IsAdapter adapter.new }
-{
-    match adapter.arrive(frame) {
-        Fate::Missed => Fate::Missed,
-        fate => fate,
-    }
-}
-
-/// A twin of [`Adapter::read`].
-pub fn read(adapter: &mut Adapter, offset: u32) -> u32
-    ensures answer { result ≡ answer_at offset adapter.old }
-    ensures state { adapter.new ≡ after_read offset adapter.old }
-    ensures adapter { IsAdapter adapter.new }
-{
-    adapter.read(offset)
-}
-
-/// A twin of [`Adapter::value`].
-pub fn value(adapter: &Adapter, offset: u32) -> u32
-    ensures answer { result ≡ answer_at offset adapter.now }
-    ensures adapter { IsAdapter adapter.now }
-{
-    adapter.value(offset)
-}
-
-/// A twin of [`Adapter::has_work`].
-pub fn has_work(adapter: &Adapter, kind: StepKind) -> bool
-    ensures work { TellsWork kind result adapter.now }
-{
-    adapter.has_work(kind)
-}
-
-/// A twin of [`Adapter::write`].
-pub fn write(adapter: &mut Adapter, offset: u32, value: u32)
-    ensures state { adapter.new ≡ after_write offset value adapter.old }
-    ensures adapter { IsAdapter adapter.new }
-{
-    adapter.write(offset, value);
-}
-
-/// A twin of an [`Adapter::write`], and of the [`Adapter::value`] after it.
-pub fn value_after_write(adapter: &mut Adapter, at: u32, word: u32) -> u32
-    ensures { result ≡ answer_at at (after_write at word adapter.old) }
-{
-    adapter.write(at, word);
-    adapter.value(at)
-}
-
-/// A twin of [`Adapter::feed`].
-pub fn feed<H: Hasher>(adapter: &Adapter, hasher: &mut H)
-    ensures { hasher.new ≡ fold H.write hasher.old (adapter_writes adapter.now) }
-{
-    adapter.feed(hasher);
+    one.feed(hasher);
+    other.feed(another);
 }

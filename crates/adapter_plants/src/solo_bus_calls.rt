@@ -1,20 +1,7 @@
-//! The calls of `SoloBus`, and its accesses as a `Bus`.
+//! The calls of `SoloBus`, and its accesses as a `Bus`, each made twice.
 
-ghost use Rattle.std.specs.Prelude.{◌≡◌, ◌+◌, ◌++◌, ◌≤◌, ◌↔◌, [], Some, IfOk, IfSome, IsNone, IsTrue, drop, length};
-ghost use Rattle.std.specs.Prelude.{slice_get};
-ghost use Rattle.registers.specs.Bits.{Meet};
-ghost use Rattle.dma_memory.specs.HostMemory.{bytes_at};
-ghost use Rattle.adapter.specs.Receiving.{IsFate};
-ghost use Rattle.adapter.specs.Registers.{answer_at};
-ghost use Rattle.adapter.specs.State.{IsAdapter};
-ghost use Rattle.adapter.specs.Steps.{Answers};
-ghost use Rattle.adapter.specs.World.{world_after_read, world_after_store, world_after_write};
-ghost use Rattle.bus.specs.Keeping.{Keeps, view_of};
-ghost use Rattle.bus.specs.Law.{Acts};
-ghost use Rattle.bus.specs.TickGroups.{without_go};
-ghost use Rattle.bus.specs.declared.event.Access.TheVariants.{Loads, Reads, Stores, Writes};
-ghost use Rattle.solo_bus.specs.SoloBuses.{PlaysSoloTicks, has_room, is_go};
-ghost use Rattle.solo_bus.specs.SoloBuses.{solo_after_arrival, solo_after_step, solo_framed};
+ghost use Rattle.std.specs.Prelude.{◌≡◌, ◌+◌, ◌≤◌, IfOk, length};
+ghost use Rattle.adapter_plants.specs.OneAccess.{AreOneState};
 
 use adapter::{Adapter, Fate, Outcome, StepKind};
 use bus::Bus;
@@ -23,113 +10,114 @@ use dma_memory::HostMemory;
 use solo_bus::{MOST_TICKS, SoloBus, SoloTick};
 use std::alloc::{AllocError, Global};
 
-/// A twin of [`SoloBus::new`].
+/// [`SoloBus::new`] twice. When there is too little memory is open.
 pub fn new(
     alloc: Global,
     adapter: Adapter,
+    other_adapter: Adapter,
     memory: HostMemory,
+    other_memory: HostMemory,
     lively: bool,
-) -> Result<SoloBus, AllocError>
-    ensures { IfOk result (λ bus. bus ≡ record {
-      world = record { memory = memory; adapter = adapter };
-      lively = lively;
-      waiting = [];
-      wire = [];
-      accesses = 0;
-    }) }
+) -> (Result<SoloBus, AllocError>, Result<SoloBus, AllocError>)
+    requires adapter { adapter ≡ other_adapter }
+    requires memory { memory ≡ other_memory }
+    ensures { IfOk result.0 (λ bus. IfOk result.1 (λ other. bus ≡ other)) }
 {
-    SoloBus::new(alloc, adapter, memory, lively)
+    (
+        SoloBus::new(alloc, adapter, memory, lively),
+        SoloBus::new(alloc, other_adapter, other_memory, lively),
+    )
 }
 
-/// A twin of [`SoloBus::step`].
-pub fn step(bus: &mut SoloBus, kind: StepKind) -> Outcome<()>
-    ensures answer { Answers kind (has_room bus.old) bus.old.world.memory bus.old.world.adapter
-        (solo_framed result bus.old) }
-    ensures state { bus.new ≡ solo_after_step kind (solo_framed result bus.old) bus.old }
-    ensures running { IsAdapter bus.old.world.adapter }
+/// [`SoloBus::step`] twice.
+#[tactic(auto, using(crate::specs::OneAnswer::one_answer))]
+pub fn step(one: &mut SoloBus, other: &mut SoloBus, kind: StepKind) -> (Outcome<()>, Outcome<()>)
+    requires { one.old ≡ other.old }
+    ensures outcome { result.0 ≡ result.1 }
+    ensures state { one.new ≡ other.new }
 {
-    bus.step(kind)
+    (one.step(kind), other.step(kind))
 }
 
-/// A twin of [`SoloBus::arrive`].
-pub fn arrive(bus: &mut SoloBus, frame: &[u8]) -> Fate
-    ensures fate { IsFate bus.old.world.adapter frame.now result }
-    ensures state { bus.new ≡ solo_after_arrival result frame.now bus.old }
-    ensures running { IsAdapter bus.old.world.adapter }
+/// [`SoloBus::arrive`] twice.
+#[tactic(auto, using(crate::specs::OneFate::one_fate))]
+pub fn arrive(one: &mut SoloBus, other: &mut SoloBus, frame: &[u8]) -> (Fate, Fate)
+    requires { one.old ≡ other.old }
+    ensures fate { result.0 ≡ result.1 }
+    ensures state { one.new ≡ other.new }
 {
-    bus.arrive(frame)
+    (one.arrive(frame), other.arrive(frame))
 }
 
-/// A twin of [`SoloBus::take_put`].
-pub fn take_put(bus: &mut SoloBus) -> Option<Frame>
-    ensures none { IsNone result ↔ (bus.old.wire ≡ []) }
-    ensures oldest { IfSome result (λ frame. slice_get bus.old.wire 0 ≡ Some frame) }
-    ensures state { bus.new ≡ record bus.old { wire = drop 1 bus.old.wire } }
+/// [`SoloBus::take_put`] twice.
+pub fn take_put(one: &mut SoloBus, other: &mut SoloBus) -> (Option<Frame>, Option<Frame>)
+    requires { one.old ≡ other.old }
+    ensures frame { result.0 ≡ result.1 }
+    ensures state { one.new ≡ other.new }
 {
-    bus.take_put()
+    (one.take_put(), other.take_put())
 }
 
-/// A twin of [`SoloBus::play`].
-pub fn play(bus: &mut SoloBus, ticks: &[SoloTick])
-    requires room { length bus.old.waiting + length ticks.now ≤ MOST_TICKS }
-    ensures { bus.new ≡ record bus.old { waiting = bus.old.waiting ++ ticks.now } }
+/// [`SoloBus::play`] twice.
+pub fn play(one: &mut SoloBus, other: &mut SoloBus, ticks: &[SoloTick])
+    requires state { one.old ≡ other.old }
+    requires room { length one.old.waiting + length ticks.now ≤ MOST_TICKS }
+    ensures { one.new ≡ other.new }
 {
-    bus.play(ticks);
+    one.play(ticks);
+    other.play(ticks);
 }
 
-/// A twin of [`SoloBus::finish`].
-pub fn finish(bus: &mut SoloBus)
-    ensures { PlaysSoloTicks (without_go is_go bus.old.waiting) [] bus.old bus.new }
+/// [`SoloBus::line`] twice.
+pub fn line(one: &SoloBus, other: &SoloBus) -> (bool, bool)
+    requires { one.now ≡ other.now }
+    ensures { result.0 ≡ result.1 }
 {
-    bus.finish();
+    (one.line(), other.line())
 }
 
-/// A twin of [`SoloBus::line`].
-pub fn line(bus: &SoloBus) -> bool
-    ensures { IsTrue result ↔ Meet bus.now.world.adapter.causes.recorded bus.now.world.adapter.causes.mask }
+/// [`Bus::read`] of `SoloBus` twice.
+pub fn read(one: &mut SoloBus, other: &mut SoloBus, offset: u32) -> (u32, u32)
+    requires { one.old ≡ other.old }
+    ensures answer { result.0 ≡ result.1 }
+    ensures state { AreOneState one.new other.new }
 {
-    bus.line()
+    (one.read(offset), other.read(offset))
 }
 
-/// A twin of [`Bus::read`] of `SoloBus`.
-pub fn read(bus: &mut SoloBus, offset: u32) -> u32
-    ensures keeps { Keeps ⟦<SoloBus as Bus>⟧ bus.old bus.new }
-    ensures acts { ⟦<SoloBus as Bus>⟧.honest bus.old
-        → Acts (view_of ⟦<SoloBus as Bus>⟧) bus.old bus.new (Reads offset result)
-        (λ before after. (result ≡ answer_at offset before.adapter) × (after ≡ world_after_read offset before)) }
+/// [`Bus::write`] of `SoloBus` twice.
+pub fn write(one: &mut SoloBus, other: &mut SoloBus, offset: u32, value: u32)
+    requires { one.old ≡ other.old }
+    ensures { AreOneState one.new other.new }
 {
-    bus.read(offset)
+    one.write(offset, value);
+    other.write(offset, value);
 }
 
-/// A twin of [`Bus::write`] of `SoloBus`.
-pub fn write(bus: &mut SoloBus, offset: u32, value: u32)
-    ensures keeps { Keeps ⟦<SoloBus as Bus>⟧ bus.old bus.new }
-    ensures acts { ⟦<SoloBus as Bus>⟧.honest bus.old
-        → Acts (view_of ⟦<SoloBus as Bus>⟧) bus.old bus.new (Writes offset value)
-        (λ before after. after ≡ world_after_write offset value before) }
+/// [`Bus::load`] of `SoloBus` twice.
+pub fn load(
+    one: &mut SoloBus,
+    other: &mut SoloBus,
+    address: u64,
+    into: &mut [u8],
+    other_into: &mut [u8],
+)
+    requires state { one.old ≡ other.old }
+    requires length { length into.old ≡ length other_into.old }
+    requires inside { address + length into.old ≤ length one.old.world.memory }
+    ensures bytes { into.new ≡ other_into.new }
+    ensures state { AreOneState one.new other.new }
 {
-    bus.write(offset, value);
+    one.load(address, into);
+    other.load(address, other_into);
 }
 
-/// A twin of [`Bus::load`] of `SoloBus`.
-pub fn load(bus: &mut SoloBus, address: u64, into: &mut [u8])
-    requires { address + length into.old ≤ ⟦<SoloBus as Bus>⟧.extent bus.old }
-    ensures keeps { Keeps ⟦<SoloBus as Bus>⟧ bus.old bus.new }
-    ensures length { length into.new ≡ length into.old }
-    ensures acts { ⟦<SoloBus as Bus>⟧.honest bus.old
-        → Acts (view_of ⟦<SoloBus as Bus>⟧) bus.old bus.new (Loads address (length into.old))
-        (λ before after. (into.new ≡ bytes_at before.memory address (length into.old)) × (after ≡ before)) }
+/// [`Bus::store`] of `SoloBus` twice.
+pub fn store(one: &mut SoloBus, other: &mut SoloBus, address: u64, bytes: &[u8])
+    requires state { one.old ≡ other.old }
+    requires inside { address + length bytes.now ≤ length one.old.world.memory }
+    ensures { AreOneState one.new other.new }
 {
-    bus.load(address, into);
-}
-
-/// A twin of [`Bus::store`] of `SoloBus`.
-pub fn store(bus: &mut SoloBus, address: u64, bytes: &[u8])
-    requires { address + length bytes.now ≤ ⟦<SoloBus as Bus>⟧.extent bus.old }
-    ensures keeps { Keeps ⟦<SoloBus as Bus>⟧ bus.old bus.new }
-    ensures acts { ⟦<SoloBus as Bus>⟧.honest bus.old
-        → Acts (view_of ⟦<SoloBus as Bus>⟧) bus.old bus.new (Stores address bytes.now)
-        (λ before after. after ≡ world_after_store address bytes.now before) }
-{
-    bus.store(address, bytes);
+    one.store(address, bytes);
+    other.store(address, bytes);
 }

@@ -1,31 +1,48 @@
-//! The calls of `Stations`, and of the bus that lends them to a call.
+//! The calls of `Stations`, each made twice, and a call of the bus that lends them.
 
-ghost use Rattle.std.specs.Prelude.{◌≡◌, ◌<◌};
+ghost use Rattle.std.specs.Prelude.{◌≡◌, ◌<◌, ◌∷◌, []};
+ghost use Rattle.adapter.specs.Outcomes.{FrameOutcome};
 ghost use Rattle.adapter.specs.Registers.{answer_at};
 ghost use Rattle.adapter.specs.World.{world_after_read};
 ghost use Rattle.bus.specs.Keeping.{Keeps, view_of};
 ghost use Rattle.bus.specs.Law.{Acts};
 ghost use Rattle.bus.specs.declared.event.Access.TheVariants.{Reads};
-ghost use Rattle.stations.specs.AtomicSteps.{PlaysNoted, watched};
-ghost use Rattle.stations.specs.Retelling.{Finished};
+ghost use Rattle.stations.specs.ToldTicks.{tick_told};
 
 use bus::Bus;
 use stations::{LentBus, Observer, Stations, Tick};
 
-/// A twin of [`Stations::play`].
-pub fn play<O: Observer>(stations: &mut Stations, tick: Tick, accesses: u64, observer: &mut O)
+/// [`Stations::play`] twice: each observer is told the same outcome.
+pub fn play<O: Observer>(
+    one: &mut Stations,
+    other: &mut Stations,
+    tick: Tick,
+    accesses: u64,
+    observer: &mut O,
+    another: &mut O,
+)
+    requires stations { one.old ≡ other.old }
     requires room { 0 < O.room_left observer.old }
-    ensures { PlaysNoted O.Observer tick accesses (watched stations.old observer.old)
-        (watched stations.new observer.new) }
+    requires other_room { 0 < O.room_left another.old }
+    ensures stations { one.new ≡ other.new }
+    ensures told { (outcome : FrameOutcome) × O.heard observer.old observer.new (tick_told tick accesses outcome ∷ [])
+        × O.heard another.old another.new (tick_told tick accesses outcome ∷ []) }
 {
-    stations.play(tick, accesses, observer);
+    one.play(tick, accesses, observer);
+    other.play(tick, accesses, another);
 }
 
-/// A twin of [`LentBus::finish`].
-pub fn finish<'a, 't, O: Observer>(bus: &mut LentBus<'a, 't, O>)
-    ensures { Finished bus.old bus.new }
+/// [`LentBus::finish`] twice. What the observers are told isn't compared.
+pub fn finish<'a, 't, O: Observer>(one: &mut LentBus<'a, 't, O>, other: &mut LentBus<'a, 't, O>)
+    requires stations { one.old.stations.now ≡ other.old.stations.now }
+    requires ticks { one.old.ticks.now ≡ other.old.ticks.now }
+    requires accesses { one.old.accesses ≡ other.old.accesses }
+    ensures stations { one.new.stations.now ≡ other.new.stations.now }
+    ensures ticks { one.new.ticks.now ≡ other.new.ticks.now }
+    ensures accesses { one.new.accesses ≡ other.new.accesses }
 {
-    bus.finish();
+    one.finish();
+    other.finish();
 }
 
 /// A twin of [`Bus::read`] of `LentBus`.

@@ -1,4 +1,9 @@
-//! Twins of the calls of the program's crates: each makes its call and returns its result, and edits make it wrong.
+//! Calls of the program's crates, each made twice: their contracts determine the outcome.
+//!
+//! A function of this crate makes the call that it names twice, from equal states and with equal arguments, and its
+//! clauses say that both outcomes are equal. The prover knows nothing of the call but its clauses. So these exclude
+//! every body whose outcome differs in what the function compares. Most functions compare the outcomes of calls that
+//! succeed.
 #![tactic(auto)]
 
 pub mod command_line_calls;

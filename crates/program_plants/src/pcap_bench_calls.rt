@@ -1,32 +1,31 @@
 //! The call of `pcap_bench` that passes the frames of a trace.
 
-ghost use Rattle.std.specs.Prelude.{◌≡◌, ◌<◌, IfErr, IfOk, OnErr, OnOk};
-ghost use Rattle.pcap_bench.specs.Options.{HasVlanNumber, KeptBy};
-ghost use Rattle.pcap_bench.specs.Passing.{StopsAmong, StopsBy, WritesKept};
+ghost use Rattle.std.specs.Prelude.{◌≡◌, ◌<◌, IfOk, IfSome, OnOk};
+ghost use Rattle.pcap_bench.specs.Options.{HasVlanNumber};
 
 use pcap_bench::{PassCounts, PassError, PassFilter, Sink, Trace, Unit};
 use std::alloc::Global;
 
-/// A twin of [`pcap_bench::pass`].
+/// [`pcap_bench::pass`] twice. When there is too little memory is open, and when a write fails.
+#[tactic(auto, using(crate::proofs::Fates::counts_are_one, crate::proofs::Fates::written_is_one))]
 pub fn pass<W: Sink>(
     alloc: Global,
     trace: &Trace,
     filter: &PassFilter,
     unit: Unit,
-    sink: &mut W,
-) -> Result<PassCounts, PassError>
-    requires countable { W.failures sink.old < u64.MAX }
+    one: &mut W,
+    other: &mut W,
+) -> (Result<PassCounts, PassError>, Result<PassCounts, PassError>)
+    requires countable { W.failures one.old < u64.MAX }
+    requires taken { W.taken one.old ≡ W.taken other.old }
+    requires failures { W.failures one.old ≡ W.failures other.old }
     requires vlan { HasVlanNumber filter.now }
-    ensures ok { IfOk result
-        (λ counts. WritesKept unit (KeptBy filter.now) trace.now.frames counts (W.taken sink.old) (W.taken sink.new)) }
-    ensures quiet { OnOk result (W.failures sink.new ≡ W.failures sink.old) }
-    ensures err { OnErr result
-        (StopsAmong unit (KeptBy filter.now) trace.now.frames (W.taken sink.old) (W.taken sink.new)) }
-    ensures fault { IfErr result
-        (λ e. StopsBy e (W.taken sink.old) (W.taken sink.new) (W.failures sink.old) (W.failures sink.new)) }
+    ensures counts { IfOk result.0 (λ counts. IfOk result.1 (λ others. counts ≡ others)) }
+    ensures taken { IfSome (W.taken one.old)
+        (λ _. OnOk result.0 (OnOk result.1 (W.taken one.new ≡ W.taken other.new))) }
 {
-    match pcap_bench::pass(alloc, trace, filter, unit, sink) {
-        Ok(counts) => Ok(counts),
-        Err(error) => Err(error),
-    }
+    (
+        pcap_bench::pass(alloc, trace, filter, unit, one),
+        pcap_bench::pass(alloc, trace, filter, unit, other),
+    )
 }

@@ -1,73 +1,87 @@
 //! The calls of `pcap_trace` that read and write traces.
 
-ghost use Rattle.std.specs.Prelude.{◌≡◌, ◌<◌, ◌≤◌, IfOk, IfSome, OnErr, OnOk, length, map};
-ghost use Rattle.std.specs.Io.KnownBytes.{Appends, IsAtEnd, append_known};
-ghost use Rattle.pcap_trace.specs.Devices.{AppendsFront, CountsFailures, Grows, Uses};
-ghost use Rattle.pcap_trace.specs.Format.{file_header, packet_of, timed, written};
-ghost use Rattle.pcap_trace.specs.Reading.{IsAnswer, IsOnlyAnswer, TellsFailure};
+ghost use Rattle.std.specs.Prelude.{◌≡◌, ◌<◌, ◌≤◌, ◌↔◌, IfOk, IfSome, OnOk, Err, length, true};
+ghost use Rattle.std.specs.Io.KnownBytes.{append_known};
+ghost use Rattle.pcap_trace.specs.Reading.{is_of_bytes};
+ghost use Rattle.pcap_trace.specs.declared.fault.ReadError.TheVariants.{Read};
 
 use descriptors::Frame;
 use pcap_trace::{ReadError, RecordWriter, Sink, Source, Trace, Unit, WriteError};
 use std::alloc::{AllocError, Global};
 
-/// A twin of [`Trace::read`].
-pub fn read_trace<S: Source>(alloc: Global, source: &mut S) -> Result<Trace, ReadError>
-    requires { S.failures source.old < u64.MAX }
-    ensures fits { IfSome (S.left source.old) (λ bytes. IsAnswer bytes result) }
-    ensures only { IfSome (S.left source.old) (λ bytes. IsOnlyAnswer bytes result) }
-    ensures failure { TellsFailure result (S.failures source.old) (S.failures source.new) }
-    ensures end { OnOk result (IsAtEnd (S.left source.new)) }
-    ensures used { Uses (S.left source.old) (S.left source.new) }
+/// [`Trace::read`] of two sources with the same bytes. When there is too little memory is open, and when a read fails.
+pub fn read_trace<S: Source>(
+    alloc: Global,
+    one: &mut S,
+    other: &mut S,
+) -> (Result<Trace, ReadError>, Result<Trace, ReadError>)
+    requires countable { S.failures one.old < u64.MAX }
+    requires bytes { S.left one.old ≡ S.left other.old }
+    requires failures { S.failures one.old ≡ S.failures other.old }
+    ensures trace { IfSome (S.left one.old) (λ _. is_of_bytes result.0 ≡ true → is_of_bytes result.1 ≡ true
+        → result.0 ≡ result.1) }
+    ensures failure { S.failures one.new ≡ S.failures other.new → (result.0 ≡ Err Read) ↔ (result.1 ≡ Err Read) }
 {
-    match Trace::read(alloc, source) {
-        Ok(trace) => Ok(trace),
-        Err(fault) => Err(fault),
-    }
+    (Trace::read(alloc, one), Trace::read(alloc, other))
 }
 
-/// A twin of [`Trace::write`].
+/// [`Trace::write`] to two sinks. When a write fails is open.
 pub fn write_trace<W: Sink>(
-    sink: &mut W,
+    one: &mut W,
+    other: &mut W,
     unit: Unit,
     packets: &[(u64, Frame)],
-) -> Result<(), WriteError>
-    requires { W.failures sink.old < u64.MAX }
-    ensures ok { OnOk result
-        (Appends (W.taken sink.old) (W.taken sink.new) (written unit (map timed packets.now))) }
-    ensures err { OnErr result
-        (AppendsFront (W.taken sink.old) (W.taken sink.new) (written unit (map timed packets.now))) }
-    ensures failures { CountsFailures result (W.failures sink.old) (W.failures sink.new) }
+) -> (Result<(), WriteError>, Result<(), WriteError>)
+    requires countable { W.failures one.old < u64.MAX }
+    requires taken { W.taken one.old ≡ W.taken other.old }
+    requires failures { W.failures one.old ≡ W.failures other.old }
+    ensures outcome { W.failures one.new ≡ W.failures other.new → result.0 ≡ result.1 }
+    ensures taken { IfSome (W.taken one.old)
+        (λ _. OnOk result.0 (OnOk result.1 (W.taken one.new ≡ W.taken other.new))) }
 {
-    match Trace::write(sink, unit, packets) {
-        Ok(()) => Ok(()),
-        Err(error) => Err(error),
-    }
+    (
+        Trace::write(one, unit, packets),
+        Trace::write(other, unit, packets),
+    )
 }
 
-/// A twin of [`RecordWriter::new`].
-pub fn new_writer(alloc: Global, unit: Unit) -> Result<RecordWriter, AllocError>
-    ensures { IfOk result (λ w. w ≡ file_header unit) }
+/// [`RecordWriter::new`] twice.
+pub fn new_writer(
+    alloc: Global,
+    unit: Unit,
+) -> (
+    Result<RecordWriter, AllocError>,
+    Result<RecordWriter, AllocError>,
+)
+    ensures { IfOk result.0 (λ writer. IfOk result.1 (λ another. writer ≡ another)) }
 {
-    RecordWriter::new(alloc, unit)
+    (
+        RecordWriter::new(alloc, unit),
+        RecordWriter::new(alloc, unit),
+    )
 }
 
-/// A twin of [`RecordWriter::write`].
+/// [`RecordWriter::write`] twice: how many of its bytes a writer keeps is open.
 pub fn write_record<W: Sink>(
-    writer: &mut RecordWriter,
+    one: &mut RecordWriter,
+    other: &mut RecordWriter,
     sink: &mut W,
+    another: &mut W,
     unit: Unit,
     time: u64,
     frame: &[u8],
-) -> Result<(), WriteError>
+) -> (Result<(), WriteError>, Result<(), WriteError>)
     requires countable { W.failures sink.old < u64.MAX }
+    requires writer { one.old ≡ other.old }
+    requires taken { W.taken sink.old ≡ W.taken another.old }
+    requires failures { W.failures sink.old ≡ W.failures another.old }
     requires short { length frame.now ≤ 1518 }
-    ensures ok { OnOk result
-        (Appends (append_known (W.taken sink.old) writer.old) (append_known (W.taken sink.new) writer.new)
-        (packet_of unit (record { time = time; frame = frame.now }))) }
-    ensures grows { OnOk result (Grows (W.taken sink.old) (W.taken sink.new)) }
-    ensures err { OnErr result (AppendsFront (W.taken sink.old) (W.taken sink.new) writer.old) }
-    ensures kept { OnErr result (writer.new ≡ writer.old) }
-    ensures failures { CountsFailures result (W.failures sink.old) (W.failures sink.new) }
+    ensures outcome { W.failures sink.new ≡ W.failures another.new → result.0 ≡ result.1 }
+    ensures bytes { IfSome (W.taken sink.old) (λ _. OnOk result.0 (OnOk result.1
+        (append_known (W.taken sink.new) one.new ≡ append_known (W.taken another.new) other.new))) }
 {
-    writer.write(sink, unit, time, frame)
+    (
+        one.write(sink, unit, time, frame),
+        other.write(another, unit, time, frame),
+    )
 }

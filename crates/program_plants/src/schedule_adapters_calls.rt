@@ -1,14 +1,23 @@
 //! The call of `schedule_options` that compares adapters.
 
-ghost use Rattle.std.specs.Prelude.{◌≡◌, IfOk, map, string_bytes};
-ghost use Rattle.schedule_options.specs.Adapters as spec;
+ghost use Rattle.std.specs.Prelude.{IfOk, IsTrue};
+ghost use Rattle.schedule_options.specs.Adapters.{HaveSameAdapter};
 
 use command_line::ServeJob;
 use std::alloc::{AllocError, Global};
 
-/// A twin of [`schedule_options::is_for`].
-pub fn is_for(alloc: Global, options: &[String], job: &ServeJob<'_>) -> Result<bool, AllocError>
-    ensures { IfOk result (spec.IsAnswer (spec.serve_words (map string_bytes options.now)) job.now) }
+/// [`schedule_options::is_for`] of two jobs: options are for jobs with one adapter.
+pub fn is_for(
+    alloc: Global,
+    options: &[String],
+    job: &ServeJob<'_>,
+    other: &ServeJob<'_>,
+) -> (Result<bool, AllocError>, Result<bool, AllocError>)
+    ensures { IfOk result.0 (λ is. IfOk result.1 (λ also. IsTrue is → IsTrue also
+        → HaveSameAdapter job.now other.now)) }
 {
-    schedule_options::is_for(alloc, options, job)
+    (
+        schedule_options::is_for(alloc, options, job),
+        schedule_options::is_for(alloc, options, other),
+    )
 }

@@ -1,10 +1,12 @@
-//! Twins of the calls with which an adapter is served.
+//! Calls with which an adapter is served, each made twice: their contracts determine the outcome.
 //!
-//! A twin has the clauses of the call whose name it bears. It makes this call and hands on what came of it, and the
-//! prover knows nothing of the call but its clauses. So if one wrong thing is handed on, a clause refuses it. The edits
-//! in `must-fail/` are such wrong bodies.
+//! A function of this crate makes the call that it names twice, from equal states and with equal arguments, and its
+//! clauses say that both outcomes are equal. The prover knows nothing of the call but its clauses. So these exclude
+//! every body whose outcome differs in what the function compares. Most functions compare the outcomes of calls that
+//! succeed.
 #![tactic(auto)]
 
+pub mod played_calls;
 pub mod player_calls;
 pub mod qtest_calls;
 pub mod schedule_calls;

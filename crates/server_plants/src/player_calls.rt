@@ -1,50 +1,74 @@
-//! The calls of `Player`.
+//! The calls of `Player`, each made twice. When there is too little memory is open.
 
 ghost use Rattle.std.specs.Prelude.{◌≡◌, IfOk, OnOk, string_bytes};
 ghost use Rattle.std.specs.Option.{option_map};
-ghost use Rattle.schedule_player.specs.Players as spec;
 ghost use Rattle.step_schedules.specs.Schedules.{option_texts};
-ghost use Rattle.step_schedules.specs.Texts.{deviation_lines, schedule_text};
 
 use schedule_player::Player;
 use std::alloc::{AllocError, Global};
 use step_schedules::{Action, Before};
 
-/// A twin of [`Player::meet`].
+/// [`Player::meet`] twice.
 pub fn meet(
-    player: &mut Player,
+    one: &mut Player,
+    other: &mut Player,
     alloc: Global,
     before: Before,
     name: String,
-) -> Result<Vec<Action>, AllocError>
-    ensures due { IfOk result (λ actions. actions.items ≡ spec.due_actions before (string_bytes name) player.old) }
-    ensures state { OnOk result (player.new ≡ spec.after_meeting before (string_bytes name) player.old) }
+    same_name: String,
+) -> (
+    Result<Vec<Action>, AllocError>,
+    Result<Vec<Action>, AllocError>,
+)
+    requires player { one.old ≡ other.old }
+    requires name { string_bytes name ≡ string_bytes same_name }
+    ensures due { IfOk result.0 (λ actions. IfOk result.1 (λ others. actions.items ≡ others.items)) }
+    ensures player { OnOk result.0 (OnOk result.1 (one.new ≡ other.new)) }
 {
-    player.meet(alloc, before, name)
+    (
+        one.meet(alloc, before, name),
+        other.meet(alloc, before, same_name),
+    )
 }
 
-/// A twin of [`Player::note`].
-pub fn note(player: &mut Player, action: Action) -> Result<(), AllocError>
-    ensures { OnOk result (player.new ≡ spec.after_playing action player.old) }
+/// [`Player::note`] twice.
+pub fn note(
+    one: &mut Player,
+    other: &mut Player,
+    action: Action,
+) -> (Result<(), AllocError>, Result<(), AllocError>)
+    requires { one.old ≡ other.old }
+    ensures { OnOk result.0 (OnOk result.1 (one.new ≡ other.new)) }
 {
-    player.note(action)
+    (one.note(action), other.note(action))
 }
 
-/// A twin of [`Player::unmet`].
-pub fn unmet(player: &Player, alloc: Global) -> Result<String, AllocError>
-    ensures { IfOk result (λ text. string_bytes text ≡ deviation_lines (spec.unmet player.now)) }
+/// [`Player::unmet`] twice.
+pub fn unmet(
+    one: &Player,
+    other: &Player,
+    alloc: Global,
+) -> (Result<String, AllocError>, Result<String, AllocError>)
+    requires { one.now ≡ other.now }
+    ensures { IfOk result.0 (λ text. IfOk result.1 (λ same. string_bytes text ≡ string_bytes same)) }
 {
-    player.unmet(alloc)
+    (one.unmet(alloc), other.unmet(alloc))
 }
 
-/// A twin of [`Player::recorded`].
+/// [`Player::recorded`] twice.
 pub fn recorded(
-    player: &Player,
+    one: &Player,
+    other: &Player,
     alloc: Global,
     options: Option<Vec<String>>,
-) -> Result<String, AllocError>
-    ensures { IfOk result (λ text. string_bytes text
-        ≡ schedule_text (spec.recorded (option_map option_texts options) player.now)) }
+    same_options: Option<Vec<String>>,
+) -> (Result<String, AllocError>, Result<String, AllocError>)
+    requires player { one.now ≡ other.now }
+    requires options { option_map option_texts options ≡ option_map option_texts same_options }
+    ensures { IfOk result.0 (λ text. IfOk result.1 (λ same. string_bytes text ≡ string_bytes same)) }
 {
-    player.recorded(alloc, options)
+    (
+        one.recorded(alloc, options),
+        other.recorded(alloc, same_options),
+    )
 }

@@ -1,17 +1,24 @@
-//! An access of `QtestBus`.
+//! An access of `QtestBus`, made twice.
 
-ghost use Rattle.bus.specs.BusMembers.{StaysWhole};
-ghost use Rattle.bus.specs.declared.event.Access.TheVariants.{Writes};
-ghost use Rattle.qtest_bus.specs.QtestState.{Asks, AsksAll, is_never, memory_size};
+ghost use Rattle.std.specs.Prelude.{◌≡◌, IfSome, None};
 
 use bus::Bus;
 use qtest_bus::QtestBus;
 use std::io::{BufRead, Write};
 
-/// A twin of [`Bus::write`] of `QtestBus`.
-pub fn write<R: BufRead, W: Write>(bus: &mut QtestBus<R, W>, offset: u32, value: u32)
-    ensures keeps { StaysWhole memory_size AsksAll is_never is_never bus.old bus.new }
-    ensures asks { Asks (Writes offset value) bus.old bus.new }
+/// [`Bus::write`] of `QtestBus` twice. When the other program fails is open.
+pub fn write<R: BufRead, W: Write>(
+    one: &mut QtestBus<R, W>,
+    other: &mut QtestBus<R, W>,
+    offset: u32,
+    value: u32,
+)
+    requires { one.old ≡ other.old }
+    ensures request { IfSome one.old.written
+        (λ _. one.new.fault ≡ None → other.new.fault ≡ None → one.new.written ≡ other.new.written) }
+    ensures registers { one.new.registers ≡ other.new.registers }
+    ensures memory { one.new.memory ≡ other.new.memory }
 {
-    bus.write(offset, value);
+    one.write(offset, value);
+    other.write(offset, value);
 }

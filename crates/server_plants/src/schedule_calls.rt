@@ -1,33 +1,36 @@
-//! The calls of `Schedule` and of `Deviation`.
+//! The calls of `Schedule` and of `Deviation`, each made twice. When there is too little memory is open.
 
-ghost use Rattle.std.specs.Prelude.{◌≡◌, IfOk, string_bytes};
+ghost use Rattle.std.specs.Prelude.{◌≡◌, ◌≢◌, Err, IfErr, IfOk, string_bytes};
 ghost use Rattle.step_schedules.specs.Deviations.{deviation_read};
-ghost use Rattle.step_schedules.specs.Schedules.{IsRead};
-ghost use Rattle.step_schedules.specs.Texts.{deviation_text};
+ghost use Rattle.step_schedules.specs.Schedules.{schedule_read};
+ghost use Rattle.step_schedules.specs.declared.schedule_error.ScheduleError.TheVariants.{Memory};
 
 use std::alloc::{AllocError, Global};
 use step_schedules::{Deviation, Schedule, ScheduleError};
 
-/// A twin of [`Schedule::parse`].
-pub fn parse(alloc: Global, text: &[u8]) -> Result<Schedule, ScheduleError>
-    ensures { IsRead text.now result }
+/// [`Schedule::parse`] twice.
+pub fn parse(
+    alloc: Global,
+    text: &[u8],
+) -> (
+    Result<Schedule, ScheduleError>,
+    Result<Schedule, ScheduleError>,
+)
+    ensures schedule { IfOk result.0 (λ schedule. IfOk result.1
+        (λ other. schedule_read schedule ≡ schedule_read other)) }
+    ensures error { IfErr result.0 (λ error. error ≢ Memory → result.1 ≢ Err Memory → result.1 ≡ Err error) }
 {
-    match Schedule::parse(alloc, text) {
-        Ok(schedule) => Ok(schedule),
-        Err(ScheduleError::Line { line, fault }) => Err(ScheduleError::Line { line, fault }),
-        Err(error) => Err(error),
-    }
+    (Schedule::parse(alloc, text), Schedule::parse(alloc, text))
 }
 
-/// A twin of [`Display::fmt`] of `Deviation`, which `to_string` calls.
-pub fn line_of(alloc: Global, deviation: &Deviation) -> Result<String, AllocError>
-    ensures { IfOk result (λ text. string_bytes text ≡ deviation_text (deviation_read deviation.now)) }
+/// `to_string` of two equal deviations.
+pub fn line_of(
+    alloc: Global,
+    one: &Deviation,
+    other: &Deviation,
+) -> (Result<String, AllocError>, Result<String, AllocError>)
+    requires { deviation_read one.now ≡ deviation_read other.now }
+    ensures { IfOk result.0 (λ text. IfOk result.1 (λ same. string_bytes text ≡ string_bytes same)) }
 {
-    let copy = Deviation {
-        site: deviation.site,
-        action: deviation.action,
-        before: deviation.before,
-        name: deviation.name.clone()?,
-    };
-    copy.to_string(alloc)
+    (one.to_string(alloc), other.to_string(alloc))
 }

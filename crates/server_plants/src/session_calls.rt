@@ -1,7 +1,6 @@
-//! The calls of `Device` and of `Session`.
+//! The calls of `Device` and of `Session`, each made twice. When there is too little memory is open, and when a write fails.
 
-ghost use Rattle.served_device.specs.Devices.{Steps, TellsEvents};
-ghost use Rattle.served_session.specs.Sessions.{AllArrive, ComesBefore};
+ghost use Rattle.std.specs.Prelude.{◌≡◌, IfOk, IfSome, OnOk};
 
 use access_names::Target;
 use adapter::{Outcome, StepKind};
@@ -12,41 +11,69 @@ use std::alloc::Global;
 use std::io::Write;
 use step_schedules::Before;
 
-/// A twin of [`Device::step`].
+/// [`Device::step`] twice.
 pub fn step<W: Write>(
-    device: &mut Device,
+    one: &mut Device,
+    other: &mut Device,
     alloc: Global,
     out: &mut W,
+    other_out: &mut W,
     kind: StepKind,
-) -> Result<Outcome<()>, AnswerError>
-    ensures { TellsEvents result (W.contents out.old) (W.contents out.new) device.old
-        (λ outcome. Steps kind outcome device.old device.new) }
+) -> (
+    Result<Outcome<()>, AnswerError>,
+    Result<Outcome<()>, AnswerError>,
+)
+    requires device { one.old ≡ other.old }
+    requires contents { W.contents out.old ≡ W.contents other_out.old }
+    ensures outcome { IfOk result.0 (λ outcome. IfOk result.1 (λ another. outcome ≡ another)) }
+    ensures device { OnOk result.0 (OnOk result.1 (one.new ≡ other.new)) }
+    ensures text { IfSome (W.contents out.old)
+        (λ _. OnOk result.0 (OnOk result.1 (W.contents out.new ≡ W.contents other_out.new))) }
 {
-    device.step(alloc, out, kind)
+    (
+        one.step(alloc, out, kind),
+        other.step(alloc, other_out, kind),
+    )
 }
 
-/// A twin of [`Session::deliver_all`].
+/// [`Session::deliver_all`] twice.
 pub fn deliver_all<W: Write>(
-    session: &mut Session,
+    one: &mut Session,
+    other: &mut Session,
     alloc: Global,
     out: &mut W,
-) -> Result<(), AnswerError>
-    ensures { TellsEvents result (W.contents out.old) (W.contents out.new) session.old.device
-        (λ _. AllArrive session.old session.new) }
+    other_out: &mut W,
+) -> (Result<(), AnswerError>, Result<(), AnswerError>)
+    requires session { one.old ≡ other.old }
+    requires contents { W.contents out.old ≡ W.contents other_out.old }
+    ensures session { OnOk result.0 (OnOk result.1 (one.new ≡ other.new)) }
+    ensures text { IfSome (W.contents out.old)
+        (λ _. OnOk result.0 (OnOk result.1 (W.contents out.new ≡ W.contents other_out.new))) }
 {
-    session.deliver_all(alloc, out)
+    (
+        one.deliver_all(alloc, out),
+        other.deliver_all(alloc, other_out),
+    )
 }
 
-/// A twin of [`Session::play_before`].
+/// [`Session::play_before`] twice.
 pub fn play_before<W: Write>(
-    session: &mut Session,
+    one: &mut Session,
+    other: &mut Session,
     alloc: Global,
     out: &mut W,
+    other_out: &mut W,
     before: Before,
     target: Target,
-) -> Result<(), AnswerError>
-    ensures { TellsEvents result (W.contents out.old) (W.contents out.new) session.old.device
-        (λ _. ComesBefore before target session.old session.new) }
+) -> (Result<(), AnswerError>, Result<(), AnswerError>)
+    requires session { one.old ≡ other.old }
+    requires contents { W.contents out.old ≡ W.contents other_out.old }
+    ensures session { OnOk result.0 (OnOk result.1 (one.new ≡ other.new)) }
+    ensures text { IfSome (W.contents out.old)
+        (λ _. OnOk result.0 (OnOk result.1 (W.contents out.new ≡ W.contents other_out.new))) }
 {
-    session.play_before(alloc, out, before, target)
+    (
+        one.play_before(alloc, out, before, target),
+        other.play_before(alloc, other_out, before, target),
+    )
 }

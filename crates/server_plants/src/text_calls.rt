@@ -1,37 +1,53 @@
-//! The calls that name targets, read requests and write answers.
+//! The calls that name targets, read requests and write answers, each made twice. When there is too little memory is open,
+//! and when a write fails.
 
-ghost use Rattle.std.specs.Prelude.{◌≡◌, IfOk, length, string_bytes};
-ghost use Rattle.access_names.specs.Names.{target_text};
-ghost use Rattle.access_names.specs.Targets.{memory_target_in};
-ghost use Rattle.server_output.specs.Order.{Says};
-ghost use Rattle.server_output.specs.ReadLines.{answer_line};
+ghost use Rattle.std.specs.Prelude.{◌≡◌, IfOk, IfSome, OnOk, length, string_bytes};
 ghost use Rattle.server_requests.specs.Reading as reading;
 ghost use Rattle.server_requests.specs.Widths.{size_of};
 
 use access_names::Target;
+use adapter::StepKind;
 use bus::Machine;
+use engine_faults::EngineFault;
 use server_output::AnswerError;
 use server_requests::{Request, Stop, Wanted};
 use std::alloc::{AllocError, Global};
 use std::io::Write;
 
-/// A twin of [`access_names::memory_target`].
-pub fn memory_target(machine: &Machine, address: u64) -> Target
-    ensures target { result ≡ memory_target_in machine.now.world.adapter address }
+/// [`engine_faults::fault_of`] twice.
+pub fn fault_of(
+    one: &Machine,
+    other: &Machine,
+    kind: StepKind,
+) -> (Option<EngineFault>, Option<EngineFault>)
+    requires { one.now ≡ other.now }
+    ensures { result.0 ≡ result.1 }
 {
-    access_names::memory_target(machine, address)
+    (
+        engine_faults::fault_of(one, kind),
+        engine_faults::fault_of(other, kind),
+    )
 }
 
-/// A twin of [`Display::fmt`] of `Target`, which `to_string` calls.
-pub fn name_of(alloc: Global, target: Target) -> Result<String, AllocError>
-    ensures { IfOk result (λ text. string_bytes text ≡ target_text target) }
+/// [`access_names::memory_target`] twice.
+pub fn memory_target(one: &Machine, other: &Machine, address: u64) -> (Target, Target)
+    requires { one.now ≡ other.now }
+    ensures { result.0 ≡ result.1 }
 {
-    let copy = match target {
-        Target::Register(offset) => Target::Register(offset),
-        Target::Descriptor { ring, index, byte } => Target::Descriptor { ring, index, byte },
-        Target::Memory(address) => Target::Memory(address),
-    };
-    copy.to_string(alloc)
+    (
+        access_names::memory_target(one, address),
+        access_names::memory_target(other, address),
+    )
+}
+
+/// `to_string` of a target twice.
+pub fn name_of(
+    alloc: Global,
+    target: Target,
+) -> (Result<String, AllocError>, Result<String, AllocError>)
+    ensures { IfOk result.0 (λ text. IfOk result.1 (λ same. string_bytes text ≡ string_bytes same)) }
+{
+    (target.to_string(alloc), target.to_string(alloc))
 }
 
 /// A twin of [`server_requests::read_line`].
@@ -44,22 +60,37 @@ pub fn read_line(alloc: Global, line: &[u8]) -> Result<Request, Stop>
     }
 }
 
-/// A twin of [`server_output::say`].
-pub fn say<W: Write>(out: &mut W, text: &[u8]) -> Result<(), AnswerError>
-    ensures { Says result (W.contents out.old) (W.contents out.new) text.now }
+/// [`server_output::say`] twice.
+pub fn say<W: Write>(
+    one: &mut W,
+    other: &mut W,
+    text: &[u8],
+) -> (Result<(), AnswerError>, Result<(), AnswerError>)
+    requires { W.contents one.old ≡ W.contents other.old }
+    ensures { IfSome (W.contents one.old)
+        (λ _. OnOk result.0 (OnOk result.1 (W.contents one.new ≡ W.contents other.new))) }
 {
-    server_output::say(out, text)
+    (
+        server_output::say(one, text),
+        server_output::say(other, text),
+    )
 }
 
-/// A twin of [`server_output::say_read`].
+/// [`server_output::say_read`] twice.
 pub fn say_read<W: Write>(
     alloc: Global,
-    out: &mut W,
+    one: &mut W,
+    other: &mut W,
     wanted: Wanted,
     bytes: &[u8],
-) -> Result<(), AnswerError>
-    requires { length bytes.now ≡ size_of wanted }
-    ensures { Says result (W.contents out.old) (W.contents out.new) (answer_line wanted bytes.now) }
+) -> (Result<(), AnswerError>, Result<(), AnswerError>)
+    requires size { length bytes.now ≡ size_of wanted }
+    requires contents { W.contents one.old ≡ W.contents other.old }
+    ensures { IfSome (W.contents one.old)
+        (λ _. OnOk result.0 (OnOk result.1 (W.contents one.new ≡ W.contents other.new))) }
 {
-    server_output::say_read(alloc, out, wanted, bytes)
+    (
+        server_output::say_read(alloc, one, wanted, bytes),
+        server_output::say_read(alloc, other, wanted, bytes),
+    )
 }

@@ -1,0 +1,6 @@
+pub mod OneAccess
+pub mod OneAnswer
+pub mod OneEnd
+pub mod OneFate
+pub mod OneStep
+pub mod OneTrail

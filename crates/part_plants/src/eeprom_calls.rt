@@ -1,0 +1,47 @@
+//! The calls of `eeprom`.
+
+ghost use Rattle.std.specs.Prelude.{◌≡◌};
+
+use eeprom::{Eerd, Image};
+
+/// [`Image::address`] twice.
+pub fn address(one: &Image, other: &Image) -> ([u8; 6], [u8; 6])
+    requires { one.now ≡ other.now }
+    ensures { result.0 ≡ result.1 }
+{
+    (one.address(), other.address())
+}
+
+/// [`eeprom::checksum_ok`] twice.
+pub fn checksum_ok(one: &Image, other: &Image) -> (bool, bool)
+    requires { one.now ≡ other.now }
+    ensures { result.0 ≡ result.1 }
+{
+    (eeprom::checksum_ok(one), eeprom::checksum_ok(other))
+}
+
+/// [`Eerd::write`] twice.
+pub fn write(one: &mut Eerd, other: &mut Eerd, value: u32)
+    requires { one.old ≡ other.old }
+    ensures { one.new ≡ other.new }
+{
+    one.write(value);
+    other.write(value);
+}
+
+/// [`Eerd::read`] twice.
+pub fn read(one: &Eerd, other: &Eerd) -> (u32, u32)
+    requires { one.now ≡ other.now }
+    ensures { result.0 ≡ result.1 }
+{
+    (one.read(), other.read())
+}
+
+/// [`Eerd::tick`] twice.
+pub fn tick(one: &mut Eerd, other: &mut Eerd, image: &Image) -> (bool, bool)
+    requires { one.old ≡ other.old }
+    ensures outcome { result.0 ≡ result.1 }
+    ensures state { one.new ≡ other.new }
+{
+    (one.tick(image), other.tick(image))
+}

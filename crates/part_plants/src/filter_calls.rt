@@ -1,0 +1,25 @@
+//! The calls of the receive filter of `rx_engine`.
+
+ghost use Rattle.std.specs.Prelude.{◌≡◌, ◌≤◌, length};
+
+use registers::GroupOffset;
+use rx_engine::Filter;
+
+/// [`Filter::passes`] twice.
+pub fn passes(one: &Filter, other: &Filter, frame: &[u8]) -> (bool, bool)
+    requires filter { one.now ≡ other.now }
+    requires frame { 16 ≤ length frame.now }
+    ensures { result.0 ≡ result.1 }
+{
+    (one.passes(frame), other.passes(frame))
+}
+
+/// [`rx_engine::hash_of`] twice.
+pub fn hash_of(mo: GroupOffset, address: &[u8; 6]) -> (u16, u16)
+    ensures { result.0 ≡ result.1 }
+{
+    (
+        rx_engine::hash_of(mo, address),
+        rx_engine::hash_of(mo, address),
+    )
+}

@@ -1,0 +1,45 @@
+//! The calls of `pci_function`.
+
+ghost use Rattle.std.specs.Prelude.{◌≡◌};
+
+use pci_function::{PciFunction, PortWidth};
+
+/// [`PciFunction::read_port`] twice.
+pub fn read_port(
+    one: &PciFunction,
+    other: &PciFunction,
+    port: u16,
+    width: PortWidth,
+    asserted: bool,
+) -> (u32, u32)
+    requires { one.now ≡ other.now }
+    ensures { result.0 ≡ result.1 }
+{
+    (
+        one.read_port(port, width, asserted),
+        other.read_port(port, width, asserted),
+    )
+}
+
+/// [`PciFunction::write_port`] twice.
+pub fn write_port(
+    one: &mut PciFunction,
+    other: &mut PciFunction,
+    port: u16,
+    width: PortWidth,
+    value: u32,
+)
+    requires { one.old ≡ other.old }
+    ensures { one.new ≡ other.new }
+{
+    one.write_port(port, width, value);
+    other.write_port(port, width, value);
+}
+
+/// [`PciFunction::registers`] twice.
+pub fn registers(one: &PciFunction, other: &PciFunction) -> (Option<u64>, Option<u64>)
+    requires { one.now ≡ other.now }
+    ensures { result.0 ≡ result.1 }
+{
+    (one.registers(), other.registers())
+}

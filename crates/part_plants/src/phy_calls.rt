@@ -1,0 +1,64 @@
+//! The calls of `mdic_phy`.
+
+ghost use Rattle.std.specs.Prelude.{◌≡◌};
+
+use mdic_phy::{Link, Mdic, Phy, Ticked};
+
+/// [`Phy::new`] twice.
+pub fn new(link: Link) -> (Phy, Phy)
+    ensures { result.0 ≡ result.1 }
+{
+    (Phy::new(link), Phy::new(link))
+}
+
+/// [`Phy::read`] twice.
+pub fn read(one: &mut Phy, other: &mut Phy, register: u8) -> (u16, u16)
+    requires { one.old ≡ other.old }
+    ensures answer { result.0 ≡ result.1 }
+    ensures state { one.new ≡ other.new }
+{
+    (one.read(register), other.read(register))
+}
+
+/// [`Phy::write`] twice.
+pub fn write(one: &mut Phy, other: &mut Phy, register: u8, value: u16)
+    requires { one.old ≡ other.old }
+    ensures { one.new ≡ other.new }
+{
+    one.write(register, value);
+    other.write(register, value);
+}
+
+/// [`Phy::tick`] twice.
+pub fn tick(one: &mut Phy, other: &mut Phy) -> (bool, bool)
+    requires { one.old ≡ other.old }
+    ensures outcome { result.0 ≡ result.1 }
+    ensures state { one.new ≡ other.new }
+{
+    (one.tick(), other.tick())
+}
+
+/// [`Mdic::write`] twice.
+pub fn write_mdic(one: &mut Mdic, other: &mut Mdic, value: u32)
+    requires { one.old ≡ other.old }
+    ensures { one.new ≡ other.new }
+{
+    one.write(value);
+    other.write(value);
+}
+
+/// [`Mdic::tick`] twice.
+pub fn tick_mdic(
+    one: &mut Mdic,
+    other: &mut Mdic,
+    phy: &mut Phy,
+    other_phy: &mut Phy,
+) -> (Option<Ticked>, Option<Ticked>)
+    requires mdic { one.old ≡ other.old }
+    requires phy { phy.old ≡ other_phy.old }
+    ensures outcome { result.0 ≡ result.1 }
+    ensures mdic { one.new ≡ other.new }
+    ensures phy { phy.new ≡ other_phy.new }
+{
+    (one.tick(phy), other.tick(other_phy))
+}

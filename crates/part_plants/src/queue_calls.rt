@@ -1,0 +1,95 @@
+//! The calls of `frame_queue`.
+
+ghost use Rattle.std.specs.Prelude.{◌≡◌, ◌+◌, ◌<◌, ◌≤◌, ◌↔◌, IfSome, IsNone, length, sum_by};
+
+use frame_queue::{FrameQueue, PLACE_BYTES, PackedQueue};
+use std::hash::Hasher;
+
+/// [`FrameQueue::front`] twice.
+pub fn front<'a>(one: &'a FrameQueue, other: &'a FrameQueue) -> (Option<&'a [u8]>, Option<&'a [u8]>)
+    requires { one.now ≡ other.now }
+    ensures none { IsNone result.0 ↔ IsNone result.1 }
+    ensures frame { IfSome result.0 (λ frame. IfSome result.1 (λ another. frame.now ≡ another.now)) }
+{
+    (one.front(), other.front())
+}
+
+/// [`FrameQueue::push`] twice.
+pub fn push(one: &mut FrameQueue, other: &mut FrameQueue, frame: &[u8])
+    requires queue { one.old ≡ other.old }
+    requires room { length one.old.frames < one.old.capacity }
+    requires fits { length frame.now ≤ PLACE_BYTES }
+    ensures { one.new ≡ other.new }
+{
+    one.push(frame);
+    other.push(frame);
+}
+
+/// [`FrameQueue::push_padded`] twice.
+pub fn push_padded(one: &mut FrameQueue, other: &mut FrameQueue, frame: &[u8], least: usize)
+    requires queue { one.old ≡ other.old }
+    requires room { length one.old.frames < one.old.capacity }
+    requires fits { length frame.now ≤ PLACE_BYTES }
+    requires least_fits { least ≤ PLACE_BYTES }
+    ensures { one.new ≡ other.new }
+{
+    one.push_padded(frame, least);
+    other.push_padded(frame, least);
+}
+
+/// [`FrameQueue::pop`] twice.
+pub fn pop(one: &mut FrameQueue, other: &mut FrameQueue)
+    requires { one.old ≡ other.old }
+    ensures { one.new ≡ other.new }
+{
+    one.pop();
+    other.pop();
+}
+
+/// [`PackedQueue::front`] twice.
+pub fn packed_front<'a>(
+    one: &'a PackedQueue,
+    other: &'a PackedQueue,
+) -> (Option<&'a [u8]>, Option<&'a [u8]>)
+    requires { one.now ≡ other.now }
+    ensures none { IsNone result.0 ↔ IsNone result.1 }
+    ensures frame { IfSome result.0 (λ frame. IfSome result.1 (λ another. frame.now ≡ another.now)) }
+{
+    (one.front(), other.front())
+}
+
+/// [`PackedQueue::push`] twice.
+pub fn packed_push(one: &mut PackedQueue, other: &mut PackedQueue, frame: &[u8])
+    requires queue { one.old ≡ other.old }
+    requires place { length one.old.frames < one.old.capacity }
+    requires room { sum_by length one.old.frames + length frame.now ≤ one.old.room }
+    requires short { length frame.now < 65536 }
+    ensures { one.new ≡ other.new }
+{
+    one.push(frame);
+    other.push(frame);
+}
+
+/// [`PackedQueue::pop`] twice.
+pub fn packed_pop(one: &mut PackedQueue, other: &mut PackedQueue)
+    requires { one.old ≡ other.old }
+    ensures { one.new ≡ other.new }
+{
+    one.pop();
+    other.pop();
+}
+
+/// [`PackedQueue::feed`] twice.
+pub fn packed_feed<H: Hasher>(
+    one: &PackedQueue,
+    other: &PackedQueue,
+    hasher: &mut H,
+    another: &mut H,
+)
+    requires queue { one.now ≡ other.now }
+    requires hasher { hasher.old ≡ another.old }
+    ensures { hasher.new ≡ another.new }
+{
+    one.feed(hasher);
+    other.feed(another);
+}

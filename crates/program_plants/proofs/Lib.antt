@@ -1,0 +1,2 @@
+mod Fates
+mod OneJob

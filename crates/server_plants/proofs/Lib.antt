@@ -1,0 +1,2 @@
+mod OneCourse
+mod OnePlay

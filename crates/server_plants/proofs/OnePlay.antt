@@ -1,0 +1,123 @@
+-- What is played on an adapter has one course: one state after it, and one list of what is told.
+use Rattle.std.proofs.Common.{◌≡◌, ◌+◌, ◌++◌, ◌∷◌, [], ℕ, List, sym, ap, subst, ◌∙◌}
+use Rattle.std.specs.Prelude.{if◌then◌else◌, replicate}
+use Rattle.adapter.specs.declared.outcome.Outcome.{Outcome}
+use Rattle.adapter.specs.declared.step.StepKind.{StepKind}
+use Rattle.adapter_plants.specs.OneAnswer.{one_answer}
+use Rattle.adapter_plants.specs.OneFate.{one_fate}
+use Rattle.bus.specs.declared.event.Access.{Access}
+use Rattle.bus.specs.declared.event.Access.TheVariants.{Reads}
+use Rattle.bus.specs.declared.event.Event.{Event}
+use Rattle.played_adapter.specs.Draws.{drawn_count, drawn_kind}
+use Rattle.played_adapter.specs.Order.{InOrder, Joins, Times}
+use Rattle.played_adapter.specs.Outcomes.{moved_by}
+use Rattle.played_adapter.specs.Playing.{Accessed, Arrives, Draws, DrawsStep, Happens, HappensAlone, Interleaves, Plays, PlaysScheduled}
+use Rattle.played_adapter.specs.Playing.{Prepares, Steps, Ticks, both_ticks, chosen, counted, due_in, without_next}
+use Rattle.played_adapter.specs.Told.{Told}
+use Rattle.played_adapter.specs.declared.player.PlayedAdapter.{PlayedAdapter}
+use Rattle.played_adapter.specs.declared.scheduling.ScheduledStep.{ScheduledStep}
+use Rattle.rx_engine.specs.declared.arrival.Fate.{Fate}
+
+-- Two states after it are equal, and so is what is told.
+abbrev pub IsOne : {S : Type 0} → (S → S → List Told → Type 0) → Type 0
+IsOne {S} Happens = (a b c : S) (told other : List Told) → Happens a b told → Happens a c other → (b ≡ c) × (told ≡ other)
+
+both_told : (a b c d : List Told) → a ≡ b → c ≡ d → a ++ c ≡ b ++ d
+both_told a b c d same later = ap (λ (x : List Told). x ++ c) same ∙ ap (λ (x : List Told). b ++ x) later
+
+joins_one : {S T : Type 0} (First : S → List Told → Type 0) (Later : S → T → List Told → Type 0)
+    → ((m n : S) (x y : List Told) → First m x → First n y → (m ≡ n) × (x ≡ y))
+    → ((m : S) (b c : T) (x y : List Told) → Later m b x → Later m c y → (b ≡ c) × (x ≡ y))
+    → (b c : T) (told other : List Told) → Joins First (λ m. Later m b) told → Joins First (λ m. Later m c) other
+    → (b ≡ c) × (told ≡ other)
+joins_one First Later first_one later_one b c told other p q =
+    let firsts = first_one p.middle q.middle p.first q.first p.happens q.happens in
+    let later = subst (λ m. Later m c q.rest) (sym firsts.0) q.goes_on in
+    let rests = later_one p.middle b c p.rest q.rest p.goes_on later in
+    (rests.0, p.told_is ∙ both_told p.first q.first p.rest q.rest firsts.1 rests.1 ∙ sym q.told_is)
+
+in_order_one : {X S : Type 0} (Happens : X → S → S → List Told → Type 0) → ((x : X) → IsOne (Happens x)) → (xs : List X)
+    → IsOne (InOrder Happens xs)
+in_order_one Happens each [] a b c told other p q = (p.0 ∙ sym q.0, p.1 ∙ sym q.1)
+in_order_one Happens each (x ∷ later) a b c told other p q =
+    joins_one (λ m first. Happens x a m first) (λ m d rest. InOrder Happens later m d rest)
+    (λ m n. each x a m n) (λ m. in_order_one Happens each later m) b c told other p q
+
+times_one : {S : Type 0} (Happens : S → S → List Told → Type 0) → IsOne Happens → (count : ℕ) → IsOne (Times Happens count)
+times_one Happens one count = in_order_one (λ (turn : ℕ). Happens) (λ turn. one) (replicate count 0)
+
+happens_one : (event : Event) (of_it : List Told) (next : PlayedAdapter) → IsOne (Happens event of_it next)
+happens_one event of_it next a b c told other p q = (p.after ∙ sym q.after, p.told_is ∙ sym q.told_is)
+
+-- A step has one outcome.
+pub outcome_is_one : (kind : StepKind) (a b c : PlayedAdapter) (outcome another : Outcome (Unit {0})) (told other : List Told)
+    → Steps kind outcome a b told → Steps kind another a c other → outcome ≡ another
+outcome_is_one kind a b c outcome another told other p q =
+    one_answer kind _ a.machine.world.memory a.machine.world.adapter outcome another p.occurs.1 q.occurs.1
+
+-- A step leaves one state, and one list is told.
+pub steps_one : (kind : StepKind) (a b c : PlayedAdapter) (outcome another : Outcome (Unit {0})) (told other : List Told)
+    → Steps kind outcome a b told → Steps kind another a c other → (b ≡ c) × (told ≡ other)
+steps_one kind a b c outcome another told other p q =
+    let same = outcome_is_one kind a b c outcome another told other p q in
+    let again = subst (λ (x : Outcome (Unit {0})). Steps kind x a c other) (sym same) q in
+    (p.after ∙ sym again.after, p.told_is ∙ sym again.told_is)
+
+-- A frame that arrives has one fate.
+pub arrives_one : (frame : List ℕ) (a b c : PlayedAdapter) (fate another : Fate) (told other : List Told)
+    → Arrives frame fate a b told → Arrives frame another a c other → fate ≡ another
+arrives_one frame a b c fate another told other p q =
+    one_fate a.machine.world.adapter frame fate another p.occurs.1 q.occurs.1
+
+plays_one : (kind : StepKind) → IsOne (Plays kind)
+plays_one kind a b c told other p q =
+    let outcomes = outcome_is_one kind a.0 b.0 c.0 p.outcome q.outcome told other p.steps q.steps in
+    let same = steps_one kind a.0 b.0 c.0 p.outcome q.outcome told other p.steps q.steps in
+    let counts : b.1 ≡ c.1 = p.count ∙ ap (λ (x : Outcome (Unit {0})). a.1 + moved_by x) outcomes ∙ sym q.count in
+    (ap (λ (x : PlayedAdapter). (x, b.1)) same.0 ∙ ap (λ (n : ℕ). (c.0, n)) counts, same.1)
+
+-- Accesses.
+
+ticks_one : IsOne Ticks
+ticks_one a b c told other p q =
+    let same = in_order_one Plays plays_one (if a.ticks then both_ticks else []) (a, 0) (b, p.0) (c, q.0) told other p.1 q.1 in
+    (ap (λ (x : PlayedAdapter × ℕ). x.0) same.0, same.1)
+
+scheduled_one : (step : ScheduledStep) → IsOne (PlaysScheduled step)
+scheduled_one step a b c told other p q = steps_one step.kind (without_next a) b c p.0 q.0 told other p.1 q.1
+
+draws_step_one : IsOne DrawsStep
+draws_step_one a b c told other p q = steps_one (drawn_kind a.generator).0 (chosen a) b c p.0 q.0 told other p.1 q.1
+
+interleaves_one : IsOne Interleaves
+interleaves_one a b c told other p q =
+    times_one DrawsStep draws_step_one (drawn_count a.most_steps a.generator).0
+    (record a { generator = (drawn_count a.most_steps a.generator).1 }) b c told other p q
+
+draws_one : IsOne Draws
+draws_one a b c told other p q =
+    let same = interleaves_one a p.0 q.0 told other p.1 q.1 in
+    (p.2 ∙ ap (λ (x : PlayedAdapter). counted x) same.0 ∙ sym q.2, same.1)
+
+prepares_one : IsOne Prepares
+prepares_one a b c told other p q =
+    joins_one (Ticks a)
+    (λ ticked d later. Joins (InOrder PlaysScheduled (due_in ticked) ticked) (λ waited rest. Draws waited d rest) later)
+    (λ m n. ticks_one a m n)
+    (λ m d e x y. joins_one (InOrder PlaysScheduled (due_in m) m) (λ waited f rest. Draws waited f rest)
+    (λ k l. in_order_one PlaysScheduled scheduled_one (due_in m) m k l) draws_one d e x y)
+    b c told other p q
+
+-- Reads of one register have one answer, from one state; all else is equal.
+pub reads_one : (offset value another : ℕ) (a b c : PlayedAdapter) (told other : List Told)
+    → Accessed (Reads offset value) a b told → Accessed (Reads offset another) a c other → value ≡ another
+reads_one offset value another a b c told other p q =
+    let firsts = prepares_one a p.middle q.middle p.first q.first p.happens q.happens in
+    let again = subst (λ (m : PlayedAdapter). HappensAlone (Reads offset another) m c q.rest) (sym firsts.0) q.goes_on in
+    p.goes_on.occurs ∙ sym again.occurs
+
+-- One access leaves one state, and one list is told.
+pub accessed_one : (access : Access) → IsOne (Accessed access)
+accessed_one access a b c told other p q =
+    joins_one (Prepares a) (λ middle d rest. HappensAlone access middle d rest) (λ m n. prepares_one a m n)
+    (λ m d e x y p q. (p.after ∙ sym q.after, p.told_is ∙ sym q.told_is)) b c told other p q

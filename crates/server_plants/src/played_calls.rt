@@ -1,0 +1,86 @@
+//! The calls of `PlayedAdapter`, each made twice. Both observers are told the same.
+
+ghost use Rattle.std.specs.Prelude.{◌≡◌, List, true};
+ghost use Rattle.played_adapter.specs.Told.{Told};
+
+use adapter::{Fate, Outcome, StepKind};
+use played_adapter::{Observer, PlayedAdapter};
+
+/// [`PlayedAdapter::step`] twice.
+pub fn step<O: Observer>(
+    one: &mut PlayedAdapter,
+    other: &mut PlayedAdapter,
+    kind: StepKind,
+    observer: &mut O,
+    another: &mut O,
+) -> (Outcome<()>, Outcome<()>)
+    requires { one.old ≡ other.old }
+    ensures outcome { result.0 ≡ result.1 }
+    ensures state { one.new ≡ other.new }
+    ensures told { (told : List Told) × O.heard observer.old observer.new told × O.heard another.old another.new told }
+{
+    (one.step(kind, observer), other.step(kind, another))
+}
+
+/// [`PlayedAdapter::arrive`] twice. Only the fate is compared.
+pub fn arrive<O: Observer>(
+    one: &mut PlayedAdapter,
+    other: &mut PlayedAdapter,
+    frame: &[u8],
+    observer: &mut O,
+    another: &mut O,
+) -> (Fate, Fate)
+    requires { one.old ≡ other.old }
+    ensures { result.0 ≡ result.1 }
+{
+    (one.arrive(frame, observer), other.arrive(frame, another))
+}
+
+/// [`PlayedAdapter::read`] twice.
+pub fn read<O: Observer>(
+    one: &mut PlayedAdapter,
+    other: &mut PlayedAdapter,
+    offset: u32,
+    observer: &mut O,
+    another: &mut O,
+) -> (u32, u32)
+    requires { one.old ≡ other.old }
+    ensures answer { result.0 ≡ result.1 }
+    ensures state { one.new ≡ other.new }
+    ensures told { (told : List Told) × O.heard observer.old observer.new told × O.heard another.old another.new told }
+{
+    (one.read(offset, observer), other.read(offset, another))
+}
+
+/// [`PlayedAdapter::write`] twice.
+pub fn write<O: Observer>(
+    one: &mut PlayedAdapter,
+    other: &mut PlayedAdapter,
+    offset: u32,
+    value: u32,
+    observer: &mut O,
+    another: &mut O,
+)
+    requires { one.old ≡ other.old }
+    ensures state { one.new ≡ other.new }
+    ensures told { (told : List Told) × O.heard observer.old observer.new told × O.heard another.old another.new told }
+{
+    one.write(offset, value, observer);
+    other.write(offset, value, another);
+}
+
+/// [`PlayedAdapter::take_put`] twice.
+pub fn take_put(
+    one: &mut PlayedAdapter,
+    other: &mut PlayedAdapter,
+    into: &mut [u8],
+    other_into: &mut [u8],
+) -> (usize, usize)
+    requires state { one.old ≡ other.old }
+    requires bytes { into.old ≡ other_into.old }
+    ensures length { result.0 ≡ result.1 }
+    ensures state { one.new ≡ other.new }
+    ensures bytes { into.new ≡ other_into.new }
+{
+    (one.take_put(into), other.take_put(other_into))
+}
