@@ -426,7 +426,8 @@ pub record HandlesIt {B R : Type 0} (bus : Ghosts B) (receivers : OfReceiver R) 
   pub driver :
       HandlesCauses bus frames.taken n (moment old) (held_at (old.driver.handed_out ++ pieces_of frames.kept) (moment new)) asked
 
--- by the answer
+-- What the handler did after its read of ICR (`asked`): nothing, if its answer is `NotMine`. If its answer is `Handled`, it did its work, and
+-- `taken` is the number of frames that it took.
 abbrev pub HandlesBy : {B R : Type 0} (bus : Ghosts B) → OfReceiver R → Handled → {up : Bool} → (old new : Scene B R)
     → Asked bus up (moment old) → Type 0
 HandlesBy bus receivers NotMine old new asked = DoesNothing bus (moment old) (moment new) asked

@@ -58,10 +58,12 @@ impl Driver {
         value
     }
 
-    /// Handles an interrupt. It reads ICR first. If ICR has none of TXDW, RXDMT0, RXO and RXT0, it does nothing more.
-    /// Otherwise it reads MPC, takes the frames of finished receive slots, and refills the ring. If the bus obeys the
-    /// law and the driver is ready, the frames that it takes include all that ended in finished slots at the beginning.
-    /// `bus` must have at least `layout().size()` bytes.
+    /// Handles an interrupt. If the bus obeys the law and the driver is ready, it reads ICR first. If ICR has none of
+    /// TXDW, RXDMT0, RXO and RXT0, it makes no other access. Otherwise it reads MPC, takes frames off finished receive
+    /// slots, and refills the ring. The frames that it takes include all that ended in finished slots at the beginning.
+    ///
+    /// Over any other bus, the contract states no accesses, but only what becomes of the driver, its buffers and the
+    /// receiver. `bus` must have at least `layout().size()` bytes.
     pub fn interrupt<B: Bus, R: Receiver>(&mut self, bus: &mut B, receiver: &mut R) -> Handled
         requires memory { size_of self.old.layout ≤ B.extent bus.old }
         ensures keeps { Keeps B.Bus bus.old bus.new }

@@ -1,20 +1,22 @@
-//! The calls of `bring_up` that find a device.
+//! The calls of `bring_up`.
 
-ghost use Rattle.std.specs.Prelude.{◌≡◌, ◌⊎◌, IfErr, IsOk, IsOkUnless};
-ghost use Rattle.bus.specs.Keeping.{Keeps};
-ghost use Rattle.bring_up.specs.Device.{FindsDevice, IsBeforeAccess};
+ghost use Rattle.std.specs.Prelude.{◌↔◌, IsOk};
+ghost use Rattle.rx_engine.specs.NumberTables.{HasNumbers, numbers_of_groups};
+ghost use Rattle.bring_up.specs.Configuration.{CanBeHad};
+ghost use Rattle.bring_up.specs.Device.{FindsDevice};
 ghost use Rattle.bring_up.specs.EepromReading.{ReadsImage};
 ghost use Rattle.bring_up.specs.Link.{AwaitsLink};
-ghost use Rattle.bring_up.specs.declared.init_error.InitError.TheVariants as InitError;
+ghost use Rattle.bring_up.specs.RingRegisters.{receive_writes};
+ghost use Rattle.bring_up.specs.SettingSteps.{SetsOnly};
 
-use bring_up::InitError;
+use bring_up::{Config, InitError};
 use bus::Bus;
+use dma_memory::Layout;
 use eeprom::Image;
+use rx_engine::TABLE_WORDS;
 
 /// A twin of [`bring_up::find_device`].
 pub fn find_device<B: Bus>(bus: &mut B, kilobytes: u8) -> Result<Image, InitError>
-    ensures keeps { Keeps B.Bus bus.old bus.new }
-    ensures errors { IfErr result (λ error. ¬ (IsBeforeAccess error)) }
     ensures finds { B.honest bus.old → FindsDevice B.Bus kilobytes result bus.old bus.new }
 {
     match bring_up::find_device(bus, kilobytes) {
@@ -25,10 +27,7 @@ pub fn find_device<B: Bus>(bus: &mut B, kilobytes: u8) -> Result<Image, InitErro
 
 /// A twin of [`bring_up::read_image`].
 pub fn read_image<B: Bus>(bus: &mut B) -> Result<Image, InitError>
-    ensures keeps { Keeps B.Bus bus.old bus.new }
-    ensures only { IsOkUnless result InitError.EepromTimeout }
     ensures reads { B.honest bus.old → ReadsImage B.Bus result bus.old bus.new }
-    ensures in_time { B.lively bus.old → B.honest bus.old → IsOk result }
 {
     match bring_up::read_image(bus) {
         Ok(image) => Ok(image),
@@ -38,12 +37,31 @@ pub fn read_image<B: Bus>(bus: &mut B) -> Result<Image, InitError>
 
 /// A twin of [`bring_up::await_link`].
 pub fn await_link<B: Bus>(bus: &mut B) -> Result<(), InitError>
-    ensures keeps { Keeps B.Bus bus.old bus.new }
-    ensures errors { IfErr result (λ error. (error ≡ InitError.PhyTimeout) ⊎ (error ≡ InitError.NoLink)) }
     ensures awaits { B.honest bus.old → AwaitsLink B.Bus result bus.old bus.new }
 {
     match bring_up::await_link(bus) {
         Ok(()) => Ok(()),
         Err(failure) => Err(failure),
     }
+}
+
+/// A twin of [`bring_up::enable_receiver`].
+pub fn enable_receiver<B: Bus>(bus: &mut B, promiscuous: bool, by_vlan: bool)
+    ensures sets { B.honest bus.old → SetsOnly B.Bus (receive_writes promiscuous by_vlan) bus.old bus.new }
+{
+    bring_up::enable_receiver(bus, promiscuous, by_vlan);
+}
+
+/// A twin of [`bring_up::group_table`].
+pub fn group_table(groups: &[[u8; 6]]) -> [u32; TABLE_WORDS]
+    ensures { HasNumbers result (numbers_of_groups groups.now) }
+{
+    bring_up::group_table(groups)
+}
+
+/// A twin of [`Config::layout`].
+pub fn layout(config: &Config, size: u64) -> Result<Layout, InitError>
+    ensures ok { IsOk result ↔ CanBeHad config.now size }
+{
+    config.layout(size)
 }

@@ -1,4 +1,4 @@
-//! Tests of calls over a bus: how an adapter is brought up, its driver, and its sockets.
+//! Tests of calls over a bus: the code of READMEs, and memory that is refused.
 #![tactic(auto)]
 
 #[cfg(test)]
@@ -6,14 +6,10 @@ mod bring_up_readme;
 #[cfg(test)]
 mod buses;
 #[cfg(test)]
-mod calls;
-#[cfg(test)]
-mod init_tests;
-#[cfg(test)]
 mod no_memory;
 #[cfg(test)]
 mod packet_socket_readme;
 #[cfg(test)]
 mod readme;
 #[cfg(test)]
-mod reset_rows;
+mod refused_memory;

@@ -1,0 +1,3 @@
+pub mod CountedRuns
+pub mod EtherSockets
+pub mod SoundDevices

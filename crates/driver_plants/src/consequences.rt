@@ -1,0 +1,56 @@
+//! What follows from the contract of a call. A body that breaks such a clause can't meet the contract.
+
+ghost use Rattle.std.specs.Prelude.{◌≡◌, ◌≢◌, ◌*◌, ◌+◌, ◌≤◌, ◌++◌, ◌∷◌, [], All, IsOk, List, length};
+ghost use Rattle.dma_memory.specs.Layout.{size_of};
+ghost use Rattle.eeprom.specs.Image.{HasRightSum};
+ghost use Rattle.bring_up.specs.EepromReading.{most_reads};
+ghost use Rattle.bring_up.specs.Link.{NeedsMoreThan};
+ghost use Rattle.driver.specs.HandlerSteps.{GrowsBy, IfHandled};
+ghost use Rattle.driver.specs.declared.receiver.Received.{Received};
+ghost use Rattle.packet_socket.specs.HostState.{queue_at};
+ghost use Rattle.packet_socket.specs.declared.socket_kind.SocketKind.TheVariants as kinds;
+
+use bring_up::InitError;
+use bus::Bus;
+use driver::{Driver, Handled, Receiver};
+use eeprom::Image;
+use packet_socket::Host;
+
+/// Over a lively bus, a device with a right checksum is found if its link needs at most 2,000 ticks.
+pub fn sound_devices_are_found<B: Bus>(bus: &mut B, kilobytes: u8) -> Result<Image, InitError>
+    ensures found { B.lively bus.old → B.honest bus.old → HasRightSum (B.world bus.old).adapter.image
+        → ¬ (NeedsMoreThan (2 * most_reads) (B.world bus.old).adapter.phy.link) → IsOk result }
+{
+    bring_up::find_device(bus, kilobytes)
+}
+
+/// Over any bus, frames are taken and bad runs are counted at most once for each slot that was outstanding.
+pub fn runs_have_slots<B: Bus, R: Receiver>(
+    driver: &mut Driver,
+    bus: &mut B,
+    receiver: &mut R,
+) -> Handled
+    requires memory { size_of driver.old.layout ≤ B.extent bus.old }
+    ensures counted { IfHandled result (λ taken. taken + driver.new.bad ≤ driver.old.bad + length driver.old.buffers) }
+{
+    driver.interrupt(bus, receiver)
+}
+
+/// Over any bus, a host without sockets counts each frame that it takes as unclaimed.
+pub fn frames_without_sockets_are_counted<B: Bus>(host: &mut Host, bus: &mut B) -> Handled
+    requires memory { size_of host.old.driver.layout ≤ B.extent bus.old }
+    ensures counted { IfHandled result (λ taken. host.old.kinds ≡ [] → GrowsBy host.old.unclaimed host.new.unclaimed taken) }
+{
+    host.interrupt(bus)
+}
+
+/// Over any bus, no frame of an EtherType that has a socket (here 0x0806, ARP) goes to a socket for all frames, even if
+/// this socket comes first.
+pub fn ether_sockets_come_first<B: Bus>(host: &mut Host, bus: &mut B) -> Handled
+    requires memory { size_of host.old.driver.layout ≤ B.extent bus.old }
+    ensures sorted { IfHandled result (λ taken. host.old.kinds ≡ kinds.All ∷ kinds.Ether 0x0806 ∷ []
+        → (more : List Received) × ((queue_at host.new.queues 0 ≡ queue_at host.old.queues 0 ++ more)
+        × All (λ received. received.ether_type ≢ 0x0806) more)) }
+{
+    host.interrupt(bus)
+}
