@@ -102,7 +102,7 @@ said-all caller ticks accesses first last a m b leads later played ended =
     ∙ told-without_go (map tick_of (first ++ last)) outcomes
     ∙ told-steps caller 0 (first ++ last) a b (leads_join caller first last a m b leads later)
 
--- A tick by itself.
+-- A tick outside a call.
 
 alone-step : (step : AtomicStep)
     → told_alone (tick_of step) (record { accesses = 0; outcome = outcome_of step } ∷ []) ≡ happened_in (step ∷ [])

@@ -30,25 +30,25 @@ TicksAreAnsweredByCounting =
     (caller host : ℕ) (steps : List AtomicStep) (a b : List StationState) → LeadsTo caller steps a b
     → All IsCounted (past_at host steps).accesses → MeetsNoFault host steps a → AreAnswered host a steps
 
--- What is counted at the end is that, with all outcomes and all accesses applied,
+-- What is counted at the end is what was counted at the start, with all outcomes and all accesses applied.
 abbrev pub CountsGoByOutcomes : Type 0
 CountsGoByOutcomes =
     (caller host : ℕ) (steps : List AtomicStep) (a b : List StationState) → LeadsTo caller steps a b
     → All IsCounted (past_at host steps).accesses → counts_of (world_at b host).adapter ≡ counts_at a steps host
 
--- and so are the frames that wait, at any host's end.
+-- The frames that wait at any host's end are those that waited at the start, with all outcomes applied.
 abbrev pub WaitingFramesGoByOutcomes : Type 0
 WaitingFramesGoByOutcomes =
     (caller host : ℕ) (steps : List AtomicStep) (a b : List StationState) → LeadsTo caller steps a b
     → backlog_at b host ≡ waiting_at a steps host
 
--- No fault comes where no access resets the adapter and both its engines run at the end,
+-- No fault comes if no access resets the adapter and both its engines run at the end.
 abbrev pub FaultNeverComes : Type 0
 FaultNeverComes =
     (caller host : ℕ) (steps : List AtomicStep) (a b : List StationState) → LeadsTo caller steps a b
     → All IsNoReset (past_at host steps).accesses → EnginesRun (world_at b host).adapter → MeetsNoFault host steps a
 
--- nor where one access may reset it, and both run right before this access and at the end.
+-- No fault comes if only one access may reset the adapter, and both its engines run right before this access and at the end.
 abbrev pub FaultNeverComesAroundReset : Type 0
 FaultNeverComesAroundReset =
     (caller host : ℕ) (first later : List AtomicStep) (access : Access) (a before after b : List StationState)
@@ -56,42 +56,42 @@ FaultNeverComesAroundReset =
     → LeadsTo caller later after b → All IsNoReset (past_at host later).accesses → EnginesRun (world_at b host).adapter
     → MeetsNoFault host (first ++ At host (Accesses access) ∷ later) a
 
--- A host that isn't there answers Nothing,
+-- The outcome of a tick of a host that isn't there is Nothing.
 abbrev pub AbsentHostsAnswerNothing : Type 0
 AbsentHostsAnswerNothing =
     (caller host : ℕ) (steps : List AtomicStep) (a b : List StationState) → LeadsTo caller steps a b → slice_get a host ≡ None
     → OfEachTick host steps (λ before tick outcome. outcome ≡ Nothing)
 
--- and so does Go.
+-- The outcome of Go is Nothing.
 abbrev pub GoAnswersNothing : Type 0
 GoAnswersNothing = (step : AtomicStep) → tick_of step ≡ Go → outcome_of step ≡ Nothing
 
--- Slots that a ring offers: from its head up to its tail. Of a ring whose head and tail are slots
+-- The slots that a ring offers: those from its head up to its tail.
 
--- none is offered exactly where they are the same;
+-- A ring offers no slot if and only if its head is its tail.
 abbrev pub NoneIsOffered : Type 0
 NoneIsOffered = (ring : RingCounts) → HasSlots ring → offered_in ring ≡ 0 ↔ ring.head ≡ ring.tail
 
--- the adapter takes one of those offered;
+-- The adapter takes one of the slots offered.
 abbrev pub OneIsTaken : Type 0
 OneIsTaken =
     (ring : RingCounts) → HasSlots ring → ring.head ≢ ring.tail
     → HasSlots (one_taken ring) × (offered_in (one_taken ring) + 1 ≡ offered_in ring)
 
--- a tail that moves on by so many places, as far as there are slots that aren't offered, offers so many more.
+-- A tail that moves on by N places offers N more slots, if that many aren't offered yet.
 abbrev pub TailsOfferSlots : Type 0
 TailsOfferSlots =
     (ring : RingCounts) (places : ℕ) → HasSlots ring → offered_in ring + places < ring.slots
     → offered_in (record ring { tail = (ring.tail + places) % ring.slots }) ≡ offered_in ring + places
 
--- A write of RDT of a slot of its ring leaves the tail there;
+-- A write of RDT moves the tail of the receive ring to this slot.
 abbrev pub ReceiveTailWritesAreCounted : Type 0
 ReceiveTailWritesAreCounted =
     (value : ℕ) (counts : HostCounts) → value < counts.receive.ring.slots → counts.receive.ring.slots ≤ 65536
     → after_access (Writes RDT value) counts
     ≡ record counts { receive = record counts.receive { ring = record counts.receive.ring { tail = value } } }
 
--- and so it is with TDT.
+-- A write of TDT moves the tail of the transmit ring to this slot.
 abbrev pub TransmitTailWritesAreCounted : Type 0
 TransmitTailWritesAreCounted =
     (value : ℕ) (counts : HostCounts) → value < counts.transmit.ring.slots → counts.transmit.ring.slots ≤ 65536

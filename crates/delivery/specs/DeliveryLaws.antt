@@ -52,7 +52,7 @@ pub record PlaysCall (call : CallWithSteps) (a m b : List StationState) : Type 0
   pub played : map tick_of call.first ≡ played_in is_go Go [] call.accesses call.ticks
   pub waited : map tick_of call.last ≡ without_go is_go (waiting_after is_go call.accesses call.ticks)
 
--- What is noted of it tells what its steps did, and bears the numbers of its ticks; its count is that of its accesses.
+-- The outcomes noted of a call tell what its steps did, and have the numbers of its ticks. Its count is the number of its accesses.
 pub record IsToldByOutcomes (ticks : List Tick) (first last : List AtomicStep) : Type 0 where
   -- the steps that aren't accesses are the ticks that aren't Go, in order
   pub played : without_go is_go (map tick_of (first ++ last)) ≡ without_go is_go ticks
@@ -64,7 +64,7 @@ abbrev pub OutcomesTellSteps : Type 0
 OutcomesTellSteps =
     (call : CallWithSteps) (a m b : List StationState) → PlaysCall call a m b → IsToldByOutcomes call.ticks call.first call.last
 
--- A call over a lent bus whose ticks are played to the end is such a call, and its observer was told what came of each tick.
+-- A call over a lent bus whose ticks are played to the end is a `PlaysCall`, and its observer was told what came of each tick.
 pub record IsToldCall {O : Type 0} {g : OfObserver O} (a m b : LentBus O g) (past : Past) (first last : List AtomicStep) : Type 0 where
   pub plays : PlaysCall
       (record { caller = a.host; ticks = a.ticks.now; accesses = past.accesses; first = first; last = last })
@@ -122,13 +122,13 @@ OutcomesTellByNumber =
     → without_go is_go (map tick_of steps) ≡ without_go is_go ticks
     → told_where is_such ticks (noted_of 0 steps) ≡ happened_where is_such 0 steps
 
--- The outcome of a tick by itself tells what its step did, too.
+-- The outcome of a tick outside a call tells what its step did.
 abbrev pub OneOutcomeTellsItsStep : Type 0
 OneOutcomeTellsItsStep =
     (old new : List StationState) (tick : Tick) (outcome : FrameOutcome) (plays : Plays old tick outcome new)
     → told_alone tick (record { accesses = 0; outcome = outcome } ∷ []) ≡ happened_in (plays.step ∷ [])
 
--- Where it isn't Go, this step is a tick, and leads from the one state to the other.
+-- The step of a tick that isn't Go and is played outside a call: it is a tick, and leads from the old stations to the new ones.
 pub record LeadsAlone (step : AtomicStep) (old new : List StationState) : Type 0 where
   pub is_tick : IsTick step
   pub leads : (caller : ℕ) → LeadsTo caller (step ∷ []) old new
@@ -162,7 +162,7 @@ pub record KeepsReceiving (groups : List (List ℕ)) (a : AdapterState) (all : L
   pub right : ReceivesRightly groups a all groups b
   pub has : HasNumbers b.filter.mta (numbers_of_groups groups)
 
--- While RCTL.EN is 1 and each access of a host leaves reception alone, this holds if MTA has the bits of the groups' numbers at the start.
+-- Fates are right while RCTL.EN is 1 and each access of a host leaves reception alone, if MTA has the groups' bits at the start.
 abbrev pub FatesAreRight : Type 0
 FatesAreRight =
     (caller k : ℕ) (steps : List AtomicStep) (a b : List StationState) (groups : List (List ℕ)) → LeadsTo caller steps a b
@@ -179,7 +179,7 @@ pub record StaysTurnedOff (a : World) (all : List Mark) (b : World) : Type 0 whe
   -- An empty buffer stays empty.
   pub empty : a.adapter.receiver.buffer ≡ [] → b.adapter.receiver.buffer ≡ []
 
--- This holds while RCTL.EN is 0 and RCTL isn't written, whatever else the driver writes: also a reset.
+-- The receive side stays disabled while RCTL.EN is 0 and RCTL isn't written, whatever else the driver writes, even CTRL.RST.
 abbrev pub FatesAreOff : Type 0
 FatesAreOff =
     (caller k : ℕ) (steps : List AtomicStep) (a b : List StationState) → LeadsTo caller steps a b
@@ -198,13 +198,13 @@ ChangesGroups (Joins group) groups groups' = groups' ≡ groups ++ group ∷ []
 ChangesGroups (Quits group) groups groups' = Removes group groups groups'
 ChangesGroups other groups groups' = ⊥
 
--- A group may be joined or left by a write of a word of MTA,
+-- A group may be joined or left by a write of a word of MTA.
 abbrev pub WritesChangeGroups : Type 0
 WritesChangeGroups =
     (mark : Mark) (word value : ℕ) (groups groups' : List (List ℕ)) (a : World) → ChangesGroups mark groups groups' → word < TABLE_WORDS
     → ReceivesRightly groups a.adapter (mark ∷ []) groups' (world_after_write (MTA + REGISTER_BYTES * word) value a).adapter
 
--- or without an access.
+-- A group may be joined or left without an access.
 abbrev pub GroupsChangeAlone : Type 0
 GroupsChangeAlone =
     (mark : Mark) (groups groups' : List (List ℕ)) (a : AdapterState) → ChangesGroups mark groups groups'
@@ -250,7 +250,7 @@ RightFatesJoin =
     (registers : FilterRegisters) (room : ℕ) (n m l : Reception) (first later : List Mark) → AreRightFates registers room n first m
     → AreRightFates registers room m later l → AreRightFates registers room n (first ++ later) l
 
--- So does what an adapter receives.
+-- What an adapter receives in two consecutive intervals joins.
 abbrev pub ReceptionsJoin : Type 0
 ReceptionsJoin =
     (g1 g2 g3 : List (List ℕ)) (a b c : AdapterState) (first later : List Mark) → ReceivesRightly g1 a first g2 b

@@ -90,7 +90,7 @@ AreRightFates registers room now (SwitchedOff ∷ later) final = AreRightFates r
 AreRightFates registers room now (SwitchedOn ∷ later) final = AreRightFates registers room (record now { enabled = true }) later final
 AreRightFates registers room now (Emptied ∷ later) final = AreRightFates registers room (record now { buffered = [] }) later final
 
--- The same, fate by fate.
+-- Right fates, fate by fate.
 
 -- The frames in the buffer after these marks: those of the start, then those stored since, without those that left or were given up.
 abbrev pub buffered_after : (buffered : List (List ℕ)) → List Mark → List (List ℕ)
@@ -130,7 +130,7 @@ pub record IsRightThere (registers : FilterRegisters) (room : ℕ) (start : Rece
   pub right : IsRightFate (in_force registers groups) room (enabled_after start.enabled before) (buffered_after start.buffered before)
       frame fate
 
--- So is each frame's.
+-- Each frame's fate is right by the groups, the frames and the receive side when it comes (`IsRightThere`).
 abbrev pub AreRightByList : FilterRegisters → (room : ℕ) → (start : Reception) → List Mark → Type 0
 AreRightByList registers room start all =
     (before later : List Mark) (frame : List ℕ) (fate : Fate) → all ≡ before ++ Came frame fate ∷ later

@@ -58,7 +58,7 @@ told (Step host kind ∷ ticks) (one ∷ outcomes) = told_of host one.outcome ++
 told (Deliver host ∷ ticks) [] = []
 told (Deliver host ∷ ticks) (one ∷ outcomes) = told_of host one.outcome ++ told ticks outcomes
 
--- The same, of those outcomes alone whose numbers are such.
+-- What ticks and those of their outcomes tell that have such numbers.
 abbrev pub told_where : (is_such : ℕ → Bool) → List Tick → List Numbered → List Happening
 told_where is_such [] outcomes = []
 told_where is_such (Go ∷ ticks) outcomes = told_where is_such ticks outcomes
@@ -69,7 +69,8 @@ told_where is_such (Deliver host ∷ ticks) [] = []
 told_where is_such (Deliver host ∷ ticks) (one ∷ outcomes) =
     (if is_such one.accesses then told_of host one.outcome else []) ++ told_where is_such ticks outcomes
 
--- All outcomes, with what the call itself did (`middle`) after the outcomes with number 0 and before the first other outcome.
+-- What ticks and outcomes tell, with what the call itself did (`middle`) after the outcomes with number 0 and before the first other
+-- outcome.
 abbrev pub told_around : (middle : List Happening) → List Tick → List Numbered → List Happening
 told_around middle [] outcomes = middle
 told_around middle (Go ∷ ticks) outcomes = told_around middle ticks outcomes
@@ -82,7 +83,7 @@ told_around middle (Deliver host ∷ ticks) (one ∷ outcomes) =
     if one.accesses == 0 then told_of host one.outcome ++ told_around middle ticks outcomes
     else middle ++ told (Deliver host ∷ ticks) (one ∷ outcomes)
 
--- a tick by itself has one outcome
+-- what the one outcome of a tick outside a call tells
 abbrev pub told_alone : Tick → List Numbered → List Happening
 told_alone tick [] = []
 told_alone tick (one ∷ outcomes) = told_of (tick_host tick) one.outcome

@@ -8,11 +8,14 @@ ghost use Rattle.delivery.specs.AnswersLaws.{WaitingFramesGoByOutcomes};
 
 /// Each tick of a host is answered by what was counted at the start, if no fault comes and its driver doesn't write
 /// MDIC. It may write any other register: it may reset its adapter.
-/// - `answers`: by those counts, with the outcomes and the accesses of the steps before it applied.
-/// - `counts`: behind all steps the counts of the host are those, with all outcomes and accesses applied.
-/// - `waiting`: so are the frames that wait at the end of any host.
+/// - `answers`: the outcome of a tick follows from the counts at the start, with the outcomes and the accesses of the
+///   steps before it applied.
+/// - `counts`: after all steps the counts of the host are those at the start, with all outcomes and accesses applied.
+/// - `waiting`: after all steps the frames that wait at the end of any host are those at the start, with all outcomes
+///   applied.
 /// - `faultless`: no fault comes, if the adapter isn't reset and its engines run at the end.
-/// - `around_reset`: nor if it may be reset by one access, and its engines run right before it and at the end.
+/// - `around_reset`: no fault comes, if only one access may reset the adapter, and its engines run right before this
+///   access and at the end.
 pub fn ticks_are_answered_by_counting()
     ensures answers { TicksAreAnsweredByCounting }
     ensures counts { CountsGoByOutcomes }
@@ -22,8 +25,8 @@ pub fn ticks_are_answered_by_counting()
 {}
 
 /// Ticks that find nothing, by what they are.
-/// - `absent`: a host that isn't there answers Nothing.
-/// - `go`: so does Go.
+/// - `absent`: the outcome of a tick of a host that isn't there is Nothing.
+/// - `go`: the outcome of Go is Nothing.
 pub fn idle_ticks_answer_nothing()
     ensures absent { AbsentHostsAnswerNothing }
     ensures go { GoAnswersNothing }
@@ -34,7 +37,7 @@ pub fn idle_ticks_answer_nothing()
 /// - `taken`: a step that takes a slot takes one of those offered.
 /// - `places`: a tail that moves on by so many places offers so many slots more.
 /// - `receive`: a write of RDT of a slot of its ring moves the tail there.
-/// - `transmit`: so does one of TDT.
+/// - `transmit`: a write of TDT of a slot of its ring moves the tail there.
 /// - `enabled`: without a write of CTRL, RCTL and TCTL both sides stay enabled or disabled.
 pub fn tails_offer_slots()
     ensures none { NoneIsOffered }

@@ -33,7 +33,7 @@ pub fn lent_calls_are_told<O: Observer>()
 /// - `nothing`: if the call itself did nothing, the happenings are those of its ticks.
 /// - `access`: if the call made one access, what it did is between the ticks before this access and the ticks after it.
 /// - `none`: if the call made no access, what it did is after all its ticks.
-/// - `numbers`: the outcomes with some numbers tell what happened behind so many accesses.
+/// - `numbers`: the outcomes with some numbers tell what happened after these numbers of accesses.
 pub fn calls_say_at_their_access()
     ensures between { CallsAreToldBetweenTicks }
     ensures nothing { OnlyTicksAreTold }
@@ -80,7 +80,7 @@ pub fn groups_change()
 /// - `waits`: what waited at a host's end and was put toward it has reached it or waits, over both, where it
 ///   is so over each and wires stay.
 /// - `fates`: right fates, and then right fates from where the first ended, are right.
-/// - `receptions`: so is what an adapter receives, with its filter, its groups and its room.
+/// - `receptions`: what an adapter receives in two consecutive intervals joins. Its filter, groups and room are kept.
 pub fn deliveries_join()
     ensures lists { DeliveriesJoin }
     ensures toward { WiresDecideToward }

@@ -47,7 +47,7 @@ use Rattle.host_calls.proofs.PiecesLeft.{count_ending, ending-most, held-counted
 use Rattle.packet_socket.specs.HostCalls.{did}
 use Rattle.host_calls.specs.ConnectedHosts.{connected}
 
--- A step that was taken, by itself.
+-- One step that was taken.
 pub record TakesStep (number : ℕ) (kind : StepKind) (answer : FrameOutcome) (a b : List StationState) : Type 0 where
   pub adapter : IsAdapter (world_at a number).adapter
   pub answers : Answers kind true (world_at a number).memory (world_at a number).adapter answer

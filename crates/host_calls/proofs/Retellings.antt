@@ -45,7 +45,7 @@ played-ends (access ∷ later) ticks =
     go-behind (group_of is_go ticks) (played_in is_go Go [] later (behind_group is_go ticks))
     (played-ends later (behind_group is_go ticks))
 
--- So the steps end with an access: no Go is played by itself.
+-- So the steps end with an access: no Go is played outside a call.
 
 access-at-go : (caller : ℕ) (step : AtomicStep) → IsOfCall caller step → tick_of step ≡ Go → ¬ IsNoAccess step
 access-at-go caller (At host (Steps kind wire_free answer)) of_call is = absurd (cc)

@@ -57,7 +57,7 @@ pub record InSteps (k : ℕ) (given : List Given) (steps : List AtomicStep) (old
   -- those that were stored during the call.
   pub left : act.taken ++ frames_held new.host.driver.oldest_receive (world_at new.stations k)
       ≡ frames_held old.host.driver.oldest_receive (world_at old.stations k) ++ (past_at k steps).stored
-  -- Each socket's queue gets the taken frames that go to it, in order, at its end. The frames that it returned were at its front.
+  -- The taken frames that go to a socket are appended to its queue, in order. The frames that a socket returned were at its queue's front.
   pub queues : (socket : ℕ) → given_for socket given ++ waiting_frames new.host socket (world_at new.stations k)
       ≡ waiting_frames old.host socket (world_at old.stations k) ++ socket_frames old.host.kinds socket act.taken
   -- If the first access reads ICR: what it implies of the adapter when the call began, and of the ticks before this read, that the value

@@ -73,7 +73,7 @@ pub record OutletState : Type 0 where
 abbrev pub outlet : List Given → ℕ → OutletState
 outlet frames room = record { frames = frames; room = room }
 
--- They were appended to an outlet, and it still has at least the room that they didn't need.
+-- The frames that were given were appended to an outlet, and it still has at least the room that they didn't need.
 pub record StepsInto (steps number : ℕ) (before after : OutletState) (old new : ConnectedHost) : Type 0 where
   pub given : List Given
   pub appended : after.frames ≡ before.frames ++ given

@@ -46,7 +46,7 @@ buffers_for size = (size + (receive_buffer_bytes - 1)) / receive_buffer_bytes
 abbrev pub count_pieces : List (List ℕ) → ℕ
 count_pieces frames = sum_by (λ (frame : List ℕ). buffers_for (length frame)) frames
 
--- how many pieces those of queues have
+-- how many pieces the frames of these queues have
 abbrev pub count_queued_pieces : List Received → ℕ
 count_queued_pieces list = sum_by (λ (received : Received). buffers_for received.length) list
 
@@ -59,7 +59,7 @@ abbrev pub pieces_left : (moved : ℕ) → List (List ℕ) → ℕ
 pieces_left moved [] = 0
 pieces_left moved (frame ∷ later) = buffers_for (length frame - moved) + count_pieces later
 
--- so many of those in the packet buffer
+-- how many pieces of the frames in the packet buffer are still to be moved
 abbrev pub count_left : World → ℕ
 count_left world = pieces_left world.adapter.receiver.moved world.adapter.receiver.buffer
 
@@ -68,7 +68,7 @@ count_left world = pieces_left world.adapter.receiver.moved world.adapter.receiv
 abbrev pub count_adapter_steps : World → ℕ
 count_adapter_steps world = 2 * count_left world + length (in_work world)
 
--- It holds none.
+-- The host holds no frame for its sockets.
 pub record HoldsNothing (host : HostState) (world : World) : Type 0 where
   -- no frame is in the receive ring or in the receive packet buffer
   pub held : frames_held host.driver.oldest_receive world ≡ []
@@ -113,7 +113,7 @@ pub record KeepsOthers (number : ℕ) (old new : List StationState) : Type 0 whe
   -- every other host's adapter and memory
   pub others : (k : ℕ) → k ≢ number → world_at new k ≡ world_at old k
 
--- By which atomic steps it went: each frame of the packet buffer was moved, and nothing else happened but what the host did.
+-- The atomic steps of a drain: each frame of the packet buffer was moved, and nothing else happened but what the host did.
 pub record GoesBy (number : ℕ) (given : List Given) (old new : ConnectedHost) : Type 0 where
   -- the atomic steps
   pub played : List AtomicStep
@@ -148,7 +148,7 @@ pub record Drains (steps number : ℕ) (given : List Given) (old new : Connected
   -- the atomic steps of the drain
   pub by : GoesBy number given old new
 
--- They were appended to those that the outlet had.
+-- The frames that the drain gave were appended to those that the outlet had.
 pub record DrainsInto (steps number : ℕ) (before after : List Given) (old new : ConnectedHost) : Type 0 where
   pub given : List Given
   pub appended : after ≡ before ++ given

@@ -20,22 +20,22 @@ writes_at k offset value = At k (Accesses (Writes offset value))
 pub record ResetParts : Type 0 where
   -- ticks, before RCTL is written: the outcomes with number 0
   pub early : List AtomicStep
-  -- until CTRL.RST is written: the outcomes with numbers 1 and 2
+  -- the steps from there until CTRL.RST is written: the outcomes with numbers 1 and 2
   pub stopping : List AtomicStep
-  -- until RCTL is written again: the outcomes with numbers from 3 on that are less than the number of accesses then
+  -- the steps from there until RCTL is written again: the outcomes with numbers from 3 on, less than the number of accesses then
   pub resting : List AtomicStep
-  -- and those after it
+  -- the steps after RCTL is written again
   pub later : List AtomicStep
 
 -- the step in which RCTL is written with 0
 abbrev pub disable_of : (k : ℕ) → AtomicStep
 disable_of k = writes_at k RCTL 0
 
--- before CTRL.RST is written
+-- the steps before CTRL.RST is written
 abbrev pub before_reset : (k : ℕ) → ResetParts → List AtomicStep
 before_reset k parts = parts.early ++ disable_of k ∷ parts.stopping
 
--- the step in which it is written
+-- the step in which CTRL.RST is written
 abbrev pub reset_of : (k : ℕ) → AtomicStep
 reset_of k = writes_at k CTRL (alone ctrl_rst)
 
@@ -43,11 +43,11 @@ reset_of k = writes_at k CTRL (alone ctrl_rst)
 abbrev pub enable_of : (k : ℕ) → DriverSetup → AtomicStep
 enable_of k setup = writes_at k RCTL (receive_control setup.promiscuous setup.by_vlan)
 
--- from the one to the other
+-- the steps from the write of CTRL.RST to the second write of RCTL, both included
 abbrev pub at_rest : (k : ℕ) → DriverSetup → ResetParts → List AtomicStep
 at_rest k setup parts = reset_of k ∷ (parts.resting ++ enable_of k setup ∷ [])
 
--- all steps
+-- all steps of a reset
 abbrev pub whole_reset : (k : ℕ) → DriverSetup → ResetParts → List AtomicStep
 whole_reset k setup parts = before_reset k parts ++ (at_rest k setup parts ++ parts.later)
 

@@ -99,7 +99,7 @@ impl Network {
         &self.stations
     }
 
-    /// Plays a tick by itself, in no call. The observer is told its outcome, with this number of accesses.
+    /// Plays a tick outside a call. The observer is told its outcome, with this number of accesses.
     #[inline(always)]
     pub fn play<O: Observer>(&mut self, tick: Tick, accesses: u64, observer: &mut O)
         requires room { 0 < O.room_left observer.old }
@@ -110,7 +110,7 @@ impl Network {
         self.stations.play(tick, accesses, observer);
     }
 
-    /// Plays all ticks but each `Go`, in no call. The observer is told each outcome, with this number of accesses.
+    /// Plays all ticks but each `Go`, outside a call. The observer is told each outcome, with this number of accesses.
     pub fn play_rest<O: Observer>(&mut self, ticks: &[Tick], accesses: u64, observer: &mut O)
         requires room { length ticks.now ≤ O.room_left observer.old }
         ensures plays { PlaysTicks O.Observer (without_go is_go ticks.now) accesses

@@ -58,7 +58,7 @@ pub enum Event {
         /// What is played inside the reset.
         ticks: Vec<Tick>,
     },
-    /// A tick by itself, between calls. `Go` does nothing here.
+    /// A tick outside a call. `Go` does nothing here.
     Tick(Tick),
 }
 

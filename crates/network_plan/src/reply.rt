@@ -33,7 +33,7 @@ pub enum Answer<F> {
         /// How many accesses were made once the receiver was enabled again.
         on_after: u64,
     },
-    /// A tick was played by itself.
+    /// A tick was played outside a call.
     Ticked,
     /// There is no such host; the ticks of the call were played.
     NoHost,

@@ -4,11 +4,7 @@
 mod of_bench;
 mod of_lan;
 mod of_network;
-mod of_plan;
-mod of_scenario;
 
-pub use of_bench::{bench, bench_wires, pieces_of};
-pub use of_lan::{counts_of, drain, drain_room, log, play, run};
-pub use of_network::{call_in_network, drain_in_network, reset_in_network};
-pub use of_plan::{bring_up_host, new};
-pub use of_scenario::read_scenario;
+pub use of_bench::{bench, bench_err};
+pub use of_lan::{play, run};
+pub use of_network::{call_in_network, reset_in_network};

@@ -1,4 +1,4 @@
--- A tick by itself.
+-- A tick outside a call.
 use Rattle.std.proofs.Common.{◌≡◌, ◌≢◌, ◌∷◌, [], false, List, refl, sym, ap, subst, ◌∙◌}
 use Rattle.std.proofs.lemmas.List.Elements.{All-cons}
 use Rattle.bus.proofs.Lists.{all-none}

@@ -38,7 +38,7 @@ pub record CountsNothing (host : HostState) (world : World) : Type 0 where
   pub exact : host.driver.exact ≡ true
   -- MPC is 0
   pub missed_packets : world.adapter.missed_packets ≡ 0
-  -- RNBC, GPRC and GPTC
+  -- RNBC is 0
   pub without_descriptor : world.adapter.no_receive_buffers ≡ 0
   -- GPRC is 0
   pub received : world.adapter.received_packets ≡ 0
@@ -100,7 +100,7 @@ pub record HasPlansDevices (plan : HostPlan) (world : World) : Type 0 where
   pub sum : HasRightSum plan.image
   -- its link comes up when the plan says
   pub link_is : world.adapter.phy.link ≡ plan.link
-  -- this isn't never
+  -- it comes up after some number of ticks
   pub comes : plan.link ≢ Never
   -- its link is up
   pub link : HasLink world
@@ -157,7 +157,7 @@ wire_number plans wire = position_or_len (λ (plan : HostPlan). string_eq plan.w
 pub record AreUp (plans : List HostPlan) (count : ℕ) (hosts : List HostState) (stations : List StationState) : Type 0 where
   -- there are so many hosts
   pub host_count : length hosts ≡ count
-  -- and so many stations
+  -- there are so many stations
   pub station_count : length stations ≡ count
   -- each comes up as its plan says
   pub each :

@@ -19,8 +19,9 @@ pub record IsMade (plans : List HostPlan) (network : NetworkState) : Type 0 wher
 abbrev pub IsRight : List HostPlan → Type 0
 IsRight plans = IsPlanAnswer plans (Ok tt)
 
--- The answer to a plan: the first reason to refuse the plan by itself. Else that memory is refused, or the first host that can't be
--- initialized: its EEPROM's checksum is wrong, or it is right and the link doesn't come up within 2,000 ticks. Else the network.
+-- The answer to a plan: the first reason to refuse the plan, if there is one (`IsPlanAnswer`). Else that memory is refused, or the first
+-- host that can't be initialized: its EEPROM's checksum is wrong, or it is right and the link doesn't come up within 2,000 ticks. Else the
+-- network.
 abbrev pub IsLanAnswer : List HostPlan → Result NetworkState PlanError → Type 0
 IsLanAnswer plans (Ok network) = IsRight plans × IsMade plans network
 IsLanAnswer plans (Err refused.Memory) = IsRight plans

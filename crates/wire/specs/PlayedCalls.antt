@@ -1,5 +1,5 @@
--- What the private functions that play one event state: a call or a reset with its ticks, or a tick by itself (our choice). None of this
--- is part of the contract of `Lan::run`: an `EventRuns` (specs/Runs) is built from it.
+-- What the private functions that play one event state: a call or a reset with its ticks, or a tick outside a call (our choice). None of
+-- this is part of the contract of `Lan::run`: an `EventRuns` (specs/Runs) is built from it.
 use Rattle.std.specs.Prelude.{◌≡◌, ℕ, All, List}
 use Rattle.bus.specs.TickGroups.{without_go}
 use Rattle.packet_socket.specs.CallEffects.{request_of}
@@ -55,7 +55,7 @@ pub record AbsentTold {O : Type 0} (observers : OfObserver O) (ran : O → O →
   pub plays : PlaysTicks observers (without_go is_go ticks) 0 old (watched new.stations ticked)
   pub tells : TellsReply ran event (ending 0 NoHost (steps_told 0 plays.steps)) old.observer new.observer
 
--- A tick was played by itself.
+-- A tick was played outside a call.
 pub record TickPlayed (tick : Tick) (reply : Reply) (old new : List StationState) : Type 0 where
   pub steps : List AtomicStep
   pub are : All IsTick steps

@@ -16,8 +16,8 @@ pub record HasRoomForEvent {O : Type 0} (ready : O → Event → Type 0) (room_l
   pub answer : ready now event
   pub ticks : length (ticks_of event) ≤ room_left now
 
--- The ticks of an event whose outcomes are told, in order: of a call or a reset each but a Go, for a Go only lets the host go on to its
--- next access; and a tick by itself, also a Go.
+-- The ticks of an event whose outcomes are told, in order: each tick of a call or of a reset that isn't a Go (a Go only lets the host make
+-- its next access), or the one tick outside a call, even if it is a Go.
 abbrev pub ticks_played : EventKind → List Tick
 ticks_played (ByCall call) = without_go is_go call.ticks
 ticks_played (ByReset host ticks) = without_go is_go ticks

@@ -3,11 +3,11 @@
 -- that uses it; its definition is in that crate. docs/CONTRACTS, "To review `Lan::run`", names the files of these definitions.
 --   6. A run: `RunsTo`, `StatesRun`.
 --   5. One event with its reply: `EventRuns`, whose fields are records of parts 4, 3 and 2.
---   4. What the reply says of the event's atomic steps: `IsCallReply` for a call or a reset, `IsTickReply` for a tick by itself.
+--   4. What the reply says of the event's atomic steps: `IsCallReply` for a call or a reset, `IsTickReply` for a tick outside a call.
 --   3. What a host that is there answers: `AnswersCall`, `AnswersReset`.
 --   2. The atomic steps of an event, as every host finds them: `HostsGo`, `TicksAnswered`.
 --   1. What an event and its reply say of frames: `said`, `happenings`.
--- Part 7 is for `Lan::play` only. An event is a call or a reset with its ticks, or a tick by itself (`in_event`,
+-- Part 7 is for `Lan::play` only. An event is a call or a reset with its ticks, or a tick outside a call (`in_event`,
 -- network_plan/specs/EventCalls). An atomic step is one access of a driver, or one tick that isn't Go with its outcome. Such a tick is a
 -- step of an adapter or a delivery, and its outcome is Nothing if there was nothing to do. A station is an adapter with its host's memory
 -- (`world_at stations k`) and its end of its wire.
@@ -104,7 +104,7 @@ said_in_reset host (Some answer) ticks outcomes =
     ++ GivenUp host answer.sending answer.holding ∷ (told_where (λ number. nat_le 3 number && nat_lt number answer.on_after) ticks outcomes
     ++ Enabled host ∷ told_where (λ number. nat_le answer.on_after number) ticks outcomes))
 
--- `told_alone`: the same of a tick by itself
+-- What happened in an event of this kind, by its reply. `told_alone`: what the outcome of a tick outside a call tells.
 abbrev pub said_of : EventKind → Reply → List Happening
 said_of (ByCall call) reply = said_by call reply
 said_of (ByReset host ticks) reply = said_in_reset host (reset_answer reply.answer) ticks reply.outcomes.list
@@ -114,7 +114,7 @@ said_of (Alone tick) reply = told_alone tick reply.outcomes.list
 abbrev pub said : Event → Reply → List Happening
 said event reply = said_of (in_event event) reply
 
--- those of several events, in order
+-- what happened in several events, in order, by their replies
 abbrev pub happenings : List Event → List Reply → List Happening
 happenings [] replies = []
 happenings (event ∷ events) [] = []
@@ -212,11 +212,11 @@ pub record IsCallReply (host : ℕ) (ticks : List Tick) (reply : Reply) (steps :
   pub played : without_go is_go (map tick_of steps) ≡ without_go is_go ticks
   -- a call of a host that isn't there makes no access
   pub unmade : length old.hosts ≤ host → (past_at host steps).accesses ≡ []
-  -- it answers NoHost, and no other call does
+  -- a call answers NoHost if and only if there is no such host
   pub no_host : reply.answer ≡ NoHost ↔ (length old.hosts ≤ host)
   -- The reply has the number of accesses (`counted_of`, from 0 on), at most the greatest u64.
   pub counted : reply.accesses ≡ counted_of 0 steps
-  -- It has the outcome of each tick that isn't Go, with the number of accesses before it (`noted_of`, from 0 accesses on).
+  -- The reply has the outcome of each tick that isn't Go, with the number of accesses before it (`noted_of`, from 0 accesses on).
   pub outcomes : reply.outcomes.list ≡ noted_of 0 steps
   -- An outcome's number is the lesser of its group's number and the number of accesses. Each Go ends a group; the first has number 0
   -- (`numbers`). `noted_numbers` are the numbers in the outcomes. So the ticks of group i are played after exactly i accesses, that is,
@@ -238,7 +238,7 @@ pub record IsTickReply (tick : Tick) (reply : Reply) (steps : List AtomicStep) (
   pub played : without_go is_go (map tick_of steps) ≡ without_go is_go (tick ∷ [])
   -- no host makes an access
   pub accesses : (k : ℕ) → (past_at k steps).accesses ≡ []
-  -- so the reply's number of accesses is 0
+  -- the reply's number of accesses is 0
   pub counted : reply.accesses ≡ counted_of 0 steps
   -- the tick has its outcome
   pub outcomes : AreOutcomesAlone tick steps reply.outcomes.list
@@ -251,8 +251,8 @@ pub record IsTickReply (tick : Tick) (reply : Reply) (steps : List AtomicStep) (
 
 -- 5. One event with its reply.
 
--- The host whose call it is. A tick by itself belongs to no call, and makes no access (`accesses` of `IsTickReply`). So any number would do
--- for it: `LeadsTo` uses this number only for accesses, and the answer of a tick doesn't depend on it.
+-- The host whose call it is. A tick outside a call makes no access (`accesses` of `IsTickReply`). So any number would do for it: `LeadsTo`
+-- uses this number only for accesses, and the answer of a tick doesn't depend on it.
 abbrev pub caller_in : EventKind → ℕ
 caller_in (ByCall call) = call.host
 caller_in (ByReset host ticks) = host

@@ -13,7 +13,7 @@ use crate::Lan;
 #[derive(Clone, Copy, Debug, PartialEq, Eq)]
 pub struct Counts {
     /// Frames that its adapter missed because the receive packet buffer was full: the sum of what its driver read from
-    /// MPC, plus what MPC holds now, up to the greatest `u64`.
+    /// MPC, plus MPC's value now, saturated.
     pub missed: u64,
     /// Whether `missed` is exact; if not, there were more. It is always exact below 0xFFFF_FFFF.
     pub exact: bool,

@@ -13,7 +13,7 @@ use rx_engine::MOST_FRAMES;
 
 impl Lan {
     /// The number of frames for which a [`drain`](Lan::drain) of a host needs room: its receive buffers, and the
-    /// [`MOST_FRAMES`] frames (614) that its packet buffer may hold. A host never holds more for its sockets. It is 0 if
+    /// [`MOST_FRAMES`] frames (614) that its packet buffer may hold. A host never has more for its sockets. It is 0 if
     /// the host isn't there.
     pub fn drain_room(&self, host: usize) -> usize
         ensures there { (state : HostState) → IsHost self.now host state
@@ -28,8 +28,8 @@ impl Lan {
         usize::from(host.layout().buffers()) + usize::from(MOST_FRAMES)
     }
 
-    /// Drains a host: gives each frame that it holds for its sockets to `sink`, with the socket's number, and returns
-    /// the number of steps. A host that isn't there takes none. No memory is allocated. `sink` must have the room that
+    /// Drains a host: passes each frame that it has for its sockets to `sink`, with the socket's number, and returns
+    /// the number of steps, which is 0 if the host isn't there. No memory is allocated. `sink` must have the room that
     /// [`drain_room`](Lan::drain_room) returns; it keeps the room that it doesn't need.
     ///
     /// Each step is the first of these that applies. If a piece of a frame is in progress, the host's adapter writes

@@ -34,7 +34,7 @@ pub(crate) struct Reset<'a> {
     pub(crate) ticks: &'a [Tick],
 }
 
-/// What an event is: a call with its ticks, a reset with its ticks, or a tick by itself.
+/// What an event is: a call with its ticks, a reset with its ticks, or a tick outside a call.
 #[derive(Clone, Copy, Drop)]
 pub(crate) enum Part<'a> {
     Call(Call<'a>),
@@ -182,7 +182,7 @@ pub(crate) fn make_reset<O: RunObserver>(
     Ok(())
 }
 
-/// A tick by itself. `Go` changes nothing, and its outcome is `Nothing`.
+/// Plays a tick outside a call. `Go` changes nothing, and its outcome is `Nothing`.
 ///
 /// The network would play `Go` to the same outcome. But there it counts as an atomic step of its own, and in a reply it
 /// is none.

@@ -1,4 +1,4 @@
-// A host is brought up by its plan.
+// A host is initialized by its plan.
 
 ghost use Rattle.std.specs.Prelude.{◌≡◌, ◌≤◌, [], ℕ, IfErr, IfOk, length};
 ghost use Rattle.adapter.specs.Registers.{new_adapter};
@@ -25,7 +25,7 @@ use std::alloc::Global;
 /// # Errors
 ///
 /// [`Memory`](InitError::Memory); [`Checksum`](InitError::Checksum) if the EEPROM's checksum is wrong;
-/// [`NoLink`](InitError::NoLink) if the link needs more than 2,000 ticks or never comes up.
+/// [`NoLink`](InitError::NoLink) if the link needs more than 2,000 ticks or is never up.
 pub fn bring_up_host(alloc: Global, plan: &HostPlan) -> Result<(Host, Machine), InitError>
     requires { HasConfig plan.now }
     ensures comes_up { IfOk result (λ made. (wire : ℕ)
@@ -66,7 +66,7 @@ fn host_over(alloc: Global, plan: &HostPlan, machine: &mut Machine) -> Result<Ho
 ///
 /// # Errors
 ///
-/// [`Memory`](InitError::Memory) alone.
+/// Only [`Memory`](InitError::Memory).
 fn machine_of(alloc: Global, plan: &HostPlan) -> Result<Machine, InitError>
     requires { HasConfig plan.now }
     ensures adapter { IfOk result (λ machine. machine.world.adapter ≡ new_adapter plan.now.image plan.now.link) }
@@ -80,7 +80,7 @@ fn machine_of(alloc: Global, plan: &HostPlan) -> Result<Machine, InitError>
     Ok(Machine::new(adapter, memory))
 }
 
-/// The address that an EEPROM holds.
+/// The address in an EEPROM.
 fn address_of(image: &Image) -> [u8; 6]
     ensures address { result ≡ address_bytes image.now }
     ensures is { IsAddress result }

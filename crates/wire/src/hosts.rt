@@ -1,4 +1,4 @@
-// All hosts of a plan are brought up.
+// All hosts of a plan are initialized.
 
 ghost use Rattle.std.specs.Prelude.{◌≡◌, ◌≢◌, ◌<◌, ℕ, [], IfErr, IfOk, Some, length, position, slice_get};
 ghost use Rattle.std.specs.Prelude.{string_eq};
@@ -23,7 +23,7 @@ use std::alloc::Global;
 /// # Errors
 ///
 /// [`Memory`](PlanError::Memory) if memory is refused. [`Init`](PlanError::Init) with the number of the first host
-/// whose EEPROM's checksum is wrong, or whose link needs more than 2,000 ticks or never comes up.
+/// whose EEPROM's checksum is wrong, or whose link needs more than 2,000 ticks or is never up.
 pub fn bring_up(alloc: Global, plan: &Plan) -> Result<Network, PlanError>
     requires { HasConfigs plan.now.hosts.items }
     ensures up { IfOk result (λ network. AreUp plan.now.hosts.items (length plan.now.hosts.items) network.hosts

@@ -98,9 +98,10 @@ impl Lan {
     }
 
     /// Runs events in order, and appends a reply for each. Whatever the events are, each socket returns the frames for
-    /// it in order, each at most once, and no buffer has two owners. A frame is lost only if the filter rejects it, the
-    /// receive packet buffer has no room for it, no socket takes it, or a reset gives it up or disables the receiver.
-    /// Missed frames and frames without a socket are counted. Replies tell the others.
+    /// it in order, each at most once, and no buffer has two owners. A frame is lost only if its size is illegal (fewer
+    /// than 60 or more than 1,518 bytes), the filter rejects it, the receive packet buffer has no room for it, no
+    /// socket takes it, or a reset gives it up or disables the receiver. In a network that [`new`](Lan::new) made, no
+    /// frame is illegal. Missed frames and frames without a socket are counted; replies report the other losses.
     ///
     /// # Errors
     ///

@@ -16,7 +16,7 @@ impl Lan {
     ///
     /// Those of [`Plan::check`], before any memory is allocated. Then [`Memory`](PlanError::Memory), or
     /// [`Init`](PlanError::Init) with the number of the first host whose EEPROM's checksum is wrong, or whose link
-    /// needs more than 2,000 ticks or never comes up.
+    /// needs more than 2,000 ticks or is never up.
     pub fn new(alloc: Global, plan: &Plan) -> Result<Lan, PlanError>
         ensures { IsLanAnswer plan.now.hosts.items result }
     {

@@ -1,4 +1,4 @@
-// Who is told what comes of a run.
+// The observer of a run.
 
 ghost use Rattle.std.specs.Bool.{OnFalse, OnTrue};
 ghost use Rattle.std.specs.Prelude.{◌≡◌, ◌≤◌, [], List, length};
@@ -42,7 +42,7 @@ pub trait RunObserver: Observer {
         ensures { (begin : Self) (ticks : List TickTold) → Self.heard begin self.old ticks → AreOfTicks event.now ticks
             → TellsReply ran event.now (ending accesses (answer_with frame.now answer) ticks) begin self.new };
 
-    /// What it was told in two consecutive intervals, it was told in both together. Ticks don't use its room for an
-    /// answer.
+    /// What it was told in two consecutive intervals is what it was told in both together. Ticks don't use its room for
+    /// an answer.
     ghost composes_runs: { ComposesRuns Self.heard ran ready };
 }

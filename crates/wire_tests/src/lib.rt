@@ -8,12 +8,8 @@ mod logs;
 #[cfg(test)]
 mod memory_tests;
 #[cfg(test)]
-mod no_memory;
-#[cfg(test)]
 mod outlet;
 #[cfg(test)]
 mod readme;
-#[cfg(test)]
-mod resets;
 #[cfg(test)]
 mod texts;

@@ -1,68 +1,56 @@
 //! The log of a wire: how many entries it has, and which frames wait.
 
-use crate::texts::two_hosts;
-use adapter::{Outcome, StepKind};
-use stations::Tick;
-use std::alloc::{AllocError, Global};
+use crate::texts::prepared;
+use std::process::Abort;
 use std::test::Fail;
-use wire::{Event, Lan};
+use wire::Lan;
 
-/// How many frames host 0 puts on the wire.
+/// How many frames a puts on the wire.
 const FRAMES: u32 = 2000;
 
-/// A host sends a frame of 60 times this byte, and its adapter puts it on the wire: three events.
-fn put(alloc: Global, host: usize, byte: u8) -> Result<Vec<Event>, AllocError> {
-    let mut events = Vec::new(alloc);
-    events.push(Event::Send {
-        host,
-        frame: [byte; 60].to_vec(alloc)?,
-        ticks: Vec::new(alloc),
-    })?;
-    events.push(Event::Tick(Tick::Step(host, StepKind::TxTake)))?;
-    events.push(Event::Tick(Tick::Step(host, StepKind::TxPut)))?;
-    Ok(events)
-}
+/// How many events bring a frame to the wire.
+const PUT: usize = 3;
 
-/// Host 0 puts frames on the wire, each of which is delivered to host 1 at once.
-fn put_many(alloc: Global, lan: &mut Lan) -> Result<(), Fail> {
-    let mut events = put(alloc, 0, 0)?;
-    events.push(Event::Tick(Tick::Deliver(1)))?;
-    let mut replies = Vec::new(alloc);
-    for _ in 0..FRAMES {
-        replies.clear();
-        lan.run(alloc, &events, &mut replies)?;
-    }
-    Ok(())
-}
+/// b puts a frame on the wire, which waits at a. Then a puts one, which is delivered to b.
+const TEXT: &str = "host a 02:00:00:00:00:01 w
+host b 02:00:00:00:00:02 w
+send b 02000000000102000000000288b5
+tick txtake:b
+tick txput:b
+send a 02000000000202000000000188b5
+tick txtake:a
+tick txput:a
+tick deliver:b
+";
 
-/// While a frame of host 1 waits at host 0, host 0 puts 2,000 frames. The log has 1,024 entries when the 1,024th of
-/// them is put. Then it keeps the frame that waits, and drops the others.
+/// While a frame of b waits at a, a puts 2,000 frames. The log has 1,024 entries when the 1,024th of them is put. Then it
+/// keeps the frame that waits, and drops the others. So it has 978 entries at last.
 #[test]
 fn a_full_log_keeps_what_waits(rt: HostRuntime) -> Result<(), Fail> {
     let alloc = rt.alloc();
-    let mut lan = Lan::new(alloc, &two_hosts(alloc)?)?;
+    let (plan, events) = prepared(&rt, alloc, TEXT).expect(&rt, "memory isn't refused");
+    let mut lan = Lan::new(alloc, &plan)?;
     assert_eq!(rt; lan.log(0).len(), 0);
+    assert!(rt; events.len() >= PUT);
+    let (waits, put) = events.split_at(PUT);
     let mut replies = Vec::new(alloc);
-    lan.run(alloc, &put(alloc, 1, 1)?, &mut replies)?;
-    put_many(alloc, &mut lan)?;
+    lan.run(alloc, waits, &mut replies)?;
+    for _ in 0..FRAMES {
+        replies.clear();
+        lan.run(alloc, put, &mut replies)?;
+    }
     assert_eq!(rt;
         lan.counts(0).map(|counts| counts.transmitted),
         Some(FRAMES)
     );
-    assert_eq!(rt; lan.log(0).len(), 978);
-    assert_eq!(rt; lan.log(1).len(), 978);
-    assert!(rt;
-        lan.log(0).iter().enumerate().all(|(place, (sender, frame))| (*sender == 1) == (place == 0)
-            && frame.len() == 60)
-    );
-    replies.clear();
-    lan.run(alloc, &[Event::Tick(Tick::Deliver(0))], &mut replies)?;
-    let told = replies
-        .last()
-        .and_then(|reply| reply.outcomes.as_slice().first())
-        .map(|told| &told.outcome);
-    assert!(rt;
-        matches!(told, Some(Outcome::Delivered(frame, _)) if frame.as_slice() == [1; 60].as_slice())
-    );
+    for host in [0, 1] {
+        let log = lan.log(host);
+        assert_eq!(rt; log.len(), 978);
+        assert!(rt;
+            log.iter()
+                .enumerate()
+                .all(|(place, (sender, _))| (*sender == 1) == (place == 0))
+        );
+    }
     Ok(())
 }

@@ -1,7 +1,6 @@
 //! The code of READMEs, word for word.
 
 use crate::outlet::Taken;
-use crate::texts::two_hosts;
 use adapter::offsets::EERD;
 use adapter::{Adapter, Outcome, StepKind};
 use arrayvec::ArrayVec;
@@ -12,17 +11,18 @@ use driver::Handled;
 use eeprom::Image;
 use mdic_phy::Link;
 use network_plan::{HostPlan, Plan, PlanError};
+use scenario::Scenario;
 use stations::{LentBus, Outcomes, Stations, Tick};
 use std::test::Fail;
-use wire::{Answer, Event, Lan, bring_up};
+use wire::{Answer, Event, Lan};
 
 #[test]
 fn the_code_of_the_readme_of_wire(rt: HostRuntime) -> Result<(), Fail> {
-    // Hosts 0 and 1 on one wire, each with a socket for all frames.
-    let plan = two_hosts(rt.alloc())?;
+    // Hosts 0 and 1 on one wire. Host 1 has a socket for all frames.
+    let text = b"host a 02:00:00:00:00:01 w\nhost b 02:00:00:00:00:02 w\nsocket b all\n";
+    let plan = Scenario::read(rt.alloc(), text)?.plan;
     let mut lan = Lan::new(rt.alloc(), &plan)?;
     // A frame of host 0 is delivered to host 1, whose adapter finishes it just before its handler reads ICR.
-    let frame = [0xFF; 60]; // to all
     let late = [
         Tick::Step(1, StepKind::RxData),
         Tick::Step(1, StepKind::RxDone),
@@ -31,7 +31,7 @@ fn the_code_of_the_readme_of_wire(rt: HostRuntime) -> Result<(), Fail> {
     let events = [
         Event::Send {
             host: 0,
-            frame: frame.to_vec(rt.alloc())?,
+            frame: [0xFF; 60].to_vec(rt.alloc())?,
             ticks: Vec::new(rt.alloc()),
         },
         Event::Tick(Tick::Step(0, StepKind::TxTake)),
@@ -50,23 +50,6 @@ fn the_code_of_the_readme_of_wire(rt: HostRuntime) -> Result<(), Fail> {
     let mut taken = Taken::with_room(rt.alloc(), lan.drain_room(1))?;
     assert_eq!(rt; lan.drain(1, &mut taken), 1);
     assert_eq!(rt; taken.list.len(), 1);
-    assert!(rt;
-        taken
-            .list
-            .iter()
-            .all(|given| given.frame.as_slice() == frame.as_slice())
-    );
-    Ok(())
-}
-
-#[test]
-fn the_code_of_the_readme_of_wire_where_hosts_are_brought_up(rt: HostRuntime) -> Result<(), Fail> {
-    // Hosts 0 and 1 on one wire.
-    let plan = two_hosts(rt.alloc())?;
-    plan.check()?;
-    let network = bring_up(rt.alloc(), &plan)?;
-    assert_eq!(rt; (network.len(), network.stations().len()), (2, 2));
-    assert!(rt; network.host(1).is_some_and(|host| host.unclaimed() == 0));
     Ok(())
 }
 

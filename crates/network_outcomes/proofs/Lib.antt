@@ -1,0 +1,4 @@
+pub mod Made
+pub mod Drained
+pub mod Counted
+pub mod Reading

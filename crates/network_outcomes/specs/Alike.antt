@@ -1,0 +1,85 @@
+-- What is alike of two calls from equal states: all that the contract of the call determines of its outcome (our choice).
+use Rattle.std.specs.Prelude.{⊤, ◌≡◌, ◌≢◌, ◌↔◌, ◌++◌, ℕ, List, Some, length, slice_get}
+use Rattle.adapter.specs.HostFrames.{frames_to_send}
+use Rattle.adapter.specs.World.{World}
+use Rattle.host_calls.specs.DrainedHosts.{HoldsNothing}
+use Rattle.host_calls.specs.Networks.{IsHost, NetworkState}
+use Rattle.network_plan.specs.declared.plan_error.PlanError.{PlanError}
+use Rattle.network_plan.specs.declared.plan_error.PlanError.TheVariants as refused
+use Rattle.packet_socket.specs.HostCalls.{Given, given_for}
+use Rattle.packet_socket.specs.HostState.{HostState}
+use Rattle.rx_engine.specs.Passing.{Passes}
+use Rattle.rx_engine.specs.Registers.{filter_of}
+use Rattle.stations.specs.Stations.{StationState, backlog_at, world_at}
+use Rattle.wire.specs.Equations.{counted}
+
+-- Networks that one plan made.
+
+-- the adapter passes this frame
+abbrev pub PassesAt : World → List ℕ → Type 0
+PassesAt world frame = Passes (filter_of world.adapter.filter) frame
+
+-- Two hosts that were made by one plan.
+pub record HostsAreAlike (one : HostState) (a : World) (other : HostState) (b : World) : Type 0 where
+  -- the sizes of the rings, and the number of receive buffers
+  pub layout : one.driver.layout ≡ other.driver.layout
+  -- the size of the memory
+  pub memory : length a.memory ≡ length b.memory
+  -- the sockets
+  pub kinds : one.kinds ≡ other.kinds
+  -- the size of the receive packet buffer
+  pub allocation : a.adapter.receive_kilobytes ≡ b.adapter.receive_kilobytes
+  -- the frames that the filter passes
+  pub passes : (frame : List ℕ) → PassesAt a frame ↔ PassesAt b frame
+  -- the EEPROM
+  pub image : a.adapter.image ≡ b.adapter.image
+  -- when the link comes up
+  pub link : a.adapter.phy.link ≡ b.adapter.phy.link
+
+-- Two networks that were made by one plan.
+pub record NetworksAreAlike (one other : NetworkState) : Type 0 where
+  -- the number of hosts
+  pub count : length one.hosts ≡ length other.hosts
+  -- each host
+  pub hosts : (k : ℕ) (h h' : HostState) (s s' : StationState) → IsHost one k h → IsHost other k h' → slice_get one.stations k ≡ Some s
+      → slice_get other.stations k ≡ Some s' → HostsAreAlike h s.world h' s'.world
+  -- the wire of each host
+  pub wires : (k : ℕ) (s s' : StationState) → slice_get one.stations k ≡ Some s → slice_get other.stations k ≡ Some s' → s.wire ≡ s'.wire
+
+-- the plan itself is refused, not for want of memory, and not as a host can't be initialized
+abbrev pub IsOfPlan : PlanError → Type 0
+IsOfPlan refused.Memory = ⊥
+IsOfPlan (refused.Init host error) = ⊥
+IsOfPlan error = ⊤
+
+-- Drains of one host from one state.
+
+-- what an outlet had before a drain, and has after it
+pub record Outlets : Type 0 where
+  pub before : List Given
+  pub after : List Given
+
+-- the frames that a drain gave
+pub record Gave (outlet : Outlets) : Type 0 where
+  pub frames : List Given
+  pub appended : outlet.after ≡ outlet.before ++ frames
+
+-- Two drains of the host with this number.
+pub record DrainsAreAlike (host : ℕ) (a b : Outlets) (one other : NetworkState) : Type 0 where
+  -- what the drains gave
+  pub first : Gave a
+  pub second : Gave b
+  -- the frames of each socket, in order
+  pub given : (socket : ℕ) → given_for socket first.frames ≡ given_for socket second.frames
+  -- the host holds nothing afterwards
+  pub nothing : (h : HostState) → IsHost one host h → HoldsNothing h (world_at one.stations host)
+  -- the frames that the host has still to send
+  pub to_send : frames_to_send (world_at one.stations host) ≡ frames_to_send (world_at other.stations host)
+  -- the frames that wait at the ends of wires
+  pub lines : (k : ℕ) → backlog_at one.stations k ≡ backlog_at other.stations k
+  -- the other hosts, with their adapters and memories
+  pub hosts : (k : ℕ) → k ≢ host → slice_get one.hosts k ≡ slice_get other.hosts k
+  pub worlds : (k : ℕ) → k ≢ host → world_at one.stations k ≡ world_at other.stations k
+  -- the count of misses of the host
+  pub counts : (h h' : HostState) → IsHost one host h → IsHost other host h'
+      → counted h (world_at one.stations host) ≡ counted h' (world_at other.stations host)

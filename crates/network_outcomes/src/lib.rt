@@ -1,0 +1,8 @@
+//! Calls of a network and of a scenario, each made twice: what its contract determines of the outcome.
+#![tactic(auto)]
+
+mod network_calls;
+
+pub use network_calls::{
+    counts_twice, drain_room_twice, drain_twice, log_twice, new_twice, read_twice,
+};
