@@ -1,5 +1,5 @@
 //! The command `run`.
-ghost use Rattle.std.specs.Prelude.{◌≡◌, ◌+◌, All, IfOk, IfSome, OnOk, length};
+ghost use Rattle.std.specs.Prelude.{◌≡◌, ◌≤◌, ◌+◌, All, IfOk, IfSome, OnOk, length};
 ghost use Rattle.nicbench.specs.Sinks.{sockets_in, wires_in};
 
 use crate::events_file::create_events_sink;
@@ -12,7 +12,7 @@ use program_files::{
     FileSink, StandardError, Watched, create_all, find_folder, read_bytes, read_trace, report_play,
 };
 use scenario::Scenario;
-use scenario_bench::{Refusals, Summary, bench, bench_wires, print_summary, wires};
+use scenario_bench::{Refusals, Summary, bench, print_summary, wires};
 use std::alloc::{AllocError, Global};
 use std::io::{self, Input};
 use std::rt::Files;
@@ -96,48 +96,22 @@ fn create_socket_sinks<R: Files + AllocGlobal>(
     Ok(sinks)
 }
 
-/// A file for each wire.
+/// A file for each wire, if the job asks for them.
 fn create_wire_sinks<R: Files + AllocGlobal>(
     rt: &R,
-    directory: &str,
+    job: &RunJob<'_>,
     plans: &[HostPlan],
 ) -> Result<Vec<FileSink<R::File>>, Fault>
-    ensures count { IfOk result (λ sinks. length sinks.items ≡ wires_in plans.now) }
+    ensures count { IfOk result (λ sinks. length sinks.items ≤ wires_in plans.now) }
     ensures countable { IfOk result (λ sinks.
         All (λ sink. ⟦<FileSink<R::File> as Sink>⟧.failures sink ≡ 0) sinks.items) }
 {
-    let names = wire_files(rt.alloc(), plans)?;
-    let sinks = create_all(rt, directory, names.as_slice())?;
-    Ok(sinks)
-}
-
-/// Makes sure that the files of the wires can be written, too, plays a scenario, and writes the files of the sockets
-/// and then those of the wires.
-fn play_wires<R: Files + Watched + AllocGlobal>(
-    rt: &R,
-    job: &RunJob<'_>,
-    scenario: &Scenario,
-    traces: &[Trace],
-    sinks: &mut [FileSink<R::File>],
-) -> Result<Summary, Fault>
-    requires traces { length traces.now ≡ length scenario.now.traces.items }
-    requires sinks { length sinks.old ≡ sockets_in scenario.now.plan.hosts.items }
-    requires countable { All (λ sink. ⟦<FileSink<R::File> as Sink>⟧.failures sink ≡ 0) sinks.old }
-{
-    let mut wire_sinks = create_wire_sinks(rt, job.directory, scenario.plan.hosts.as_slice())?;
-    report_play(rt, traces);
-    match bench_wires(
-        rt.alloc(),
-        scenario,
-        traces,
-        unit_of(job.nanos),
-        sinks,
-        wire_sinks.as_mut_slice(),
-        job.events.is_some(),
-    ) {
-        Ok(summary) => Ok(summary),
-        Err(error) => Err(Fault::Bench(error)),
+    if !job.wires {
+        return Ok(Vec::new(rt.alloc()));
     }
+    let names = wire_files(rt.alloc(), plans)?;
+    let sinks = create_all(rt, job.directory, names.as_slice())?;
+    Ok(sinks)
 }
 
 /// Makes sure that the files in OUTDIR can be written, plays a scenario, and writes the files: those of the sockets,
@@ -150,19 +124,18 @@ fn play<R: Files + Watched + AllocGlobal>(
 ) -> Result<Summary, Fault>
     requires { length traces.now ≡ length scenario.now.traces.items }
 {
-    let mut sinks = create_socket_sinks(rt, job.directory, scenario.plan.hosts.as_slice())?;
-    if job.wires {
-        return play_wires(rt, job, scenario, traces, sinks.as_mut_slice());
-    }
+    let plans = scenario.plan.hosts.as_slice();
+    let mut sinks = create_socket_sinks(rt, job.directory, plans)?;
+    let mut wire_sinks = create_wire_sinks(rt, job, plans)?;
     report_play(rt, traces);
-    let (unit, events) = (unit_of(job.nanos), job.events.is_some());
     match bench(
         rt.alloc(),
         scenario,
         traces,
-        unit,
+        unit_of(job.nanos),
         sinks.as_mut_slice(),
-        events,
+        wire_sinks.as_mut_slice(),
+        job.events.is_some(),
     ) {
         Ok(summary) => Ok(summary),
         Err(error) => Err(Fault::Bench(error)),
@@ -183,13 +156,22 @@ fn warn<R: Eprint>(rt: &R, summary: &Summary) {
     }
 }
 
-/// Writes the lines of events to standard output, and the lines of hosts to standard error. The status is the same even
-/// if standard error accepts nothing.
-fn print_to_standard_output<R: Print + Eprint>(rt: &R, summary: &Summary) -> Result<(), Fault> {
+/// Plays a scenario, and writes the lines of events to standard output, and the lines of hosts to standard error. The
+/// status is the same even if standard error accepts nothing.
+fn play_to_standard_output<R: Files + Print + Watched + AllocGlobal>(
+    rt: &R,
+    job: &RunJob<'_>,
+    scenario: &Scenario,
+    traces: &[Trace],
+) -> Result<(), Fault>
+    requires { length traces.now ≡ length scenario.now.traces.items }
+{
+    let summary = play(rt, job, scenario, traces)?;
     if let Some(events) = &summary.events {
         events.write(&mut WriterSink::new(io::writer(rt)))?;
     }
-    let _ = print_summary(summary, &mut WriterSink::new(StandardError::new(rt)));
+    let _ = print_summary(&summary, &mut WriterSink::new(StandardError::new(rt)));
+    warn(rt, &summary);
     Ok(())
 }
 
@@ -209,6 +191,23 @@ fn print<R: Files + Print + Eprint>(
     Ok(())
 }
 
+/// Plays a scenario, and writes the lines of events to their file, if the job asks for them, and the lines of hosts to
+/// standard output.
+fn play_to_file<R: Files + Input + Print + Watched + AllocGlobal>(
+    rt: &R,
+    job: &RunJob<'_>,
+    scenario: &Scenario,
+    traces: &[Trace],
+) -> Result<(), Fault>
+    requires { length traces.now ≡ length scenario.now.traces.items }
+{
+    let file = create_events_sink(rt, job, scenario)?;
+    let summary = play(rt, job, scenario, traces)?;
+    print(rt, &summary, file)?;
+    warn(rt, &summary);
+    Ok(())
+}
+
 /// Reads SCENARIO and the traces that it feeds, plays the scenario, writes its files, and prints a line for each host,
 /// on request also a line for each event.
 pub(crate) fn run_scenario<R: Files + Input + Print + Watched + AllocGlobal>(
@@ -218,14 +217,7 @@ pub(crate) fn run_scenario<R: Files + Input + Print + Watched + AllocGlobal>(
     let scenario = read_scenario(rt, job.scenario)?;
     let traces = read_traces(rt, scenario.trace_names())?;
     if job.events == Some(STANDARD_OUTPUT) {
-        let summary = play(rt, job, &scenario, traces.as_slice())?;
-        print_to_standard_output(rt, &summary)?;
-        warn(rt, &summary);
-        return Ok(());
+        return play_to_standard_output(rt, job, &scenario, traces.as_slice());
     }
-    let file = create_events_sink(rt, job, &scenario)?;
-    let summary = play(rt, job, &scenario, traces.as_slice())?;
-    print(rt, &summary, file)?;
-    warn(rt, &summary);
-    Ok(())
+    play_to_file(rt, job, &scenario, traces.as_slice())
 }

@@ -2,6 +2,7 @@
 use Rattle.std.proofs.Common.{◌≡◌, ◌<◌, ◌≤◌, ◌+◌, ◌++◌, ◌∷◌, ◌⊎◌, [], zero, suc, ℕ, Bool, List, Option, Some, None, length, map, replicate}
 use Rattle.std.proofs.Common.{if◌then◌else◌, slice_get}
 use Rattle.std.proofs.Common.{option_map, inl, inr, refl, sym, ap, subst, ◌∙◌, arith, take}
+use Rattle.std.specs.Prelude.{unwrap_or}
 use Rattle.std.proofs.Math.Seq.{take-append_seam}
 use Rattle.std.proofs.lemmas.List.{length-append, length-map}
 use Rattle.std.proofs.lemmas.Option.{slice_get-map, slice_get_within}
@@ -14,16 +15,15 @@ use Rattle.host_calls.specs.Networks.{IsHost}
 use Rattle.scenario.specs.SoFar.{Host, Said, host_of_plan, hosts_of, said_of}
 use Rattle.scenario_bench.specs.Acts.{Act, act_of, history}
 use Rattle.scenario.specs.declared.command.Scenario.{Scenario}
-use Rattle.scenario_bench.specs.Benches.{AreWritten, AreWrittenUpTo, Benches, PlaysEvents, PlaysScenario, SinkState, Stops, StopsBefore}
-use Rattle.scenario_bench.specs.Benches.{TellsRun}
-use Rattle.scenario_bench.specs.Benches.{scenario_events, texts_of}
+use Rattle.scenario_bench.specs.Benches.{AreAllWritten, AreUntouched, AreWritten, AreWrittenUpTo, BenchSinks, Benches, PlaysEvents}
+use Rattle.scenario_bench.specs.Benches.{PlaysScenario, SinkState, Stops, StopsBefore, StopsWriting, TellsRun, scenario_events, texts_of}
 use Rattle.scenario_bench.specs.EventLines.{LogState, lines_from}
 use Rattle.scenario_bench.specs.EventLists.{all_events}
 use Rattle.scenario_bench.specs.EventLogView.{plan_name}
 use Rattle.scenario_bench.specs.Given.{given_from, sockets_from}
-use Rattle.scenario_bench.specs.PlayedEvents.{Begins, HasPlayed, HasPlayedFront, HasPlayedScenario, IsUnplayed}
-use Rattle.scenario_bench.specs.PlayedEvents.{StopsWithin, TellTallies, TellsTally}
-use Rattle.scenario_bench.specs.Puts.{PutFrame}
+use Rattle.scenario_bench.specs.PlayedEvents.{AreRecorded, Begins, HasPlayed, HasPlayedFront, HasPlayedScenario, IsNewRecord}
+use Rattle.scenario_bench.specs.PlayedEvents.{StopsAtPlan, StopsWithin, TellTallies, TellsTally, socket_texts, wire_texts_in}
+use Rattle.scenario_bench.specs.Puts.{PutFrame, put_from, wire_names, wire_texts}
 use Rattle.scenario_bench.specs.RunLogs.{logged, new_log}
 use Rattle.scenario_bench.specs.SocketLists.{SocketFrames, frames_given}
 use Rattle.scenario_bench.specs.Summaries.{TellsHosts, as_told}
@@ -35,7 +35,6 @@ use Rattle.scenario_bench.specs.declared.summary.Summary.{Summary}
 use Rattle.scenario_bench.specs.declared.bench_error.BenchError.{BenchError}
 use Rattle.scenario_bench.specs.declared.bench_error.BenchError.TheVariants as errors
 use Rattle.scenario.specs.declared.command.Command.{Command}
-use Rattle.pcap_trace.specs.declared.fault.WriteError.{WriteError}
 use Rattle.scenario_bench.specs.declared.tally.Tally.{Tally}
 use Rattle.scenario_bench.proofs.Told.{noted-lists, number_told, tally_of}
 use Rattle.scenario_bench.proofs.ToldAnswers.{lines_told, refusals_told, same_names}
@@ -197,6 +196,9 @@ same_events hosts said scenario traces hosts_are said_is =
     ap (λ (hs : List HostPlan). all_events (hosts_of hs) traces (map said_of said)) hosts_are
     ∙ ap (λ (cs : List Command). all_events (hosts_of scenario.plan.hosts.items) traces (map said_of cs)) said_is
 
+pub stops_as : (all said : List Said) (a b : Play) (error : BenchError) → all ≡ said → StopsWithin all a b error → StopsWithin said a b error
+stops_as all said a b error is stops = subst (λ (events : List Said). StopsWithin events a b error) is stops
+
 pub tells_as : (hosts plans : List HostPlan) (b : Play) (told : List HostSummary) → hosts ≡ plans → TellTallies (length hosts) hosts b told
     → TellTallies (length plans) plans b told
 tells_as hosts plans b told is tells = subst (λ (hs : List HostPlan). TellTallies (length hs) hs b told) is tells
@@ -207,81 +209,145 @@ pub record IsOfPlay (play : Play) (told : List HostSummary) (summary : Summary) 
   pub refusals : summary.refusals ≡ play.record.log.refusals
   pub events : summary.events ≡ play.record.log.lines
 
-module _ (scenario : Scenario) (traces : List (List (List ℕ))) (puts : Option (List PutFrame)) (events : Bool) (play : Play)
-    (hosts : List HostSummary) (has : HasPlayedScenario scenario traces puts events play hosts) where
+-- Traces of wires.
+
+-- frames are recorded after a run, if traces of wires are to be written
+still-recorded : (wires : ℕ) (more : List PutFrame) (first puts : Option (List PutFrame)) → IsNewRecord wires first
+    → puts ≡ option_map (λ (old : List PutFrame). old ++ more) first → AreRecorded wires puts
+still-recorded wires more None puts new is = subst (AreRecorded wires) (sym is) new
+still-recorded wires more (Some old) puts new is = subst (AreRecorded wires) (sym is) tt
+
+-- what the record of a run has of wires is what was put
+same-puts : (more old : List PutFrame) (puts : Option (List PutFrame)) → old ≡ []
+    → puts ≡ option_map (λ (old : List PutFrame). old ++ more) (Some old) → unwrap_or puts [] ≡ more
+same-puts more old puts none is =
+    ap (λ (p : Option (List PutFrame)). unwrap_or p []) is ∙ ap (λ (l : List PutFrame). l ++ more) none
+
+module _ (unit : Unit) (hosts : List Host) (wires : ℕ) (more : List PutFrame) (old new : List SinkState) (none : wires ≡ length old) where
+  wires-written : (first puts : Option (List PutFrame)) → IsNewRecord wires first
+      → puts ≡ option_map (λ (old : List PutFrame). old ++ more) first
+      → AreWritten unit (length old) (wire_texts hosts (unwrap_or puts []) (wire_names hosts)) old new
+      → AreWritten unit (length old) (wire_texts hosts more (wire_names hosts)) old new
+  wires-written None puts first is wrote = record {
+    sinks = wrote.sinks;
+    whole = λ k text before after below. absurd (omega (arith, below, first, none));
+    others = wrote.others;
+  }
+  wires-written (Some first) puts new_is is wrote =
+      subst (λ (ps : List PutFrame). AreWritten unit (length old) (wire_texts hosts ps (wire_names hosts)) old new)
+      (same-puts more first puts new_is is) wrote
+
+  wires-failed : (failed : ℕ) (first puts : Option (List PutFrame)) → IsNewRecord wires first
+      → puts ≡ option_map (λ (old : List PutFrame). old ++ more) first
+      → AreWrittenUpTo unit failed (wire_texts hosts (unwrap_or puts []) (wire_names hosts)) old new
+      → AreWrittenUpTo unit failed (wire_texts hosts more (wire_names hosts)) old new
+  wires-failed failed None puts first is wrote = absurd (omega (arith, wrote.sink, first, none))
+  wires-failed failed (Some first) puts new_is is wrote =
+      subst (λ (ps : List PutFrame). AreWrittenUpTo unit failed (wire_texts hosts ps (wire_names hosts)) old new)
+      (same-puts more first puts new_is is) wrote
+
+-- A scenario that was played.
+
+module _ (scenario : Scenario) (traces : List (List (List ℕ))) (first play : Play) (hosts : List HostSummary)
+    (begins : Begins scenario.plan.hosts.items first) (has : HasPlayedScenario scenario traces first play hosts) where
   abbrev plans : List HostPlan
   plans = scenario.plan.hosts.items
 
   abbrev said : List Said
   said = scenario_events scenario traces
 
+  abbrev acts : List Act
+  acts = has.played.acts
+
   abbrev pub plays_in : PlaysScenario scenario traces
-  plays_in = plays_of scenario said has.first play has.begins has.played
+  plays_in = plays_of scenario said first play begins has.played
 
   pub sockets_counted : (count : ℕ) → count ≡ length (sockets_from 0 (hosts_of plans)) → count ≡ length play.record.sockets.items
-  sockets_counted count is = is ∙ sym (sockets_count plans said has.first play has.begins has.played)
+  sockets_counted count is = is ∙ sym (sockets_count plans said first play begins has.played)
 
-  pub hosts_told : {summary : Summary} → IsOfPlay play hosts summary
-      → TellsHosts (hosts_of plans) (history has.played.acts) play.lan summary.hosts.items
-  hosts_told {summary} of_play = hosts_tell plans said has.first play summary.hosts.items has.begins has.played
+  hosts-told : {summary : Summary} → IsOfPlay play hosts summary → TellsHosts (hosts_of plans) (history acts) play.lan summary.hosts.items
+  hosts-told {summary} of_play = hosts_tell plans said first play summary.hosts.items begins has.played
       (subst (λ (told : List HostSummary). TellTallies (length plans) plans play told) (sym of_play.hosts) has.tells)
 
   -- the record of answers is that of a run that began with an empty one
-  log-is : play.record.log ≡ logged 0 has.played.noted.logged.entries (new_log (map plan_name plans) events)
-  log-is =
+  log-is : (events : Bool) → first.record.log ≡ new_log (map plan_name plans) events
+      → play.record.log ≡ logged 0 has.played.noted.logged.entries (new_log (map plan_name plans) events)
+  log-is events log =
       let entries = has.played.noted.logged.entries in
-      has.played.noted.logged.log ∙ ap (λ (n : ℕ). logged n entries has.first.record.log) has.begins.number
-      ∙ ap (logged 0 entries) has.log
+      has.played.noted.logged.log ∙ ap (λ (n : ℕ). logged n entries first.record.log) begins.number
+      ∙ ap (logged 0 entries) log
 
-  pub run_told : {summary : Summary} → IsOfPlay play hosts summary → TellsRun events plays_in summary
-  run_told {summary} of_play =
+  run-told : (events : Bool) {summary : Summary} → first.record.log ≡ new_log (map plan_name plans) events → IsOfPlay play hosts summary
+      → TellsRun events plays_in summary
+  run-told events {summary} log of_play =
       let entries = has.played.noted.logged.entries in
       let names = map plan_name plans in
+      let is = log-is events log in
       record {
         entries = entries;
         are = has.played.noted.logged.are;
         tells = record {
-          refusals = of_play.refusals ∙ ap (λ (log : RunLog). log.refusals) log-is ∙ refusals_told 0 entries (new_log names events);
-          lines = ap (option_map (λ (log : LogState). log.text)) (of_play.events ∙ ap (λ (log : RunLog). log.lines) log-is)
+          refusals = of_play.refusals ∙ ap (λ (log : RunLog). log.refusals) is ∙ refusals_told 0 entries (new_log names events);
+          lines = ap (option_map (λ (log : LogState). log.text)) (of_play.events ∙ ap (λ (log : RunLog). log.lines) is)
               ∙ lines_told events names entries
               ∙ ap (λ (all : List (List ℕ)). if events then Some (lines_from all 0 entries) else None) (same_names plans);
         };
       }
 
-  pub texts_written : (unit : Unit) → {old new : List SinkState} → (count : ℕ) → count ≡ length (sockets_from 0 (hosts_of plans))
-      → AreWritten unit count (map frames_given play.record.sockets.items) old new
-      → AreWritten unit (length (texts_of plays_in)) (texts_of plays_in) old new
-  texts_written unit {old} {new} count counts wrote =
-      let all : count ≡ length (texts_of plays_in) = counts
-      ∙ sym (length-map (sockets_from 0 (hosts_of plans)) (λ (place : ℕ × ℕ). given_from place.0 place.1 0 has.played.acts)) in
-      subst (λ (n : ℕ). AreWritten unit n (texts_of plays_in) old new) all
-      (subst (λ (texts : List (List Timed)). AreWritten unit count texts old new)
-      (texts_are plans said has.first play has.begins has.played) wrote)
+  same-texts : socket_texts play ≡ texts_of plays_in
+  same-texts = texts_are plans said first play begins has.played
 
-  pub texts_failed : (unit : Unit) → {old new : List SinkState}
-      → (failed : ℕ) × AreWrittenUpTo unit failed (map frames_given play.record.sockets.items) old new
-      → (failed : ℕ) × AreWrittenUpTo unit failed (texts_of plays_in) old new
-  texts_failed unit {old} {new} wrote = (
-    wrote.0,
-    subst (λ (texts : List (List Timed)). AreWrittenUpTo unit wrote.0 texts old new)
-        (texts_are plans said has.first play has.begins has.played) wrote.1,
-  )
+  puts-are : play.record.puts ≡ option_map (λ (old : List PutFrame). old ++ put_from 0 acts) first.record.puts
+  puts-are = has.played.noted.puts
+      ∙ ap (λ (n : ℕ). option_map (λ (old : List PutFrame). old ++ put_from n acts) first.record.puts) begins.number
 
-  pub benched : (unit : Unit) → {old new : List SinkState} → {summary : Summary} → IsOfPlay play hosts summary → (count : ℕ)
-      → count ≡ length (sockets_from 0 (hosts_of plans)) → AreWritten unit count (map frames_given play.record.sockets.items) old new
-      → Benches unit scenario traces events summary old new
-  benched unit of_play count counts wrote = record {
-    plays = plays_in;
-    texts = texts_written unit count counts wrote;
-    tells = hosts_told of_play;
-    answers = run_told of_play;
-  }
+  pub recorded : (wires : ℕ) → IsNewRecord wires first.record.puts → AreRecorded wires play.record.puts
+  recorded wires new = still-recorded wires (put_from 0 acts) first.record.puts play.record.puts new puts-are
 
-  pub bench_failed : (unit : Unit) → {old new : List SinkState} → (error : BenchError) (why : WriteError) → error ≡ errors.Write why
-      → (failed : ℕ) × AreWrittenUpTo unit failed (map frames_given play.record.sockets.items) old new
-      → Stops unit scenario traces error old new
-  bench_failed unit {old} {new} error why is wrote =
-      subst (λ (e : BenchError). Stops unit scenario traces e old new) (sym is) (plays_in, texts_failed unit wrote)
+  module _ (unit : Unit) (sinks : BenchSinks) (wires : ℕ) (new : IsNewRecord wires first.record.puts)
+      (counts : wires ≡ length sinks.wires_old) where
+    pub benched : (events : Bool) {summary : Summary} → first.record.log ≡ new_log (map plan_name plans) events
+        → IsOfPlay play hosts summary → AreAllWritten unit (socket_texts play) (wire_texts_in plans play) sinks
+        → Benches unit scenario traces events summary sinks
+    benched events log of_play wrote =
+        record {
+          plays = plays_in;
+          texts = record {
+            texts = subst (λ (texts : List (List Timed)). AreWritten unit (length sinks.old) texts sinks.old sinks.new)
+                same-texts wrote.texts;
+            wires = wires-written unit (hosts_of plans) wires (put_from 0 acts) sinks.wires_old sinks.wires_new counts
+                first.record.puts play.record.puts new puts-are wrote.wires;
+          };
+          tells = hosts-told of_play;
+          answers = run-told events log of_play;
+        }
+
+    pub bench_failed : (error : BenchError) → StopsWriting unit (socket_texts play) (wire_texts_in plans play) error sinks
+        → Stops unit scenario traces error sinks
+    bench_failed (errors.Plan error) stops = absurd stops
+    bench_failed (errors.Run stopped) stops = absurd stops
+    bench_failed errors.Memory stops = stops
+    bench_failed (errors.Write error) (inl (wrote, untouched)) = (
+      plays_in,
+      inl (
+        (
+          wrote.0,
+          subst (λ (texts : List (List Timed)). AreWrittenUpTo unit wrote.0 texts sinks.old sinks.new) same-texts wrote.1,
+        ),
+        untouched,
+      ),
+    )
+    bench_failed (errors.Write error) (inr (wrote, stopped)) = (
+      plays_in,
+      inr (
+        subst (λ (texts : List (List Timed)). AreWritten unit (length sinks.old) texts sinks.old sinks.new) same-texts wrote,
+        (
+          stopped.0,
+          wires-failed unit (hosts_of plans) wires (put_from 0 acts) sinks.wires_old sinks.wires_new counts stopped.0
+              first.record.puts play.record.puts new puts-are stopped.1,
+        ),
+      ),
+    )
 
 -- Nothing was written.
 
@@ -300,12 +366,19 @@ stopped-before scenario all a b done begun front is =
           (plays_of scenario front.first a b begun front.played);
     }
 
-pub unplayed : (scenario : Scenario) (traces : List (List (List ℕ))) (all : List Said) (a b : Play) (error : BenchError)
-    → Begins scenario.plan.hosts.items a → all ≡ scenario_events scenario traces → StopsWithin all a b error
-    → IsUnplayed scenario traces error
-unplayed scenario traces all a b (errors.Plan error) begun is stops = absurd stops
-unplayed scenario traces all a b (errors.Run stopped) begun is stops =
-    subst (λ (events : List Said). StopsBefore scenario events stopped.done) is
-    (stopped-before scenario all a b stopped.done begun stops.0 stops.1)
-unplayed scenario traces all a b errors.Memory begun is stops = stops
-unplayed scenario traces all a b (errors.Write error) begun is stops = absurd stops
+module _ (unit : Unit) (scenario : Scenario) (traces : List (List (List ℕ))) (sinks : BenchSinks) (untouched : AreUntouched sinks) where
+  -- no network was made
+  pub unmade : (error : BenchError) → StopsAtPlan scenario.plan.hosts.items error → Stops unit scenario traces error sinks
+  unmade (errors.Plan error) stops = (stops, untouched)
+  unmade (errors.Run stopped) stops = absurd stops
+  unmade errors.Memory stops = untouched
+  unmade (errors.Write error) stops = absurd stops
+
+  -- not all was played
+  pub unplayed : (a b : Play) (error : BenchError) → Begins scenario.plan.hosts.items a
+      → StopsWithin (scenario_events scenario traces) a b error → Stops unit scenario traces error sinks
+  unplayed a b (errors.Plan error) begun stops = absurd stops
+  unplayed a b (errors.Run stopped) begun stops =
+      (stopped-before scenario (scenario_events scenario traces) a b stopped.done begun stops.0 stops.1, untouched)
+  unplayed a b errors.Memory begun stops = untouched
+  unplayed a b (errors.Write error) begun stops = absurd stops

@@ -1,15 +1,12 @@
--- Sockets without frames, made one after another.
-use Rattle.std.proofs.Common.{◌≡◌, ◌<◌, ◌+◌, ◌++◌, ◌∷◌, [], zero, suc, ℕ, List, length, map, take, replicate, slice_index_or}
-use Rattle.std.proofs.Common.{refl, sym, ap, ◌∙◌, arith, append_assoc, append-nil}
+-- Places of sockets, one after another.
+use Rattle.std.proofs.Common.{◌≡◌, ◌<◌, ◌+◌, ◌++◌, ◌∷◌, [], zero, suc, ℕ, List, length, map, take, slice_index_or}
+use Rattle.std.proofs.Common.{sym, ap, ◌∙◌, arith, append_assoc, append-nil}
 use Rattle.std.proofs.lemmas.Grind.{common_steps}
 use Rattle.std.proofs.lemmas.List.{map-append}
 use Rattle.std.specs.List.{range_with_len}
 use Rattle.network_plan.specs.declared.plan.HostPlan.{HostPlan}
 use Rattle.scenario.specs.SoFar.{Host, host_of_plan, hosts_of}
 use Rattle.scenario_bench.specs.Given.{sockets_from, sockets_of_host}
-use Rattle.scenario_bench.specs.SocketLists.{SocketFrames, no_frames}
-use Rattle.scenario_bench.specs.Tallies.{empty_sockets}
-use Rattle.scenario_bench.specs.declared.tally.Tally.{Tally}
 
 range-suc : (a n : ℕ) → range_with_len a (suc n) ≡ range_with_len a n ++ (a + n) ∷ []
 range-suc a zero = ap (λ (k : ℕ). k ∷ []) (omega arith)
@@ -17,24 +14,6 @@ range-suc a (suc n) = ap (λ (ks : List ℕ). a ∷ ks) (range-suc (a + 1) n ∙
 
 range-more : (a n : ℕ) → range_with_len a (n + 1) ≡ range_with_len a n ++ (a + n) ∷ []
 range-more a n = let more : n + 1 ≡ suc n = omega arith in ap (range_with_len a) more ∙ range-suc a n
-
--- one more socket of a host
-pub socket_more : (host count : ℕ) (old : List SocketFrames) (sockets new : List SocketFrames)
-    → sockets ≡ old ++ empty_sockets (sockets_of_host host count) → new ≡ sockets ++ no_frames host count ∷ []
-    → new ≡ old ++ empty_sockets (sockets_of_host host (count + 1))
-socket_more host count old sockets new is more =
-    let places : sockets_of_host host (count + 1) ≡ sockets_of_host host count ++ (host, count) ∷ [] =
-    ap (map (λ (socket : ℕ). (host, socket))) (range-more 0 count)
-    ∙ map-append (λ (socket : ℕ). (host, socket)) (range_with_len 0 count) ((0 + count) ∷ [])
-    ∙ ap (λ (k : ℕ). sockets_of_host host count ++ (host, k) ∷ []) (omega arith) in
-    more ∙ ap (λ (l : List SocketFrames). l ++ no_frames host count ∷ []) is
-    ∙ append_assoc old (empty_sockets (sockets_of_host host count)) (no_frames host count ∷ [])
-    ∙ ap (λ (l : List SocketFrames). old ++ l)
-    (sym (ap empty_sockets places ∙ map-append (λ (place : ℕ × ℕ). no_frames place.0 place.1) (sockets_of_host host count)
-    ((host, count) ∷ [])))
-
-pub no_socket : (host : ℕ) (old : List SocketFrames) → old ≡ old ++ empty_sockets (sockets_of_host host 0)
-no_socket host old = sym (append-nil old)
 
 from-more : (number : ℕ) (hosts : List Host) (host : Host)
     → sockets_from number (hosts ++ host ∷ []) ≡ sockets_from number hosts ++ sockets_of_host (number + length hosts) (length host.sockets)
@@ -45,38 +24,6 @@ from-more number (first ∷ hosts) host =
     ∙ ap (λ (n : ℕ). sockets_from (number + 1) hosts ++ sockets_of_host n (length host.sockets)) (omega arith))
     ∙ sym (append_assoc (sockets_of_host number (length first.sockets)) (sockets_from (number + 1) hosts)
     (sockets_of_host (number + length (first ∷ hosts)) (length host.sockets)))
-
--- one more host of a plan
-pub host_more : (plans : List HostPlan) (number count : ℕ) (plan d : HostPlan) (sockets new : List SocketFrames) → number < length plans
-    → plan ≡ slice_index_or plans number d → count ≡ length plan.sockets.items
-    → sockets ≡ empty_sockets (sockets_from 0 (hosts_of (take number plans)))
-    → new ≡ sockets ++ empty_sockets (sockets_of_host number count) → new ≡ empty_sockets (sockets_from 0 (hosts_of (take
-    (number + 1) plans)))
-host_more plans number count plan d sockets new below there counts is more =
-    let first = take number plans in
-    let taken : take (number + 1) plans ≡ first ++ plan ∷ [] = grind (arith, common_steps, below, there) in
-    let before : length (hosts_of first) ≡ number = grind (arith, common_steps, below) in
-    let hosts : hosts_of (take (number + 1) plans) ≡ hosts_of first ++ host_of_plan plan ∷ [] =
-    ap hosts_of taken ∙ map-append host_of_plan first (plan ∷ []) in
-    more ∙ ap (λ (n : ℕ). sockets ++ empty_sockets (sockets_of_host number n)) counts
-    ∙ ap (λ (l : List SocketFrames). l ++ empty_sockets (sockets_of_host number (length plan.sockets.items))) is
-    ∙ sym (ap (λ (hs : List Host). empty_sockets (sockets_from 0 hs)) hosts
-    ∙ ap empty_sockets (from-more 0 (hosts_of first) (host_of_plan plan)
-    ∙ ap (λ (n : ℕ). sockets_from 0 (hosts_of first) ++ sockets_of_host n (length plan.sockets.items)) (omega (arith, before)))
-    ∙ map-append (λ (place : ℕ × ℕ). no_frames place.0 place.1) (sockets_from 0 (hosts_of first))
-    (sockets_of_host number (length plan.sockets.items)))
-
-pub replicate_more : (n : ℕ) (one : Tally) (tallies new : List Tally) → tallies ≡ replicate n one → new ≡ tallies ++ one ∷ []
-    → new ≡ replicate (n + 1) one
-replicate_more n one tallies new is more =
-    let next : n + 1 ≡ suc n = omega arith in
-    more ∙ ap (λ (l : List Tally). l ++ one ∷ []) is ∙ by_count n one ∙ sym (ap (λ (k : ℕ). replicate k one) next)
-  where
-    by_count : (n : ℕ) (one : Tally) → replicate n one ++ one ∷ [] ≡ replicate (suc n) one
-    by_count zero one = refl
-    by_count (suc n) one = ap (λ (l : List Tally). one ∷ l) (by_count n one)
-
--- Places of sockets.
 
 pub no_pair : (host : ℕ) (old : List (ℕ × ℕ)) → old ≡ old ++ sockets_of_host host 0
 no_pair host old = sym (append-nil old)

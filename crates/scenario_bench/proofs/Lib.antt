@@ -15,4 +15,3 @@ pub mod Writing
 pub mod Told
 pub mod ToldAnswers
 pub mod Benching
-pub mod WireBenching

@@ -1,8 +1,9 @@
 -- Recorded drains.
 use Rattle.std.proofs.Common.{◌≡◌, ◌++◌, ◌∷◌, [], zero, suc, ℕ, List, Option, Some, None, map, option_map, slice_get}
-use Rattle.std.proofs.Common.{refl, sym, ap, subst, ◌∙◌, append_assoc, append-nil}
+use Rattle.std.proofs.Common.{◌<◌, ◌+◌, length, slice_index_or, take, arith}
+use Rattle.std.proofs.Common.{refl, sym, ap, subst, ◌∙◌, append_assoc}
 use Rattle.std.specs.Prelude.{replicate}
-use Rattle.std.proofs.lemmas.Grind.{flat_map-append}
+use Rattle.std.proofs.lemmas.Grind.{common_steps, flat_map-append}
 use Rattle.std.proofs.lemmas.List.{map-append}
 use Rattle.std.proofs.lemmas.List.Sums.{fold-append}
 use Rattle.std.specs.List.{fold}
@@ -120,58 +121,36 @@ gets-join : (number : ℕ) (xs ys : List Happening) (a b c : List SocketFrames) 
 gets-join number xs ys a b c one two k =
     two k ∙ ap (option_map (with_said number ys)) (one k) ∙ gets-further number xs ys (slice_get a k)
 
--- The first of these frames are recorded, and these are left.
-pub record HasDrained (host number : ℕ) (all rest : List DrainedFrame) (hosts hosts' : List Tally) (sockets sockets' : List SocketFrames)
-    : Type 0 where
-  pub done : List GivenFrame
-  pub parts : map drained_frame all ≡ done ++ map drained_frame rest
-  pub grows : TalliesGrow (said_of_drain host 0 done) hosts hosts'
-  pub gets : GetsSaid number (said_of_drain host 0 done) sockets sockets'
+pub none_counted : (host : ℕ) (hosts : List Tally) → TalliesGrow (said_of_drain host 0 []) hosts hosts
+none_counted host hosts = grows_not hosts
 
-pub none_drained : (host number : ℕ) (all : List DrainedFrame) (hosts : List Tally) (sockets : List SocketFrames)
-    → HasDrained host number all all hosts hosts sockets sockets
-none_drained host number all hosts sockets = record {
-  done = [];
-  parts = refl;
-  grows = grows_not hosts;
-  gets = gets_none number sockets;
-}
+pub none_got : (host number : ℕ) (sockets : List SocketFrames) → GetsSaid number (said_of_drain host 0 []) sockets sockets
+none_got host number sockets = gets_none number sockets
 
-pub one_drained : (host number : ℕ) (all rest later : List DrainedFrame) (one : DrainedFrame) (frame : List ℕ) (a b c : List Tally)
-    (d e f : List SocketFrames) → HasDrained host number all rest a b d e → rest ≡ one ∷ later → frame ≡ one.frame
-    → TallyCounts host passage.Given b c → GetsGiven host one.socket (numbered_frame number frame) e f
-    → HasDrained host number all later a c d f
-one_drained host number all rest later one frame a b c d e f has is frame_is counts gets =
-    let said : List GivenFrame → List Happening = map (given-at host) in
-    let this = drained_frame one in
-    let more : said has.done ++ given-at host this ∷ [] ≡ said (has.done ++ this ∷ []) =
-    sym (map-append (given-at host) has.done (this ∷ [])) in
-    record {
-      done = has.done ++ this ∷ [];
-      parts = has.parts ∙ ap (λ (l : List DrainedFrame). has.done ++ map drained_frame l) is
-          ∙ sym (append_assoc has.done (this ∷ []) (map drained_frame later));
-      grows = subst (λ (l : List Happening). TalliesGrow l a c) more
-          (grows_join (said has.done) (given-at host this ∷ []) a b c has.grows counts);
-      gets = subst (λ (l : List Happening). GetsSaid number l d f) more
-          (gets-join number (said has.done) (given-at host this ∷ []) d e f has.gets
-          (gets_given host one.socket number one.frame e f
-          (subst (λ (fr : List ℕ). GetsGiven host one.socket (numbered_frame number fr) e f) frame_is gets)));
-    }
+-- one more of these frames
+more-said : (host place : ℕ) (all : List DrainedFrame) (one : DrainedFrame) → place < length all → one ≡ slice_index_or all place one
+    → said_of_drain host 0 (map drained_frame (take place all)) ++ given-at host (drained_frame one) ∷ []
+    ≡ said_of_drain host 0 (map drained_frame (take (place + 1) all))
+more-said host place all one below there =
+    let taken : take (place + 1) all ≡ take place all ++ one ∷ [] = grind (arith, common_steps, below, there) in
+    sym (ap (λ (l : List DrainedFrame). map (given-at host) (map drained_frame l)) taken
+    ∙ ap (map (given-at host)) (map-append drained_frame (take place all) (one ∷ []))
+    ∙ map-append (given-at host) (map drained_frame (take place all)) (drained_frame one ∷ []))
 
-all-done : (host number : ℕ) (all rest : List DrainedFrame) (a b : List Tally) (d e : List SocketFrames)
-    (has : HasDrained host number all rest a b d e) → rest ≡ [] → has.done ≡ map drained_frame all
-all-done host number all rest a b d e has is =
-    sym (has.parts ∙ ap (λ (l : List DrainedFrame). has.done ++ map drained_frame l) is ∙ append-nil has.done)
+pub one_counted : (host place : ℕ) (all : List DrainedFrame) (one : DrainedFrame) (a b c : List Tally) → place < length all
+    → one ≡ slice_index_or all place one → TalliesGrow (said_of_drain host 0 (map drained_frame (take place all))) a b
+    → TallyCounts host passage.Given b c → TalliesGrow (said_of_drain host 0 (map drained_frame (take (place + 1) all))) a c
+one_counted host place all one a b c below there has counts =
+    subst (λ (l : List Happening). TalliesGrow l a c) (more-said host place all one below there)
+    (grows_join (said_of_drain host 0 (map drained_frame (take place all))) (given-at host (drained_frame one) ∷ []) a b c has counts)
 
-pub all_counted : (host number : ℕ) (all rest : List DrainedFrame) (a b : List Tally) (d e : List SocketFrames)
-    → HasDrained host number all rest a b d e → rest ≡ [] → TalliesGrow (said_of_drain host 0 (map drained_frame all)) a b
-all_counted host number all rest a b d e has is =
-    subst (λ (l : List GivenFrame). TalliesGrow (said_of_drain host 0 l) a b) (all-done host number all rest a b d e has is) has.grows
-
-pub all_got : (host number : ℕ) (all rest : List DrainedFrame) (a b : List Tally) (d e : List SocketFrames)
-    → HasDrained host number all rest a b d e → rest ≡ [] → GetsSaid number (said_of_drain host 0 (map drained_frame all)) d e
-all_got host number all rest a b d e has is =
-    subst (λ (l : List GivenFrame). GetsSaid number (said_of_drain host 0 l) d e) (all-done host number all rest a b d e has is) has.gets
-
--- for the frames of a drain
-pub ruleset drain_rules = (none_drained, all_counted, all_got)
+pub one_got : (host number place : ℕ) (all : List DrainedFrame) (one : DrainedFrame) (frame : List ℕ) (a b c : List SocketFrames)
+    → place < length all → one ≡ slice_index_or all place one → frame ≡ one.frame
+    → GetsSaid number (said_of_drain host 0 (map drained_frame (take place all))) a b
+    → GetsGiven host one.socket (numbered_frame number frame) b c
+    → GetsSaid number (said_of_drain host 0 (map drained_frame (take (place + 1) all))) a c
+one_got host number place all one frame a b c below there is has gets =
+    subst (λ (l : List Happening). GetsSaid number l a c) (more-said host place all one below there)
+    (gets-join number (said_of_drain host 0 (map drained_frame (take place all))) (given-at host (drained_frame one) ∷ []) a b c has
+    (gets_given host one.socket number one.frame b c
+    (subst (λ (fr : List ℕ). GetsGiven host one.socket (numbered_frame number fr) b c) is gets)))

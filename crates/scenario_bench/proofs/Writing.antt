@@ -8,8 +8,16 @@ use Rattle.std.proofs.lemmas.Option.{get_or_from_slice_get, slice_get-get_or, sl
 use Rattle.circular_buffer.proofs.Places.{slice_get-set_other, slice_get-set_same}
 use Rattle.pcap_trace.specs.Format.{Timed}
 use Rattle.pcap_trace.specs.declared.unit.Unit.{Unit}
+use Rattle.std.proofs.lemmas.List.{length-map}
+use Rattle.std.specs.Prelude.{unwrap_or}
+use Rattle.network_plan.specs.declared.plan.HostPlan.{HostPlan}
+use Rattle.scenario.specs.SoFar.{hosts_of}
 use Rattle.scenario_bench.specs.SocketLists.{SocketFrames, frames_given}
-use Rattle.scenario_bench.specs.Benches.{AreWritten, AreWrittenUpTo, FailsAmong, SinkState, TakesText}
+use Rattle.scenario_bench.specs.Benches.{AreAllWritten, AreWritten, AreWrittenUpTo, FailsAmong, IsFailedSink, SinkState, TakesText}
+use Rattle.scenario_bench.specs.Benches.{sinks_of, states_of}
+use Rattle.scenario_bench.specs.PlayedEvents.{AreRecorded, socket_texts, wire_texts_in}
+use Rattle.scenario_bench.specs.Puts.{PutFrame, wire_names, wire_texts}
+use Rattle.scenario_bench.specs.declared.play.Play.{Play}
 
 pub length-set : {X : Type 0} → (xs : List X) (i : ℕ) (x : X) → length (slice_set xs i x) ≡ length xs
 length-set [] i x = refl
@@ -70,6 +78,7 @@ pub one_failed : (unit : Unit) (place : ℕ) (texts : List (List Timed)) (old ne
     → FailsAmong unit text now later → AreWrittenUpTo unit place texts old (slice_set new place later)
 one_failed unit place texts old new text now later has text_is there fails = record {
   sinks = length-set new place later ∙ has.sinks;
+  sink = slice_get_within old place now (as_before unit place texts old new now has there);
   there = slice_get_within texts place text text_is;
   whole = λ k other before after below is was is_now. has.whole k other before after below is was
       (sym (slice_get-set_other new place k later (λ same. absurd (omega (arith, same, below)))) ∙ is_now);
@@ -139,3 +148,67 @@ pub text_at : (sockets : List SocketFrames) (place : ℕ) (one : SocketFrames) �
     → slice_get (map frames_given sockets) place ≡ Some one.frames
 text_at sockets place one below is = slice_get-map frames_given sockets place
     ∙ ap (option_map frames_given) (slice_get-get_or sockets place one below ∙ ap (λ (s : SocketFrames). Some s) (sym is))
+
+-- The sinks of sockets, and then those of wires.
+
+pub socket_failed : {S : Type 0} (taken : S → Option (List ℕ)) (failures : S → ℕ) (unit : Unit) (plans : List HostPlan) (play : Play)
+    (sinks after wires : List S)
+    → (failed : ℕ) × AreWrittenUpTo unit failed (socket_texts play) (states_of taken failures sinks) (states_of taken failures after)
+    → IsFailedSink unit (socket_texts play) (wire_texts_in plans play) (sinks_of taken failures sinks after wires wires)
+socket_failed taken failures unit plans play sinks after wires stopped = inl (stopped, refl)
+
+module _ {S : Type 0} (taken : S → Option (List ℕ)) (failures : S → ℕ) (unit : Unit) (plans : List HostPlan) (play : Play)
+    (sinks after : List S)
+    (wrote : AreWritten unit (length sinks) (socket_texts play) (states_of taken failures sinks) (states_of taken failures after)) where
+  all-sinks : AreWritten unit (length (states_of taken failures sinks)) (socket_texts play) (states_of taken failures sinks)
+      (states_of taken failures after)
+  all-sinks = subst (λ (n : ℕ). AreWritten unit n (socket_texts play) (states_of taken failures sinks) (states_of taken failures after))
+      (sym (length-map sinks (state_of taken failures))) wrote
+
+  -- no trace of a wire was to be written
+  pub sockets_written : (wires : List S) → AreRecorded (length wires) play.record.puts → play.record.puts ≡ None
+      → AreAllWritten unit (socket_texts play) (wire_texts_in plans play) (sinks_of taken failures sinks after wires wires)
+  sockets_written wires recorded none =
+      let empty : length wires ≡ 0 = subst (AreRecorded (length wires)) none recorded in
+      let states : length (states_of taken failures wires) ≡ 0 = length-map wires (state_of taken failures) ∙ empty in
+      record {
+        texts = all-sinks;
+        wires = record {
+          sinks = refl;
+          whole = λ k text before now below. absurd (omega (arith, below, states));
+          others = λ k past. refl;
+        };
+      }
+
+  module _ (wires later : List S) (puts : List PutFrame) (list : List HostPlan) (names : List (List ℕ)) (same : list ≡ plans)
+      (there : play.record.puts ≡ Some puts) (named : names ≡ wire_names (hosts_of list)) where
+    same-wires : wire_texts (hosts_of list) puts names ≡ wire_texts_in plans play
+    same-wires = ap (wire_texts (hosts_of list) puts) named
+        ∙ ap (λ (hosts : List HostPlan). wire_texts (hosts_of hosts) puts (wire_names (hosts_of hosts))) same
+        ∙ ap (λ (p : Option (List PutFrame)). wire_texts (hosts_of plans) (unwrap_or p []) (wire_names (hosts_of plans))) (sym there)
+
+    pub all_written :
+        AreWritten unit (length wires) (wire_texts (hosts_of list) puts names) (states_of taken failures wires)
+        (states_of taken failures later)
+        → AreAllWritten unit (socket_texts play) (wire_texts_in plans play) (sinks_of taken failures sinks after wires later)
+    all_written wires_wrote = record {
+      texts = all-sinks;
+      wires = subst (λ (n : ℕ). AreWritten unit n (wire_texts_in plans play) (states_of taken failures wires)
+          (states_of taken failures later))
+          (sym (length-map wires (state_of taken failures)))
+          (subst (λ (texts : List (List Timed)). AreWritten unit (length wires) texts (states_of taken failures wires)
+          (states_of taken failures later)) same-wires wires_wrote);
+    }
+
+    pub wire_failed :
+        (failed : ℕ) × AreWrittenUpTo unit failed (wire_texts (hosts_of list) puts names) (states_of taken failures wires)
+        (states_of taken failures later)
+        → IsFailedSink unit (socket_texts play) (wire_texts_in plans play) (sinks_of taken failures sinks after wires later)
+    wire_failed stopped = inr (
+      all-sinks,
+      (
+        stopped.0,
+        subst (λ (texts : List (List Timed)). AreWrittenUpTo unit stopped.0 texts (states_of taken failures wires)
+            (states_of taken failures later)) same-wires stopped.1,
+      ),
+    )

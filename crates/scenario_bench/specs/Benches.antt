@@ -1,5 +1,5 @@
 -- What the bench does with a scenario (our choice).
-use Rattle.std.specs.Prelude.{◌≡◌, ◌<◌, ◌≤◌, ◌+◌, ℕ, Bool, List, Option, Some, Ok, Err, length, map, slice_get, take}
+use Rattle.std.specs.Prelude.{◌≡◌, ◌<◌, ◌≤◌, ◌+◌, ◌⊎◌, ℕ, Bool, List, Option, Some, Ok, Err, length, map, slice_get, take}
 use Rattle.std.specs.Io.KnownBytes.{Appends}
 use Rattle.pcap_trace.specs.Devices.{AppendsFront}
 use Rattle.pcap_trace.specs.Format.{Timed, written}
@@ -14,6 +14,7 @@ use Rattle.scenario_bench.specs.declared.summary.Summary.{Summary}
 use Rattle.scenario_bench.specs.Acts.{Act, ActsLead, act_of, history}
 use Rattle.scenario_bench.specs.EventLists.{all_events}
 use Rattle.scenario_bench.specs.Given.{given_from, sockets_from}
+use Rattle.scenario_bench.specs.Puts.{put_from, wire_names, wire_texts}
 use Rattle.scenario_bench.specs.RunLogs.{acts_in}
 use Rattle.scenario_bench.specs.Summaries.{TellsAnswers, TellsHosts, as_told}
 
@@ -57,6 +58,12 @@ texts_of {scenario} played =
     map (λ (place : ℕ × ℕ). given_from place.0 place.1 0 played.acts)
     (sockets_from 0 (hosts_of scenario.plan.hosts.items))
 
+-- the trace of each wire: the frames that were put on it, in order, with the numbers of their events
+abbrev pub wire_texts_of : {scenario : Scenario} → {said : List Said} → PlaysEvents scenario said → List (List Timed)
+wire_texts_of {scenario} played =
+    let hosts = hosts_of scenario.plan.hosts.items in
+    wire_texts hosts (put_from 0 played.acts) (wire_names hosts)
+
 -- What was written to sinks.
 
 -- the bytes that a sink has taken, if it shows them to contracts, and the number of its failures
@@ -65,6 +72,10 @@ pub record SinkState : Type 0 where
   pub taken : Option (List ℕ)
   -- how often it failed
   pub failures : ℕ
+
+-- the states of sinks
+abbrev pub states_of : {S : Type 0} → (taken : S → Option (List ℕ)) → (failures : S → ℕ) → List S → List SinkState
+states_of {S} taken failures sinks = map (λ (sink : S). record { taken = taken sink; failures = failures sink }) sinks
 
 -- It has also taken this text, with times in this unit.
 pub record TakesText (unit : Unit) (text : List Timed) (old new : SinkState) : Type 0 where
@@ -95,7 +106,9 @@ pub record AreWritten (unit : Unit) (count : ℕ) (texts : List (List Timed)) (o
 pub record AreWrittenUpTo (unit : Unit) (failed : ℕ) (texts : List (List Timed)) (old new : List SinkState) : Type 0 where
   -- there are as many sinks as before
   pub sinks : length new ≡ length old
-  -- this one has a text
+  -- this one is there
+  pub sink : failed < length old
+  -- it has a text
   pub there : failed < length texts
   -- those before it have taken their text
   pub whole : (k : ℕ) (text : List Timed) (before after : SinkState) → k < failed → slice_get texts k ≡ Some text
@@ -117,23 +130,70 @@ pub record TellsRun {scenario : Scenario} {said : List Said} (events : Bool) (pl
   -- the summary is that of their answers
   pub tells : TellsAnswers (hosts_of scenario.plan.hosts.items) events entries summary
 
--- At Ok each sink has the frames of its socket, and the summary is that of the hosts and of the answers.
+-- the sinks of sockets, and those of wires, before the bench and after it
+pub record BenchSinks : Type 0 where
+  -- the sinks of sockets, before
+  pub old : List SinkState
+  -- the sinks of sockets, after
+  pub new : List SinkState
+  -- the sinks of wires, before
+  pub wires_old : List SinkState
+  -- the sinks of wires, after
+  pub wires_new : List SinkState
+
+-- the states of these sinks
+abbrev pub sinks_of : {S : Type 0} → (taken : S → Option (List ℕ)) → (failures : S → ℕ) → (old new wires_old wires_new : List S) → BenchSinks
+sinks_of taken failures old new wires_old wires_new = record {
+  old = states_of taken failures old;
+  new = states_of taken failures new;
+  wires_old = states_of taken failures wires_old;
+  wires_new = states_of taken failures wires_new;
+}
+
+-- Nothing was written to any sink, and none failed.
+abbrev pub AreUntouched : BenchSinks → Type 0
+AreUntouched sinks = (sinks.new ≡ sinks.old) × (sinks.wires_new ≡ sinks.wires_old)
+
+-- Each sink of a socket has its text, and so has each sink of a wire.
+pub record AreAllWritten (unit : Unit) (socket_texts wire_texts : List (List Timed)) (sinks : BenchSinks) : Type 0 where
+  -- the sinks of sockets
+  pub texts : AreWritten unit (length sinks.old) socket_texts sinks.old sinks.new
+  -- the sinks of wires
+  pub wires : AreWritten unit (length sinks.wires_old) wire_texts sinks.wires_old sinks.wires_new
+
+-- A sink failed: one of a socket, and the sinks of wires have taken nothing; or one of a wire, and each socket's sink has taken its whole
+-- text.
+abbrev pub IsFailedSink : Unit → (texts wire_texts : List (List Timed)) → BenchSinks → Type 0
+IsFailedSink unit texts wire_texts sinks =
+    (((failed : ℕ) × AreWrittenUpTo unit failed texts sinks.old sinks.new) × (sinks.wires_new ≡ sinks.wires_old))
+    ⊎ (AreWritten unit (length sinks.old) texts sinks.old sinks.new
+    × ((failed : ℕ) × AreWrittenUpTo unit failed wire_texts sinks.wires_old sinks.wires_new))
+
+-- These traces weren't all written: memory was refused before the first byte, or a sink failed.
+abbrev pub StopsWriting : Unit → (texts wire_texts : List (List Timed)) → BenchError → BenchSinks → Type 0
+StopsWriting unit texts wires (errors.Plan error) sinks = ⊥
+StopsWriting unit texts wires (errors.Run stopped) sinks = ⊥
+StopsWriting unit texts wires errors.Memory sinks = AreUntouched sinks
+StopsWriting unit texts wires (errors.Write error) sinks = IsFailedSink unit texts wires sinks
+
+-- At Ok each sink has the frames of its socket or of its wire, and the summary is that of the hosts and of the answers.
 pub record Benches (unit : Unit) (scenario : Scenario) (traces : List (List (List ℕ))) (events : Bool) (summary : Summary)
-    (old new : List SinkState)
+    (sinks : BenchSinks)
     : Type 0 where
   -- the scenario was played
   pub plays : PlaysScenario scenario traces
-  -- each sink has the frames of its socket
-  pub texts : AreWritten unit (length (texts_of plays)) (texts_of plays) old new
+  -- each sink has the frames of its socket or of its wire
+  pub texts : AreAllWritten unit (texts_of plays) (wire_texts_of plays) sinks
   -- the lines of the hosts
   pub tells : TellsHosts (hosts_of scenario.plan.hosts.items) (history plays.acts) plays.behind summary.hosts.items
   -- the counts of refused calls, and the lines of events
   pub answers : TellsRun events plays summary
 
 -- At an error nothing was written, except if a sink failed. If memory was refused before an event, those before it were done.
-abbrev pub Stops : Unit → (scenario : Scenario) (traces : List (List (List ℕ))) → BenchError → (old new : List SinkState) → Type 0
-Stops unit scenario traces (errors.Plan error) old new = IsLanAnswer scenario.plan.hosts.items (Err error) × (new ≡ old)
-Stops unit scenario traces (errors.Run stopped) old new = StopsBefore scenario (scenario_events scenario traces) stopped.done × (new ≡ old)
-Stops unit scenario traces errors.Memory old new = new ≡ old
-Stops unit scenario traces (errors.Write error) old new =
-    (plays : PlaysScenario scenario traces) × ((failed : ℕ) × AreWrittenUpTo unit failed (texts_of plays) old new)
+abbrev pub Stops : Unit → (scenario : Scenario) → (traces : List (List (List ℕ))) → BenchError → BenchSinks → Type 0
+Stops unit scenario traces (errors.Plan error) sinks = IsLanAnswer scenario.plan.hosts.items (Err error) × AreUntouched sinks
+Stops unit scenario traces (errors.Run stopped) sinks =
+    StopsBefore scenario (scenario_events scenario traces) stopped.done × AreUntouched sinks
+Stops unit scenario traces errors.Memory sinks = AreUntouched sinks
+Stops unit scenario traces (errors.Write error) sinks =
+    (plays : PlaysScenario scenario traces) × IsFailedSink unit (texts_of plays) (wire_texts_of plays) sinks

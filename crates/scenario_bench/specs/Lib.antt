@@ -18,5 +18,4 @@ pub mod DrainedView
 pub mod Summaries
 pub mod Benches
 pub mod PlayedEvents
-pub mod WireBenches
 pub mod Printing

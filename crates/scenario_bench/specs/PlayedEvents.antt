@@ -1,6 +1,6 @@
 -- Events and drains that were played and recorded (our choice).
-use Rattle.std.specs.Prelude.{◌≡◌, ◌↔◌, ◌<◌, ◌++◌, ℕ, Bool, List, Err, IsTrue, Ok, Option, Some, length, map, replicate, slice_get}
-use Rattle.std.specs.Prelude.{string_bytes}
+use Rattle.std.specs.Prelude.{◌≡◌, ◌↔◌, ◌<◌, ◌++◌, [], ⊤, ℕ, List, Err, IsTrue, None, Ok, Option, Some, length, map, replicate, slice_get}
+use Rattle.std.specs.Prelude.{string_bytes, unwrap_or}
 use Rattle.adapter.specs.World.{World}
 use Rattle.packet_socket.specs.HostState.{HostState}
 use Rattle.stations.specs.Stations.{world_at}
@@ -9,16 +9,16 @@ use Rattle.host_calls.specs.Networks.{IsHost}
 use Rattle.scenario_bench.specs.declared.summary.HostSummary.{HostSummary}
 use Rattle.scenario_bench.specs.declared.tally.Tally.{Tally}
 use Rattle.network_plan.specs.declared.plan.HostPlan.{HostPlan}
+use Rattle.pcap_trace.specs.Format.{Timed}
 use Rattle.pcap_trace.specs.declared.trace.Trace.{Trace}
 use Rattle.wire.specs.NewNetworks.{IsLanAnswer}
 use Rattle.scenario.specs.SoFar.{Said, hosts_of}
 use Rattle.scenario.specs.declared.command.Scenario.{Scenario}
 use Rattle.scenario_bench.specs.Acts.{Act, ActsLead, act_of}
-use Rattle.scenario_bench.specs.Benches.{StopsBefore, scenario_events}
-use Rattle.scenario_bench.specs.EventLogView.{plan_name}
+use Rattle.scenario_bench.specs.Benches.{scenario_events}
 use Rattle.scenario_bench.specs.Given.{sockets_from}
-use Rattle.scenario_bench.specs.Puts.{PutFrame}
-use Rattle.scenario_bench.specs.RunLogs.{new_log}
+use Rattle.scenario_bench.specs.Puts.{PutFrame, wire_names, wire_texts}
+use Rattle.scenario_bench.specs.SocketLists.{frames_given}
 use Rattle.scenario_bench.specs.Tallies.{AreNoted, empty_sockets, no_tally, resets_in}
 use Rattle.scenario_bench.specs.declared.bench_error.BenchError.{BenchError}
 use Rattle.scenario_bench.specs.declared.bench_error.BenchError.TheVariants as errors
@@ -84,20 +84,23 @@ pub record TellTallies (first : ℕ) (plans : List HostPlan) (play : Play) (told
 
 -- A scenario.
 
--- The network of its plan was made, its commands were played, and these are the summaries of its hosts. Frames that adapters put were
--- recorded after these, if there are any, and a line for each event on request.
-pub record HasPlayedScenario (scenario : Scenario) (traces : List (List (List ℕ))) (puts : Option (List PutFrame)) (events : Bool)
-    (play : Play) (hosts : List HostSummary) : Type 0 where
-  pub first : Play
-  pub begins : Begins scenario.plan.hosts.items first
-  pub recorded : first.record.puts ≡ puts
-  pub log : first.record.log ≡ new_log (map plan_name scenario.plan.hosts.items) events
-  pub played : HasPlayed (scenario_events scenario traces) first play
-  pub tells : TellTallies (length scenario.plan.hosts.items) scenario.plan.hosts.items play hosts
+-- Its commands were played, and these are the summaries of its hosts.
+pub record HasPlayedScenario (scenario : Scenario) (traces : List (List (List ℕ))) (old new : Play) (hosts : List HostSummary) : Type 0 where
+  pub played : HasPlayed (scenario_events scenario traces) old new
+  pub tells : TellTallies (length scenario.plan.hosts.items) scenario.plan.hosts.items new hosts
 
--- Its network wasn't made, or memory was refused.
-abbrev pub IsUnplayed : Scenario → (traces : List (List (List ℕ))) → BenchError → Type 0
-IsUnplayed scenario traces (errors.Plan error) = IsLanAnswer scenario.plan.hosts.items (Err error)
-IsUnplayed scenario traces (errors.Run stopped) = StopsBefore scenario (scenario_events scenario traces) stopped.done
-IsUnplayed scenario traces errors.Memory = Unit {0}
-IsUnplayed scenario traces (errors.Write error) = ⊥
+-- No frame is recorded yet. Frames that are put are recorded if this many traces of wires are to be written, unless it is 0.
+abbrev pub IsNewRecord : (wires : ℕ) → Option (List PutFrame) → Type 0
+IsNewRecord wires None = wires ≡ 0
+IsNewRecord wires (Some puts) = puts ≡ []
+
+abbrev pub AreRecorded : (wires : ℕ) → Option (List PutFrame) → Type 0
+AreRecorded wires None = wires ≡ 0
+AreRecorded wires (Some puts) = ⊤
+
+-- the traces of sockets, and those of wires
+abbrev pub socket_texts : Play → List (List Timed)
+socket_texts play = map frames_given play.record.sockets.items
+
+abbrev pub wire_texts_in : List HostPlan → Play → List (List Timed)
+wire_texts_in plans play = wire_texts (hosts_of plans) (unwrap_or play.record.puts []) (wire_names (hosts_of plans))

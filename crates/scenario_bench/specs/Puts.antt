@@ -13,9 +13,12 @@ use Rattle.scenario_bench.specs.Given.{next_number, numbered_frame}
 
 -- a frame that a host's adapter put on its wire
 pub record PutFrame : Type 0 where
+  -- the host's number
   pub host : ℕ
+  -- the frame, with its time
   pub frame : Timed
 
+-- this frame of this host, with the number of its event as its time
 abbrev pub put_frame : (host number : ℕ) → List ℕ → PutFrame
 put_frame host number frame = record { host = host; frame = numbered_frame number frame }
 
@@ -24,6 +27,7 @@ abbrev pub put_frame_in : (number : ℕ) → Happening → List PutFrame
 put_frame_in number (Put host frame) = put_frame host number frame ∷ []
 put_frame_in number one = []
 
+-- the frames that were put in an event with this number, in order
 abbrev pub put_frames_in : (number : ℕ) → List Happening → List PutFrame
 put_frames_in number happened = flat_map (put_frame_in number) happened
 

@@ -61,14 +61,6 @@ impl From<PlanError> for BenchError {
     }
 }
 
-impl From<Stopped> for BenchError {
-    ghost from_gives = { λ e f. f ≡ errors.Run e };
-
-    fn from(error: Stopped) -> BenchError {
-        BenchError::Run(error)
-    }
-}
-
 impl From<AllocError> for BenchError {
     ghost from_gives = { λ _ f. f ≡ errors.Memory };
 

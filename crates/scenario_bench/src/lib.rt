@@ -1,7 +1,6 @@
 //! Plays scenarios: returns the frames of each socket and of each wire, as traces, and the counts of each host.
 //!
-//! [`bench`] runs the commands of a [`Scenario`](scenario::Scenario) over hosts on wires; [`bench_wires`] also writes
-//! the frames of each wire.
+//! [`bench`] runs the commands of a [`Scenario`](scenario::Scenario) over hosts on wires.
 #![tactic(auto)]
 
 mod bench_error;
@@ -23,7 +22,7 @@ mod wire_list;
 pub use bench_error::BenchError;
 pub use event_log::EventLog;
 pub use events::pieces_of;
-pub use play::{bench, bench_wires};
+pub use play::bench;
 pub use printing::print_summary;
 pub use socket_list::sockets;
 pub use summary::{GivenUp, HostSummary, Refusals, Summary};

@@ -1,19 +1,19 @@
 //! Plays a scenario.
-ghost use Rattle.std.specs.Prelude.{◌≡◌, ◌<◌, ◌≤◌, ◌∷◌, [], ℕ, All, Some, length, map, slice_get};
+ghost use Rattle.std.specs.Prelude.{◌≡◌, ◌<◌, ◌≤◌, ◌∷◌, [], ℕ, All, Bool, Some, length, map, slice_get};
 ghost use Rattle.std.specs.Prelude.{IfErr, IfOk, IfSome, None, OnErr, OnOk};
 ghost use Rattle.std.specs.List.{flat_map};
 ghost use Rattle.packet_socket.specs.HostState.{HostState};
 ghost use Rattle.scenario.specs.SoFar.{Drains, event_of, hosts_of, said_of};
-ghost use Rattle.scenario_bench.specs.Benches.{AreWritten, AreWrittenUpTo, Benches, Stops};
+ghost use Rattle.scenario_bench.specs.Benches.{AreAllWritten, AreWritten, AreWrittenUpTo, Benches, Stops, StopsWriting};
+ghost use Rattle.scenario_bench.specs.Benches.{scenario_events, sinks_of, states_of};
 ghost use Rattle.scenario_bench.specs.EventLists as lists;
 ghost use Rattle.scenario_bench.specs.EventLogView.{plan_name};
 ghost use Rattle.scenario_bench.specs.Given.{sockets_from};
-ghost use Rattle.scenario_bench.specs.PlayedEvents.{Begins, HasPlayed, HasPlayedScenario, IsUnplayed, StopsAtPlan};
-ghost use Rattle.scenario_bench.specs.PlayedEvents.{StopsWithin, TellTallies, TellsTally, frames_of};
+ghost use Rattle.scenario_bench.specs.PlayedEvents.{AreRecorded, Begins, HasPlayed, HasPlayedScenario, IsNewRecord};
+ghost use Rattle.scenario_bench.specs.PlayedEvents.{StopsAtPlan, StopsWithin, TellTallies, TellsTally, frames_of};
+ghost use Rattle.scenario_bench.specs.PlayedEvents.{socket_texts, wire_texts_in};
 ghost use Rattle.scenario_bench.specs.Puts.{wire_names};
 ghost use Rattle.scenario_bench.specs.RunLogs.{asked_after, new_log};
-ghost use Rattle.scenario_bench.specs.SocketLists.{frames_given};
-ghost use Rattle.scenario_bench.specs.WireBenches.{BenchesWires, StopsWires};
 ghost use Rattle.scenario_bench.specs.declared.tally.Tally.{Tally};
 ghost use Rattle.stations.specs.Stations.{world_at};
 ghost use Rattle.host_calls.specs.Networks.{IsHost};
@@ -23,7 +23,6 @@ use crate::drained::DrainedFrames;
 use crate::events::{EventMemory, pieces_of, set_behind_send};
 use crate::put::PutFrames;
 use crate::record::Record;
-use crate::run_log::RunLog;
 use crate::summary::{HostSummary, Refusals, Summary};
 use crate::wire_list::wires;
 use network_plan::{Event, HostPlan, Plan, Stopped};
@@ -109,20 +108,16 @@ fn asked_after(asked: Refusals, command: &Command, before: Refusals, after: Refu
 }
 
 impl Play {
-    /// Initializes the hosts of a plan. Frames that adapters put are recorded after these, if there are any. `events`
-    /// says whether there is to be a line for each event.
-    fn new(
-        alloc: Global,
-        plan: &Plan,
-        puts: Option<PutFrames>,
-        events: bool,
-    ) -> Result<Play, BenchError>
+    /// Initializes the hosts of a plan. Frames that adapters put are recorded if this many traces of wires are to be
+    /// written, unless it is 0. `events` says whether there is to be a line for each event.
+    fn new(alloc: Global, plan: &Plan, wires: usize, events: bool) -> Result<Play, BenchError>
         ensures ok { IfOk result (Begins plan.now.hosts.items) }
-        ensures puts { IfOk result (λ play. play.record.puts ≡ puts) }
+        ensures puts { IfOk result (λ play. IsNewRecord wires play.record.puts) }
         ensures log { IfOk result (λ play. play.record.log ≡ new_log (map plan_name plan.now.hosts.items) events) }
         ensures err { IfErr result (StopsAtPlan plan.now.hosts.items) }
     {
         let lan = Lan::new(alloc, plan)?;
+        let puts = new_puts(alloc, wires);
         let record = Record::new(alloc, plan.hosts.as_slice(), puts, events)?;
         let drained = DrainedFrames::new(alloc);
         Ok(Play {
@@ -321,27 +316,44 @@ impl Play {
         Ok(hosts)
     }
 
-    /// The summary of the run, with these of the hosts.
-    fn summary(self, hosts: Vec<HostSummary>) -> Summary
+    /// The summary of the run, with these of the hosts. It takes the lines of events.
+    fn summary(&mut self, hosts: Vec<HostSummary>) -> Summary
         ensures hosts { result.hosts ≡ hosts }
-        ensures refusals { result.refusals ≡ self.record.log.refusals }
-        ensures asked { result.asked ≡ self.asked }
-        ensures events { result.events ≡ self.record.log.lines }
+        ensures refusals { result.refusals ≡ self.old.record.log.refusals }
+        ensures asked { result.asked ≡ self.old.asked }
+        ensures events { result.events ≡ self.old.record.log.lines }
     {
-        let asked = self.asked;
-        let record = self.record;
-        let RunLog { refusals, lines } = record.log;
         Summary {
             hosts,
-            refusals,
-            asked,
-            events: lines,
+            refusals: self.record.log.refusals,
+            asked: self.asked,
+            events: self.record.log.lines.take(),
         }
+    }
+
+    /// Plays the commands of a scenario in order. Returns the summaries of the hosts.
+    fn scenario(
+        &mut self,
+        alloc: Global,
+        scenario: &Scenario,
+        traces: &[Trace],
+    ) -> Result<Vec<HostSummary>, BenchError>
+        requires { Begins scenario.now.plan.hosts.items self.old }
+        ensures ok { IfOk result (λ hosts. HasPlayedScenario scenario.now (map frames_of traces.now)
+            self.old self.new hosts.items) }
+        ensures err { IfErr result
+            (StopsWithin (scenario_events scenario.now (map frames_of traces.now)) self.old self.new) }
+    {
+        let plans = scenario.plan.hosts.as_slice();
+        let commands = scenario.commands.as_slice();
+        self.commands(alloc, plans, traces, commands, scenario.command_lines())?;
+        let hosts = self.host_summaries(alloc, plans)?;
+        Ok(hosts)
     }
 
     /// Writes to each sink the frames of its socket.
     #[tactic(auto, using(crate::proofs::Writing::none_written))]
-    fn write<W: Sink>(
+    fn write_sockets<W: Sink>(
         &self,
         writer: &mut RecordWriter,
         unit: Unit,
@@ -349,94 +361,105 @@ impl Play {
     ) -> Result<(), WriteError>
         requires sinks { length sinks.old ≡ length self.now.record.sockets.items }
         requires countable { All (λ (sink : W). W.failures sink < u64.MAX) sinks.old }
-        ensures ok { OnOk result (AreWritten unit (length sinks.old) (map frames_given self.now.record.sockets.items)
-            (map (λ (s : W). record { taken = W.taken s; failures = W.failures s }) sinks.old)
-            (map (λ (s : W). record { taken = W.taken s; failures = W.failures s }) sinks.new)) }
-        ensures err { OnErr result ((failed : ℕ) ×
-            AreWrittenUpTo unit failed (map frames_given self.now.record.sockets.items)
-            (map (λ (s : W). record { taken = W.taken s; failures = W.failures s }) sinks.old)
-            (map (λ (s : W). record { taken = W.taken s; failures = W.failures s }) sinks.new)) }
+        ensures ok { OnOk result (AreWritten unit (length sinks.old) (socket_texts self.now)
+            (states_of W.taken W.failures sinks.old) (states_of W.taken W.failures sinks.new)) }
+        ensures err { OnErr result ((failed : ℕ) × AreWrittenUpTo unit failed (socket_texts self.now)
+            (states_of W.taken W.failures sinks.old) (states_of W.taken W.failures sinks.new)) }
     {
         for index in 0..sinks.len() {
             self.record.sockets[index].write(writer, unit, &mut sinks[index])?;
         }
         Ok(())
     }
+
+    /// Writes to each sink the frames of its socket, and then to each of `wire_sinks` those that were put on its wire.
+    fn write<W: Sink>(
+        &self,
+        alloc: Global,
+        plan: &Plan,
+        unit: Unit,
+        sinks: &mut [W],
+        wire_sinks: &mut [W],
+    ) -> Result<(), BenchError>
+        requires sinks { length sinks.old ≡ length self.now.record.sockets.items }
+        requires wires { length wire_sinks.old ≤ length (wire_names (hosts_of plan.now.hosts.items)) }
+        requires recorded { AreRecorded (length wire_sinks.old) self.now.record.puts }
+        requires countable { All (λ (sink : W). W.failures sink < u64.MAX) sinks.old }
+        requires wires_countable { All (λ (sink : W). W.failures sink < u64.MAX) wire_sinks.old }
+        ensures ok { OnOk result (AreAllWritten unit (socket_texts self.now) (wire_texts_in plan.now.hosts.items self.now)
+            (sinks_of W.taken W.failures sinks.old sinks.new wire_sinks.old wire_sinks.new)) }
+        ensures err { IfErr result (λ error.
+            StopsWriting unit (socket_texts self.now) (wire_texts_in plan.now.hosts.items self.now) error
+            (sinks_of W.taken W.failures sinks.old sinks.new wire_sinks.old wire_sinks.new)) }
+    {
+        let plans = plan.hosts.as_slice();
+        let names = wires(alloc, plans)?;
+        let mut writer = RecordWriter::new(alloc, unit)?;
+        self.write_sockets(&mut writer, unit, sinks)?;
+        let Some(puts) = &self.record.puts else {
+            return Ok(());
+        };
+        puts.write_wires(plans, names.as_slice(), &mut writer, unit, wire_sinks)?;
+        Ok(())
+    }
+
+    /// Plays a scenario on the network of its plan, and writes the traces. Returns the summary.
+    fn bench<W: Sink>(
+        &mut self,
+        alloc: Global,
+        scenario: &Scenario,
+        traces: &[Trace],
+        unit: Unit,
+        sinks: &mut [W],
+        wire_sinks: &mut [W],
+    ) -> Result<Summary, BenchError>
+        requires begins { Begins scenario.now.plan.hosts.items self.old }
+        requires puts { IsNewRecord (length wire_sinks.old) self.old.record.puts }
+        requires sinks { length sinks.old ≡ length (sockets_from 0 (hosts_of scenario.now.plan.hosts.items)) }
+        requires wires { length wire_sinks.old ≤ length (wire_names (hosts_of scenario.now.plan.hosts.items)) }
+        requires countable { All (λ (sink : W). W.failures sink < u64.MAX) sinks.old }
+        requires wires_countable { All (λ (sink : W). W.failures sink < u64.MAX) wire_sinks.old }
+        ensures ok { IfOk result (λ summary. (events : Bool)
+            → self.old.record.log ≡ new_log (map plan_name scenario.now.plan.hosts.items) events
+            → Benches unit scenario.now (map frames_of traces.now) events summary
+            (sinks_of W.taken W.failures sinks.old sinks.new wire_sinks.old wire_sinks.new)) }
+        ensures err { IfErr result (λ error. Stops unit scenario.now (map frames_of traces.now) error
+            (sinks_of W.taken W.failures sinks.old sinks.new wire_sinks.old wire_sinks.new)) }
+    {
+        let hosts = self.scenario(alloc, scenario, traces)?;
+        self.write(alloc, &scenario.plan, unit, sinks, wire_sinks)?;
+        Ok(self.summary(hosts))
+    }
 }
 
-/// Makes the network of a scenario's plan, and plays its commands in order. Frames that adapters put are recorded after
-/// these, if there are any. `events` is whether there is to be a line for each event. Returns what was played, and the
-/// summaries of the hosts.
-fn play_scenario(
-    alloc: Global,
-    scenario: &Scenario,
-    traces: &[Trace],
-    puts: Option<PutFrames>,
-    events: bool,
-) -> Result<(Play, Vec<HostSummary>), BenchError>
-    ensures ok { IfOk result (λ played.
-        HasPlayedScenario scenario.now (map frames_of traces.now) puts events played.0 played.1.items) }
-    ensures err { IfErr result (IsUnplayed scenario.now (map frames_of traces.now)) }
+/// The list of the frames that adapters put, if this many traces of wires are to be written, unless it is 0.
+fn new_puts(alloc: Global, wires: usize) -> Option<PutFrames>
+    ensures { IsNewRecord wires result }
 {
-    let plans = scenario.plan.hosts.as_slice();
-    let mut play = Play::new(alloc, &scenario.plan, puts, events)?;
-    let commands = scenario.commands.as_slice();
-    play.commands(alloc, plans, traces, commands, scenario.command_lines())?;
-    let hosts = play.host_summaries(alloc, plans)?;
-    Ok((play, hosts))
+    if wires == 0 {
+        return None;
+    }
+    Some(PutFrames::new(alloc))
 }
 
 /// Plays a scenario: makes the network of its plan, and runs its events and drains in order. Then it writes to each
-/// sink the frames that its socket returned, as a trace (libpcap, "pcap-savefile"). The time of a frame is the number
-/// of its event or drain, in microseconds, which is written in `unit`. Events and drains are numbered from 0, up to
-/// the greatest `u64`.
+/// sink the frames that its socket returned, as a trace (libpcap, "pcap-savefile"), and to each of `wire_sinks` the
+/// frames that were put on its wire. The time of a frame is the number of its event or drain, in microseconds, which is
+/// written in `unit`. Events and drains are numbered from 0, up to the greatest `u64`.
 ///
-/// Pass a trace for each name of [`Scenario::trace_names`], and a sink for each socket of [`sockets`](crate::sockets),
-/// in the same order. If `events` is true, the summary has a line for each event and drain.
+/// Pass a trace for each name of [`Scenario::trace_names`], a sink for each socket of [`sockets`](crate::sockets), and a
+/// sink for each wire of [`wires`](crate::wires) or none, in the same order. If `events` is true, the summary has a line
+/// for each event and drain.
 ///
 /// # Errors
 ///
 /// [`Plan`](BenchError::Plan) if the plan is refused (E40 to E46). [`Run`](BenchError::Run) (E47) if memory is refused
-/// before an event: `done` is the number of events and drains before it, which were done. As the numbers of events, it
-/// is at most the greatest `u64`. [`Memory`](BenchError::Memory) (E57) if memory is refused elsewhere. At these nothing
-/// was written. [`Write`](BenchError::Write) (E67) if a sink failed: the sinks before it have their whole text, it has
-/// a beginning of its own, and those after it have nothing.
+/// before an event, also for the frames that it may put if there are sinks of wires: `done` is the number of events and
+/// drains before it, which were done. As the numbers of events, it is at most the greatest `u64`.
+/// [`Memory`](BenchError::Memory) (E57) if memory is refused elsewhere. At these nothing was written.
+/// [`Write`](BenchError::Write) (E67) if a sink failed: the sinks before it have their whole text, it has a beginning of
+/// its own, and those after it have nothing. The sinks of sockets come before those of wires.
 pub fn bench<W: Sink>(
-    alloc: Global,
-    scenario: &Scenario,
-    traces: &[Trace],
-    unit: Unit,
-    sinks: &mut [W],
-    events: bool,
-) -> Result<Summary, BenchError>
-    requires traces { length traces.now ≡ length scenario.now.traces.items }
-    requires sinks { length sinks.old ≡ length (sockets_from 0 (hosts_of scenario.now.plan.hosts.items)) }
-    requires countable { All (λ (sink : W). W.failures sink < u64.MAX) sinks.old }
-    ensures ok { IfOk result (λ summary. Benches unit scenario.now (map frames_of traces.now) events summary
-        (map (λ (s : W). record { taken = W.taken s; failures = W.failures s }) sinks.old)
-        (map (λ (s : W). record { taken = W.taken s; failures = W.failures s }) sinks.new)) }
-    ensures err { IfErr result (λ error. Stops unit scenario.now (map frames_of traces.now) error
-        (map (λ (s : W). record { taken = W.taken s; failures = W.failures s }) sinks.old)
-        (map (λ (s : W). record { taken = W.taken s; failures = W.failures s }) sinks.new)) }
-{
-    let (play, hosts) = play_scenario(alloc, scenario, traces, None, events)?;
-    let mut writer = RecordWriter::new(alloc, unit)?;
-    play.write(&mut writer, unit, sinks)?;
-    Ok(play.summary(hosts))
-}
-
-/// Plays a scenario as [`bench`] does, and after the traces of sockets writes those of wires: to each of `wire_sinks`
-/// the frames that were put on its wire, in order, as a trace. The time of a frame is the number of its event, as in
-/// the traces of sockets.
-///
-/// Pass a sink for each wire of [`wires`](crate::wires), in the same order, and traces, sinks and `events` as for
-/// [`bench`].
-///
-/// # Errors
-///
-/// As [`bench`]; the sinks of sockets come before those of wires. [`Run`](BenchError::Run) (E47) also if memory is
-/// refused for the frames that an event may put.
-pub fn bench_wires<W: Sink>(
     alloc: Global,
     scenario: &Scenario,
     traces: &[Trace],
@@ -447,30 +470,14 @@ pub fn bench_wires<W: Sink>(
 ) -> Result<Summary, BenchError>
     requires traces { length traces.now ≡ length scenario.now.traces.items }
     requires sinks { length sinks.old ≡ length (sockets_from 0 (hosts_of scenario.now.plan.hosts.items)) }
-    requires wires { length wire_sinks.old ≡ length (wire_names (hosts_of scenario.now.plan.hosts.items)) }
+    requires wires { length wire_sinks.old ≤ length (wire_names (hosts_of scenario.now.plan.hosts.items)) }
     requires countable { All (λ (sink : W). W.failures sink < u64.MAX) sinks.old }
     requires wires_countable { All (λ (sink : W). W.failures sink < u64.MAX) wire_sinks.old }
-    ensures ok { IfOk result (λ summary. BenchesWires unit scenario.now (map frames_of traces.now) events summary
-        (record {
-          old = map (λ (s : W). record { taken = W.taken s; failures = W.failures s }) sinks.old;
-          new = map (λ (s : W). record { taken = W.taken s; failures = W.failures s }) sinks.new;
-          wires_old = map (λ (s : W). record { taken = W.taken s; failures = W.failures s }) wire_sinks.old;
-          wires_new = map (λ (s : W). record { taken = W.taken s; failures = W.failures s }) wire_sinks.new;
-        })) }
-    ensures err { IfErr result (λ error. StopsWires unit scenario.now (map frames_of traces.now) error (record {
-      old = map (λ (s : W). record { taken = W.taken s; failures = W.failures s }) sinks.old;
-      new = map (λ (s : W). record { taken = W.taken s; failures = W.failures s }) sinks.new;
-      wires_old = map (λ (s : W). record { taken = W.taken s; failures = W.failures s }) wire_sinks.old;
-      wires_new = map (λ (s : W). record { taken = W.taken s; failures = W.failures s }) wire_sinks.new;
-    })) }
+    ensures ok { IfOk result (λ summary. Benches unit scenario.now (map frames_of traces.now) events summary
+        (sinks_of W.taken W.failures sinks.old sinks.new wire_sinks.old wire_sinks.new)) }
+    ensures err { IfErr result (λ error. Stops unit scenario.now (map frames_of traces.now) error
+        (sinks_of W.taken W.failures sinks.old sinks.new wire_sinks.old wire_sinks.new)) }
 {
-    let plans = scenario.plan.hosts.as_slice();
-    let puts = PutFrames::new(alloc);
-    let (play, hosts) = play_scenario(alloc, scenario, traces, Some(puts), events)?;
-    let names = wires(alloc, plans)?;
-    let mut writer = RecordWriter::new(alloc, unit)?;
-    play.write(&mut writer, unit, sinks)?;
-    let puts = play.record.puts.as_ref().unwrap();
-    puts.write_wires(plans, names.as_slice(), &mut writer, unit, wire_sinks)?;
-    Ok(play.summary(hosts))
+    let mut play = Play::new(alloc, &scenario.plan, wire_sinks.len(), events)?;
+    play.bench(alloc, scenario, traces, unit, sinks, wire_sinks)
 }

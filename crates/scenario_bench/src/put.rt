@@ -42,12 +42,12 @@ impl Model for PutFrames {
 }
 
 impl PutFrames {
-    ghost use Rattle.std.specs.Prelude.{◌≡◌, ◌<◌, ◌≤◌, ◌++◌, ◌∷◌, [], ℕ, All, OnErr, OnOk, length, map};
+    ghost use Rattle.std.specs.Prelude.{◌≡◌, ◌<◌, ◌≤◌, ◌++◌, ◌∷◌, [], ℕ, All, OnErr, OnOk, length};
     ghost use Rattle.std.specs.Io.KnownBytes.{Appends};
     ghost use Rattle.pcap_trace.specs.Devices.{AppendsFront, CountsFailures};
     ghost use Rattle.pcap_trace.specs.Format.{written};
     ghost use Rattle.scenario.specs.SoFar.{hosts_of};
-    ghost use Rattle.scenario_bench.specs.Benches.{AreWritten, AreWrittenUpTo};
+    ghost use Rattle.scenario_bench.specs.Benches.{AreWritten, AreWrittenUpTo, states_of};
     ghost use Rattle.scenario_bench.specs.Puts.{frames_on_wire, put_frame, wire_texts};
     ghost use Rattle.scenario_bench.specs.WireLists.{names_in};
 
@@ -142,16 +142,14 @@ impl PutFrames {
         unit: Unit,
         sinks: &mut [W],
     ) -> Result<(), WriteError>
-        requires sinks { length sinks.old ≡ length wires.now }
+        requires sinks { length sinks.old ≤ length wires.now }
         requires countable { All (λ (sink : W). W.failures sink < u64.MAX) sinks.old }
         ensures ok { OnOk result
             (AreWritten unit (length sinks.old) (wire_texts (hosts_of plans.now) self.now (names_in wires.now))
-            (map (λ (s : W). record { taken = W.taken s; failures = W.failures s }) sinks.old)
-            (map (λ (s : W). record { taken = W.taken s; failures = W.failures s }) sinks.new)) }
+            (states_of W.taken W.failures sinks.old) (states_of W.taken W.failures sinks.new)) }
         ensures err { OnErr result ((failed : ℕ) ×
             AreWrittenUpTo unit failed (wire_texts (hosts_of plans.now) self.now (names_in wires.now))
-            (map (λ (s : W). record { taken = W.taken s; failures = W.failures s }) sinks.old)
-            (map (λ (s : W). record { taken = W.taken s; failures = W.failures s }) sinks.new)) }
+            (states_of W.taken W.failures sinks.old) (states_of W.taken W.failures sinks.new)) }
     {
         for index in 0..sinks.len() {
             self.write_wire(plans, wires[index], writer, unit, &mut sinks[index])?;

@@ -6,7 +6,7 @@ ghost use Rattle.network_plan.specs.Answers.{answer_with};
 ghost use Rattle.scenario.specs.SoFar.{hosts_of};
 ghost use Rattle.scenario_bench.specs.Acts.{Drained};
 ghost use Rattle.scenario_bench.specs.DrainedView.{drained_frame};
-ghost use Rattle.scenario_bench.specs.Given.{numbered_frame, sockets_from, sockets_of_host};
+ghost use Rattle.scenario_bench.specs.Given.{numbered_frame, sockets_from};
 ghost use Rattle.scenario_bench.specs.Puts.{PutsGrow, is_put, put_frames_in};
 ghost use Rattle.scenario_bench.specs.EventLines.{place_at};
 ghost use Rattle.scenario_bench.specs.EventLogView.{plan_name};
@@ -23,6 +23,7 @@ use crate::event_log::Place;
 use crate::given::GivenFrames;
 use crate::put::PutFrames;
 use crate::run_log::RunLog;
+use crate::socket_list::sockets;
 use crate::tally::{Passage, Tally};
 use adapter::{Fate, Outcome, StepKind};
 use network_plan::{Answer, Event, HostPlan};
@@ -75,43 +76,16 @@ fn passage_of(outcome: &Outcome<()>) -> Option<Passage>
     }
 }
 
-/// Appends the sockets of a host, without frames.
-#[tactic(auto, using(crate::proofs::EmptySockets::socket_more, crate::proofs::EmptySockets::no_socket))]
-fn add_sockets(
-    alloc: Global,
-    host: usize,
-    count: usize,
-    sockets: &mut Vec<GivenFrames>,
-) -> Result<(), AllocError>
-    ensures { OnOk result (sockets.new.items ≡ sockets.old.items ++ empty_sockets (sockets_of_host host count)) }
-{
-    for socket in 0..count {
-        sockets.push(GivenFrames::new(alloc, host, socket))?;
-    }
-    Ok(())
-}
-
-/// The counts of this many hosts before a run.
-#[tactic(auto, using(crate::proofs::EmptySockets::replicate_more))]
-fn no_tallies(alloc: Global, count: usize) -> Result<Vec<Tally>, AllocError>
-    ensures { IfOk result (λ tallies. tallies.items ≡ replicate count no_tally) }
-{
-    let mut tallies = Vec::new(alloc);
-    for _host in 0..count {
-        tallies.push(Tally::default())?;
-    }
-    Ok(tallies)
-}
-
 /// The sockets of these hosts, without frames.
 fn no_given(alloc: Global, plans: &[HostPlan]) -> Result<Vec<GivenFrames>, AllocError>
-    ensures { IfOk result (λ sockets. sockets.items ≡ empty_sockets (sockets_from 0 (hosts_of plans.now))) }
+    ensures { IfOk result (λ given. given.items ≡ empty_sockets (sockets_from 0 (hosts_of plans.now))) }
 {
-    let mut sockets = Vec::new(alloc);
-    for (number, plan) in plans.iter().enumerate() {
-        add_sockets(alloc, number, plan.sockets.len(), &mut sockets)?;
+    let places = sockets(alloc, plans)?;
+    let mut given = Vec::new(alloc);
+    for place in places.as_slice() {
+        given.push(GivenFrames::new(alloc, place.0, place.1))?;
     }
-    Ok(sockets)
+    Ok(given)
 }
 
 /// Counts a passage of a frame at a host.
@@ -268,7 +242,6 @@ fn note_reset(hosts: &mut [Tally], host: usize, answer: Answer<()>)
 }
 
 /// Records the frames that a drained host delivered, each for its socket.
-#[tactic(auto, using(crate::proofs::NotedDrains::drain_rules))]
 fn note_drained(
     hosts: &mut [Tally],
     sockets: &mut [GivenFrames],
@@ -281,11 +254,9 @@ fn note_drained(
     ensures sockets { OnOk result
         (GetsSaid number (said_of_drain host 0 (map drained_frame given.now)) sockets.old sockets.new) }
 {
-    let mut left = given;
-    while let Some((one, later)) = left.split_first() {
+    for one in given {
         count(hosts, host, Passage::Given);
         note_frame(sockets, host, one.socket, number, one.frame.as_slice())?;
-        left = later;
     }
     Ok(())
 }
@@ -306,7 +277,7 @@ impl Record {
         ensures puts { IfOk result (λ noted. noted.puts ≡ puts) }
         ensures log { IfOk result (λ noted. noted.log ≡ new_log (map plan_name plans.now) events) }
     {
-        let hosts = no_tallies(alloc, plans.len())?;
+        let hosts = vec![in alloc; Tally::default(); plans.len()]?;
         let sockets = no_given(alloc, plans)?;
         let log = RunLog::new(alloc, plans, events)?;
         Ok(Record {

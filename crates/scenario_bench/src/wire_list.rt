@@ -8,7 +8,7 @@ use network_plan::HostPlan;
 use std::alloc::{AllocError, Global};
 
 /// The names of the wires of these hosts: each once, in the order in which the hosts first name them. It is for callers
-/// of [`bench_wires`](crate::bench_wires), which takes a sink for each.
+/// of [`bench`](crate::bench), which takes a sink for each.
 ///
 /// # Errors
 ///

@@ -1,7 +1,7 @@
 use Rattle.std.proofs.Common.{map}
 use Rattle.scenario_bench.specs.Benches.{AreWritten}
 use Rattle.scenario_bench.specs.SocketLists.{frames_given}
-use Rattle.scenario_bench.proofs.play.Play.write.Given as goal
+use Rattle.scenario_bench.proofs.play.Play.write_sockets.Given as goal
 
 abbrev pub invariant-loop-index : goal.invariant-loop-index
 invariant-loop-index g l = AreWritten l.unit l.index (map frames_given l.self.record.sockets.items)

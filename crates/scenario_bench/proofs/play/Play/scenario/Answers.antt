@@ -4,23 +4,19 @@ use Rattle.network_plan.specs.declared.plan.HostPlan.{HostPlan}
 use Rattle.scenario.specs.SoFar.{Said, hosts_of, said_of}
 use Rattle.scenario_bench.specs.EventLists.{all_events}
 use Rattle.scenario_bench.specs.PlayedEvents.{HasPlayed, frames_of}
-use Rattle.scenario_bench.proofs.Benching.{same_events, tallies_enough, tells_as, unplayed}
-use Rattle.scenario_bench.proofs.play.play_scenario.Goals as goal
+use Rattle.scenario_bench.proofs.Benching.{same_events, stops_as, tallies_enough, tells_as}
+use Rattle.scenario_bench.proofs.play.Play.scenario.Goals as goal
 
 pub host_summaries-requires-clause-tallies : goal.host_summaries-requires-clause-tallies
 host_summaries-requires-clause-tallies c =
     subst (λ (plans : List HostPlan). length plans ≤ length c.commands.new.self.record.hosts.items) (sym c.as_slice-plans.ensures.value)
     (tallies_enough c.args.scenario.now.plan.hosts.items
     (all_events (hosts_of c.as_slice-plans.result.now) (map frames_of c.args.traces.now) (map said_of c.as_slice-commands.result.now))
-    c.in_ok-play.play c.commands.new.self c.in_ok-play.ensures.ok c.in_ok-commands.ensures.ok)
+    c.args.self.now c.commands.new.self c.requires c.in_ok-commands.ensures.ok)
 
 pub returns-clause-ok : goal.returns-clause-ok
 returns-clause-ok c = record {
-  first = c.in_ok-play.play;
-  begins = c.in_ok-play.ensures.ok;
-  recorded = c.in_ok-play.ensures.puts;
-  log = c.in_ok-play.ensures.log;
-  played = subst (λ (said : List Said). HasPlayed said c.in_ok-play.play c.commands.new.self)
+  played = subst (λ (said : List Said). HasPlayed said c.args.self.now c.commands.new.self)
       (same_events c.as_slice-plans.result.now c.as_slice-commands.result.now c.args.scenario.now (map frames_of c.args.traces.now)
       c.as_slice-plans.ensures.value c.as_slice-commands.ensures.value) c.in_ok-commands.ensures.ok;
   tells = tells_as c.as_slice-plans.result.now c.args.scenario.now.plan.hosts.items c.commands.new.self c.in_ok-hosts.hosts.items
@@ -29,8 +25,7 @@ returns-clause-ok c = record {
 
 pub returns-in_err-commands-clause-err : goal.returns-in_err-commands-clause-err
 returns-in_err-commands-clause-err c =
-    let p = err_from_is_err_and c.from_residual-in_err-commands.result c.from_residual-in_err-commands.ensures.1 in
-    rw (p.1, p.2) (unplayed c.args.scenario.now (map frames_of c.args.traces.now) _ c.in_ok-play.play c.commands.new.self _
-    c.in_ok-play.ensures.ok
+    let p = err_from_is_err_and c.from_residual.result c.from_residual.ensures.1 in
+    rw (p.1, p.2) (stops_as _ _ c.args.self.now c.commands.new.self _
     (same_events c.as_slice-plans.result.now c.as_slice-commands.result.now c.args.scenario.now (map frames_of c.args.traces.now)
     c.as_slice-plans.ensures.value c.as_slice-commands.ensures.value) c.in_err-commands.ensures.err)
