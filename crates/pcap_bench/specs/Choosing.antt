@@ -1,5 +1,5 @@
 -- What the options of a pass write to the registers of the receive filter. (Intel's manual, "13.5 Filter Registers" and "13.4.22 Receive
--- Control"; what the options ask for: own)
+-- Control"; what the options mean: our choice)
 use Rattle.std.specs.Prelude.{◌+◌, ◌/◌, ◌%◌, ◌^◌, ◌&&◌, ℕ, List, Bool, true, false, Option, Some, None, is_none, is_some, slice_set}
 use Rattle.rx_engine.specs.Addresses.{low_word, high_word, group_number}
 use Rattle.rx_engine.specs.Registers.{FilterRegisters}
@@ -7,13 +7,13 @@ use Rattle.command_line.specs.declared.job.PassFilter.{PassFilter}
 use Rattle.rx_engine.specs.declared.filter.TheConstants.{VLAN_TYPE}
 use Rattle.registers.specs.Places.{alone, rctl_bam, rctl_en, rctl_mpe, rctl_upe, rctl_vfe}
 
--- RAL(0) and RAH(0): the address, with AV, or 0 where none is given
+-- RAL(0) and RAH(0): the address, with AV, or 0 if none is given
 abbrev pub with_address : Option (List ℕ) → FilterRegisters → FilterRegisters
 with_address None r = record r { ral = slice_set r.ral 0 0; rah = slice_set r.rah 0 0 }
 with_address (Some address) r = record r
     { ral = slice_set r.ral 0 (low_word address); rah = slice_set r.rah 0 (high_word address + 2 ^ 31) }
 
--- the word of a table that has a number's bit, with that bit alone
+-- the table in which the word that has a number's bit has only this bit
 abbrev pub with_bit : List ℕ → ℕ → List ℕ
 with_bit table number = slice_set table (number / 32) (2 ^ (number % 32))
 
@@ -31,7 +31,7 @@ with_vlan (Some number) r = record r { vfta = with_bit r.vfta number }
 abbrev pub with_tables : PassFilter → FilterRegisters → FilterRegisters
 with_tables options r = record (with_vlan options.vlan (with_group options.group (with_address options.address r))) { vet = VLAN_TYPE }
 
--- RCTL: EN and BAM, with UPE and MPE where all is accepted, and VFE where a VLAN is asked for
+-- RCTL: EN and BAM, with UPE and MPE if every address is accepted, and VFE if a VLAN is given
 abbrev pub mode_bits : Bool → Bool → ℕ
 mode_bits true false = alone rctl_en + alone rctl_bam + alone rctl_upe + alone rctl_mpe
 mode_bits true true = alone rctl_en + alone rctl_bam + alone rctl_upe + alone rctl_mpe + alone rctl_vfe

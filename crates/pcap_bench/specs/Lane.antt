@@ -1,5 +1,5 @@
 -- An adapter that receives into a host's memory, with the driver that empties its ring: eight descriptors, each with its buffer. (Intel's
--- manual, "3.2.6 Receive Descriptor Queue Structure"; the ring's size and places here are own)
+-- manual, "3.2.6 Receive Descriptor Queue Structure"; the ring's size and places are our choice)
 use Rattle.std.specs.Prelude.{◌≡◌, ◌<◌, ◌+◌, ◌*◌, ◌%◌, ℕ, List, length, true}
 use Rattle.registers.specs.Bits.{HasBit, field}
 use Rattle.dma_memory.specs.HostMemory.{bytes_at}
@@ -15,7 +15,7 @@ use Rattle.adapter.specs.State.{AdapterState}
 abbrev pub slots : ℕ
 slots = 8
 
--- the first receive buffer stands behind both rings and the transmit buffers
+-- the address of a slot's receive buffer: the first one follows both rings and the transmit buffers
 abbrev pub buffer_at : ℕ → ℕ
 buffer_at slot = 18432 + 2048 * slot
 
@@ -27,7 +27,7 @@ offered buffer = record { address = buffer; length = 0; checksum = 0; status = s
 abbrev pub NameBuffers : List ℕ → Type 0
 NameBuffers memory = (slot : ℕ) → slot < slots → named_address memory (16 * slot) ≡ buffer_at slot
 
--- RDBAL, RDBAH, RDLEN, RDH and RDT: the ring stands at address 0, and the adapter owns it from the head up to the slot before the driver's.
+-- RDBAL, RDBAH, RDLEN, RDH and RDT: the ring is at address 0, and the adapter owns it from the head up to the slot before the driver's.
 abbrev pub ring_at : ℕ → ℕ → RingRegisters
 ring_at head slot = record { base_low = 0; base_high = 0; length_bytes = 16 * slots; head = head; tail = (slot + 7) % slots }
 
@@ -37,13 +37,13 @@ pub record LaneState : Type 0 where
   pub memory : List ℕ
   pub slot : ℕ
 
--- RCTL has EN, and asks for buffers of 2,048 bytes (13.4.22)
+-- RCTL has EN set, and selects buffers of 2,048 bytes (13.4.22)
 pub record IsReceiving (control : ℕ) : Type 0 where
   pub enabled : HasBit control rctl_en
   pub not_extended : ¬ (HasBit control rctl_bsex)
   pub size : field control rctl_bsize 2 ≡ 0
 
--- What holds of every lane: its adapter receives, has room for frames and holds none, and its ring lies in memory.
+-- The invariant of a lane: its adapter receives, has room for frames and has none, and its ring is inside memory.
 pub record IsLane (lane : LaneState) : Type 0 where
   pub receiving : IsReceiving lane.adapter.filter.rctl
   pub room : lane.adapter.receive_kilobytes ≡ 48
@@ -64,7 +64,7 @@ slot_desc lane = descriptor_at lane.memory (16 * lane.slot)
 abbrev pub slot_bytes : LaneState → List ℕ
 slot_bytes lane = bytes_at lane.memory (slot_desc lane).address (slot_desc lane).length
 
--- The adapter has finished the descriptor at the driver's slot with a whole frame, and has moved on.
+-- The adapter has finished the descriptor at the driver's slot, with a complete frame, and its head is at the next slot.
 pub record HasFrame (lane : LaneState) (frame : List ℕ) : Type 0 where
   pub head : lane.adapter.receive_ring.head ≡ (lane.slot + 1) % slots
   pub finished : IsFinished lane.memory (16 * lane.slot) true frame

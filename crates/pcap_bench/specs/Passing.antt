@@ -1,4 +1,4 @@
--- What becomes of the frames of a trace that pass a filter on their way through a ring. (our choice)
+-- The fate of each frame of a trace, and what `pass` writes. (our choice)
 use Rattle.std.specs.Prelude.{◌≡◌, ◌+◌, ℕ, List, [], ◌∷◌, length, take, Bool, true, false, ⊤, Option, count_by}
 use Rattle.std.specs.Io.KnownBytes.{Appends}
 use Rattle.descriptors.specs.Frames.{padded, is_sendable}
@@ -15,7 +15,7 @@ Filter = List ℕ → Type 0
 
 -- ---- the fate of each frame
 
--- what becomes of a frame: its size is illegal, the filter rejects it, or it is written
+-- the fate of a frame: its size is illegal, the filter rejects it, or it is written
 pub data Fate : Type 0 where
   illegal : Fate
   filtered : Fate
@@ -80,9 +80,9 @@ pub record WritesKept (unit : Unit) (keeps : Filter) (frames : List (List ℕ)) 
   -- and those written
   pub written_is : counts.written ≡ count_by is_kept fates
 
--- What was written is a beginning of the written form of those that are kept among the first frames.
+-- What was written is a beginning of the written form of the kept frames, among the first ones.
 pub record StopsAmong (unit : Unit) (keeps : Filter) (frames : List (List ℕ)) (before after : Option (List ℕ)) : Type 0 where
-  -- so many frames were looked at
+  -- the number of frames whose fate was decided
   pub count : ℕ
   -- their fates
   pub fates : List Fate
@@ -91,7 +91,7 @@ pub record StopsAmong (unit : Unit) (keeps : Filter) (frames : List (List ℕ)) 
   -- a beginning of what is to be written of them was written
   pub went : AppendsFront before after (written unit (kept_from 0 (take count frames) fates))
 
--- Want of memory comes before anything is written; a failed write is counted by the sink.
+-- If memory is refused, nothing was written. The sink counts a failed write.
 abbrev pub StopsBy : PassError → Option (List ℕ) → Option (List ℕ) → ℕ → ℕ → Type 0
 StopsBy Memory before after old new = (after ≡ before) × (new ≡ old)
 StopsBy Write before after old new = new ≡ old + 1

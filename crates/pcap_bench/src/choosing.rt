@@ -1,4 +1,4 @@
-//! The registers of the receive filter, as the options of a pass ask for them.
+//! The registers of the receive filter for the options of `pass`.
 ghost use Rattle.std.specs.Prelude.{◌≡◌, ◌+◌, ◌*◌, ◌/◌, ◌%◌, ◌^◌, ◌≤◌, IfSome};
 ghost use Rattle.adapter.specs.Registers.{after_write};
 ghost use Rattle.rx_engine.specs.Addresses.{IsAddress};
@@ -12,10 +12,10 @@ use command_line::PassFilter;
 use registers::{GroupOffset, Rctl};
 use rx_engine::{AddressWords, TableBit, VLAN_TYPE, hash_of};
 
-/// RAH(0), which stands behind RAL(0).
+/// RAH(0), which follows RAL(0).
 const RAH: u32 = RAL + REGISTER_BYTES;
 
-/// Writes RAL(0) and RAH(0): the address, or 0 where there is none.
+/// Writes RAL(0) and RAH(0): the address, or 0 if there is none.
 fn write_address(adapter: &mut Adapter, address: &Option<[u8; 6]>)
     ensures written { adapter.new ≡ record adapter.old { filter = with_address address.now adapter.old.filter } }
     ensures address { IfSome address.now IsAddress }
@@ -28,7 +28,7 @@ fn write_address(adapter: &mut Adapter, address: &Option<[u8; 6]>)
     adapter.write(RAH, words.high);
 }
 
-/// Writes the word of a table that has the bit of a number, with that bit alone.
+/// Writes the word of a table that has the bit of a number. Only this bit is set in it.
 fn write_number(adapter: &mut Adapter, table: u32, number: u16)
     requires table { table ≤ VFTA }
     requires number { number ≤ 4095 }
@@ -38,7 +38,7 @@ fn write_number(adapter: &mut Adapter, table: u32, number: u16)
     adapter.write(table + REGISTER_BYTES * u32::from(place.word), place.mask);
 }
 
-/// Writes the word of MTA that has the number of a group, where there is one.
+/// Writes the word of MTA that has the bit of the group, if there is one.
 fn write_group(adapter: &mut Adapter, group: &Option<[u8; 6]>)
     ensures { adapter.new ≡ record adapter.old { filter = with_group group.now adapter.old.filter } }
 {
@@ -47,7 +47,7 @@ fn write_group(adapter: &mut Adapter, group: &Option<[u8; 6]>)
     }
 }
 
-/// Writes the word of VFTA that has a VLAN's number, where there is one.
+/// Writes the word of VFTA that has the bit of the VLAN, if there is one.
 fn write_vlan(adapter: &mut Adapter, vlan: Option<u16>)
     requires { IfSome vlan (λ number. number ≤ 4095) }
     ensures { adapter.new ≡ record adapter.old { filter = with_vlan vlan adapter.old.filter } }
@@ -57,8 +57,8 @@ fn write_vlan(adapter: &mut Adapter, vlan: Option<u16>)
     }
 }
 
-/// RCTL as the options ask for: EN, BAM, UPE and MPE where neither an address nor a group is given, and VFE where a
-/// VLAN is.
+/// RCTL for these options: EN and BAM, also UPE and MPE if neither an address nor a group is given, and VFE if a VLAN
+/// is given.
 pub fn mode_of(options: &PassFilter) -> Rctl
     ensures { result.0 ≡ mode_for options.now }
 {
@@ -72,7 +72,7 @@ pub fn mode_of(options: &PassFilter) -> Rctl
     mode
 }
 
-/// Writes the registers of the receive filter, RCTL apart, as the options of a pass ask for.
+/// Writes the registers of the receive filter for these options, except RCTL.
 pub fn write_filter(adapter: &mut Adapter, options: &PassFilter)
     requires { HasVlanNumber options.now }
     ensures written { adapter.new ≡ record adapter.old { filter = with_tables options.now adapter.old.filter } }

@@ -1,12 +1,12 @@
-/// How many frames of a trace were read, and what became of them.
+/// How many frames of a trace were read, and how many of them had each fate.
 #[derive(Clone, Copy, Debug, Default, PartialEq, Eq)]
 pub struct PassCounts {
     /// The frames of the trace.
     pub read: u64,
-    /// Those below 14 or above 1,518 bytes.
+    /// The frames below 14 or above 1,518 bytes.
     pub illegal: u64,
-    /// The others that the filter turned away.
+    /// The others that the filter rejected.
     pub filtered: u64,
-    /// Those that were written.
+    /// The frames that were written.
     pub written: u64,
 }

@@ -25,15 +25,15 @@ use mdic_phy::Link;
 use std::alloc::{AllocError, Global};
 use std::marker::Model;
 
-/// The address in the EEPROM, which the exact filter holds until it is written.
+/// The address in the EEPROM. The exact filter has this address until a driver writes another one.
 const OWN_ADDRESS: [u8; 6] = [0x02, 0, 0, 0, 0, 0x01];
 
 /// The low word of an address.
 const LOW_WORD: u64 = 0xFFFF_FFFF;
 
-/// An adapter whose registers ask for the frames of a pass, the host's memory that it receives into, and the slot
-/// that its driver reads next. The ring of 8 descriptors, each with its buffer, is the adapter's but for the slot
-/// before the driver's.
+/// An adapter whose filter is set for a pass, the host's memory that it receives into, and the slot that its driver
+/// reads next. The ring has 8 descriptors, each with its buffer. The adapter owns all except the slot before the
+/// driver's.
 #[derive(Drop)]
 pub struct ReceiveLane {
     adapter: Adapter,
@@ -51,7 +51,7 @@ impl Model for ReceiveLane {
     ghost invariant = { λ lane. IsLane (record { adapter = lane.adapter; memory = lane.memory; slot = lane.slot }) };
 }
 
-/// Writes the registers of the receive ring: all its descriptors are the adapter's but the last.
+/// Writes the registers of the receive ring: the adapter owns all descriptors except the last one.
 fn write_ring(adapter: &mut Adapter, layout: &Layout)
     requires { layout.now.rx ≡ 8 }
     ensures { adapter.new ≡ record adapter.old { receive_ring = ring_at 0 0 } }
@@ -64,7 +64,7 @@ fn write_ring(adapter: &mut Adapter, layout: &Layout)
     adapter.write(RDT, u32::from(SLOTS - 1));
 }
 
-/// Takes the two steps that bring the oldest frame of the packet buffer to memory, in one piece, and finish its
+/// Plays the two steps that move the oldest frame of the packet buffer to memory, in one piece, and finish its
 /// descriptor.
 fn finish_frame(adapter: &mut Adapter, memory: &mut HostMemory)
     requires frame { HasFrameAndDescriptor adapter.old }
@@ -80,11 +80,11 @@ fn finish_frame(adapter: &mut Adapter, memory: &mut HostMemory)
 }
 
 impl ReceiveLane {
-    /// A lane whose adapter receives the frames that the options of a pass ask for.
+    /// A lane whose adapter receives the frames that these options accept.
     ///
     /// # Errors
     ///
-    /// Want of memory alone.
+    /// Only if memory is refused.
     pub fn new(alloc: Global, options: &PassFilter) -> Result<ReceiveLane, AllocError>
         requires { HasVlanNumber options.now }
         ensures filter { IfOk result (λ lane. SameSets (filter_of lane.adapter.filter) (filter_for options.now)) }
@@ -105,8 +105,8 @@ impl ReceiveLane {
         })
     }
 
-    /// A frame of 14 to 1,518 bytes comes from the wire, padded to 60 bytes by zeros. Whether the adapter has
-    /// received it: then it stands finished at the driver's slot; else nothing has changed.
+    /// A frame of 14 to 1,518 bytes arrives, padded with zeros to 60 bytes. Returns whether the adapter received it:
+    /// then the descriptor at the driver's slot is finished; otherwise nothing changes.
     pub fn receive(&mut self, frame: &[u8]) -> bool
         requires sendable { IsTrue (is_sendable frame.now) }
         requires waiting { IsWaiting self.old }
@@ -123,7 +123,7 @@ impl ReceiveLane {
         self.arrive(frame)
     }
 
-    /// The same for a frame of 60 to 1,518 bytes.
+    /// [`receive`](ReceiveLane::receive) for a frame of 60 to 1,518 bytes.
     fn arrive(&mut self, frame: &[u8]) -> bool
         requires legal { IsLegal frame.now }
         requires waiting { IsWaiting self.old }
@@ -148,7 +148,7 @@ impl ReceiveLane {
         load_desc(&self.memory, self.slot)
     }
 
-    /// The frame that the finished descriptor at the driver's slot names, where it stands in memory.
+    /// The frame of the finished descriptor at the driver's slot, in place, in the host's memory.
     pub fn received(&self) -> &[u8]
         requires { HasFrame self.now (slot_bytes self.now) }
         ensures { result.now ≡ slot_bytes self.now }
@@ -159,7 +159,7 @@ impl ReceiveLane {
             .unwrap()
     }
 
-    /// Offers the buffer at the driver's slot again, and goes on to the next slot.
+    /// Offers the buffer at the driver's slot again, and moves the driver to the next slot.
     pub fn offer(&mut self)
         requires { HasFrame self.old (slot_bytes self.old) }
         ensures next { self.new.slot ≡ (self.old.slot + 1) % 8 }

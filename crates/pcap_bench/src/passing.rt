@@ -25,7 +25,7 @@ fn is_sendable(frame: &[u8]) -> bool
     SHORTEST_SENDABLE <= frame.len() && frame.len() <= LONGEST_SENDABLE
 }
 
-/// Writes the frame that stands finished at the driver's slot, and offers its buffer again.
+/// Writes the frame of the finished descriptor at the driver's slot, and offers its buffer again.
 fn write_received<W: Sink>(
     lane: &mut ReceiveLane,
     writer: &mut RecordWriter,
@@ -50,8 +50,8 @@ fn write_received<W: Sink>(
     Ok(())
 }
 
-/// Puts the frames of a trace on the wire of a lane, and writes those that its receive filter passes. Nothing but the
-/// file header waits in the writer.
+/// Sends the frames of a trace to a lane, and writes those that its receive filter accepts. Only the file header waits
+/// in the writer.
 fn pass_frames<W: Sink>(
     lane: &mut ReceiveLane,
     writer: &mut RecordWriter,
@@ -91,21 +91,20 @@ fn pass_frames<W: Sink>(
     Ok(counts)
 }
 
-/// Puts each frame of a trace that can be sent on the wire of an adapter, padded to 60 bytes by zeros; those that its
-/// receive filter passes come through a receive ring of 8 descriptors in a host's memory, and are written from there,
-/// each with its number among the frames of the trace (from 0; packets that were captured in part don't count) as its
-/// time in microseconds, which is written in `unit`.
+/// Sends each frame of a trace that has a legal size to an adapter, padded with zeros to 60 bytes. Frames that its
+/// receive filter accepts reach the host's memory through a receive ring of 8 descriptors, and are written from there.
+/// A written frame's time in microseconds is its number among the frames of the trace, from 0; truncated packets don't
+/// count. The trace has its times in `unit`.
 ///
-/// Frames below 14 or above 1,518 bytes are counted as illegal; of the others, the filter is asked of the padded
-/// frame. It has the options' address as its one exact address, the number of the options' group (RCTL.MO 00) as the
-/// one number of its group table, and the options' VLAN, of 12 bits, as its one VLAN, where they are given, with the
-/// VLAN type 0x8100; it passes every address where neither an address nor a group is given (UPE, MPE), and broadcast
-/// always (BAM).
+/// Frames below 14 or above 1,518 bytes are counted as illegal. The filter judges each of the others after padding. If
+/// they are given, it has the options' address as its only exact address, the hash of the options' group (RCTL.MO 00)
+/// as the only bit of MTA, and the options' VLAN as its only VLAN, with the VLAN type 0x8100. If neither an address nor
+/// a group is given, it accepts every address (UPE, MPE). It always accepts broadcast (BAM).
 ///
 /// # Errors
 ///
-/// E57 [`Memory`](PassError::Memory) where memory is refused, before anything is written; E67
-/// [`Write`](PassError::Write) where the sink fails during the call, and then a beginning of the text went out.
+/// E57 [`Memory`](PassError::Memory) if memory is refused, before anything is written. E67
+/// [`Write`](PassError::Write) if the sink fails during the call; then it has only a beginning of the text.
 pub fn pass<W: Sink>(
     alloc: Global,
     trace: &Trace,

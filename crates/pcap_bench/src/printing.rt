@@ -9,10 +9,10 @@ use arrayvec::ArrayVec;
 use itoa::Buffer;
 use pcap_trace::{Sink, Trace, WriteError, write_all};
 
-/// Room for the longest line: five labels and numbers, of at most 60 bytes each, and the word of the cut.
+/// Room for the longest line: five labels and numbers, of at most 60 bytes each, and `cut no` or `cut yes`.
 const LONGEST_LINE: usize = 320;
 
-/// A line that is put together.
+/// A line under construction.
 pub(crate) type Line = ArrayVec<u8, LONGEST_LINE>;
 
 /// Appends a label and a number.
@@ -28,7 +28,7 @@ pub(crate) fn push_field(line: &mut Line, label: &[u8], number: u64)
     line.try_extend_from_slice(digits).unwrap();
 }
 
-/// Appends the word of the cut, and ends the line.
+/// Appends whether the trace was cut off, and ends the line.
 pub(crate) fn push_cut(line: &mut Line, cut: bool)
     requires room { length line.old.items + 9 ≤ 320 }
     ensures text { line.new.items ≡ line.old.items ++ cut_word cut }
@@ -38,11 +38,11 @@ pub(crate) fn push_cut(line: &mut Line, cut: bool)
 }
 
 /// Writes the program's line of a pass to a sink: `read R skipped K illegal I filtered F written W cut no` (or `cut
-/// yes`), ended by a line feed. It takes no memory.
+/// yes`), ended by a line feed. It allocates nothing.
 ///
 /// # Errors
 ///
-/// E67 [`Write`](WriteError::Write) where the sink fails; then a beginning of the line went out.
+/// E67 [`Write`](WriteError::Write) if the sink fails; then it has only a beginning of the line.
 pub fn print_pass<W: Sink>(
     trace: &Trace,
     counts: &PassCounts,

@@ -1,4 +1,4 @@
-//! What can go wrong on the way of a trace through the bench, and what the program says then.
+//! Why `pass` and `show` fail, and what the program prints then.
 ghost use Rattle.std.specs.Prelude.{◌≡◌};
 ghost use Rattle.pcap_bench.specs.declared.program_error.PassError.TheVariants as pass_errors;
 ghost use Rattle.pcap_bench.specs.declared.program_error.ProgramError.TheVariants as errors;
@@ -8,25 +8,25 @@ use pcap_trace::{ReadError, WriteError};
 use std::alloc::AllocError;
 use thiserror::Error;
 
-/// The program's exit status where a file failed.
+/// The program's exit status if a file failed.
 const FILE_FAILED: u8 = 3;
 
-/// The program's exit status where memory was refused.
+/// The program's exit status if memory was refused.
 const NO_MEMORY: u8 = 4;
 
-/// Why frames did not go through.
+/// Why a pass failed.
 #[derive(Clone, Copy, Debug, PartialEq, Eq, Error)]
 pub enum PassError {
     /// Memory was refused; nothing was written.
     #[error("E57 Memory")]
     Memory,
-    /// The sink failed during the call; a beginning of the text went out.
+    /// The sink failed during the call. It has only a beginning of the text.
     #[error("E67 Write")]
     Write,
 }
 
 impl PassError {
-    /// The exit status of a program that ends for this fault: 3 for a sink that failed, 4 if memory is refused.
+    /// The exit status of a program that ends for this fault: 3 if the sink failed, 4 if memory is refused.
     pub fn status(&self) -> u8
         ensures { result ≡ pass_status self.now }
     {
@@ -53,25 +53,25 @@ impl From<WriteError> for PassError {
     }
 }
 
-/// Why the program ended: its text is what stands behind `nicbench: ` on standard error.
+/// Why the program ended. The program prints its text on standard error, after `nicbench: `.
 #[derive(Clone, Copy, Debug, PartialEq, Eq, Error)]
 pub enum ProgramError {
-    /// A trace was refused, or not read.
+    /// A trace is invalid, or reading it failed.
     #[error("{0}")]
     Read(ReadError),
-    /// A text was not written.
+    /// Writing a text failed.
     #[error("{0}")]
     Write(WriteError),
-    /// Frames did not go through the bench.
+    /// A pass failed.
     #[error("{0}")]
     Pass(PassError),
-    /// A file could not be opened or made.
+    /// A file could not be opened or created.
     #[error("E68 Open")]
     Open,
 }
 
 impl ProgramError {
-    /// The exit status of the program: 1 for a trace that is refused, 3 for a file that failed, 4 if memory is refused.
+    /// The exit status of the program: 1 if a trace is invalid, 3 if a file failed, 4 if memory is refused.
     pub fn status(&self) -> u8
         ensures { result ≡ status_of self.now }
     {

@@ -37,7 +37,7 @@ fn push_address(line: &mut Line, address: &[u8])
     }
 }
 
-/// Appends where a frame goes, where it comes from, and its type; or that it is short.
+/// Appends a frame's destination, source and type, or `short`.
 fn push_header(line: &mut Line, frame: &[u8])
     requires room { length line.old.items + 60 ≤ 320 }
     ensures text { line.new.items ≡ line.old.items ++ header_text frame.now }
@@ -69,7 +69,7 @@ fn write_frame<W: Sink>(sink: &mut W, number: u64, frame: &[u8]) -> Result<(), W
     write_all(sink, line.as_slice())
 }
 
-/// Writes the last line of a trace with so many frames.
+/// Writes the last line, with the number of frames.
 fn write_end<W: Sink>(sink: &mut W, trace: &Trace, count: u64) -> Result<(), WriteError>
     requires countable { W.failures sink.old < u64.MAX }
     requires counted { count ≡ length trace.now.frames }
@@ -84,15 +84,15 @@ fn write_end<W: Sink>(sink: &mut W, trace: &Trace, count: u64) -> Result<(), Wri
     write_all(sink, line.as_slice())
 }
 
-/// Writes what the program shows of a trace to a sink: for each frame a line `N LEN DST SRC TYPE`, or `N LEN short` for
-/// one below 14 bytes, and then the line `frames F skipped K cut no` (or `cut yes`), each ended by a line feed.
+/// Writes the lines of `show` to a sink: for each frame a line `N LEN DST SRC TYPE`, or `N LEN short` if it has fewer
+/// than 14 bytes, and then the line `frames F skipped K cut no` (or `cut yes`), each ended by a line feed.
 ///
 /// N is the frame's number, from 0, LEN its length in bytes, DST and SRC its addresses, as `02:00:00:00:00:01`, and
-/// TYPE its bytes 12 and 13, as `0800`. It takes no memory, and hands the sink a line at a time.
+/// TYPE its bytes 12 and 13, as `0800`. It allocates nothing, and writes one line at a time.
 ///
 /// # Errors
 ///
-/// E67 [`Write`](WriteError::Write) where the sink fails; then a beginning of the text went out.
+/// E67 [`Write`](WriteError::Write) if the sink fails; then it has only a beginning of the text.
 pub fn show<W: Sink>(trace: &Trace, sink: &mut W) -> Result<(), WriteError>
     requires { W.failures sink.old < u64.MAX }
     ensures ok { OnOk result (Appends (W.taken sink.old) (W.taken sink.new) (shown trace.now)) }

@@ -12,7 +12,7 @@ use dma_memory::{HostMemory, Layout};
 /// Descriptors of the ring.
 pub const SLOTS: u16 = 8;
 
-/// So many receive buffers of a layout, 256 bytes each, are the buffer of 2,048 bytes of one slot.
+/// The number of a layout's receive buffers, of 256 bytes each, that make one slot's buffer of 2,048 bytes.
 const BUFFERS_OF_SLOT: u16 = 8;
 
 /// Receive buffers of the layout.

@@ -104,6 +104,13 @@ pub only_from_fits : (o : Option (List ℕ)) (r : Result Trace ReadError) → If
 only_from_fits None r fits = tt
 only_from_fits (Some bytes) r fits = only_answer bytes r fits
 
+-- an answer that doesn't speak of the bytes fits them
+pub silent_fits : (o : Option (List ℕ)) (r : Result Trace ReadError) → is_of_bytes r ≡ false → IfSome o (λ bytes. IsAnswer bytes r)
+silent_fits None r silent = tt
+silent_fits (Some bytes) (Err errors.Memory) silent = tt
+silent_fits (Some bytes) (Err errors.Read) silent = tt
+silent_fits (Some bytes) r silent = absurd cc
+
 -- ---- the answer of a reader, of whose bytes a block holds the front
 
 fault_fits : (bytes : List ℕ) (e : ReadError) → IsHeaderFault bytes e → IsAnswer bytes (Err e)

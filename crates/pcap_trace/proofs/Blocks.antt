@@ -1,11 +1,14 @@
 -- The part of a block's memory that it holds, and what a read adds to it.
 use Rattle.std.proofs.Common.{◌≡◌, ◌≤◌, ◌+◌, ◌-◌, ℕ, List, ◌++◌, length, take, drop, Option, sym, ap, ◌∙◌, arith}
-use Rattle.std.specs.Prelude.{slice_range}
+use Rattle.std.specs.Prelude.{Vec, slice_range}
 use Rattle.std.specs.List.{copy_within}
+use Rattle.std.specs.Vec.{with_items}
+use Rattle.std.specs.declared.alloc.Global.{Global}
 use Rattle.std.specs.Io.KnownBytes.{Consumes}
 use Rattle.pcap_trace.specs.Devices.{Receives}
 use Rattle.std.proofs.lemmas.Slice.{between_is, between_from_start}
-use Rattle.std.proofs.lemmas.List.{drop-drop, take_at, length-take-le, length-drop}
+use Rattle.std.proofs.lemmas.List.{drop-drop, take_at, length-take-le, length-drop, with_items_is}
+use Rattle.std.proofs.lemmas.List.Edits.{length-between}
 use Rattle.std.proofs.Math.Seq.{take-add}
 
 -- without its first bytes
@@ -20,6 +23,19 @@ take-copy_within xs start end order within =
     let held = take (end - start) (drop start xs) in
     let all : length held ≡ end - start = length-take-le (end - start) (drop start xs) (omega (arith, length-drop start xs)) in
     take_at held (drop (0 + (end - start)) xs) (end - start) all
+
+-- so many bytes are held after it
+pub length_more : (old after : List ℕ) (start end count : ℕ) → start ≤ end → end ≤ length old → end - start + count ≤ length after
+    → length (slice_range after 0 (end - start + count)) ≡ length (slice_range old start end) + count
+length_more old after start end count order within fits =
+    omega (arith, length-between after 0 (end - start + count) fits, length-between old start end within)
+
+-- the memory stays whole
+pub still_whole : (moved : Vec ℕ Global) (new : List ℕ) (end : ℕ) → length new ≡ moved.len → moved.len ≡ 327696 → end ≤ 327696
+    → (0 ≤ end) × (end ≤ length (with_items moved new).items) × (length (with_items moved new).items ≡ 327696)
+still_whole moved new end same whole within =
+    let is : length (with_items moved new).items ≡ 327696 = ap length (with_items_is moved new same) ∙ same ∙ whole in
+    (omega arith, omega (arith, is), is)
 
 -- one read behind what was moved to the front
 pub read_more : (old moved new after : List ℕ) (start end count : ℕ) (a b : Option (List ℕ)) → start ≤ end → end ≤ length old

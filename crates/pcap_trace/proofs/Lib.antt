@@ -8,6 +8,7 @@ pub mod Flushed
 mod Going
 mod Orders
 pub mod Packets
+mod Put
 pub mod Sent
 mod Unique
 mod Uses

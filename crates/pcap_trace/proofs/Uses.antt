@@ -1,5 +1,5 @@
 -- What is left of a source after a read, and after two uses.
-use Rattle.std.proofs.Common.{◌≡◌, ◌++◌, ◌∙◌, ℕ, List, [], Option, Some, None, ap, sym, refl}
+use Rattle.std.proofs.Common.{◌++◌, ◌∙◌, ℕ, List, [], Option, Some, None, ap, sym, refl}
 use Rattle.std.proofs.lemmas.List.{append-nil, append_assoc}
 use Rattle.std.specs.Io.KnownBytes.{Consumes, Keeps}
 use Rattle.pcap_trace.specs.Devices.{Receives, Uses}
@@ -11,6 +11,21 @@ none_consumed (Some xs) = refl
 
 pub received_none : (held : List ℕ) (a : Option (List ℕ)) → Receives held held a a
 received_none held a = ([], sym (append-nil held), none_consumed a)
+
+-- two reads, one after the other
+pub receives_joined : (x y z : List ℕ) (a b c : Option (List ℕ)) → Receives x y a b → Receives y z b c → Receives x z a c
+receives_joined x y z None b c one two = (
+  one.0 ++ two.0,
+  two.1 ∙ ap (λ (t : List ℕ). t ++ two.0) one.1 ∙ append_assoc x one.0 two.0,
+  tt,
+)
+receives_joined x y z (Some old) None c one two = absurd one.2
+receives_joined x y z (Some old) (Some mid) None one two = absurd two.2
+receives_joined x y z (Some old) (Some mid) (Some new) one two = (
+  one.0 ++ two.0,
+  two.1 ∙ ap (λ (t : List ℕ). t ++ two.0) one.1 ∙ append_assoc x one.0 two.0,
+  one.2 ∙ ap (λ (t : List ℕ). one.0 ++ t) two.2 ∙ sym (append_assoc one.0 two.0 new),
+)
 
 pub uses_none : (a : Option (List ℕ)) → Uses a a
 uses_none a = record { used = []; consumes = none_consumed a }

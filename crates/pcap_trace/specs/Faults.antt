@@ -1,5 +1,4 @@
--- The exit status of a program that ends for a fault. (our choice: 1 for a trace that is refused, 3 for a device that failed, 4 for want of
--- memory)
+-- The exit status of a program that ends for a fault. (our choice: 1 for an invalid trace, 3 if a device failed, 4 if memory is refused)
 use Rattle.std.specs.Prelude.{ℕ}
 use Rattle.pcap_trace.specs.declared.fault.ReadError.{ReadError}
 use Rattle.pcap_trace.specs.declared.fault.ReadError.TheVariants as errors

@@ -45,7 +45,7 @@ pub record Packet : Type 0 where
   pub header : List ℕ
   pub captured : List ℕ
 
--- behind seconds and fraction stand the captured length and the original one
+-- the captured length of a packet header; the original length follows it
 abbrev pub captured_length : Order → List ℕ → ℕ
 captured_length number header = number 4 (drop 8 header)
 
@@ -64,11 +64,11 @@ pub record IsPacket (number : Order) (p : Packet) : Type 0 where
 abbrev pub packet_bytes : Packet → List ℕ
 packet_bytes p = p.header ++ p.captured
 
--- A packet that was captured in part is skipped. One with more bytes than the original is taken whole. (our choice)
+-- A truncated packet is skipped. All bytes of one that is longer than the original are taken. (our choice)
 abbrev pub is_partial : Order → Packet → Bool
 is_partial number p = nat_lt (captured_length number p.header) (original_length number p.header)
 
--- the frames: the bytes of the packets that were captured whole, in order
+-- the frames: the bytes of the complete packets, in order
 abbrev pub frames_of : Order → List Packet → List (List ℕ)
 frames_of number [] = []
 frames_of number (p ∷ ps) = if is_partial number p then frames_of number ps else p.captured ∷ frames_of number ps
@@ -80,7 +80,7 @@ skipped_of number (p ∷ ps) = if is_partial number p then suc (skipped_of numbe
 
 -- ---- the end of a file
 
--- Behind the last whole packet stands nothing, the beginning of a packet, or a packet header that asks for more than the most. (our choice)
+-- After the last complete packet: nothing, the beginning of a packet, or a packet header with too large a captured length. (our choice)
 pub data Ending : Type 0 where
   complete : Ending
   cut_off : Ending
@@ -93,7 +93,7 @@ IsRest number rest cut_off =
     ⊎ ((16 ≤ length rest) × (captured_length number rest ≤ most_captured) × (length rest < 16 + captured_length number rest))
 IsRest number rest oversized = (16 ≤ length rest) × (most_captured < captured_length number rest)
 
--- Whole packets, and a rest: these are the frames, so many packets were skipped, and so it ends.
+-- Complete packets, and a rest: their frames, the number of skipped packets, and how the file ends.
 pub record IsBody (number : Order) (bytes : List ℕ) (frames : List (List ℕ)) (skipped : ℕ) (ending : Ending) : Type 0 where
   pub packets : List Packet
   pub rest : List ℕ
@@ -109,7 +109,7 @@ abbrev pub ending_of : Bool → Ending
 ending_of true = cut_off
 ending_of false = complete
 
--- These bytes are a trace of these frames, its numbers in this byte order; so many packets were skipped, and the last one may be cut off.
+-- These bytes are a trace of these frames, in this byte order, with this number of skipped packets; the last packet may be cut off.
 abbrev pub IsTraceIn : Order → List ℕ → List (List ℕ) → ℕ → Bool → Type 0
 IsTraceIn number bytes frames skipped cut = IsFileHeader number bytes × IsBody number (drop 24 bytes) frames skipped (ending_of cut)
 
@@ -138,7 +138,7 @@ abbrev pub magic_of : Unit → ℕ
 magic_of Micros = microseconds_magic
 magic_of Nanos = nanoseconds_magic
 
--- what a time in microseconds has beyond whole seconds, in this unit
+-- the part of a time, given in microseconds, that is less than a second, in this unit
 abbrev pub fraction_of : Unit → ℕ → ℕ
 fraction_of Micros time = time % 1000000
 fraction_of Nanos time = time % 1000000 * 1000

@@ -7,7 +7,8 @@ use Rattle.pcap_trace.specs.declared.header.Endianness.{Endianness}
 use Rattle.pcap_trace.specs.declared.trace.Trace.{Trace}
 use Rattle.pcap_trace.specs.Format.{Order, number_in, is_magic, oversized, IsFileHeader, IsBody, IsTrace}
 
--- The fault of a file header whose numbers are in this byte order: the first that applies. (pcap-savefile, "File Header"; the order is own)
+-- The fault of a file header whose numbers are in this byte order: the first that applies. (pcap-savefile, "File Header"; which one is
+-- first: our choice)
 abbrev pub header_fault : Order → List ℕ → Option ReadError
 header_fault number bytes =
     if nat_lt (length bytes) 24 then Some errors.Header
@@ -21,11 +22,11 @@ abbrev pub IsHeaderFault : List ℕ → ReadError → Type 0
 IsHeaderFault bytes errors.Magic = (order : Endianness) → header_fault (number_in order) bytes ≡ Some errors.Magic
 IsHeaderFault bytes e = (order : Endianness) × (header_fault (number_in order) bytes ≡ Some e)
 
--- Behind whole packets a whole packet header asks for more than the most. (our choice)
+-- After complete packets, a complete packet header has a captured length that is too large. (our choice)
 abbrev pub HasOversized : Order → List ℕ → Type 0
 HasOversized number bytes = (frames : List (List ℕ)) × (skipped : ℕ) × IsBody number bytes frames skipped oversized
 
--- The answer fits the bytes. Want of memory and a failed device say nothing of them. (our choice)
+-- The result fits the bytes. Refused memory and a failed device state nothing about them. (our choice)
 abbrev pub IsAnswer : List ℕ → Result Trace ReadError → Type 0
 IsAnswer bytes (Ok t) = IsTrace bytes t.frames t.skipped t.cut
 IsAnswer bytes (Err errors.Record) = (order : Endianness) × IsFileHeader (number_in order) bytes
@@ -34,22 +35,22 @@ IsAnswer bytes (Err errors.Memory) = ⊤
 IsAnswer bytes (Err errors.Read) = ⊤
 IsAnswer bytes (Err e) = IsHeaderFault bytes e
 
--- whether an answer speaks of the bytes
+-- whether a result states something about the bytes
 abbrev pub is_of_bytes : Result Trace ReadError → Bool
 is_of_bytes (Err errors.Memory) = false
 is_of_bytes (Err errors.Read) = false
 is_of_bytes _ = true
 
--- No other answer that speaks of the bytes fits them. (our choice)
+-- No other result that states something about the bytes fits them. (our choice)
 abbrev pub IsOnlyAnswer : List ℕ → Result Trace ReadError → Type 0
 IsOnlyAnswer bytes r = is_of_bytes r ≡ true → (s : Result Trace ReadError) → is_of_bytes s ≡ true → IsAnswer bytes s → s ≡ r
 
--- A failed read of the source is told, and nothing else counts as one. (our choice)
+-- A failed read of the source is returned as E66, and nothing else is. (our choice)
 abbrev pub TellsFailure : {T : Type 0} → Result T ReadError → ℕ → ℕ → Type 0
 TellsFailure (Err errors.Read) old new = new ≡ old + 1
 TellsFailure _ old new = new ≡ old
 
--- what a body may be refused for
+-- the errors that the bytes after the file header can have
 abbrev pub IsBodyFault : Order → List ℕ → ReadError → Type 0
 IsBodyFault number bytes errors.Record = HasOversized number bytes
 IsBodyFault number bytes errors.Memory = ⊤

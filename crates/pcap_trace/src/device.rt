@@ -5,30 +5,29 @@ ghost use Rattle.pcap_trace.specs.Devices.{CountsFailures};
 
 use thiserror::Error;
 
-/// A device failed to read or to write. It doesn't say why; the device has counted it.
+/// A device failed to read or to write. The device counts the failure; the reason isn't kept.
 #[derive(Clone, Copy, Debug, PartialEq, Eq, Error)]
 #[error("the device failed")]
 pub struct DeviceError;
 
-/// What bytes are read from, as a file or a slice.
+/// A source of bytes, such as a file or a slice.
 ///
-/// A call that is handed a source asks that it has failed fewer than 2^64 - 1 times, as its count could not grow
-/// otherwise.
+/// A call that takes a source requires that it has failed fewer than 2^64 - 1 times, so that its count can grow.
 pub trait Source {
-    /// The bytes that are left to read, where the source tells them.
+    /// The bytes that are left to read, if the source knows them.
     ghost left: { Self → Option (List ℕ) };
 
-    /// The most bytes that it can still give.
+    /// The most bytes that the source can still return.
     ghost most: { Self → ℕ };
 
     /// How often it has failed.
     ghost failures: { Self → ℕ };
 
-    /// Reads bytes into the front of a slice, and answers how many. None, where the slice isn't empty, is the end.
+    /// Reads bytes into the front of a slice, and returns their number. If the slice isn't empty, 0 means the end.
     ///
     /// # Errors
     ///
-    /// [`DeviceError`] where the device fails: it uses up no byte, and adds 1 to the failures.
+    /// [`DeviceError`] if the device fails: it uses up no byte, and adds 1 to the failures.
     fn read(&mut self, into: &mut [u8]) -> Result<usize, DeviceError>
         requires { failures self.old < u64.MAX }
         ensures count { IfOk result (λ n. n ≤ length into.old) }
@@ -37,7 +36,7 @@ pub trait Source {
         ensures bytes { ReadConsumes (left self.old) (left self.new) result into.new }
         ensures failures { CountsFailures result (failures self.old) (failures self.new) };
 
-    /// The most bytes that it can still give; a read lowers it by at least what it gave.
+    /// The most bytes that the source can still return. A read lowers it by at least the number of bytes read.
     fn limit(&self) -> u64
         ensures { result ≡ most self.now };
 
@@ -46,22 +45,21 @@ pub trait Source {
         ensures { result ≡ failures self.now };
 }
 
-/// What bytes are written to, as a file or a vector.
+/// A sink of bytes, such as a file or a vector.
 ///
-/// A call that is handed a sink asks that it has failed fewer than 2^64 - 1 times, as its count could not grow
-/// otherwise.
+/// A call that takes a sink requires that it has failed fewer than 2^64 - 1 times, so that its count can grow.
 pub trait Sink {
-    /// The bytes that it has taken, where the sink tells them.
+    /// The bytes that were written, if the sink knows them.
     ghost taken: { Self → Option (List ℕ) };
 
     /// How often it has failed.
     ghost failures: { Self → ℕ };
 
-    /// Takes bytes from the front of a slice, and answers how many: at least one where there is one.
+    /// Writes bytes from the front of a slice, and returns their number: at least 1 if the slice isn't empty.
     ///
     /// # Errors
     ///
-    /// [`DeviceError`] where the device fails: it takes no byte, and adds 1 to the failures.
+    /// [`DeviceError`] if the device fails: it takes no byte, and adds 1 to the failures.
     fn write(&mut self, bytes: &[u8]) -> Result<usize, DeviceError>
         requires { failures self.old < u64.MAX }
         ensures count { IfOk result (λ n. n ≤ length bytes.now) }

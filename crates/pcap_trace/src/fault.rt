@@ -12,16 +12,16 @@ use thiserror::Error;
 /// The exit status of a program whose input is refused.
 const REFUSED: u8 = 1;
 
-/// The exit status of a program of which a device failed.
+/// The exit status of a program if a device failed.
 const DEVICE_FAILED: u8 = 3;
 
 /// The exit status of a program that got no memory.
 const NO_MEMORY: u8 = 4;
 
-/// Why a trace was not read. A refused read gives no part of the trace.
+/// Why a trace was not read. A failed read returns no part of the trace.
 ///
-/// The first four are faults of the file header (libpcap, "pcap-savefile", File Header), looked for in this order; of
-/// several the first one is answered. The text of each is what a program prints behind its name.
+/// The first four are faults of the file header (libpcap, "pcap-savefile", File Header), looked for in this order. If
+/// there are several, the first one is returned. A program prints the text of the error after its name.
 #[derive(Clone, Copy, Debug, PartialEq, Eq, Error)]
 pub enum ReadError {
     /// E60: the source has fewer than the 24 bytes of a file header.
@@ -37,7 +37,7 @@ pub enum ReadError {
     /// E63: the link type isn't that of Ethernet, 1.
     #[error("E63 LinkType")]
     LinkType,
-    /// E64: behind whole packets, a whole packet header tells a captured length above 262,144 bytes.
+    /// E64: after complete packets, a complete packet header has a captured length above 262,144 bytes.
     #[error("E64 Record")]
     Record,
     /// E65: memory was refused.
@@ -49,8 +49,8 @@ pub enum ReadError {
 }
 
 impl ReadError {
-    /// The exit status of a program that ends for this fault: 1 where the trace is refused, 3 where the source
-    /// failed, 4 if memory is refused.
+    /// The exit status of a program that ends for this fault: 1 if the trace is invalid, 3 if the source failed, 4 if
+    /// memory is refused.
     pub fn status(&self) -> u8
         ensures { result ≡ read_status self.now }
     {
@@ -82,16 +82,16 @@ impl From<DeviceError> for ReadError {
     }
 }
 
-/// Why a trace was not written. The text is what a program prints behind its name.
+/// Why a trace was not written. A program prints the text of the error after its name.
 #[derive(Clone, Copy, Debug, PartialEq, Eq, Error)]
 pub enum WriteError {
-    /// E67: the sink failed during the call; a beginning of the bytes that were to be written went out.
+    /// E67: the sink failed during the call. It has taken only a beginning of the bytes.
     #[error("E67 Write")]
     Write,
 }
 
 impl WriteError {
-    /// The exit status of a program that ends for this fault: 3, as the sink failed.
+    /// The exit status of a program that ends for this fault: 3, because the sink failed.
     pub fn status(&self) -> u8
         ensures { result ≡ write_status self.now }
     {

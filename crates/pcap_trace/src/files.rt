@@ -5,8 +5,8 @@ ghost use Rattle.pcap_trace.specs.Devices.{first_of};
 use crate::device::{DeviceError, Sink, Source};
 use std::io::{Read, Write};
 
-/// The first bytes of a reader as a source. With the length that a file had when it was opened, what it grows by
-/// later isn't read.
+/// The first bytes of a reader as a source. If the limit is the length of a file when it was opened, bytes that are
+/// appended later aren't read.
 #[derive(Drop)]
 pub struct ReaderSource<R> {
     reader: R,
@@ -15,7 +15,7 @@ pub struct ReaderSource<R> {
 }
 
 impl<R: Read> ReaderSource<R> {
-    /// The first `limit` bytes of a reader, or all where it has fewer.
+    /// The first `limit` bytes of a reader, or all if it has fewer.
     pub fn new(reader: R, limit: u64) -> Self
         ensures left { ⟦<ReaderSource<R> as Source>⟧.left result ≡ first_of limit (R.remaining reader) }
         ensures most { ⟦<ReaderSource<R> as Source>⟧.most result ≡ limit }
@@ -59,9 +59,9 @@ impl<R: Read> Source for ReaderSource<R> {
     }
 }
 
-/// A writer as a sink. A writer that takes none of some bytes has failed.
+/// A writer as a sink. A write of bytes of which the writer takes none is a failure.
 ///
-/// It never flushes the writer: one that keeps bytes back, as a buffered one, has to be flushed by its owner.
+/// It never flushes the writer: the owner of a buffered writer must flush it.
 #[derive(Drop)]
 pub struct WriterSink<W> {
     writer: W,

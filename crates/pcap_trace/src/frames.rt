@@ -1,4 +1,4 @@
-//! Frames that lie one behind the other in one buffer.
+//! Frames in one buffer, one after the other.
 ghost use Rattle.std.specs.Prelude.{◌≡◌, ◌<◌, ◌≤◌, ◌^◌, ◌++◌, ◌∷◌, ◌↔◌, [], List, ℕ, length, sum, IsTrue, OnOk, OnErr};
 ghost use Rattle.std.specs.Iterator.{at_most, YieldsFirstRef};
 ghost use Rattle.pcap_trace.specs.Frames.{cut};
@@ -8,7 +8,7 @@ use std::marker::Model;
 
 /// A list of frames, each of any number of bytes below 2^32. A contract sees it as the list of their bytes.
 ///
-/// The frames lie one behind the other in one piece of memory, with four bytes beside it for the length of each.
+/// The frames are in one piece of memory, one after the other. Their lengths are in another, four bytes each.
 #[derive(Drop)]
 pub struct Frames {
     bytes: Vec<u8>,
@@ -24,7 +24,7 @@ impl Model for Frames {
 }
 
 impl Frames {
-    /// No frames. It takes no memory.
+    /// An empty list. It allocates nothing.
     pub fn new(alloc: Global) -> Self
         ensures { result ≡ [] }
     {
@@ -65,7 +65,8 @@ impl Frames {
     ///
     /// # Errors
     ///
-    /// Want of memory alone; then the frames stay as they were.
+    /// Only if memory is refused; then the frames don't change.
+    #[inline(always)]
     pub fn push(&mut self, frame: &[u8]) -> Result<(), AllocError>
         requires { length frame.now < 2 ^ 32 }
         ensures ok { OnOk result (self.new ≡ self.old ++ frame.now ∷ []) }
@@ -77,7 +78,7 @@ impl Frames {
         Ok(())
     }
 
-    /// The frames from the first on.
+    /// The frames, in order.
     pub fn iter(&self) -> Iter<'_>
         ensures { result ≡ self.now }
     {
@@ -88,8 +89,8 @@ impl Frames {
     }
 }
 
-/// The frames that are left of a [`Frames`], from its first one on. A contract sees it as the list of them; at its
-/// end it stays there.
+/// The frames of a [`Frames`] that are left, in order. A contract sees it as their list. After its end, it always
+/// returns `None`.
 #[derive(Drop)]
 pub struct Iter<'a> {
     bytes: &'a [u8],
@@ -111,7 +112,7 @@ impl<'a> Iterator for Iter<'a> {
 
     ghost remaining = { λ s. at_most (length s) };
 
-    /// The next frame, whole, or `None` where none is left.
+    /// The next frame, complete, or `None` if no frame is left.
     fn next(&mut self) -> Option<&'a [u8]> {
         let (length, rest) = self.lengths.split_first()?;
         let (frame, after) = self.bytes.split_at(*length as usize);

@@ -1,4 +1,4 @@
-//! A source and a sink in memory, which tell their bytes.
+//! A source and a sink in memory, whose bytes contracts know.
 ghost use Rattle.std.specs.Prelude.{◌≡◌, [], Some, length};
 
 use crate::device::{DeviceError, Sink, Source};
@@ -45,7 +45,7 @@ impl<'a> Source for SliceSource<'a> {
     }
 }
 
-/// A vector as a sink. It fails only where memory is refused, and then takes nothing.
+/// A vector as a sink. It fails only if memory is refused, and then takes nothing.
 #[derive(Drop)]
 pub struct VecSink {
     bytes: Vec<u8>,

@@ -24,7 +24,7 @@ pub const MAJOR: u16 = 2;
 /// The minor number of version 2.4.
 pub const MINOR: u16 = 4;
 
-/// The most bytes that a packet of a written trace is said to have.
+/// The snapshot length in the file header of a written trace.
 const SNAPSHOT_LENGTH: u32 = 65_535;
 
 /// The link type of Ethernet (libpcap, "pcap-linktype", LINKTYPE_ETHERNET).
@@ -46,7 +46,7 @@ fn magic_of(unit: Unit) -> u32
     }
 }
 
-/// What a time in microseconds has beyond whole seconds, in this unit.
+/// The part of a time, given in microseconds, that is less than a second, in this unit.
 fn fraction_of(unit: Unit, time: u64) -> u32
     ensures { result ≡ fraction_of unit time }
 {
@@ -57,7 +57,7 @@ fn fraction_of(unit: Unit, time: u64) -> u32
     }
 }
 
-/// The file header that traces with this unit are written with.
+/// The file header of written traces with this unit.
 #[tactic(auto, unfolding(crate::specs::Format::file_header))]
 pub fn file_header(unit: Unit) -> [u8; FILE_HEADER]
     ensures { result ≡ file_header unit }
@@ -71,7 +71,7 @@ pub fn file_header(unit: Unit) -> [u8; FILE_HEADER]
     header
 }
 
-/// The packet header of a frame of so many bytes, at a time in microseconds.
+/// The packet header of a frame of `length` bytes, at a time in microseconds.
 #[tactic(auto, unfolding(crate::specs::Format::packet_header))]
 pub fn packet_header(unit: Unit, time: u64, length: u32) -> [u8; PACKET_HEADER]
     ensures { result ≡ packet_header unit time length }

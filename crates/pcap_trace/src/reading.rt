@@ -15,17 +15,17 @@ use crate::trace::Trace;
 use byteorder::{BigEndian, ByteOrder, LittleEndian};
 use std::alloc::Global;
 
-/// The most bytes that a packet may have: the most that libpcap lets be captured of one.
+/// The most bytes that a packet may have: libpcap's limit for a captured packet.
 const MOST_CAPTURED: u32 = 262_144;
 
-/// The lengths that a packet header tells, in bytes.
+/// The two lengths in a packet header, in bytes.
 #[derive(Drop)]
 struct Lengths {
     captured: u32,
     original: u32,
 }
 
-/// The lengths that the packet header at the front tells, where it is whole.
+/// The lengths in the packet header at the front, or `None` if it isn't complete.
 fn packet_lengths<T: ByteOrder>(bytes: &[u8]) -> Option<Lengths>
     ensures short { IfNone result (length bytes.now < 16) }
     ensures whole { OnSome result (16 ≤ length bytes.now) }
@@ -41,7 +41,7 @@ fn packet_lengths<T: ByteOrder>(bytes: &[u8]) -> Option<Lengths>
     })
 }
 
-/// Reads what stands behind the file header. Each byte order has a function of its own, whose loop stays short.
+/// Reads the packets after the file header. It is compiled once for each byte order, which keeps the loop short.
 #[inline(never)]
 fn read_body<T: ByteOrder, S: Source>(
     alloc: Global,
@@ -59,8 +59,8 @@ fn read_body<T: ByteOrder, S: Source>(
     ensures end { OnOk result (IsAtEnd (S.left source.new)) }
     ensures used { Uses (S.left source.old) (S.left source.new) }
 {
-    // It can give fewer than 2^64 bytes, and each skipped packet takes 16 of them, so that the count of these does
-    // not overflow.
+    // The source has fewer than 2^64 bytes left, and each skipped packet takes at least 16, so `skipped` can't
+    // overflow.
     let _limit = source.limit();
     let mut frames = Frames::new(alloc);
     let mut skipped = 0;
@@ -91,7 +91,7 @@ fn read_body<T: ByteOrder, S: Source>(
     })
 }
 
-/// The same in this byte order.
+/// [`read_body`] in this byte order.
 fn read_body_in<S: Source>(
     order: Endianness,
     alloc: Global,
@@ -118,29 +118,28 @@ fn read_body_in<S: Source>(
 impl Trace {
     /// Reads the trace that a source has left, up to its end: a trace file of libpcap version 2.4 (its manual page
     /// "pcap-savefile"), big-endian or little-endian, with times in microseconds or nanoseconds, of link type
-    /// Ethernet. The snapshot length, the two words before it and all times are ignored. It takes memory for a block
-    /// of 320 KiB, given back at the end, and for the frames.
+    /// Ethernet. The snapshot length, the two words before it and all times are ignored. It allocates a block of
+    /// 320 KiB, which it frees at the end, and the frames.
     ///
     /// # Errors
     ///
     /// The faults of the file header, E60 to E63, are looked for in this order, and before any packet. E64
-    /// [`Record`](ReadError::Record) comes where, behind whole packets, a whole packet header tells more than 262,144
-    /// captured bytes, whatever stands behind it. E65 [`Memory`](ReadError::Memory) comes if memory is refused. A
-    /// device's failure is E66 [`Read`](ReadError::Read) and never anything else. After an error some bytes of the
-    /// source are used up, and no other byte of it is lost.
-    #[tactic(auto, using(crate::proofs::Uses::uses_joined))]
+    /// [`Record`](ReadError::Record) is returned if, after complete packets, a complete packet header has a captured
+    /// length above 262,144 bytes, whatever follows. E65 [`Memory`](ReadError::Memory) is returned if memory is
+    /// refused. A failure of the device is always E66 [`Read`](ReadError::Read). After an error, some bytes of the
+    /// source are used up, and no other byte is lost.
     pub fn read<S: Source>(alloc: Global, source: &mut S) -> Result<Trace, ReadError>
         requires { S.failures source.old < u64.MAX }
 
-        // The answer fits the bytes, and no other does. Want of memory and a failed device say nothing of the bytes.
+        // The result fits the bytes, and no other result does. E65 and E66 state nothing about the bytes.
         ensures fits { IfSome (S.left source.old) (λ bytes. IsAnswer bytes result) }
         ensures only { IfSome (S.left source.old) (λ bytes. IsOnlyAnswer bytes result) }
 
-        // E66 comes exactly where the source failed.
+        // E66 is returned exactly if the source failed.
         ensures failure { TellsFailure result (S.failures source.old) (S.failures source.new) }
         ensures end { OnOk result (IsAtEnd (S.left source.new)) }
 
-        // Whatever the result, the bytes that are left are an end of those before.
+        // Whatever the result, the bytes that are left are the last ones of those before.
         ensures used { Uses (S.left source.old) (S.left source.new) }
     {
         let mut block = Block::new(alloc)?;

@@ -1,5 +1,5 @@
 //! A trace written in large blocks.
-ghost use Rattle.std.specs.Prelude.{◌≡◌, ◌<◌, ◌≤◌, ◌+◌, ◌++◌, [], length, OnOk, OnErr, IfOk, vec_capacity};
+ghost use Rattle.std.specs.Prelude.{◌≡◌, ◌<◌, ◌≤◌, ◌+◌, ◌++◌, [], drop, length, take, OnOk, OnErr, IfOk};
 ghost use Rattle.std.specs.Io.KnownBytes.{Appends, append_known};
 ghost use Rattle.pcap_trace.specs.Devices.{AppendsFront, CountsFailures, Grows};
 ghost use Rattle.pcap_trace.specs.Format.{file_header, packet_of};
@@ -16,45 +16,65 @@ use std::marker::Model;
 const BLOCK: usize = 65_536;
 
 /// Writes a trace packet by packet: little-endian, times in a [`Unit`], version 2.4, snapshot length 65,535, link
-/// type Ethernet (libpcap, "pcap-savefile"). All packets of a trace are to have the unit of its file header.
+/// type Ethernet (libpcap, "pcap-savefile"). All packets of a trace must have the unit of its file header.
 ///
-/// What waits for the sink stands in a block of 64 KiB, whose memory is made with it. A contract sees it as the bytes
-/// that wait. The last ones go out by [`RecordWriter::flush`].
+/// Bytes that wait for the sink are in a block of 64 KiB, which `new` allocates. A contract sees the writer as these
+/// bytes. [`RecordWriter::flush`] writes the last ones.
 #[derive(Drop)]
 pub struct RecordWriter {
     block: Vec<u8>,
+    /// The number of bytes of the block that wait.
+    end: usize,
 }
 
 impl Model for RecordWriter {
-    ghost use Rattle.std.specs.Prelude.{List, ℕ, ◌≤◌, vec_capacity};
+    ghost use Rattle.std.specs.Prelude.{List, ℕ, ◌≡◌, ◌≤◌, length, take};
 
     ghost Value = { List ℕ };
 
-    ghost view = { λ w. w.block.items };
+    ghost view = { λ w. take w.end w.block.items };
 
-    ghost invariant = { λ w. 65536 ≤ vec_capacity w.block };
+    ghost invariant = { λ w. (length w.block.items ≡ 65536) × (w.end ≤ 65536) };
+}
+
+/// Writes bytes into a block from `start` on.
+fn write_at(block: &mut [u8], start: usize, bytes: &[u8])
+    requires room { start + length bytes.now ≤ length block.old }
+    ensures { block.new ≡ take start block.old ++ bytes.now ++ drop (start + length bytes.now) block.old }
+{
+    block[start..start + bytes.len()].copy_from_slice(bytes);
+}
+
+/// Writes bytes after the first `end` bytes of a block, and returns how many bytes it then has.
+fn put(block: &mut [u8], end: usize, bytes: &[u8]) -> usize
+    requires room { end + length bytes.now ≤ length block.old }
+    ensures put { take result block.new ≡ take end block.old ++ bytes.now }
+    ensures end { result ≡ end + length bytes.now }
+    ensures size { length block.new ≡ length block.old }
+{
+    write_at(block, end, bytes);
+    end + bytes.len()
 }
 
 impl RecordWriter {
-    /// A writer in which the file header waits. It takes 64 KiB.
+    /// A writer in which the file header waits. It allocates 64 KiB.
     ///
     /// # Errors
     ///
-    /// Want of memory alone.
+    /// Only if memory is refused.
     pub fn new(alloc: Global, unit: Unit) -> Result<RecordWriter, AllocError>
         ensures { IfOk result (λ w. w ≡ file_header unit) }
     {
-        let mut block = Vec::with_capacity(alloc, BLOCK)?;
-        block.extend_from_slice(&file_header(unit))?;
-        Ok(RecordWriter { block })
+        let mut block = vec![in alloc; 0; BLOCK]?;
+        let end = put(block.as_mut_slice(), 0, &file_header(unit));
+        Ok(RecordWriter { block, end })
     }
 
     /// Begins another trace: the file header waits, and nothing else. What waited before is gone.
     pub fn begin(&mut self, unit: Unit)
         ensures { self.new ≡ file_header unit }
     {
-        self.block.clear();
-        self.block.extend_from_slice(&file_header(unit)).unwrap();
+        self.end = put(self.block.as_mut_slice(), 0, &file_header(unit));
     }
 
     /// Appends the packet of a frame of at most 1,518 bytes, at a time in microseconds. Where the block has no room
@@ -64,6 +84,7 @@ impl RecordWriter {
     ///
     /// E67 [`Write`](WriteError::Write) where the sink fails; then a beginning of what waited went out, and all of it
     /// waits still, without this packet: a further flush would send that beginning again.
+    #[inline(always)]
     pub fn write<W: Sink>(
         &mut self,
         sink: &mut W,
@@ -81,7 +102,7 @@ impl RecordWriter {
         ensures kept { OnErr result (self.new ≡ self.old) }
         ensures failures { CountsFailures result (W.failures sink.old) (W.failures sink.new) }
     {
-        if BLOCK - PACKET_HEADER - frame.len() < self.block.len() {
+        if BLOCK - PACKET_HEADER - frame.len() < self.end {
             self.flush(sink)?;
         }
         self.append(unit, time, frame);
@@ -89,15 +110,15 @@ impl RecordWriter {
     }
 
     /// Appends a packet, for which there is room.
+    #[inline(always)]
     fn append(&mut self, unit: Unit, time: u64, frame: &[u8])
         requires short { length frame.now ≤ 1518 }
         requires room { length self.old + 16 + length frame.now ≤ 65536 }
         ensures { self.new ≡ self.old ++ packet_of unit (record { time = time; frame = frame.now }) }
     {
-        self.block
-            .extend_from_slice(&packet_header(unit, time, frame.len() as u32))
-            .unwrap();
-        self.block.extend_from_slice(frame).unwrap();
+        let header = packet_header(unit, time, frame.len() as u32);
+        let end = put(self.block.as_mut_slice(), self.end, &header);
+        self.end = put(self.block.as_mut_slice(), end, frame);
     }
 
     /// Writes what waits to the sink. What was appended since the last flush goes out only by this, so it ends a trace.
@@ -114,8 +135,8 @@ impl RecordWriter {
         ensures kept { OnErr result (self.new ≡ self.old) }
         ensures failures { CountsFailures result (W.failures sink.old) (W.failures sink.new) }
     {
-        write_all(sink, &self.block)?;
-        self.block.clear();
+        write_all(sink, &self.block.as_slice()[..self.end])?;
+        self.end = 0;
         Ok(())
     }
 }

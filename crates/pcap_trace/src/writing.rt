@@ -44,14 +44,14 @@ fn write_packet<W: Sink>(sink: &mut W, unit: Unit, packet: &(u64, Frame)) -> Res
 }
 
 impl Trace {
-    /// Writes a trace file of these frames, each with its time, a number of microseconds, which the file has in this
-    /// unit: libpcap version 2.4 (its manual page "pcap-savefile"), little-endian, snapshot length 65,535, link type
-    /// Ethernet, both lengths of a packet the frame's, of the seconds the low 32 bits. It takes no memory, and hands
-    /// the sink two slices a packet; [`RecordWriter`] writes large blocks.
+    /// Writes a trace file of these frames, each with its time in microseconds: libpcap version 2.4 (its manual page
+    /// "pcap-savefile"), little-endian, times in `unit` with the low 32 bits of the seconds, snapshot length 65,535,
+    /// link type Ethernet. Both lengths of a packet are those of its frame. It allocates nothing, and writes two slices
+    /// for each packet; [`RecordWriter`] writes large blocks.
     ///
     /// # Errors
     ///
-    /// E67 [`Write`](WriteError::Write) where the sink fails; then a beginning of the file's bytes went out.
+    /// E67 [`Write`](WriteError::Write) if the sink fails; then it has only a beginning of the file.
     pub fn write<W: Sink>(
         sink: &mut W,
         unit: Unit,

@@ -1,7 +1,57 @@
-use Rattle.pcap_trace.proofs.Uses.{uses_joined, uses_received}
+use Rattle.std.proofs.Common.{◌∙◌, inl, inr, ap, arith, length, refl}
+use Rattle.pcap_trace.proofs.Uses.{received_none, receives_joined, uses_joined, uses_received}
 use Rattle.pcap_trace.proofs.block.Block.fill_slowly.Goals as goal
+
+pub loop-self-init : goal.loop-self-init
+loop-self-init g c = record {
+  countable = refl;
+  received = received_none c.args.self.now (g.S.Source.left c.args.source.now);
+  limit = omega arith;
+}
+
+pub loop-self-preserved : goal.loop-self-preserved
+loop-self-preserved g c = record {
+  countable = c.in_ok-read_more.ensures.failures ∙ c.loop-self.invariant.countable;
+  received = receives_joined c.args.self.now c.loop-self.self c.read_more.new.self (g.S.Source.left c.args.source.now)
+      (g.S.Source.left c.loop-self.source) (g.S.Source.left c.read_more.new.source) c.loop-self.invariant.received
+      c.in_ok-read_more.ensures.received;
+  limit = omega (arith, c.in_ok-read_more.ensures.more, c.in_ok-read_more.ensures.limit);
+}
 
 pub returns-in_err-read_more-clause-used : goal.returns-in_err-read_more-clause-used
 returns-in_err-read_more-clause-used g c =
     uses_joined (uses_received c.args.self.now c.loop-self.self (g.S.Source.left c.args.source.now) (g.S.Source.left c.loop-self.source)
     c.loop-self.invariant.received) c.in_err-read_more.ensures.used
+
+pub returns-after-loop-self-clause-received : goal.returns-after-loop-self-clause-received
+returns-after-loop-self-clause-received g c = c.loop-self.invariant.received
+
+pub returns-after-loop-self-clause-used : goal.returns-after-loop-self-clause-used
+returns-after-loop-self-clause-used g c =
+    uses_received c.args.self.now c.loop-self.self (g.S.Source.left c.args.source.now) (g.S.Source.left c.loop-self.source)
+    c.loop-self.invariant.received
+
+pub returns-after-loop-self-clause-limit : goal.returns-after-loop-self-clause-limit
+returns-after-loop-self-clause-limit g c = c.loop-self.invariant.limit
+
+pub returns-after-loop-self-clause-filled : goal.returns-after-loop-self-clause-filled
+returns-after-loop-self-clause-filled g c =
+    inl (omega (arith, ap length c.held.ensures))
+
+pub returns-then-branch-eq0-clause-received : goal.returns-then-branch-eq0-clause-received
+returns-then-branch-eq0-clause-received g c =
+    receives_joined c.args.self.now c.loop-self.self c.read_more.new.self (g.S.Source.left c.args.source.now)
+    (g.S.Source.left c.loop-self.source) (g.S.Source.left c.read_more.new.source) c.loop-self.invariant.received
+    c.in_ok-read_more.ensures.received
+
+pub returns-then-branch-eq0-clause-used : goal.returns-then-branch-eq0-clause-used
+returns-then-branch-eq0-clause-used g c =
+    uses_received c.args.self.now c.read_more.new.self (g.S.Source.left c.args.source.now) (g.S.Source.left c.read_more.new.source)
+    (returns-then-branch-eq0-clause-received g c)
+
+pub returns-then-branch-eq0-clause-filled : goal.returns-then-branch-eq0-clause-filled
+returns-then-branch-eq0-clause-filled g c = inr (c.in_ok-read_more.ensures.at_end c.if-branch-eq0.true)
+
+pub returns-then-branch-eq0-clause-limit : goal.returns-then-branch-eq0-clause-limit
+returns-then-branch-eq0-clause-limit g c =
+    omega (arith, c.in_ok-read_more.ensures.more, c.in_ok-read_more.ensures.limit, c.loop-self.invariant.limit)
