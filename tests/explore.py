@@ -1,10 +1,9 @@
 #!/usr/bin/env python3
 """Checks the explorer of bindings/c/explore with the examples of examples/explore.
 
-usage: tests/explore.py PROGRAM LIBRARY [--every]
+usage: tests/explore.py PROGRAM LIBRARY
 
-PROGRAM is `nicbench`, and LIBRARY is what `tools/library` wrote. With --every, every schedule of the tests is searched,
-too, which takes minutes. The last line is 'N passed, M failed', and the exit status is 1 if anything failed.
+PROGRAM is `nicbench`, and LIBRARY is what `tools/library` wrote. The last line is 'N passed, M failed', and the exit status is 1 if anything failed.
 """
 
 import json
@@ -36,10 +35,11 @@ BUGS = [("late", "", "4.6 rxdone before read ICR"), ("length", "", "4.8 rxdone b
         ("cuts:cuts", "", "2.1 rxdone before write 0x20000"), ("offers:rxo", "", "39.3 arrive before write ICR")]
 BY_ITSELF = "head", "part"
 RIGHT = "right", "masks", "pool"
-# The tests of which every schedule is searched in seconds, and in minutes, each with its number of schedules
-SECONDS = {"exchange:right": "1.52e+57", "exchange:masks": "3.75e+59", "exchange:pool": "1.52e+57", "offers:right": "2.64e+96"}
-MINUTES = {"offers:masks": "1.86e+104", "offers:pool": "2.64e+96", "right": "7.47e+105", "masks": "1.17e+112", "pool": "7.47e+105",
-           "cuts:right": "2.02e+52", "cuts:masks": "2.34e+56", "cuts:pool": "2.02e+52"}
+# The tests of which every schedule is searched, each with its number of schedules
+EVERY = {"exchange:right": "1.52e+57", "exchange:masks": "3.75e+59", "exchange:pool": "1.52e+57", "offers:right": "2.64e+96",
+         "offers:masks": "1.86e+104", "offers:pool": "2.64e+96", "right": "7.47e+105", "masks": "1.17e+112", "pool": "7.47e+105",
+         "cuts:right": "2.02e+52", "cuts:masks": "2.34e+56", "cuts:pool": "2.02e+52", "2exchange:right": "4.95e+114",
+         "2cuts:right": "4.51e+104"}
 # A test that keeps a count outside of its state, so that its accesses change from run to run
 FORGETS = """
 #include <nic82540em_explore.h>
@@ -78,6 +78,83 @@ static const char *test(void *word)
     if (status[1] & !status[0])
         END;
     return 0;
+}
+int main(int count, char **words) { return nic82540em_explore(count, words, test, 0); }
+"""
+# Tests that use what an earlier frame has left behind: its bytes in the buffer of a shorter one, the length in a descriptor
+# whose frame was sent, and the counter of received frames; if a frame was finished before the first look
+LEFT_BEHIND = """
+#include <nic82540em_explore.h>
+static uint8_t is_done(uint64_t descriptor)
+{
+    uint8_t status;
+    x_load(descriptor + 12, &status, 1);
+    return status & 1;
+}
+static void receive(uint8_t byte, unsigned length)
+{
+    uint8_t frame[100] = { 255, 255, 255, 255, 255, 255 };
+    for (unsigned n = 14; n < length; n++)
+        frame[n] = byte;
+    x_arrive(frame, length);
+}
+static const char *test(void *word)
+{
+    uint64_t descriptor[2] = { 0x800, 0 }, sent[2] = { 0x4000, 60 | 9u << 24 };
+    uint8_t last, length;
+    int early = 0;
+    (void)word;
+    x_write(NIC_TDBAL, 0x1000);
+    x_write(NIC_TDLEN, 128);
+    x_write(NIC_TCTL, NIC_TCTL_EN);
+    x_write(NIC_RDLEN, 128);
+    x_write(NIC_RCTL, NIC_RCTL_EN | NIC_RCTL_BAM | NIC_RCTL_BSIZE(3));
+    for (unsigned n = 0; n < 2; n++) {
+        x_store(16 * n, descriptor, 16);
+        x_write(NIC_RDT, n + 1);
+        x_store(0x1000 + 16 * n, sent, 16);
+        x_write(NIC_TDT, n + 1);
+        receive(n ? 7 : 255, n ? 60 : 100);
+        early += is_done(16 * n);
+        x_settle();
+        early += is_done(0x1000 + 16 * n);
+    }
+    x_load(0x800 + 99, &last, 1);
+    x_load(0x1008, &length, 1);
+    USE
+    return 0;
+}
+int main(int count, char **words) { return nic82540em_explore(count, words, test, 0); }
+"""
+USES = {"a buffer": ("if (early > 2 && last == 255) return \"old\";", FOUND), "a buffer, rightly": ("if (last != 255) return \"new\";", PASSES),
+        "a descriptor": ("if (early > 2 && length == 60) return \"old\";", FOUND),
+        "a counter": ("if (early > 2 && x_read(NIC_GPRC) == 2) return \"two\";", FOUND),
+        "a counter, rightly": ("if (x_read(NIC_GPRC) != 2) return \"other\";", PASSES)}
+# A driver that keeps its next slot in a static variable, which each run sets at its start
+STATIC = """
+#include <nic82540em_explore.h>
+static unsigned next;
+static const char *test(void *word)
+{
+    static const uint8_t frame[60] = { 255, 255, 255, 255, 255, 255 };
+    uint64_t descriptor[2] = { 0x800, 0 };
+    uint8_t status;
+    (void)word;
+    next = 0;
+    x_write(NIC_RDLEN, 128);
+    for (unsigned n = 0; n < 8; n++)
+        x_store(16 * n, descriptor, 16);
+    x_write(NIC_RDT, 7);
+    x_write(NIC_RCTL, NIC_RCTL_EN | NIC_RCTL_BAM);
+    for (int n = 0; n < 6; n++) {
+        if (n % 2 == 0)
+            x_arrive(frame, sizeof frame);
+        else
+            x_settle();
+        x_load(16 * next + 12, &status, 1);
+        next += status & 1;
+    }
+    return next == 3 ? 0 : "a frame was lost";
 }
 int main(int count, char **words) { return nic82540em_explore(count, words, test, 0); }
 """
@@ -168,6 +245,10 @@ def all_that_fail(bench, stages):
         for depth, count in enumerate(wanted, 1):
             out = bench.run(stages, name, "--explore", str(depth), "--all")[1]
             bench.check(f"all: {name}, depth {depth}", int(re.search(r"holds: (\d+) of \d+ fail\n", out)[1]), count)
+    # With --all, a search leaves nothing out of states.
+    for name, depth in ("cuts:right", "3"), ("offers:masks", "5"):
+        numbers = [bench.none_of(stages, name, "--explore", depth, *words) for words in ([], ["--all"])]
+        bench.check(f"all: {name}, the same schedules", numbers[0], numbers[1])
     out = bench.run(stages, "late", "--explore", "1", "--all")[1]
     bench.check("all: kinds", "\n3 of rxdone before read ICR, such as 4.6 rxdone before read ICR\n" in out, True)
     out = bench.run(stages, "late", "--all", "--runs", "200")[1]
@@ -210,6 +291,33 @@ def drawn(bench, stages):
     forgets = bench.build("forgets", bench.source("forgets.c", FORGETS))
     status, out, _ = bench.run(forgets, "--check", "--runs", "300")
     bench.check("drawn: a count that isn't saved", (status, "some of the state of the test isn't saved" in out), (NOT_RUN, True))
+
+
+def left_behind(bench):
+    """What nobody reads parts no states; what a run reads is as it was left."""
+    for name, (use, wanted) in USES.items():
+        test = bench.build("left", bench.source("left.c", LEFT_BEHIND.replace("USE", f"(void)early, (void)last, (void)length; {use}")))
+        for words in (["--explore", "every"], ["--explore", "3"], ["--explore", "2", "--again"]):
+            status, out, errors = bench.run(test, *words)
+            bench.check(f"left behind: {name} {words}", (status, "from nothing. What" in out, errors), (wanted, False, ""))
+    static = bench.build("static", bench.source("static.c", STATIC))
+    for words in ([], ["--explore", "every"]):
+        status, out, _ = bench.run(static, *words, "--json")
+        bench.check(f"left behind: a static variable {words}", (status, json.loads(out)["result"]), (NOT_RUN, "unsaved"))
+
+
+def logs(bench, stages):
+    """The log of a schedule has each access and step of the run."""
+    late = bench.source("late.txt", "4.6 rxdone before read ICR\n")
+    status, out, errors = bench.run(stages, "late", "--replay", late, "--log")
+    wanted = "  4.5    read rx[1]+8, 5 bytes: 0000000000\n*        rxdone: done\n  4.6    read ICR 0x84\n         the line is lowered\n"
+    bench.check("logs: late", (status, wanted in out, out.splitlines()[-1], errors), (FOUND, True, "frame 1 was never received", ""))
+    wanted = USAGE, "", "explore: --log: it needs --replay, and goes without --json\nFor more information, try '--help'.\n"
+    bench.check("logs: without a schedule", bench.run(stages, "late", "--log"), wanted)
+    finder = [sys.executable, "-S", os.path.join(TOP, "tools", "races"), "--server", bench.program, "--replay", late]
+    shown = bench.run(*finder, "--rows", "all", "--", stages, "late", "--pipe")[1].splitlines()
+    places = [line.split()[0] for line in shown if re.match("   [0-9]+[.][0-9]+ ", line)]
+    bench.check("logs: all rows of the chart", (places[0], places[-1] > "4", ".." in places), ("0.1", True, False))
 
 
 def ends(bench):
@@ -263,6 +371,7 @@ def pointers(bench):
     bench.check("pointers: every schedule", (status, out.startswith("every schedule, with any number of deviations, without holds: none of ")), (PASSES, True))
     result = json.loads(bench.run(test, "late", "--json")[1])
     bench.check("pointers: late", (result["result"], result["schedule"]), ("fails", ["4.7 rx before read ICR"]))
+    bench.check("pointers: no chart", "tools/races" in bench.run(test, "late")[1], False)
 
 
 def lab(bench):
@@ -295,9 +404,9 @@ def rust(bench):
     bench.check("rust: late", [result[key] for key in ("result", "fault", "schedule")], ["fails", "frame 1 was never received", ["4.6 rx before read ICR"]])
 
 
-def every(bench, stages, numbers):
+def every(bench, stages):
     """Every schedule of drivers without a bug."""
-    for name, number in numbers.items():
+    for name, number in EVERY.items():
         status, out, errors = bench.run(stages, name, "--explore", "every")
         found = re.search(r": none of (\S+) fails\n", out)
         bench.check(f"every: {name}", (status, found and found[1], errors), (PASSES, number, ""))
@@ -313,15 +422,14 @@ def main():
             print("there is no C compiler\n0 passed, 1 failed")
             return 1
         stages = bench.build("stages", *sources("stages.c", "driver.c"))
-        for part in (counts, bugs, all_that_fail, by_priorities, races, drawn, arguments):
+        for part in (counts, bugs, all_that_fail, by_priorities, races, drawn, logs, arguments):
             part(bench, stages)
+        left_behind(bench)
         ends(bench)
         pointers(bench)
         rust(bench)
         lab(bench)
-        every(bench, stages, SECONDS)
-        if "--every" in sys.argv[3:]:
-            every(bench, stages, MINUTES)
+        every(bench, stages)
         print(f"{bench.passed} passed, {bench.failed} failed")
         return 1 if bench.failed else 0
 

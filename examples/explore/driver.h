@@ -18,7 +18,8 @@ struct known {
 struct all {
     enum bug bug;
     const char *fault;
-    unsigned receive_at, transmit_at, free, sent, missed, buffers[SLOTS], pool[SPARE];
+    unsigned receive_at, transmit_at, free, missed, buffers[SLOTS], pool[SPARE];
+    int sent; /* frames whose slots are free again, of those that the test hasn't forgotten */
     void (*receiver)(uint8_t *frame, unsigned length);
     unsigned number, came_count, received_count, sent_count, answer_count;
     struct known came[MOST], received[MOST], out[MOST], answers[MOST];

@@ -1,6 +1,9 @@
 /* The tests `stages`, `cuts`, `offers` and `exchange` of examples/drivers in C.
  *
  * usage: stages DRIVER | TEST:DRIVER [OPTION..]
+ *
+ * With a digit before it, such as 2cuts:right, the test is repeated; with a comma, such as 2,cuts:right, driver and
+ * adapter are initialized each time.
  */
 #include "driver.h"
 #include <stdio.h>
@@ -76,8 +79,8 @@ static bool send_frame(const uint8_t *frame, unsigned length)
 
     if (is_accepted)
         t->out[t->sent_count++] = known_of(frame, length);
-    if (t->sent > x_put_count())
-        fail("the buffer of frame %u was freed before the frame was on the wire", t->sent - 1, 0, 0);
+    if (t->sent > (int)x_put_count())
+        fail("the buffer of frame %u was freed before the frame was on the wire", (unsigned)t->sent - 1, 0, 0);
     return is_accepted;
 }
 
@@ -146,10 +149,23 @@ static void compare_both(void)
     compare("sent", t->out, t->sent_count, put, wire(put));
 }
 
+/* What was compared is forgotten, so runs with different pasts come to the same state. */
+static void forget(void)
+{
+    if (!is_ok())
+        return;
+    t->sent -= (int)x_put_count();
+    t->came_count = t->received_count = t->sent_count = t->answer_count = t->missed = 0;
+    memset(t->came, 0, sizeof t->came), memset(t->received, 0, sizeof t->received);
+    memset(t->out, 0, sizeof t->out), memset(t->answers, 0, sizeof t->answers);
+    x_forget();
+}
+
 static void finish(void)
 {
     settle();
     compare_both();
+    forget();
 }
 
 static void finish_arrivals(void)
@@ -169,6 +185,7 @@ static void finish_arrivals(void)
     compare("received", stored, count, t->received, t->received_count);
     if (t->missed != missed)
         fail("%u missed frames were counted instead of %u", t->missed, missed, 0);
+    forget();
 }
 
 /* The test `offers` */
@@ -232,6 +249,7 @@ static void finish_answers(void)
     compare("received", t->came, t->came_count, t->received, t->received_count);
     compare("sent", t->out, t->sent_count, own, own_count);
     compare("sent as an answer", t->answers, t->answer_count, other, other_count);
+    forget();
 }
 
 static void cuts(void)
@@ -334,6 +352,7 @@ static void exchange(void)
         x_settle();
         handle();
         compare_both();
+        forget();
     }
     for (int n = 6; n < 14 && is_ok(); n++)
         send_frame(frame, make_long(frame, false, lengths[n % 6]));
@@ -342,25 +361,51 @@ static void exchange(void)
     x_settle();
     handle();
     compare_both();
+    forget();
 }
 
-static const char *test(void *word)
+static void play(const char *name)
 {
-    const char *name = word, *colon = strchr(name, ':'), *driver = colon ? colon + 1 : name;
+    if (!strchr(name, ':'))
+        stages();
+    else if (*name == 'o')
+        offers();
+    else if (*name == 'e')
+        exchange();
+    else
+        cuts();
+}
 
-    t = x_memory(sizeof *t);
-    while (t->bug < BUGS && strcmp(driver, driver_names[t->bug]))
-        t->bug++;
-    if (t->bug == BUGS)
-        return "there is no such driver";
-    t->free = SLOTS - 1;
+static void begin(void)
+{
+    t->receive_at = t->transmit_at = t->number = 0, t->sent = 0, t->free = SLOTS - 1;
     for (unsigned n = 0; n < SLOTS; n++)
         t->buffers[n] = n;
     for (unsigned n = 0; n < SPARE; n++)
         t->pool[n] = SLOTS + n;
     bring_up();
-    if (is_ok())
-        colon ? *name == 'o' ? offers() : *name == 'e' ? exchange() : cuts() : stages();
+}
+
+static const char *test(void *word)
+{
+    const char *name = word, *driver;
+    int times = *name > '0' && *name <= '9' ? *name++ - '0' : 1;
+    bool begins_again = *name == ',' && name++;
+
+    driver = strchr(name, ':') ? strchr(name, ':') + 1 : name;
+    t = x_memory(sizeof *t);
+    while (t->bug < BUGS && strcmp(driver, driver_names[t->bug]))
+        t->bug++;
+    if (t->bug == BUGS)
+        return "there is no such driver";
+    begin();
+    while (is_ok()) {
+        play(name);
+        if (--times == 0)
+            break;
+        if (begins_again && is_ok())
+            begin();
+    }
     return t->fault;
 }
 

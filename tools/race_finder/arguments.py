@@ -13,7 +13,7 @@ DEEPEST = 100  # of --pct
 NUMBERS = {"runs": 1000, "seed": 1, "first": 800, "explore": None, "smaller": 1000, "seconds": 10, "jobs": processors(),
            "pct": None}
 TEXTS = {"server": os.path.join(TOP, ".build", "nicbench"), "options": None, "out": None, "replay": None, "shrink": None,
-         "shard": "1/1", "from": None, "to": None}
+         "shard": "1/1", "from": None, "to": None, "rows": "near"}
 FLAGS = ("holds", "any-access", "by-name", "reached", "json", "apart", "no-digest", "all")
 OF_SEARCH = ("explore", "pct", "all")  # those that a given schedule doesn't go with
 
@@ -65,6 +65,8 @@ def check_values(given):
     for name in OF_SEARCH if given["replay"] or given["shrink"] else ():
         if given[name] is not None and given[name] is not False:
             raise UsageError(f"--{name}: use it without --replay and --shrink")
+    if given["rows"] not in ("near", "all"):
+        raise UsageError("--rows: use near or all")
     given["shard"] = shard_of(given["shard"])
     given["window"] = window_of(given["from"], given["to"])
     if any(given["window"]) and given["explore"] is None:

@@ -166,9 +166,10 @@ def cut(rows):
     return shown
 
 
-def chart_of(run):
-    """The rows that a run's chart shows, without the heading."""
-    return cut(rows_of(run))
+def chart_of(run, is_whole=False):
+    """The rows that a run's chart shows, without the heading: all of them, or those near deviations and at the end."""
+    rows = rows_of(run)
+    return rows if is_whole else cut(rows)
 
 
 def end_of(run):
@@ -215,6 +216,6 @@ def text_chart(rows, end, columns=COLUMNS):
     return "".join(f"{line_of(row, starts)}\n" for row in [heading, *rows]) + f"   {end}\n"
 
 
-def chart(run):
+def chart(run, is_whole=False):
     """The text of a run's chart."""
-    return text_chart(chart_of(run), end_of(run))
+    return text_chart(chart_of(run, is_whole), end_of(run))

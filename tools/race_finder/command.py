@@ -278,12 +278,16 @@ class Finder:
         self.say(f"{tried}: one with {deviations(len(search.found.met))} fails")
         return shrinker.shrink(search.found), True  # only moves its deviations
 
+    def chart(self, run):
+        """The text of a run's chart."""
+        return chart(run, self.given["rows"] == "all")
+
     def show(self, run):
         """Prints a run's schedule, the end of its log, and its chart."""
         text = self.text_of(run)
         lines = [row.line for row in run.rows][-LOG_LINES:]
         shown = "".join(f"{line if len(line) <= LONGEST_LINE else line[:LONGEST_LINE] + '..'}\n" for line in lines)
-        self.say(f"\nThe schedule:\n{text}\nThe end of the log:\n{shown}\n{chart(run)}", end="")
+        self.say(f"\nThe schedule:\n{text}\nThe end of the log:\n{shown}\n{self.chart(run)}", end="")
         self.store(run, text)
 
     def shown(self, run):
@@ -300,7 +304,7 @@ class Finder:
         """Stores a run, if this is wanted. Returns whether this is possible."""
         try:
             if self.given["out"]:
-                store(self.given["out"], run, text)
+                store(self.given["out"], run, text, self.given["rows"] == "all")
         except OSError as error:
             tell(f"races: {error.filename}: {error.strerror}")
             return False
@@ -363,7 +367,7 @@ class Finder:
         run = self.play(schedule)
         if run is None:
             return FOUND
-        self.say(chart(run), end="")
+        self.say(self.chart(run), end="")
         is_stored = self.store(run, self.text_of(run))
         return FOUND if self.result["result"] != "passes" else PASSES if is_stored else USAGE
 

@@ -37,17 +37,19 @@ def check_access(path):
         raise OSError(errno.EACCES, os.strerror(errno.EACCES), path)
 
 
-def texts_of(run, schedule):
+def texts_of(run, schedule, is_whole):
     """The files of a folder."""
-    return {"schedule.txt": schedule, "log.txt": log_of(run), "chart.txt": chart(run), "chart.svg": svg(run),
-            "run.vcd": vcd(run)}
+    return {"schedule.txt": schedule, "log.txt": log_of(run), "chart.txt": chart(run, is_whole),
+            "chart.svg": svg(run, is_whole), "run.vcd": vcd(run)}
 
 
-def store(path, run, schedule):
-    """Stores a schedule in a file, or in a folder with the log and the charts of its run. Raises OSError."""
+def store(path, run, schedule, is_whole):
+    """Stores a schedule in a file, or in a folder with the log and the charts of its run, which may have all rows. Raises
+    OSError.
+    """
     if is_folder(path):
         os.makedirs(path, exist_ok=True)
-    texts = texts_of(run, schedule) if is_folder(path) else {"": schedule}
+    texts = texts_of(run, schedule, is_whole) if is_folder(path) else {"": schedule}
     for name, text in texts.items():
         with open(os.path.join(path, name) if name else path, "w", encoding="utf-8", errors="surrogateescape") as file:
             file.write(text)

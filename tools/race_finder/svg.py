@@ -93,6 +93,6 @@ def picture(rows, end, columns=COLUMNS):
     return "".join(f"{part}\n" for part in parts)
 
 
-def svg(run):
-    """The chart of a run as an SVG document."""
-    return picture(chart_of(run), end_of(run)[:LONGEST])
+def svg(run, is_whole=False):
+    """The chart of a run as an SVG document: all rows, or those near deviations and at the end."""
+    return picture(chart_of(run, is_whole), end_of(run)[:LONGEST])

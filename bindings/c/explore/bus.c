@@ -12,6 +12,8 @@
 struct nic82540em_options x_options = NIC82540EM_DEFAULTS;
 static const char *(*the_test)(void *);
 static void *the_argument;
+static bool is_deviation; /* whether a deviation is played now */
+bool xi_compares, xi_has_touched;
 static const int order[] = { NIC_TXTAKE, NIC_TXPUT, NIC_RXDATA, NIC_RXDONE, NIC_EEPROM, NIC_PHY };
 
 void xi_set_test(const char *(*test)(void *), void *argument)
@@ -22,7 +24,7 @@ void xi_set_test(const char *(*test)(void *), void *argument)
 static void at_place(enum event event, uint64_t address)
 {
     B->event = event, B->address = address;
-    if (xi_given.check)
+    if (xi_compares)
         B->history = (B->history + 1 + event + (address << 8)) * 0xD1B54A32D192ED03;
     xi_to_explorer();
 }
@@ -71,10 +73,10 @@ void xi_next_place(void)
     B->last = 0, B->stage = B->event < ARRIVE ? 0 : STAGES;
 }
 
-/* Answers are compared with --check only. */
+/* Answers are compared by --check, and at the start of a search. */
 uint64_t xi_answer(uint64_t value)
 {
-    if (xi_given.check)
+    if (xi_compares)
         B->history = (B->history ^ value) * 0x9E3779B97F4A7C15, B->history ^= B->history >> 31;
     return value;
 }
@@ -83,7 +85,7 @@ static void answer_bytes(const uint8_t *at, size_t count)
 {
     uint64_t hash = count, word;
 
-    if (!xi_given.check)
+    if (!xi_compares)
         return;
     for (; count >= 8; count -= 8, at += 8) {
         memcpy(&word, at, 8);
@@ -101,7 +103,7 @@ static void add(struct frames *frames, const void *bytes, size_t count, uint32_t
     uint32_t at = frames->begin[frames->count];
 
     if (frames->count == MOST_FRAMES || count > MOST_BYTES - at)
-        xi_die("a run has more than 256 frames, or more than 128 KiB of them");
+        xi_die("a run has more than 256 frames, or more than 128 KiB of them: compare them, and call x_forget");
     memcpy(frames->bytes + at, bytes, count);
     frames->fate[frames->count++] = (uint8_t)fate;
     frames->begin[frames->count] = at + (uint32_t)count;
@@ -116,6 +118,15 @@ static size_t take(const struct frames *frames, unsigned number, void *into, siz
     count = frames->begin[number + 1] - frames->begin[number];
     memcpy(into, frames->bytes + frames->begin[number], count < room ? count : room);
     return count;
+}
+
+/* As at the start of a run */
+static void clear(struct frames *frames)
+{
+    memset(frames->bytes, 0, frames->begin[frames->count]);
+    memset(frames->begin, 0, (frames->count + 1) * sizeof *frames->begin);
+    memset(frames->fate, 0, frames->count);
+    frames->count = 0;
 }
 
 /* What the adapter does */
@@ -145,12 +156,18 @@ struct digest xi_adapter(void)
 
 unsigned xi_play(uint32_t kind)
 {
-    uint32_t outcome = nic82540em_step(&S->nic, kind);
     uint8_t frame[LONGEST];
+    uint32_t outcome;
     size_t count;
 
+    xi_dead_before(kind);
+    outcome = nic82540em_step(&S->nic, kind);
     if (outcome != NIC_NOTHING)
+        xi_dead_after(kind, outcome);
+    if (outcome != NIC_NOTHING) {
         change(), B->moves += kind < NIC_EEPROM;
+        xi_log_step(xi_actions[kind], xi_outcomes[outcome], is_deviation);
+    }
     while (outcome == NIC_PUT && (count = nic82540em_take_put(&S->nic, frame, sizeof frame)) != 0)
         add(&S->put, frame, count, 0);
     return outcome;
@@ -171,7 +188,7 @@ static void deliver_offered(void)
     size_t count = take(&S->offers, S->offered++, frame, sizeof frame);
 
     B->moves++;
-    deliver(frame, count);
+    xi_log_step("arrive", xi_fates[deliver(frame, count)], is_deviation);
 }
 
 /* The default steps of a place that are left. */
@@ -194,6 +211,7 @@ bool xi_deviate(int action)
     if (B->path_count == MOST_PATH)
         xi_die("a run has more than 1,024 deviations");
     *one = (struct deviation){ B->round, B->access, action, xi_place() };
+    is_deviation = true;
     if (action == ARRIVAL) {
         did = S->offered < S->offers.count;
         if (did)
@@ -203,6 +221,7 @@ bool xi_deviate(int action)
         did |= xi_play((uint32_t)pair[action - TX][1]) != NIC_NOTHING;
     } else if (action < TX)
         did = xi_play((uint32_t)action) != NIC_NOTHING;
+    is_deviation = false;
     B->path_count += did, B->did += did, B->last = 1 + action;
     return did;
 }
@@ -237,8 +256,10 @@ uint32_t x_read(uint32_t offset)
     if (xi_is_piped)
         return xi_pipe_read(offset);
     at_place(READ, offset);
+    xi_dead_register(offset);
     value = (uint32_t)xi_answer(nic82540em_read(&S->nic, offset));
     change();
+    xi_log_value(value);
     cut_in();
     return value;
 }
@@ -250,9 +271,12 @@ void x_write(uint32_t offset, uint32_t value)
         return;
     }
     at_place(WRITE, offset);
+    if (offset == NIC_CTRL && value & NIC_CTRL_RST)
+        xi_clear_dead(); /* afterwards, the rings aren't known */
     nic82540em_write(&S->nic, offset, value);
     change();
     know(offset, value);
+    xi_log_value(value);
     cut_in();
 }
 
@@ -263,9 +287,11 @@ void x_load(uint64_t address, void *into, size_t count)
         return;
     }
     at_place(LOAD, address);
+    xi_dead_read(address, count);
     if (!nic82540em_load(&S->nic, address, into, count))
         end("the driver loads bytes outside of memory");
     answer_bytes(into, count);
+    xi_log_bytes(into, count);
     cut_in();
 }
 
@@ -278,6 +304,8 @@ void x_store(uint64_t address, const void *bytes, size_t count)
     at_place(STORE, address);
     if (!nic82540em_store(&S->nic, address, bytes, count))
         end("the driver stores bytes outside of memory");
+    xi_dead_written(address, count);
+    xi_log_bytes(bytes, count);
     cut_in();
 }
 
@@ -285,7 +313,9 @@ void x_touch(bool is_store, uint64_t address)
 {
     if (xi_is_piped)
         xi_die("a driver with pointers has no --pipe");
+    xi_has_touched = true;
     at_place(is_store ? STORE : LOAD, address);
+    xi_log_touch(address);
     cut_in();
 }
 
@@ -293,6 +323,7 @@ uint8_t *x_host(uint64_t *size)
 {
     void *at = NULL;
 
+    xi_reads_dead = true; /* accesses by pointers aren't known here */
     *size = nic82540em_memory(&S->nic, &at);
     return at;
 }
@@ -305,6 +336,7 @@ uint32_t x_arrive(const void *frame, size_t count)
         return xi_pipe_request(ARRIVE, 0, frame, count);
     at_place(ARRIVE, 0);
     fate = (uint32_t)xi_answer(deliver(frame, count));
+    xi_log_request(xi_fates[fate]);
     cut_in();
     return fate;
 }
@@ -319,6 +351,7 @@ void x_offer(const void *frame, size_t count)
     if (count > LONGEST)
         xi_die("x_offer: a frame has more than 1,518 bytes");
     add(&S->offers, frame, count, 0);
+    xi_log_request(NULL);
     cut_in();
 }
 
@@ -329,6 +362,7 @@ uint32_t x_step(uint32_t kind)
     if (xi_is_piped)
         return xi_pipe_request(STEP, kind, "", 0);
     at_place(STEP, 0);
+    xi_log_request(NULL);
     outcome = (uint32_t)xi_answer(xi_play(kind));
     cut_in();
     return outcome;
@@ -341,6 +375,7 @@ uint64_t x_settle(void)
     if (xi_is_piped)
         return xi_pipe_request(SETTLE, 0, "", 0);
     at_place(SETTLE, 0);
+    xi_log_request(NULL);
     while (S->offered < S->offers.count)
         deliver_offered();
     do {
@@ -379,6 +414,13 @@ size_t x_arrived(unsigned number, uint32_t *fate, void *into, size_t room)
 {
     *fate = number < S->arrived.count ? S->arrived.fate[number] : NIC_REFUSED;
     return take(&S->arrived, number, into, room);
+}
+
+void x_forget(void)
+{
+    clear(&S->put), clear(&S->arrived);
+    if (S->offered == S->offers.count)
+        clear(&S->offers), S->offered = 0;
 }
 
 void x_handler(void (*handler)(void))

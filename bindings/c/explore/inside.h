@@ -4,7 +4,7 @@
 
 #include "nic82540em_explore.h"
 
-enum { PAGE = 4096, MOST_FRAMES = 256, MOST_BYTES = 1 << 17, MOST_PATH = 1024, LONGEST = 1518, MOST_OPTIONS = 8,
+enum { PAGE = 4096, MOST_AREAS = 128, MOST_FRAMES = 256, MOST_BYTES = 1 << 17, MOST_PATH = 1024, LONGEST = 1518, MOST_OPTIONS = 8,
        MOST_PLACES = 100000 };
 /* What may be done before an access or a request: steps (NIC_TXTAKE to NIC_PHY), and these */
 enum { TX = NIC_PHY + 1, RX, HOLD_EEPROM, HOLD_PHY, ARRIVAL, ACTIONS, DEFAULT = -1 };
@@ -54,6 +54,11 @@ struct book {
     struct deviation path[MOST_PATH];
 };
 
+/* Bytes of the host's memory */
+struct area {
+    uint32_t at, size;
+};
+
 /* What is saved and compared beside the memory of the test and of the adapter. */
 struct state {
     struct nic82540em nic;
@@ -62,6 +67,9 @@ struct state {
     void (*handler)(void);
     bool takes_none; /* whether the handler is kept out */
     unsigned offered; /* the number of the offered frame that arrives next */
+    unsigned dead_count; /* of the areas that dead.c has noted */
+    uint32_t filling; /* 1 + the address of the receive descriptor whose buffer was written, until it is written back */
+    struct area dead[MOST_AREAS];
     struct frames put, arrived, offers;
 };
 
@@ -76,6 +84,8 @@ struct saved {
 extern struct book *const xi_book;
 extern struct state *const xi_state;
 extern bool xi_saves; /* whether states can be saved: else each run begins from nothing */
+extern bool xi_compares; /* whether answers are noted, to be compared */
+extern bool xi_has_touched; /* whether the driver has accessed memory by a pointer */
 
 /* nic82540em_explore.c: whether a signal has asked for an end */
 bool xi_stopped(void);
@@ -111,6 +121,16 @@ bool xi_deviate(int action);
 void xi_tick(void);
 uint64_t xi_answer(uint64_t value);
 
+/* dead.c: what nobody uses again */
+extern bool xi_reads_dead; /* whether a run has read some of it, or may have: then nothing is cleared */
+extern bool xi_searches; /* whether schedules are searched over saved states: only then, it is cleared */
+void xi_clear_dead(void);
+void xi_dead_register(uint32_t offset);
+void xi_dead_read(uint64_t address, uint64_t count);
+void xi_dead_written(uint64_t address, uint64_t count);
+void xi_dead_before(uint32_t kind);
+void xi_dead_after(uint32_t kind, uint32_t outcome);
+
 /* names.c: the text of schedules */
 extern const char *const xi_actions[ACTIONS];
 struct place xi_place(void);
@@ -118,6 +138,15 @@ void xi_name(char *into, size_t room, const struct place *place);
 void xi_text(char *into, size_t room, const struct deviation *one);
 void xi_print(void *file, const struct deviation *path, unsigned count);
 int xi_read_schedule(const char *path, struct deviation *into);
+
+extern const char *const xi_outcomes[9], *const xi_fates[5];
+
+/* log.c: the lines of a run that is replayed with --log */
+void xi_log_value(uint32_t value);
+void xi_log_bytes(const void *bytes, size_t count);
+void xi_log_touch(uint64_t address);
+void xi_log_request(const char *result);
+void xi_log_step(const char *action, const char *result, bool is_deviation);
 
 /* search.c and draw.c */
 enum { EVERY = -1, DEEPEST = 16 };
@@ -145,7 +174,7 @@ extern struct given {
     int depth; /* of an exploration, EVERY or DRAWN */
     uint64_t runs, seed, states;
     unsigned pct;
-    bool holds, json, check, again, pipe, all;
+    bool holds, json, check, again, pipe, all, log;
     const char *replay, *out, *serve;
 } xi_given;
 extern char xi_command[1024]; /* the words of the test */

@@ -6,6 +6,8 @@
 
 const char *const xi_actions[ACTIONS] = { "txtake", "txput", "rxdata", "rxdone", "eeprom", "phy", "tx", "rx",
                                           "hold eeprom", "hold phy", "arrive" };
+const char *const xi_outcomes[9] = { "nothing", "took", "put", "wirefull", "part", "moved", "done", "ticked", "fault" };
+const char *const xi_fates[5] = { "off", "illegal", "filtered", "missed", "stored" };
 static const char *const events[] = { "read", "write", "read", "write", "arrive", "step", "settle", "offer" };
 static const struct nic82540em_register registers[] = {
     { "CTRL", NIC_CTRL },   { "STATUS", NIC_STATUS }, { "EERD", NIC_EERD },   { "MDIC", NIC_MDIC },

@@ -10,9 +10,9 @@
 #include <time.h>
 #include <unistd.h>
 
-enum { DEEPEST_SMALLER = 6, STATES_SMALLER = 500000 };
-static uint64_t runs, failed_runs, all_states, deviations;
-static bool tried_one; /* whether all schedules of up to one deviation were tried, and pass */
+enum { DEEPEST_SMALLER = 6, STATES_SMALLER = 500000, DEEPEST_FIRST = 3, STATES_FIRST = 10000, COMPARED = 32 };
+static uint64_t runs, failed_runs, all_states, deviations, compared, noted[COMPARED];
+static int tried; /* all schedules of up to this number of deviations were tried, and pass */
 static struct found found;
 static volatile sig_atomic_t is_stopped;
 static const char *served = "null"; /* whether `nicbench serve` has played the schedule with the same result */
@@ -52,12 +52,27 @@ static const char *number_text(double number)
     return text;
 }
 
+/* Prints a text as a string of JSON. */
+static void print_string(const char *text)
+{
+    putchar('"');
+    for (; *text; text++)
+        if ((unsigned char)*text < ' ')
+            printf("\\u%04x", *text);
+        else
+            printf(*text == '"' || *text == '\\' ? "\\%c" : "%c", *text);
+    putchar('"');
+}
+
 static void print_json(const char *result, double schedules, bool is_complete)
 {
     if (!xi_given.json)
         return;
     printf("{\"result\": \"%s\", \"fault\": ", result);
-    printf(found.fails ? "\"%s\"" : "null", found.fault);
+    if (found.fails)
+        print_string(found.fault);
+    else
+        printf("null");
     printf(", \"schedule\": [");
     for (unsigned n = 0; n < found.count; n++) {
         char text[80];
@@ -85,7 +100,10 @@ static const char *searched(int depth)
 
 static void print_schedule(FILE *file)
 {
-    fprintf(file, "# %s\n# %s\n", xi_command, found.fault);
+    fprintf(file, "# %s\n# ", xi_command);
+    for (const char *text = found.fault; *text; text++)
+        fprintf(file, *text == '\n' ? "%c# " : "%c", *text);
+    fputc('\n', file);
     xi_print(file, found.path, found.count);
 }
 
@@ -132,7 +150,9 @@ static void show(bool is_smallest)
         say("' | ");
     }
     say("%s --replay %s\n", xi_command, path ? path : found.count ? "/dev/stdin" : "/dev/null");
-    say("For its chart:      tools/races --replay %s -- %s --pipe\n", path ? path : "FILE", xi_command);
+    say("For each access:    the same with --log\n");
+    if (!xi_has_touched)
+        say("For its chart:      tools/races --replay %s -- %s --pipe\n", path ? path : "FILE", xi_command);
 }
 
 /* Searches */
@@ -212,6 +232,9 @@ static int ended(void)
 {
     say("%s: not all were tried: there are more than %llu states\n", is_stopped ? "ended" : "--states",
         (unsigned long long)(is_stopped ? found.states : xi_given.states));
+    say("of the schedules so far, %llu fail\n", (unsigned long long)xi_failed());
+    if (!xi_given.json)
+        xi_print_kinds();
     print_json("ended", 0, false);
     return is_stopped ? 128 + SIGINT : NOT_RUN;
 }
@@ -228,6 +251,12 @@ static bool explore_all(void)
         xi_print_kinds();
     }
     return found.is_complete;
+}
+
+static void say_compared(void)
+{
+    if (compared)
+        say("%llu drawn runs from saved states have the answers of runs from nothing\n", (unsigned long long)compared);
 }
 
 static int by_depth(void)
@@ -248,6 +277,7 @@ static int by_depth(void)
     if (xi_saves)
         say("%zu states, %d pages each, %.1f s\n", found.states, xi_pages(),
             (double)(clock() - begun) / CLOCKS_PER_SEC);
+    say_compared();
     print_json("passes", found.schedules, true);
     return PASSES;
 }
@@ -261,20 +291,50 @@ static int add_failed_run(uint64_t seed)
         say("%llu runs\n", (unsigned long long)runs);
     say("seed %llu: %s\n", (unsigned long long)seed, xi_state->fault);
     failed_runs++;
-    return xi_given.all ? -1 : report(tried_one ? 2 : 0);
+    return xi_given.all ? -1 : report(tried ? tried + 1 : 0);
 }
 
 /* Whether the run of a seed that was drawn from a saved state has other answers than from nothing */
+static bool is_other(uint64_t seed, uint64_t history)
+{
+    if (xi_book->history == history)
+        return false;
+    say("seed %llu: a run from a saved state has other answers than one from nothing: some of the state of the test"
+        " isn't saved. Keep it on the stack of the test or in x_memory, and not in static variables\n",
+        (unsigned long long)seed);
+    print_json("unsaved", 0, false);
+    return true;
+}
+
+/* Draws a few runs from nothing, before states are saved, and notes their answers. */
+static void note_answers(void)
+{
+    xi_compares = true;
+    for (int n = 0; n < COMPARED; n++) {
+        xi_draw((uint64_t)n + 1, xi_given.holds, true);
+        noted[n] = xi_book->history;
+    }
+}
+
+/* Draws them from a saved state. Returns whether one has other answers. */
+static bool some_differ(void)
+{
+    while (compared < COMPARED) {
+        xi_draw(compared + 1, xi_given.holds, false);
+        if (is_other(compared + 1, noted[compared]))
+            return true;
+        compared++;
+    }
+    xi_compares = false;
+    return false;
+}
+
 static bool differs(uint64_t seed)
 {
     uint64_t history = xi_book->history;
 
     xi_draw(seed, xi_given.holds, true);
-    if (xi_book->history == history)
-        return false;
-    say("seed %llu: a run from a saved state has other answers than one from nothing: some of the state of the test"
-        " isn't saved\n", (unsigned long long)seed);
-    return true;
+    return is_other(seed, history);
 }
 
 /* Draws runs, each from a saved state; with `is_compared`, from nothing, too. Returns the exit status; -1 if none
@@ -317,6 +377,22 @@ static void begin_pct(void)
         xi_given.pct, events, bound);
 }
 
+/* Tries all schedules of one deviation, and while there are few states, those of one more. Returns the exit status; -1 if
+ * none fails. */
+static int explore_first(void)
+{
+    for (int depth = 1; depth <= DEEPEST_FIRST && (depth == 1 || found.states <= STATES_FIRST); depth++) {
+        if (!explore(depth, xi_given.states))
+            return ended();
+        if (found.fails) {
+            say("%s: one fails: %s\n", searched(depth), found.fault);
+            return report(depth);
+        }
+        tried = depth;
+    }
+    return -1;
+}
+
 static int by_draws(void)
 {
     int status;
@@ -324,25 +400,21 @@ static int by_draws(void)
     if (xi_given.pct)
         begin_pct();
     else if (xi_given.depth == DRAWN && xi_saves && !xi_given.check && !xi_given.all) {
-        if (!explore(1, xi_given.states))
-            return ended();
-        if (found.fails) {
-            say("%s: one fails: %s\n", searched(1), found.fault);
-            return report(0);
-        }
-        tried_one = true;
-        say("%s: none of %s fails\n", searched(1), number_text(found.schedules));
+        if ((status = explore_first()) >= 0)
+            return status;
+        say("%s: none of %s fails\n", searched(tried), number_text(found.schedules));
     }
     status = draw(xi_given.check);
     if (status >= 0)
         return status;
-    if (xi_given.check) {
+    if (xi_given.check && deviations) {
         say("each has the answers of a run from nothing\n");
         return PASSES;
     }
     if (!deviations)
         return nothing();
-    say("no run fails\nother searches: --explore every, --explore 3%s%s\n",
+    say_compared();
+    say("no run fails\nother searches: --explore every, --explore %d%s%s\n", tried ? tried + 1 : DEEPEST_FIRST,
         xi_given.pct ? "" : ", --pct 2 (by priorities)", xi_given.holds ? "" : ", --holds (a slow EEPROM and PHY)");
     print_json("passes", 0, true);
     return PASSES;
@@ -364,11 +436,10 @@ static int replay(void)
     return found.fails || lack[0] ? FOUND : PASSES;
 }
 
-/* Plays the run without deviations, before states are saved: it may have no end. */
+/* Plays the run without deviations. */
 static bool fails_by_itself(void)
 {
-    xi_begin(true);
-    xi_replay(NULL, 0, false, NULL, 0);
+    xi_replay(NULL, 0, true, NULL, 0);
     if (xi_state->fault)
         xi_keep(&found);
     return found.fails;
@@ -388,15 +459,26 @@ static bool may_save(void)
 
 int nic82540em_explore(int count, char **words, const char *(*test)(void *), void *argument)
 {
+    bool by_itself, is_compared;
+
     xi_take_words(count, words);
+    xi_compares = xi_given.check;
     xi_set_test(test, argument);
     if (xi_given.pipe)
         return xi_pipe();
     signal(SIGINT, on_interrupt);
-    xi_prepare(may_save());
-    if (!xi_given.replay && fails_by_itself()) {
+    xi_prepare(false);
+    by_itself = !xi_given.replay && fails_by_itself();
+    is_compared = !xi_given.replay && !by_itself && !xi_given.check && may_save();
+    if (is_compared)
+        note_answers();
+    xi_prepare(may_save() && !xi_given.replay);
+    xi_begin(true);
+    if (by_itself) {
         say("without deviations: %s\n", found.fault);
         return report(0);
     }
+    if (is_compared && some_differ())
+        return NOT_RUN;
     return xi_given.replay ? replay() : xi_given.depth != DRAWN && !xi_given.check ? by_depth() : by_draws();
 }

@@ -1,16 +1,17 @@
 /* Searches the schedules of a driver's test, in the process of the test.
  *
  * A test is a function. It lets frames arrive, calls a driver, and returns NULL, or what is wrong. Between two
- * accesses of
- * the driver, the adapter may take steps: the explorer decides which, runs the test again and again, and prints the
+ * accesses of the driver, the adapter may take steps: the explorer decides which, runs the test again and again, and prints the
  * smallest schedule with which the test fails. docs/RACES.md describes the searches, and what a pass means.
  *
  *     static const char *receives(void *word) { .. }
  *     int main(int count, char **words) { return nic82540em_explore(count, words, receives, "wrong"); }
  *
  * Rules for the test and its driver:
- *   - All that they change and use again is on the stack of the test, or in memory of x_memory. They use no clock, no
- *     threads, no random numbers, and no input. Option --check finds what is kept elsewhere.
+ *   - All that they change and use again is on the stack of the test, or in memory of x_memory, and not in a static
+ *     variable. A static pointer is right if the test sets it at its start, such as `t = x_memory(sizeof *t)`: by it, a
+ *     handler finds the driver. A search first compares the answers of some runs, to find what is kept elsewhere.
+ *   - They use no clock, no threads, no random numbers, and no input.
  *   - The test passes without deviations, so it calls x_step and x_settle itself.
  *   - Only the test calls the functions from x_arrive on.
  */
@@ -58,6 +59,10 @@ unsigned x_put_count(void);
 size_t x_put(unsigned number, void *into, size_t room);
 unsigned x_arrived_count(void);
 size_t x_arrived(unsigned number, uint32_t *fate, void *into, size_t room);
+
+/* Forgets these frames: the next ones have the numbers from 0 on. Call it when they were compared: then runs that put the
+ * same frames in another order come to the same state, and a run may have more than 256 frames. */
+void x_forget(void);
 
 /* From now on, this handler cuts in after each access and request that leaves the line asserted, but not on itself;
  * with NULL, none does. x_interrupts keeps it out or lets it in again, and returns whether it was let in before. */

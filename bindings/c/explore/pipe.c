@@ -46,9 +46,7 @@ static uint32_t word_of(const char *text, const char *const *names, size_t count
 
 static uint32_t fate_of(const char *text)
 {
-    static const char *const fates[] = { "off", "illegal", "filtered", "missed", "stored" };
-
-    return word_of(text, fates, 5);
+    return word_of(text, xi_fates, 5);
 }
 
 static void hear(void)
@@ -133,10 +131,7 @@ void xi_pipe_store(uint64_t address, const void *bytes, size_t count)
 
 static uint32_t outcome_of(const char *text)
 {
-    static const char *const outcomes[] = { "nothing", "took", "put", "wirefull", "part", "moved", "done", "ticked",
-                                            "fault" };
-
-    return word_of(text, outcomes, 9);
+    return word_of(text, xi_outcomes, 9);
 }
 
 /* A request that begins a round: the fate of a frame that arrives, the outcome of a step, or the number of steps */

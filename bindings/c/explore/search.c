@@ -308,14 +308,11 @@ void xi_keep(struct found *found)
     snprintf(found->fault, sizeof found->fault, "%s", S->fault);
 }
 
-/* Tries all schedules of up to this number of deviations, or EVERY schedule, up to one that fails, or until there are
- * more states than `most_states`: then `schedules` is 0. With `finds_all`, goes on after one that fails. */
-void xi_explore(int depth, bool with_holds, bool finds_all, size_t most_states, struct found *found)
+static void search_all(int depth, size_t most_states, struct found *found)
 {
     double counts[DEEPEST + 1];
 
     memset(found, 0, offsetof(struct found, is_silent));
-    is_every = depth == EVERY, has_holds = with_holds, goes_on = finds_all;
     begin(depth);
     xi_begin(false);
     xi_next_place();
@@ -327,4 +324,21 @@ void xi_explore(int depth, bool with_holds, bool finds_all, size_t most_states, 
             break;
         }
     found->states = known_count + search.count;
+}
+
+/* Tries all schedules of up to this number of deviations, or EVERY schedule, up to one that fails, or until there are
+ * more states than `most_states`: then `schedules` is 0. With `finds_all`, goes on after one that fails. If a run
+ * has read what dead.c has cleared, begins again, and clears nothing. */
+void xi_explore(int depth, bool with_holds, bool finds_all, size_t most_states, struct found *found)
+{
+    bool kept;
+
+    is_every = depth == EVERY, has_holds = with_holds, goes_on = finds_all;
+    xi_reads_dead |= finds_all;
+    xi_searches = xi_saves;
+    do {
+        kept = xi_reads_dead;
+        search_all(depth, most_states, found);
+    } while (kept != xi_reads_dead && !xi_stopped());
+    xi_searches = false;
 }

@@ -291,8 +291,10 @@ struct digest xi_digest(void)
 {
     void *top;
     char *end = xi_stack(&top), *from = (char *)((uintptr_t)top & ~(uintptr_t)(BLOCK - 1));
-    struct digest sum, adapter = xi_adapter();
+    struct digest sum, adapter;
 
+    xi_clear_dead();
+    adapter = xi_adapter();
     memset(from, 0, (size_t)((char *)top - from));
     sum = digest_of(from, (size_t)(end - from) / BLOCK, (uintptr_t)top);
     sum.one += adapter.one, sum.two += adapter.two;

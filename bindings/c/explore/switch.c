@@ -10,7 +10,7 @@
 #include <sys/mman.h>
 #include <ucontext.h>
 
-enum { STACK_SIZE = 1 << 20, CLEARED = 1 << 15 };
+enum { STACK_SIZE = 1 << 20, DEEPEST_CALLS = 1 << 15, LOOKS = 64 };
 #define STACK ((char *)0x201000000000)
 
 static bool is_test; /* whether the test runs now */
@@ -48,14 +48,32 @@ void xi_set_stack(void *top)
     test_top = top;
 }
 
-/* What earlier calls have left below the top of the stack is cleared, since it would be in the frames of later calls.
- */
+/* How deep calls have gone below the top of the stack, of what can be seen now */
+static size_t depth_of_calls(size_t most)
+{
+    const uint64_t *word = (const uint64_t *)((char *)test_top - most);
+
+    while (word < (const uint64_t *)test_top && !*word)
+        word++;
+    return (size_t)((char *)test_top - (const char *)word);
+}
+
+/* What earlier calls have left below the top of the stack is cleared, since it would be in the frames of later calls:
+ * as far down as calls were seen to go, which is looked at now and then. What is left parts states that are equal. */
 void xi_clear_stack(void)
 {
-    size_t room = (size_t)((char *)test_top - STACK), size = room < CLEARED ? room : CLEARED;
+    static size_t depth;
+    static unsigned turn;
+    size_t most = (size_t)((char *)test_top - STACK), seen;
 
-    if (xi_saves)
-        memset((char *)test_top - size, 0, size);
+    if (!xi_saves)
+        return;
+    most = most < DEEPEST_CALLS ? most : DEEPEST_CALLS;
+    if (turn++ % LOOKS == 0 || depth == 0) {
+        seen = depth_of_calls(most);
+        depth = seen > depth ? seen + seen / 4 : depth;
+    }
+    memset((char *)test_top - (depth < most ? depth : most), 0, depth < most ? depth : most);
 }
 
 #if defined(__x86_64__) || defined(__aarch64__)

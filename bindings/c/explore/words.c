@@ -8,16 +8,17 @@
 static const char help[] =
     "Searches the schedules of this test: steps of the adapter between the accesses of the driver.\n"
     "\n"
+    "  --explore every      tries every schedule, with any number of deviations: of a small test, in seconds\n"
     "  --explore N          tries all schedules of up to N deviations\n"
-    "  --explore every      tries every schedule, with any number of deviations\n"
-    "  --runs N             draws N schedules, after those of one deviation (default 1000)\n"
+    "  --runs N             draws N schedules, after all of one deviation, and of two and three if there are few\n"
+    "                       states (default 1000)\n"
     "  --seed N             the seed of the first one (default 1)\n"
     "  --pct N              draws by priorities (PCT): the actor with the highest one goes first, and N - 1 times,\n"
     "                       that of an event gets the lowest one\n"
     "  --all                goes on after a schedule that fails, and prints all that fail, with --explore by kinds\n"
     "  --holds              also leaves out steps of the EEPROM and the PHY\n"
     "  --states N           ends a search that has more states (default 20000000)\n"
-    "  --replay FILE        plays one schedule\n"
+    "  --replay FILE        plays one schedule; with --log, prints each access and each step\n"
     "  --serve PROGRAM      also plays the schedule that is printed, or that of --replay, by PROGRAM serve: its\n"
     "                       player of schedules is proved\n"
     "  --out PATH           stores the schedule that was found in this file, or in schedule.txt of a folder PATH/\n"
@@ -73,7 +74,7 @@ static bool is_flag(const char *word)
     const struct { const char *name; bool *flag; } flags[] = {
         { "--holds", &xi_given.holds }, { "--json", &xi_given.json },
         { "--check", &xi_given.check }, { "--again", &xi_given.again }, { "--pipe", &xi_given.pipe },
-        { "--all", &xi_given.all } };
+        { "--all", &xi_given.all }, { "--log", &xi_given.log } };
 
     for (size_t n = 0; n < sizeof flags / sizeof *flags; n++)
         if (!strcmp(word, flags[n].name))
@@ -135,6 +136,8 @@ void xi_take_words(int count, char **words)
         if (!is_flag(words[n]))
             take_value(words[n], n + 1 < count ? words[n + 1] : NULL), n++;
     }
+    if (xi_given.log && (!xi_given.replay || xi_given.json))
+        refuse("--log", "it needs --replay, and goes without --json");
     if (xi_given.all && xi_given.depth == EVERY)
         refuse("--all", "with --explore, it needs a number");
 }

@@ -41,6 +41,7 @@ extern "C" {
     fn x_line() -> bool;
     fn x_put_count() -> u32;
     fn x_put(number: u32, into: *mut c_void, room: usize) -> usize;
+    fn x_forget();
     fn x_memory(size: usize) -> *mut c_void;
     fn x_inside() -> bool;
 }
@@ -122,6 +123,11 @@ impl Explored {
             frame
         };
         (0..unsafe { x_put_count() }).map(one).collect()
+    }
+
+    /// Forgets the frames that were put on the wire: call it when they were compared.
+    pub fn forget(&mut self) {
+        unsafe { x_forget() }
     }
 }
 

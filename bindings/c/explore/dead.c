@@ -1,0 +1,267 @@
+/* What a run leaves behind, and nobody should use again: it would part states that are equal.
+ *
+ * A search sets it to 0, and notes where it was: the counters of frames, the transmit descriptors that are done with
+ * their frames, and the buffers of offered receive descriptors. If a run reads a counter, or the driver or the adapter
+ * reads a byte that is noted and wasn't written since, xi_reads_dead says so, and the search begins again, without this
+ * file. So if no run has read any of it, each run has gone as it goes without this file.
+ *
+ * The adapter reads the host's memory in two steps only: txtake reads the descriptor at TDH and its frame, and rxdata
+ * the descriptor at RDH.
+ */
+#include "inside.h"
+#include <string.h>
+
+#define B xi_book
+#define S xi_state
+
+enum { MOST_SLOTS = 32, DESCRIPTOR = 16, STATUS = 12 };
+bool xi_reads_dead, xi_searches;
+static uint32_t at_head; /* the address of the descriptor from which a step takes its work */
+static const uint32_t counters[] = { NIC_GPRC, NIC_GPTC, NIC_RNBC };
+
+static uint8_t *memory(uint64_t *size)
+{
+    void *at = NULL;
+
+    *size = nic82540em_memory(&S->nic, &at);
+    return at;
+}
+
+/* The bytes of an area, or NULL if some are outside of memory */
+static uint8_t *bytes_at(uint64_t address, uint64_t count)
+{
+    uint64_t size;
+    uint8_t *all = memory(&size);
+
+    return address < size && count <= size - address ? all + address : NULL;
+}
+
+static uint32_t peek(uint32_t offset)
+{
+    uint32_t value = 0;
+
+    nic82540em_peek(&S->nic, offset, &value);
+    return value;
+}
+
+/* Areas that are noted */
+
+static bool meets(const struct area *area, uint64_t address, uint64_t count)
+{
+    return address < (uint64_t)area->at + area->size && area->at < address + count;
+}
+
+static void remove_area(unsigned n)
+{
+    memmove(S->dead + n, S->dead + n + 1, (--S->dead_count - n) * sizeof *S->dead);
+    S->dead[S->dead_count] = (struct area){ 0, 0 };
+}
+
+static void insert_area(unsigned n, uint64_t from, uint64_t to)
+{
+    memmove(S->dead + n + 1, S->dead + n, (S->dead_count++ - n) * sizeof *S->dead);
+    S->dead[n] = (struct area){ (uint32_t)from, (uint32_t)(to - from) };
+}
+
+/* Bytes are read, by the driver or by the adapter. */
+void xi_dead_read(uint64_t address, uint64_t count)
+{
+    for (unsigned n = 0; n < S->dead_count; n++)
+        xi_reads_dead |= meets(&S->dead[n], address, count);
+}
+
+/* Bytes are written, and aren't noted any more. If the table has no room, some stay noted. */
+void xi_dead_written(uint64_t address, uint64_t count)
+{
+    uint64_t end = address + count;
+
+    for (unsigned n = S->dead_count; n-- > 0;) {
+        uint64_t from = S->dead[n].at, to = from + S->dead[n].size;
+        bool is_split = from < address && end < to;
+        if (!meets(&S->dead[n], address, count) || (is_split && S->dead_count == MOST_AREAS))
+            continue;
+        remove_area(n);
+        if (end < to)
+            insert_area(n, end, to);
+        if (from < address)
+            insert_area(n, from, address);
+    }
+}
+
+static bool is_noted(uint64_t address)
+{
+    for (unsigned n = 0; n < S->dead_count; n++)
+        if (meets(&S->dead[n], address, 1))
+            return true;
+    return false;
+}
+
+/* Nobody should read these bytes before they are written. Areas that touch become one. */
+static void note(uint64_t address, uint64_t count)
+{
+    uint64_t from = address, to = address + count;
+    uint8_t *bytes = bytes_at(address, count);
+    unsigned at = 0;
+
+    if (!bytes || count == 0 || S->dead_count == MOST_AREAS)
+        return;
+    for (unsigned n = S->dead_count; n-- > 0;) {
+        uint64_t begin = S->dead[n].at, end = begin + S->dead[n].size;
+        if (begin <= from && to <= end)
+            return;
+        if (begin <= to && from <= end) {
+            from = begin < from ? begin : from, to = end > to ? end : to;
+            remove_area(n);
+        }
+    }
+    memset(bytes, 0, count);
+    while (at < S->dead_count && S->dead[at].at < from)
+        at++;
+    insert_area(at, from, to);
+}
+
+/* Rings */
+
+struct ring {
+    uint64_t at;
+    unsigned slots, head, tail;
+};
+
+static struct ring ring_of(bool sends)
+{
+    uint32_t from = sends ? NIC_TDBAL - NIC_RDBAL : 0; /* the registers of both rings have the same order */
+    uint64_t at = peek(from + NIC_RDBAL) | (uint64_t)peek(from + NIC_RDBAH) << 32;
+
+    return (struct ring){ at, peek(from + NIC_RDLEN) / DESCRIPTOR, peek(from + NIC_RDH), peek(from + NIC_RDT) };
+}
+
+static bool is_small(const struct ring *ring)
+{
+    return ring->slots && ring->slots <= MOST_SLOTS && ring->head < ring->slots && ring->tail < ring->slots;
+}
+
+static bool is_offered(const struct ring *ring, unsigned slot)
+{
+    return (slot + ring->slots - ring->head) % ring->slots < (ring->tail + ring->slots - ring->head) % ring->slots;
+}
+
+static uint64_t address_in(const uint8_t *descriptor)
+{
+    uint64_t address;
+
+    memcpy(&address, descriptor, sizeof address);
+    return address;
+}
+
+static unsigned length_in(const uint8_t *descriptor)
+{
+    return descriptor[8] | (unsigned)descriptor[9] << 8;
+}
+
+/* Where the bytes end that a buffer may have: before the next address that a descriptor of this ring names, if one is
+ * near. */
+static uint64_t end_of_buffer(const struct ring *ring, uint64_t address, uint64_t end)
+{
+    for (unsigned slot = 0; slot < ring->slots; slot++) {
+        const uint8_t *descriptor = bytes_at(ring->at + DESCRIPTOR * slot, DESCRIPTOR);
+        uint64_t other = descriptor ? address_in(descriptor) : 0;
+        if (address < other && other < end)
+            end = other;
+    }
+    return end;
+}
+
+/* Whether the bytes of a frame that will be sent are at an address */
+static bool is_to_be_sent(const struct ring *ring, uint64_t address)
+{
+    for (unsigned slot = 0; slot < ring->slots; slot++) {
+        const uint8_t *descriptor = bytes_at(ring->at + DESCRIPTOR * slot, DESCRIPTOR);
+        if (descriptor && is_offered(ring, slot) && address_in(descriptor) == address)
+            return true;
+    }
+    return false;
+}
+
+/* The descriptors whose frames were sent, but for their addresses and DD; and the buffers of these frames, as far as the
+ * longest frame */
+static void note_transmit(void)
+{
+    struct ring ring = ring_of(true);
+
+    for (unsigned slot = 0; is_small(&ring) && slot < ring.slots; slot++) {
+        uint64_t at = ring.at + DESCRIPTOR * slot, address;
+        const uint8_t *descriptor = bytes_at(at, DESCRIPTOR);
+        if (!descriptor || is_offered(&ring, slot) || !(descriptor[STATUS] & NIC_TXD_DD) || is_noted(at + 8))
+            continue; /* of one that is noted already, the driver may fill the buffer again */
+        address = address_in(descriptor);
+        if (!is_to_be_sent(&ring, address))
+            note(address, end_of_buffer(&ring, address, address + LONGEST) - address);
+        note(at + 8, STATUS - 8), note(at + STATUS + 1, DESCRIPTOR - STATUS - 1);
+    }
+}
+
+static void note_receive(void)
+{
+    struct ring ring = ring_of(false);
+    uint64_t size = 2048 >> (peek(NIC_RCTL) >> 16 & 3);
+
+    for (unsigned slot = 0; is_small(&ring) && slot < ring.slots; slot++) {
+        const uint8_t *descriptor = bytes_at(ring.at + DESCRIPTOR * slot, DESCRIPTOR);
+        if (descriptor && is_offered(&ring, slot))
+            note(address_in(descriptor), size);
+    }
+}
+
+/* Sets what nobody should use again to 0. */
+void xi_clear_dead(void)
+{
+    uint64_t accesses = nic82540em_accesses(&S->nic);
+
+    if (xi_reads_dead || !xi_searches)
+        return;
+    for (size_t n = 0; !B->knows_digest && n < sizeof counters / sizeof *counters; n++)
+        nic82540em_read(&S->nic, counters[n]);
+    nic82540em_recount(&S->nic, accesses);
+    note_transmit(), note_receive();
+}
+
+/* What runs read and write */
+
+void xi_dead_register(uint32_t offset)
+{
+    for (size_t n = 0; n < sizeof counters / sizeof *counters; n++)
+        xi_reads_dead |= offset == counters[n];
+}
+
+/* Before a step: what it reads. */
+void xi_dead_before(uint32_t kind)
+{
+    struct ring ring;
+    const uint8_t *descriptor;
+    uint64_t at;
+
+    at_head = 0;
+    if (kind != NIC_TXTAKE && kind != NIC_RXDATA)
+        return;
+    ring = ring_of(kind == NIC_TXTAKE), at = ring.at + DESCRIPTOR * (uint64_t)ring.head;
+    descriptor = bytes_at(at, DESCRIPTOR);
+    if (!descriptor || ring.head == ring.tail)
+        return;
+    xi_dead_read(at, DESCRIPTOR);
+    if (kind == NIC_TXTAKE)
+        xi_dead_read(address_in(descriptor), length_in(descriptor));
+    at_head = (uint32_t)at;
+}
+
+/* After it: a piece of a frame was written, whose length is known when its descriptor is written back. */
+void xi_dead_after(uint32_t kind, uint32_t outcome)
+{
+    const uint8_t *descriptor = S->filling ? bytes_at(S->filling - 1, DESCRIPTOR) : NULL;
+
+    if (kind == NIC_RXDATA && (outcome == NIC_PART || outcome == NIC_MOVED))
+        S->filling = at_head + 1;
+    if (kind == NIC_RXDONE && descriptor) {
+        xi_dead_written(address_in(descriptor), length_in(descriptor));
+        S->filling = 0;
+    }
+}
