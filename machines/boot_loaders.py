@@ -94,10 +94,10 @@ def run_ipxe(words, board, tell):
     return passed == len(ways)
 
 
-def uboot(board, log, typed):
+def uboot(words, board, typed):
     """The machine in which U-Boot runs, with commands that are typed at its prompts. The first key ends its countdown."""
-    stop = [("Hit any key to stop autoboot:  2 ", " ")]
-    return Machine(board, log, ["-bios", UBOOT], typed=stop + [(PROMPT, f"{command}\n") for command in typed])
+    stop, log = [("Hit any key to stop autoboot:  2 ", " ")], os.path.join(words.cache, "console")
+    return Machine(board, log, ["-bios", words.rom or UBOOT], typed=stop + [(PROMPT, f"{command}\n") for command in typed])
 
 
 def run_uboot(words, board, tell):
@@ -114,7 +114,7 @@ def run_uboot(words, board, tell):
         os.chmod(folder, 0o755)
         with open(os.path.join(folder, "file"), "wb") as file:
             file.write(data)
-        machine = uboot(board, os.path.join(words.cache, "console"), commands)
+        machine = uboot(words, board, commands)
         results = list(machine.lines(server=f"{shlex.quote(WIRE_END)} {shlex.quote(folder)}"))
     tell(f"U-Boot: {', '.join(results) or 'nothing passed'}")
     return results == ["passed dhcp", "passed ping", "passed tftp"]

@@ -17,13 +17,12 @@ UBOOT = ["setenv ipaddr 10.0.0.1; setenv netmask 255.255.255.0", "while true; do
 
 def machine_of(words, board, folder):
     """The guest, whose host has the address 10.0.0.1 and answers pings."""
-    log = os.path.join(words.cache, "console")
     if words.guest == "dpdk":
         return dpdk.machine_of(words, board, 0)
     boot_loaders.check_files("uboot" if words.guest == "uboot" else "kernel", with_network=False)
     if words.guest == "uboot":
-        return boot_loaders.uboot(board, log, UBOOT)
-    machine = boot_loaders.ipxe(board, "kernel", folder, log, IPXE)
+        return boot_loaders.uboot(words, board, UBOOT)
+    machine = boot_loaders.ipxe(board, "kernel", folder, os.path.join(words.cache, "console"), IPXE)
     machine.clock = "host"  # with the other one, iPXE hangs while it collects entropy
     return machine
 

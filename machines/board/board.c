@@ -12,6 +12,7 @@
  *   --echo ROUNDS       FIRST,LAST,MOST,STOP: rounds of echo requests (echo_rounds.h)
  *   --seed N            determines the steps
  *   --at-once           nothing is drawn
+ *   --only ROUND,FILE   in this round, only the drawn actions whose numbers are in the file are played
  *   --trace FILE        writes all that happens to this file
  */
 #include <errno.h>
@@ -99,6 +100,8 @@ static void start(const struct options *options)
         tap_start(options->tap);
     if (options->folder)
         sweep_start(options->seed, options->folder, !options->at_once);
+    if (options->only)
+        sweep_only(options->only_round, options->only);
     connection = connected(&files[0]);
     files[1] = shared_file(options->memory);
     plugin = connected(&files[2]);

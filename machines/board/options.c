@@ -15,6 +15,7 @@ static const struct option all[] = { { "nicbench", required_argument, NULL, 'n' 
                                      { "seed", required_argument, NULL, 's' },
                                      { "out", required_argument, NULL, 'o' },
                                      { "echo", required_argument, NULL, 'e' },
+                                     { "only", required_argument, NULL, 'y' },
                                      { "trace", required_argument, NULL, 't' },
                                      { "at-once", no_argument, NULL, 'a' },
                                      { NULL, 0, NULL, 0 } };
@@ -34,6 +35,15 @@ static void read_rounds(struct echo_options *echo, const char *word)
     if (sscanf(word, "%" SCNu32 ",%" SCNu32 ",%" SCNu32 ",%" SCNu32, &echo->first, &echo->last, &echo->most,
                &echo->stop) != 4)
         fail("%s aren't four numbers", word);
+}
+
+static void read_only(struct options *options, const char *word)
+{
+    int length;
+
+    if (sscanf(word, "%" SCNu32 ",%n", &options->only_round, &length) != 1)
+        fail("%s isn't a round and a file", word);
+    options->only = word + length;
 }
 
 static void read_option(struct options *options, int option, char *word)
@@ -65,6 +75,9 @@ static void read_option(struct options *options, int option, char *word)
         break;
     case 'o':
         options->folder = word;
+        break;
+    case 'y':
+        read_only(options, word);
         break;
     case 't':
         options->trace = word;

@@ -8,10 +8,10 @@
 #include "echo_rounds.h"
 
 struct options {
-    const char *nicbench, *socket, *tap, *folder, *trace;
+    const char *nicbench, *socket, *tap, *folder, *trace, *only;
     char **qemu;
     uint64_t memory, rom;
-    uint32_t seed;
+    uint32_t seed, only_round;
     struct echo_options echo; /* its last round is 0 if there are no such rounds */
     bool at_once;
 };

@@ -22,6 +22,12 @@ static uint32_t seed, round_number;
 static uint64_t generator;
 static const char *folder;
 
+/* The round in which only some drawn actions are played, and which; there is no round 0. */
+static struct {
+    uint32_t round;
+    bool is_played[1 << 16];
+} only;
+
 /* What a round draws first: how often each action is played, the most at a point, at one point in how many, and the
  * most accesses of rings from one point to the next. */
 static struct {
@@ -33,6 +39,9 @@ static struct {
     uint64_t missed, excused, wrong;
 } begun;
 
+/* The drawn actions of the round so far. */
+static uint32_t drawn_number;
+
 static struct {
     uint64_t rounds, points[3], drawn, played;
 } counts;
@@ -42,6 +51,20 @@ void sweep_start(uint32_t number, const char *path, bool drawn)
     draws = drawn;
     seed = number;
     folder = path;
+}
+
+void sweep_only(uint32_t round, const char *path)
+{
+    FILE *file = fopen(path, "r");
+    uint32_t number;
+
+    if (file == NULL)
+        fail("%s: %s", path, strerror(errno));
+    only.round = round;
+    while (fscanf(file, "%" SCNu32, &number) == 1)
+        if (number < sizeof only.is_played)
+            only.is_played[number] = true;
+    fclose(file);
 }
 
 bool sweep_draws(void)
@@ -91,12 +114,12 @@ static void begin_round(uint32_t number)
     begun.excused = excused();
     begun.wrong = wire_counts.wrong;
     counts.rounds++;
+    drawn_number = 0;
     generator = ((uint64_t)seed << 32) + number;
     draw_settings();
     snprintf(text, sizeof text, "seed %u weights %u %u %u %u %u most %u often %u gap %u", seed, weight[0], weight[1],
              weight[2], weight[3], weight[4], settings.most, settings.often, settings.gap);
     trace_begin(number, text);
-    trace_drawn(true);
     reached_begin();
     accesses_begin();
     accesses_ask_after(1 + draw(settings.gap));
@@ -108,8 +131,13 @@ static void end_round(void)
     in_round = false;
     accesses_collect();
     accesses_ask_after(0);
-    trace_drawn(false);
     steps_settle(SETTLE_ROUNDS);
+}
+
+/* Whether the action that was drawn last is played. */
+static bool is_played(void)
+{
+    return round_number != only.round || (drawn_number < sizeof only.is_played && only.is_played[drawn_number]);
 }
 
 static enum action drawn_action(void)
@@ -125,13 +153,17 @@ static enum action drawn_action(void)
 static void play_drawn(void)
 {
     for (uint32_t left = 1 + draw(settings.most); left > 0; left--) {
-        bool did = steps_play(drawn_action());
+        enum action action = drawn_action();
+        bool did;
 
+        trace_drawn(++drawn_number);
+        did = is_played() && steps_play(action);
         counts.drawn++;
         counts.played += did;
         if (did)
             reached_step();
     }
+    trace_drawn(0);
 }
 
 void sweep_point(enum point point)

@@ -11,6 +11,10 @@
  * trace of the first round that fails. */
 void sweep_start(uint32_t seed, const char *folder, bool drawn);
 
+/* In this round, only the drawn actions with these numbers are played. A file has the numbers, which count the round's
+ * drawn actions from 1 (trace.h); each number is below 65,536. */
+void sweep_only(uint32_t round, const char *path);
+
 /* Whether steps are drawn in rounds. */
 bool sweep_draws(void);
 

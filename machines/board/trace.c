@@ -10,19 +10,20 @@
 #include "report.h"
 #include "rings.h"
 
-enum { WORDS = 4, FLUSH = 1 << 16, TEXT = 120, UDP_PORT = 36, DATA = 42 };
+enum { WORDS = 4, FLUSH = 1 << 16, TEXT = 120, MARK = 16, UDP_PORT = 36, DATA = 42 };
 
 /* What was recorded. The meaning of the words is in `print_event`. */
 struct event {
     enum event_kind { READ, WRITE, LOAD, STORE, POKE, STEP, ARRIVAL, SENT, LINE, LOST, VERDICT, ROUND, RING } kind;
-    bool drawn;
+    uint32_t drawn;
     uint64_t words[WORDS];
 };
 
 static struct event *events;
 static size_t used, room;
 static FILE *all;
-static bool in_round, is_drawn;
+static bool in_round;
+static uint32_t drawn;
 static char settings[TEXT];
 
 static void record(enum event_kind kind, uint64_t first, uint64_t second, uint64_t third, uint64_t fourth)
@@ -35,7 +36,7 @@ static void record(enum event_kind kind, uint64_t first, uint64_t second, uint64
         if (events == NULL)
             fail("out of memory");
     }
-    events[used++] = (struct event){ kind, is_drawn, { first, second, third, fourth } };
+    events[used++] = (struct event){ kind, drawn, { first, second, third, fourth } };
 }
 
 static void print_access(FILE *file, const struct event *event)
@@ -53,8 +54,10 @@ static void print_access(FILE *file, const struct event *event)
 static void print_event(FILE *file, const struct event *event)
 {
     const uint64_t *word = event->words;
-    const char *mark = event->drawn ? " *" : "";
+    char mark[MARK] = "";
 
+    if (event->drawn)
+        snprintf(mark, sizeof mark, " *%" PRIu32, event->drawn);
     switch (event->kind) {
     case POKE:
         fputs("poke\n", file);
@@ -134,9 +137,9 @@ void trace_write(const char *path)
         fail("%s: %s", path, strerror(errno));
 }
 
-void trace_drawn(bool drawn)
+void trace_drawn(uint32_t number)
 {
-    is_drawn = drawn;
+    drawn = number;
 }
 
 void trace_register(bool is_write, uint32_t offset, uint32_t value)

@@ -19,8 +19,9 @@ void trace_begin(uint32_t round, const char *settings);
 /* Writes what was recorded since the round began. */
 void trace_write(const char *path);
 
-/* Whether steps and arrivals are drawn from now on, or played because the adapter has work. */
-void trace_drawn(bool drawn);
+/* From now on, steps and arrivals are a drawn action with this number in its round; or, if the number is 0, they are
+ * played because the adapter has work. */
+void trace_drawn(uint32_t number);
 
 void trace_register(bool is_write, uint32_t offset, uint32_t value);
 void trace_memory(const struct access_record *record);
