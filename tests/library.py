@@ -365,10 +365,9 @@ def examples_in_c(library):
             flags = ["-std=c99", "-O1", *WARNINGS, *extra, *words]
             if library.compiles(name + how, "cc", *flags, "-o", target, source, *library.flags):
                 library.prints(f"{name}{how}: runs", [target], wanted)
-    for page, wanted in (("docs", "LIBRARY.md"), "00000080\n"), (("README.md",), "80\n"):
-        library.put("page.c", re.search(r"```c\n(.*?)```", text_of(*page), re.S)[1].encode())
-        if library.compiles(f"the code of {page[-1]}", "cc", "-std=c99", *WARNINGS, "-o", "page", "page.c", *library.flags):
-            library.prints(f"the code of {page[-1]}: runs", [library.path("page")], wanted)
+    library.put("page.c", re.search(r"```c\n(.*?)```", text_of("docs", "LIBRARY.md"), re.S)[1].encode())
+    if library.compiles("the code of LIBRARY.md", "cc", "-std=c99", *WARNINGS, "-o", "page", "page.c", *library.flags):
+        library.prints("the code of LIBRARY.md: runs", [library.path("page")], "00000080\n")
     if library.is_there("valgrind", "the examples in C by valgrind"):
         for name in "first", "frames", "state":
             library.prints(f"{name}: by valgrind", ["valgrind", "-q", "--leak-check=full", "--error-exitcode=9",

@@ -45,8 +45,11 @@ def dead_links(page):
 
 
 def edits_named(page):
-    """The names in the columns of a page's tables whose heading begins with "Edit"."""
+    """The names in the columns of a page's tables whose heading begins with "Edit", and those in parentheses of RACES."""
     column = None
+    if os.path.basename(page) == "RACES.md":
+        for names in re.findall(r"\((`\w+_\w+`(?:,\s+`\w+_\w+`)*)\)", text_of(page).partition("## The races")[2]):
+            yield from re.findall(r"\w+", names)
     for line in text_of(page).splitlines():
         cells = [cell.strip() for cell in line.strip("|").split("|")] if line.startswith("|") else []
         if not cells:

@@ -31,7 +31,7 @@ def commands(server):
     shown = []
     for names in (("examples", "drivers", "README.md"), ("docs", "SERVE.md"), ("README.md",)):
         shown += re.findall(r"^```\n\$ ((?:python3|printf) [^\n]*)\n(.*?)^```$", read_page(*names), re.M | re.S)
-    words = ["python3"] * 4 + ["printf"] * 3
+    words = ["python3"] * 4 + ["printf"] * 2
     server.check("commands: these are shown", [command.split()[0] for command, _ in shown], words)
     for command, wanted in shown:
         command = command.replace(".build/nicbench", server.program).replace("./nicbench", server.program)

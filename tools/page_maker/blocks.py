@@ -142,7 +142,14 @@ class Blocks:
                            below=after(tokens) + self.edit_list(page, function, here, "Shown")))
         page.skip = set()
         others = [edit for edit, _ in edits if edit not in placed]
-        return "".join(out) + self.edit_list(page, function, others, "Also shown" if placed else "The contract is shown")
+        out.append(self.edit_list(page, function, others, "Also shown" if placed else "The contract is shown"))
+        return "".join(out) + self.outcome(page, function)
+
+    def outcome(self, page, function) -> str:
+        """The functions that make a call twice, and so prove that its contract determines its outcome."""
+        links = [f'<a href="{page.relative(one.url)}"><code>{one.crate}::{html.escape(one.name)}</code></a>'
+                 for one in self.site.twice_of.get(function, [])]
+        return f'<p class="outcome">What two calls from equal states have in common: {", ".join(links)}.</p>' if links else ""
 
     def function_section(self, page, function) -> str:
         """The block of a function."""

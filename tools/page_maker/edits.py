@@ -5,7 +5,11 @@ public calls or types whose contracts state the rule. `CALL/CLAUSE` also names t
 """
 
 import os
+import re
 from dataclasses import dataclass, field
+
+# The beginning of the comment of a function that makes calls twice: the calls, such as [`Ring::next`], and `twice`.
+TWICE = re.compile(r"((?:\[`[^`]+`\](?:, | and )?)+),?(?: each)? twice\b")
 
 
 @dataclass
@@ -64,3 +68,26 @@ def target(repository, crate: str, call: str):
         if len(members) == 1:
             return members[0]
     return None
+
+
+def only_call(repository, crate: str, call: str):
+    """The definition of a call that a function of this crate makes, or None if it isn't the only one."""
+    kin, _, name = call.rpartition("::")
+    if kin and kin not in repository.crates:
+        return target(repository, crate, call)
+    found = [one for one in repository.by_name.get(name, [])
+             if one.kind == "fn" and one.owner is None and one.public and kin in ("", one.crate)]
+    return found[0] if len(found) == 1 else None
+
+
+def made_twice(repository) -> dict:
+    """The calls whose contract determines the outcome, each with the functions that prove this: they make it twice."""
+    out = {}
+    for module in repository.own():
+        for function in module.all if module.rust else ():
+            begin = TWICE.match(" ".join(function.comment.split())) if function.kind == "fn" else None
+            for call in re.findall(r"`([^`]+)`", begin[1]) if begin else ():
+                found = only_call(repository, function.crate, call)
+                if found is not None and found.crate != function.crate:
+                    out.setdefault(found, []).append(function)
+    return out

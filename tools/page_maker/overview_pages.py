@@ -114,8 +114,9 @@ class OverviewPages:
                 "Every function is proved. Each word of a contract here is a link to its definition.</p>",
                 "<h2>Statements</h2>", '<div class="cards">']
         for url, function, title, count in statements:
-            plain = re.sub(r"\[([^\]]*)\](\([^)]*\))?", r"\1", first_paragraph(function.comment).replace("`", ""))
-            body.append(f'<a class="card" href="{url}"><b>{html.escape(title)}</b><p>{html.escape(plain)}</p>'
+            plain = re.sub(r"\[([^\]]*)\](\([^)]*\))?", r"\1", first_paragraph(function.comment))
+            said = re.sub(r"`([^`]*)`", r"<code>\1</code>", html.escape(plain))
+            body.append(f'<a class="card" href="{url}"><b>{html.escape(title)}</b><p>{said}</p>'
                         f"<small>{html.escape(function.full())} · {count} definitions</small></a>")
         body.append("</div><h2>Crates</h2>")
         for layer, crates in self.repository.layers:

@@ -8,7 +8,7 @@ from urllib.parse import quote
 
 from .contract_links import ContractLinker
 from .definitions import KINDS, PARTS_OF_TYPES
-from .edits import read_edits, target
+from .edits import made_twice, read_edits, target
 from .notation import meanings, read_notation
 from .texts import first_sentence
 
@@ -51,6 +51,7 @@ class Site:
                 found = target(repository, edit.crate, call)
                 if found is not None:
                     self.edits_of.setdefault(found, []).append((edit, clause))
+        self.twice_of = made_twice(repository)
 
     # Links of definitions
 
