@@ -1,5 +1,6 @@
 -- The walk over finished slots.
-use Rattle.std.proofs.Common.{suc, zero, true, false, Bool, ◌≡◌, ◌<◌, ◌-◌, ◌++◌, ◌∷◌, [], ℕ, List, All, length, map, take_while, arith, refl, sym, ap, subst, ◌∙◌, if◌then◌else◌}
+use Rattle.std.proofs.Common.{suc, zero, true, false, Bool, ◌≡◌, ◌<◌, ◌-◌, ◌++◌, ◌∷◌, [], ℕ}
+use Rattle.std.proofs.Common.{List, All, length, map, take_while, arith, refl, sym, ap, subst, ◌∙◌, if◌then◌else◌}
 use Rattle.std.proofs.lemmas.List.Sums.{take_while-cons}
 use Rattle.registers.specs.Bits.{is_set}
 use Rattle.descriptors.specs.declared.ring.Ring.{Ring}

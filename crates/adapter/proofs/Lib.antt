@@ -1,6 +1,7 @@
 mod Words
 mod SlotsBelow
 mod PiecesInTurn
+mod DataSteps
 mod FinishedWalk
 mod QueuedWalk
 mod TakenFrames

@@ -1,5 +1,6 @@
 -- The walk over the slots from head to tail.
-use Rattle.std.proofs.Common.{suc, zero, true, false, Bool, ◌≡◌, ◌<◌, ◌+◌, ◌-◌, ◌%◌, ◌++◌, ◌∷◌, ℕ, List, length, replicate, arith, refl, sym, ap, if◌then◌else◌}
+use Rattle.std.proofs.Common.{suc, zero, true, false, Bool, ◌≡◌, ◌<◌, ◌+◌, ◌-◌, ◌%◌}
+use Rattle.std.proofs.Common.{◌++◌, ◌∷◌, ℕ, List, length, replicate, arith, refl, sym, ap, if◌then◌else◌}
 use Rattle.std.proofs.lemmas.List.{append-nil}
 use Rattle.descriptors.specs.declared.ring.Ring.{Ring}
 use Rattle.descriptors.specs.Ring.{count_of, distance_of, next_of, offered_places, slots_from}

@@ -11,20 +11,20 @@ use Rattle.adapter.specs.State.{AdapterState, HasRegisters}
 use Rattle.adapter.specs.Table.{IsInTable, StandsAt, register_at, row_of}
 use Rattle.registers.specs.Places.{ctrl_slu}
 
--- Each register of the table stands at its offset, and no other does.
+-- Each register of the table is at its offset, and no other register is.
 pub record OffsetsByTable : Type 0 where
   pub there : (register : Register) → IsInTable register → register_at (row_of register).offset ≡ Some register
   pub only : (offset : ℕ) (register : Register) → register_at offset ≡ Some register → StandsAt offset register
   pub multiple_of_four : (register : Register) → (row_of register).offset % 4 ≡ 0
   pub below : (register : Register) → IsInTable register → (row_of register).offset < 0x5800
 
--- An access at an offset is one of the register that stands there.
+-- An access at an offset is one of the register that is there.
 pub record AccessesByRegister (offset : ℕ) (register : Register) (state : AdapterState) : Type 0 where
   pub answered : answer_at offset state ≡ answer register state
   pub read : after_read offset state ≡ read_of register state
   pub written : (value : ℕ) → after_write offset value state ≡ write_of register value state
 
--- Where no register stands, a read answers 0, and nothing changes.
+-- If no register is at the offset, a read answers 0, and nothing changes.
 pub record IgnoresAccesses (offset : ℕ) (state : AdapterState) : Type 0 where
   pub answered : answer_at offset state ≡ 0
   pub read : after_read offset state ≡ state
@@ -38,47 +38,48 @@ abbrev pub OutsideIsIgnored : Type 0
 OutsideIsIgnored = (offset : ℕ) (state : AdapterState) → ((register : Register) → ¬ (StandsAt offset register))
     → IgnoresAccesses offset state
 
--- A register whose kept bits are its rule reads them of what was last written.
+-- A register whose kept bits are its rule reads these bits of what was last written.
 abbrev pub PlainReadsBack : Type 0
 PlainReadsBack =
     (register : Register) (kept value : ℕ) (state : AdapterState)
     → HasRegisters state → IsInTable register → (row_of register).kept ≡ Some kept → is_reset register value ≡ false
     → answer register (write_of register value state) ≡ bit_and value kept
 
--- The registers of which a write of another changes what they read: STATUS by CTRL.SLU, ICR by ICS, IMS by IMC.
+-- A write of the first register changes what the second one reads: CTRL.SLU changes STATUS, ICS changes ICR, IMC
+-- changes IMS.
 pub data Touches : Register → Register → Type 0 where
   link_shown : Touches Ctrl Status
   causes_set : Touches Ics Icr
   mask_cleared : Touches Imc Ims
 
--- A write of one register changes what no other reads, but those; a reset apart.
+-- Except for these (`Touches`) and for a reset, a write of one register doesn't change what another reads.
 abbrev pub OthersStayAtWrite : Type 0
 OthersStayAtWrite =
     (written other : Register) (value : ℕ) (state : AdapterState)
     → written ≢ other → ¬ (Touches written other) → is_reset written value ≡ false
     → answer other (write_of written value state) ≡ answer other state
 
--- A read of one register changes what no other reads.
+-- A read of one register doesn't change what another reads.
 abbrev pub OthersStayAtRead : Type 0
 OthersStayAtRead =
     (read other : Register) (state : AdapterState) → read ≢ other → answer other (read_of read state) ≡ answer other state
 
--- What those read.
+-- What STATUS, ICR and IMS read after a write of CTRL, ICS and IMC.
 pub record TouchedRead (value : ℕ) (state : AdapterState) : Type 0 where
-  -- after a write of CTRL, STATUS shows the link where SLU, bit 6, was written
+  -- After a write of CTRL that is no reset, STATUS shows the link if SLU, bit 6, was written as 1.
   pub link_shown : is_reset Ctrl value ≡ false
       → answer Status (write_of Ctrl value state) ≡ (if link_is_up state.phy && is_set value ctrl_slu then status_of_link_up else 0)
-  -- after a write of ICS, ICR reads the causes written, too
+  -- After a write of ICS, ICR also reads the causes written.
   pub causes_set : answer Icr (write_of Ics value state) ≡ union (answer Icr state) (causes_of value)
-  -- after a write of IMC, IMS reads the mask without them
+  -- After a write of IMC, IMS reads the mask without the causes written.
   pub mask_cleared : answer Ims (write_of Imc value state) ≡ difference (answer Ims state) (causes_of value)
 
 abbrev pub TouchedByWrites : Type 0
 TouchedByWrites = (value : ℕ) (state : AdapterState) → TouchedRead value state
 
--- What a write of CTRL with RST leaves.
+-- The registers after a write of CTRL with RST.
 pub record IsReset (before after : AdapterState) : Type 0 where
-  -- each register but PBA reads its value of the table;
+  -- Each register but PBA reads its reset value of the table.
   pub registers : (register : Register) → IsInTable register → register ≢ Pba → answer register after ≡ (row_of register).reset before.image
   -- PBA, the PHY and the EEPROM stay.
   pub allocation : answer Pba after ≡ answer Pba before
@@ -88,7 +89,7 @@ pub record IsReset (before after : AdapterState) : Type 0 where
 abbrev pub ResetByTable : Type 0
 ResetByTable = (value : ℕ) (state : AdapterState) → is_reset Ctrl value ≡ true → IsReset state (write_of Ctrl value state)
 
--- After power-on each register, PBA too, reads its value of the table.
+-- After power-on each register, PBA too, reads its reset value of the table.
 abbrev pub PowerOnByTable : Type 0
 PowerOnByTable =
     (register : Register) (words : List ℕ) (link : Link) → IsInTable register

@@ -144,7 +144,7 @@ HasRegisters-read Rnbc state adapter =
     of-parts adapter.tables adapter.allocation adapter.causes (of-counters c.missed c.received c.transmitted (omega arith))
 HasRegisters-read _ state adapter = of-parts adapter.tables adapter.allocation adapter.causes adapter.counters
 
--- what a tick tells are causes
+-- what a tick reports are causes
 causes_told-alone : (ticked : Ticked) → IsSubset (causes_told ticked) all_causes
 causes_told-alone ticked = by_tests ticked.link_changed ticked.access_complete
   where
@@ -154,7 +154,7 @@ causes_told-alone ticked = by_tests ticked.link_changed ticked.access_complete
     by_tests false true = refl
     by_tests false false = refl
 
--- More causes recorded leave an adapter.
+-- With more causes recorded, an adapter's registers are those of an adapter.
 HasRegisters-with_causes : (causes : ℕ) (state : AdapterState) → IsSubset causes all_causes → HasRegisters state
     → HasRegisters (with_causes causes state)
 HasRegisters-with_causes causes state alone adapter =

@@ -18,7 +18,7 @@ use Rattle.adapter.specs.World.{World, receive_ring, transmit_ring}
 abbrev pub Reports : Queued → Type 0
 Reports queued = queued.report ≡ true
 
--- The conditions, for the slots that the driver counts as its oldest.
+-- The conditions, if these slots are the oldest that the driver counts in its rings.
 pub record Sound (oldest_receive oldest_transmit : ℕ) (world : World) : Type 0 where
   -- In the receive ring, finished slots come first, then the one in progress, then the offered ones.
   pub receive_slots : IsDealt world.memory (receive_ring world) oldest_receive (in_work world)
@@ -28,29 +28,29 @@ pub record Sound (oldest_receive oldest_transmit : ℕ) (world : World) : Type 0
   pub separate : AreSeparate world.memory (areas oldest_receive world)
   -- every frame to be sent asks for a report
   pub reports : All Reports (world.adapter.transmitter.buffer ++ map (fetched true world.memory) (offered (transmit_ring world)))
-  -- Of the oldest frame in the receive packet buffer, the slots after the last EOP contain the bytes that were moved.
+  -- The slots contain, after the last EOP, the bytes of the packet buffer's oldest frame that were moved.
   pub begun : HasBegun world.memory (finished_pieces oldest_receive world) world.adapter.receiver
-  -- TCTL.PSP
+  -- If TDH isn't TDT, TCTL.PSP is set.
   pub pads : ¬ (world.adapter.transmit_ring.head ≡ world.adapter.transmit_ring.tail) → HasBit world.adapter.transmit_control tctl_psp
 
--- The finished slots, and the one in progress, contain frames as this adapter cuts them into receive buffers of so many bytes.
+-- The finished slots, and the one in progress, contain frames as this adapter cuts them into receive buffers of this size.
 pub record AreCut (size oldest_receive : ℕ) (world : World) : Type 0 where
-  -- While RCTL.EN is set, RCTL.BSIZE names this size. Without EN no piece is moved, so another size may stand there.
+  -- If RCTL.EN is set, RCTL.BSIZE names this size.
   pub sized : HasBit world.adapter.filter.rctl rctl_en → buffer_size world ≡ size
   -- No finished descriptor reports an error.
   pub have_no_errors : All (λ slot. (descriptor_at world.memory slot).errors ≡ 0) (finished oldest_receive world)
   -- Each piece fills its buffer, unless it is the last of its frame.
   pub cut : All (IsCut size) (pieces_in_slots oldest_receive world)
-  -- Each frame that ends in them is legal, and the one that doesn't end yet is shorter than the longest frame.
+  -- Each frame that ends in them is legal.
   pub legal : All IsLegal (frames_of (pieces_in_slots oldest_receive world))
-  -- The frame that doesn't end yet is shorter than the longest legal frame so far.
+  -- The frame that doesn't end yet is so far shorter than the longest legal frame.
   pub short : length (begun_of (pieces_in_slots oldest_receive world)) < longest_frame
 
--- Receive buffers of so many bytes have room for each finished piece, and for the one in progress.
+-- Receive buffers of this size have room for each finished piece, for the one in progress, and for those to come.
 pub record FitBuffers (size oldest_receive : ℕ) (world : World) : Type 0 where
-  -- So they have for each piece to come: while RCTL.EN is set, RCTL.BSIZE names no larger size.
+  -- If RCTL.EN is set, RCTL.BSIZE names no larger size.
   pub large : HasBit world.adapter.filter.rctl rctl_en → buffer_size world ≤ size
-  -- Each finished piece has at most so many bytes.
+  -- Each finished piece has at most this size.
   pub finished_fit : All (λ slot. (named world.memory slot).size ≤ size) (finished oldest_receive world)
-  -- The piece in progress has at most so many bytes.
+  -- The piece in progress, if any, has at most this size.
   pub work_fits : All (λ area. area.size ≤ size) (work_areas world.memory world.adapter.receiver.work)

@@ -11,11 +11,11 @@ use Rattle.adapter.specs.Slots.{done_slots, is_done}
 abbrev pub done_from : List ℕ → Ring → ℕ → ℕ → List ℕ
 done_from memory ring place left = take_while (is_done memory) (map (address_of ring) (slots_from (count_of ring) place left))
 
--- their pieces
+-- the pieces in the slots of `done_from`
 abbrev pub pieces_from : List ℕ → Ring → ℕ → ℕ → List Piece
 pieces_from memory ring place left = map (piece_in memory) (done_from memory ring place left)
 
--- how many slots are outstanding
+-- the number of outstanding slots
 abbrev pub outstanding_count : Ring → ℕ → ℕ
 outstanding_count ring oldest = distance_of ring oldest ring.tail
 
@@ -27,6 +27,6 @@ finished_in memory ring oldest = map (piece_in memory) (done_slots memory ring o
 abbrev pub NamesMemory : List ℕ → ℕ → Type 0
 NamesMemory memory descriptor = LiesIn memory (named memory descriptor).address (named memory descriptor).size
 
--- a ring whose descriptors lie in memory
+-- the whole ring is inside memory
 abbrev pub LiesWhole : List ℕ → Ring → Type 0
 LiesWhole memory ring = LiesIn memory ring.base (16 * count_of ring)

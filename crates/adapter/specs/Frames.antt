@@ -26,7 +26,7 @@ use Rattle.adapter.specs.Transmitting.{PutAnswers, TakeAnswers, after_put, after
 abbrev pub frames_to_send : List ℕ → AdapterState → List (List ℕ)
 frames_to_send memory state = to_send memory (ring_of state.transmit_ring) (pads state.transmit_control) state.transmitter.buffer
 
--- A step that takes leaves the frames to be sent, whatever it answers.
+-- A step that takes doesn't change the frames to be sent, whatever its outcome.
 abbrev pub TakingLeavesFrames : Type 0
 TakingLeavesFrames =
     (memory : List ℕ) (state : AdapterState) (answer : FrameOutcome) → TakeAnswers memory state answer
@@ -39,7 +39,7 @@ ReportStandsApart memory state =
     All (λ slot. IsAwayFrom memory (area_at (status_place queued) 1) (address_of (ring_of state.transmit_ring) slot))
     (offered_places (ring_of state.transmit_ring)))
 
--- A step that puts a frame takes the front of the frames to be sent.
+-- A step that puts a frame takes the first of the frames to be sent.
 abbrev pub PuttingTakesFirst : Type 0
 PuttingTakesFirst =
     (wire_free : Bool) (memory : List ℕ) (state : AdapterState) (frame : List ℕ) → PutAnswers wire_free state (Put frame)
@@ -52,13 +52,14 @@ PlaceStandsApart memory state =
     let descriptor = address_of (ring_of state.receive_ring) state.receive_ring.head in
     AreApart (area_at (named_address memory descriptor) (piece_size state)) (descriptor_area descriptor)
 
--- After a step or an arrival the frames held are the same, and then these; `finished` are the pieces in finished slots.
+-- After a step or an arrival the frames held are those from before, and then `more`; `finished` are the pieces in
+-- finished slots.
 abbrev pub HoldsThen : (more : List (List ℕ)) → (finished : List Piece) → (memory memory' : List ℕ) → (state state' : AdapterState) → Type 0
 HoldsThen more finished memory memory' state state' =
     Holds (held memory finished state.receiver) (held memory' finished state'.receiver) more memory' finished state'.receiver
 
--- A data step doesn't change the frames held, whatever it answers: the next piece of the packet buffer's oldest frame is then the one in
--- progress.
+-- A data step doesn't change the frames held, whatever its outcome: the next piece of the packet buffer's oldest frame
+-- is then the one in progress.
 abbrev pub DataLeavesFrames : Type 0
 DataLeavesFrames =
     (finished : List Piece) (memory : List ℕ) (state : AdapterState) (answer : FrameOutcome)

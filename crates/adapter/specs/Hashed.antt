@@ -14,7 +14,7 @@ use Rattle.adapter.specs.declared.ring.RingRegisters.{RingRegisters}
 abbrev pub ring_writes : RingRegisters → HashWrites
 ring_writes ring = u32 ring.base_low ++ u32 ring.base_high ++ u32 ring.length_bytes ++ u16 ring.head ++ u16 ring.tail
 
--- the registers that a reset sets
+-- what the registers that a reset sets feed
 abbrev pub file_writes : RegisterFile → HashWrites
 file_writes file = u32 file.ctrl.0
     ++ u32 file.tctl.0
@@ -47,7 +47,7 @@ file_of adapter = record {
   filter = adapter.filter;
 }
 
--- PBA as it reads, the registers that a reset sets, the PHY, and both engines
+-- what an adapter feeds: PBA as it reads, the registers that a reset sets, the PHY, and both engines
 abbrev pub adapter_writes : AdapterState → HashWrites
 adapter_writes adapter = u32 (allocation_shown adapter.receive_kilobytes)
     ++ file_writes (file_of adapter)

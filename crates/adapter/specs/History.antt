@@ -43,7 +43,7 @@ is_reset_event (Write offset value) = offset == (row_of Ctrl).offset && is_reset
 is_reset_event (Step kind answer memory) = false
 is_reset_event (Arrive fate frame) = false
 
--- A step of this kind with this answer moves the head of a ring on, which stands at this offset.
+-- A step of this kind with this answer moves the head of a ring on, which is at this offset.
 abbrev pub moves_head : ℕ → StepKind → FrameOutcome → Bool
 moves_head place TxTake Took = place == (row_of (Transmit Head)).offset
 moves_head place RxData Part = place == (row_of (Receive Head)).offset

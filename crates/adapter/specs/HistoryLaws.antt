@@ -31,7 +31,7 @@ use Rattle.adapter.specs.Transmitting.{after_put, after_take}
 use Rattle.adapter.specs.Table.{StandsAt, register_at, row_of}
 use Rattle.adapter.specs.TableLaws.{register_at-only, register_at-there}
 
--- The EEPROM's words stay.
+-- The EEPROM's words don't change.
 
 image-by_row : (register : Register) (value : ℕ) (state : AdapterState)
     → (by_row (row_of register).kept register value state).image ≡ state.image
@@ -53,7 +53,7 @@ image-told : (told : Option Ticked) (state : AdapterState) → (after_phy_told t
 image-told (Some ticked) state = refl
 image-told None state = refl
 
--- What the engines leave: EEPROM, EERD, MDIC and the PHY.
+-- The engines don't change EEPROM, EERD, MDIC and the PHY.
 pub record LeavesParts (before after : AdapterState) : Type 0 where
   pub image : after.image ≡ before.image
   pub eerd : after.eerd ≡ before.eerd
@@ -215,7 +215,7 @@ plain-stepped register RxDone answered memory kept state plain none = plain-done
 plain-stepped register EepromTick answered memory kept state plain none = plain-eeprom register kept state plain
 plain-stepped register PhyTick answered memory kept state plain none = plain-told register (mdi.told state.mdic state.phy) kept state plain
 
--- a register that stands elsewhere than CTRL, or a word without RST, is no reset
+-- a register other than CTRL, or a word without RST, is no reset
 pub no_reset : (offset value : ℕ) (register : Register) → (row_of register).offset ≡ offset → is_reset_event (Write offset value) ≡ false
     → is_reset register value ≡ false
 no_reset offset value Ctrl there none = by_test (is_reset Ctrl value)
@@ -242,7 +242,7 @@ plain-written offset value register kept state plain none =
         (no_reset offset value written there parts.1)
     by_case None stands = refl
 
--- an event that doesn't set it leaves what it reads
+-- an event that doesn't set a register doesn't change what it reads
 plain-event : (event : AdapterEvent) (register : Register) (kept : ℕ) (state : AdapterState) → (row_of register).kept ≡ Some kept
     → sets_register (row_of register).offset event ≡ false
     → answer register (after_event event state) ≡ answer register state
@@ -255,7 +255,7 @@ plain-event (Write offset value) register kept state plain none = plain-written 
 plain-event (Step kind answered memory) register kept state plain none = plain-stepped register kind answered memory kept state plain none
 plain-event (Arrive fate frame) register kept state plain none = plain-arrived register fate frame kept state plain
 
--- and so does a list of them
+-- a list of events that don't set a register doesn't change what it reads
 pub plain-events : (events : List AdapterEvent) (register : Register) (kept : ℕ) (state : AdapterState) → (row_of register).kept ≡ Some kept
     → NoneSets (row_of register).offset events
     → answer register (after_events events state) ≡ answer register state
@@ -276,7 +276,7 @@ plain-not_pba register kept plain same =
     let ruled : (row_of register).kept ≡ None = ap (λ (r : Register). (row_of r).kept) same in
     cc
 
--- what a reset event leaves
+-- the state after a reset event
 pub reset-event : (event : AdapterEvent) (state : AdapterState) → is_reset_event event ≡ true → after_event event state ≡ after_reset state
 reset-event (Read offset) state resets = absurd (false≢true resets)
 reset-event (Step kind answer memory) state resets = absurd (false≢true resets)

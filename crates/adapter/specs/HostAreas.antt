@@ -17,7 +17,7 @@ use Rattle.adapter.specs.World.{World, receive_ring, transmit_ring}
 abbrev pub ring_area : Ring → Area
 ring_area ring = record { address = ring.base; size = 16 * count_of ring }
 
--- the bytes of the piece in progress
+-- the bytes of the piece in progress, if any
 abbrev pub work_areas : List ℕ → Option Work → List Area
 work_areas memory None = []
 work_areas memory (Some work) = record { address = receive.named_address memory work.descriptor; size = work.length } ∷ []
@@ -33,11 +33,11 @@ buffer_of world descriptor = record {
   size = buffer_size world;
 }
 
--- RCTL.EN
+-- whether RCTL.EN is set
 abbrev pub receives : World → Bool
 receives world = is_set world.adapter.filter.rctl rctl_en
 
--- the buffers of the offered slots, where the adapter receives at all
+-- the buffers of the offered slots if RCTL.EN is set, else none
 abbrev pub offered_buffers : World → List Area
 offered_buffers world = if receives world then map (buffer_of world) (offered (receive_ring world)) else []
 
@@ -56,7 +56,7 @@ frame_areas oldest world =
     ++ (work_areas world.memory world.adapter.receiver.work
     ++ offered_buffers world))
 
--- the two rings and these
+-- the two rings, and all areas of their frames
 abbrev pub areas : ℕ → World → List Area
 areas oldest world = ring_area (receive_ring world) ∷ ring_area (transmit_ring world) ∷ frame_areas oldest world
 
@@ -77,6 +77,6 @@ writable world =
     ++ (map status_byte (buffered world ++ offered (transmit_ring world))
     ++ offered_buffers world)
 
--- an area that isn't the adapter's
+-- an area that is apart from all that the adapter may write
 abbrev pub IsForeign : World → Area → Type 0
 IsForeign world area = All (AreApart area) (writable world)

@@ -26,7 +26,7 @@ piece_in memory descriptor =
 abbrev pub finished_pieces : ℕ → World → List Piece
 finished_pieces oldest world = map (piece_in world.memory) (finished oldest world)
 
--- and then the piece in progress, if there is one
+-- the pieces in the finished slots, and then the piece in progress, if any
 abbrev pub pieces_in_slots : ℕ → World → List Piece
 pieces_in_slots oldest world = in_slots world.memory (finished_pieces oldest world) world.adapter.receiver
 
@@ -38,6 +38,6 @@ frames_held oldest world = held world.memory (finished_pieces oldest world) worl
 abbrev pub frames_to_send : World → List (List ℕ)
 frames_to_send world = to_send world.memory (transmit_ring world) true world.adapter.transmitter.buffer
 
--- frames of at most so many bytes
+-- Each frame has at most this many bytes.
 abbrev pub AreWithin : ℕ → List (List ℕ) → Type 0
 AreWithin size frames = All (λ frame. length frame ≤ size) frames

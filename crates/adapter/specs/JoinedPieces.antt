@@ -1,13 +1,13 @@
--- What a walk over pieces asks and does.
+-- Frames of pieces that have at most 1,518 bytes.
 use Rattle.std.specs.Prelude.{◌≤◌, ◌∷◌, [], ℕ, Bool, List, All, length}
 use Rattle.rx_engine.specs.Held.{piece_of}
 use Rattle.rx_engine.specs.Pieces.{Piece, begun_from, frames_from}
 
--- After these bytes, the frames that end in these pieces, and what is begun after the last end, have at most 1,518 bytes.
+-- If the first frame begins with `begun`, no frame of these pieces has more than 1,518 bytes.
 pub record AreShort (begun : List ℕ) (pieces : List Piece) : Type 0 where
-  -- Each frame that ends in these pieces has at most 1,518 bytes,
+  -- Each frame that ends in these pieces has at most 1,518 bytes.
   pub frames : All (λ frame. length frame ≤ 1518) (frames_from begun pieces)
-  -- and so has the beginning of a frame after the last end.
+  -- The frame that doesn't end in them has at most 1,518 bytes so far.
   pub rest : length (begun_from begun pieces) ≤ 1518
 
 -- one piece alone

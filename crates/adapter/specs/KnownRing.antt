@@ -3,7 +3,7 @@ use Rattle.std.specs.Prelude.{◌≡◌, ◌<◌, ℕ}
 use Rattle.descriptors.specs.declared.ring.Ring.{Ring}
 use Rattle.descriptors.specs.Ring.{count_of}
 
--- The driver knows where its ring begins, how many slots it has, and which one stands at the tail; and one of them stands at the head.
+-- The driver knows the address of its ring, its number of slots and its tail; and the head is one of the slots.
 pub record KnowsRing (ring : Ring) (base count tail : ℕ) : Type 0 where
   -- The ring begins at this address.
   pub begins : ring.base ≡ base

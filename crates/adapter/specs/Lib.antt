@@ -26,6 +26,7 @@ pub mod Slots
 pub mod HostFrames
 pub mod HostAreas
 pub mod Conditions
+pub mod DataOutcomes
 pub mod Running
 pub mod JoinedPieces
 pub mod FinishedSlots

@@ -1,7 +1,7 @@
 -- PBA, the packet buffer allocation register: how many kilobytes of the packet buffer are the receive part's (RXA).
 use Rattle.std.specs.Prelude.{◌≡◌, ◌≤◌, ◌+◌, ◌-◌, ◌*◌, ◌%◌, ◌==◌, ◌&&◌, ℕ, Bool, nat_le, if◌then◌else◌}
 
--- RXA is an even number from 2 to 48 (our choice)
+-- a number that may be RXA: even, from 2 to 48 (our choice)
 pub record IsAllocation (kilobytes : ℕ) : Type 0 where
   -- RXA is at least 2.
   pub least : 2 ≤ kilobytes
@@ -10,11 +10,11 @@ pub record IsAllocation (kilobytes : ℕ) : Type 0 where
   -- RXA is even.
   pub even : kilobytes % 2 ≡ 0
 
--- whether a number may be RXA
+-- whether RXA may be this number
 abbrev pub is_allocation : ℕ → Bool
 is_allocation kilobytes = nat_le 2 kilobytes && (nat_le kilobytes 48 && kilobytes % 2 == 0)
 
--- a write sets RXA, bits 15:0, at once where it may be that; any other write is ignored (our choice)
+-- RXA after a write of PBA: bits 15:0 of the value if they may be RXA; any other write is ignored (our choice)
 abbrev pub allocation_written : ℕ → ℕ → ℕ
 allocation_written value kilobytes = if is_allocation (value % 65536) then value % 65536 else kilobytes
 

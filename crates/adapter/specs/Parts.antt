@@ -1,5 +1,5 @@
--- What comes to EERD, and to MDIC and the PHY behind it, of all that comes to an adapter. So the laws of `eeprom` and `mdic_phy` over all
--- lists of writes and ticks hold of the adapter's registers.
+-- What comes to EERD, and to MDIC and its PHY, of all that comes to an adapter. So the laws of `eeprom` and `mdic_phy`
+-- over all lists of writes and ticks hold of the adapter's registers.
 use Rattle.std.specs.Prelude.{◌≡◌, ℕ, false, true, List, [], ◌∷◌, ◌++◌, Option, Some, if◌then◌else◌}
 use Rattle.std.specs.List.{list_any}
 use Rattle.eeprom.specs.History as eerd
@@ -19,7 +19,7 @@ abbrev pub eerd_written : Option Register → ℕ → List eerd.Operation
 eerd_written (Some Eerd) value = eerd.Write value ∷ []
 eerd_written found value = []
 
--- What comes to EERD of an event, a reset apart.
+-- What comes to EERD of an event, except for a reset.
 abbrev pub eerd_operation : AdapterEvent → List eerd.Operation
 eerd_operation (Read offset) = []
 eerd_operation (Write offset value) = eerd_written (register_at offset) value
@@ -27,7 +27,7 @@ eerd_operation (Step EepromTick answer memory) = eerd.Tick ∷ []
 eerd_operation (Step kind answer memory) = []
 eerd_operation (Arrive fate frame) = []
 
--- What comes to EERD of a list of events, resets apart.
+-- What comes to EERD of a list of events, except for resets.
 abbrev pub eerd_operations : List AdapterEvent → List eerd.Operation
 eerd_operations [] = []
 eerd_operations (event ∷ later) = eerd_operation event ++ eerd_operations later
@@ -55,8 +55,8 @@ mdic_events (event ∷ later) = mdic_event event ++ mdic_events later
 abbrev pub NoReset : List AdapterEvent → Type 0
 NoReset events = list_any is_reset_event events ≡ false
 
--- EERD reads what the law of its history says of what came to it since power-on or the last reset;
--- MDIC reads what the law of its history says of what came to it since power-on, and so stands the PHY.
+-- EERD reads what the law of its history says of what came to it since power-on or the last reset; MDIC reads what the
+-- law of its history says of what came to it since power-on, and the PHY's state follows from it in the same way.
 pub record PartsByHistory (words : List ℕ) (link : Link) : Type 0 where
   -- Without a reset, EERD reads by all that came to it.
   pub eerd_since_power_on : (all : List AdapterEvent) → NoReset all

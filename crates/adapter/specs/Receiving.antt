@@ -33,11 +33,11 @@ use Rattle.adapter.specs.Transmitting.{moved_on}
 abbrev pub room : AdapterState → ℕ
 room state = state.receive_kilobytes * 1024
 
--- a frame gets as far as the packet buffer
+-- whether a frame is stored depends on the room in the packet buffer alone
 abbrev pub GetsIn : AdapterState → List ℕ → Type 0
 GetsIn state frame = IsAccepted state.filter frame
 
--- what each fate of a frame says of the adapter before it: the first that applies
+-- which fate a frame has, by the adapter before it: the first that applies
 abbrev pub IsFate : AdapterState → List ℕ → Fate → Type 0
 IsFate state frame Off = ¬ (HasBit state.filter.rctl rctl_en)
 IsFate state frame Illegal = HasBit state.filter.rctl rctl_en × (¬ (IsLegal frame))
@@ -45,7 +45,7 @@ IsFate state frame Filtered = HasBit state.filter.rctl rctl_en × IsLegal frame 
 IsFate state frame Missed = GetsIn state frame × LacksRoomFor (room state) state.receiver.buffer frame
 IsFate state frame Stored = GetsIn state frame × HasRoomFor (room state) state.receiver.buffer frame
 
--- a frame that gets as far as the packet buffer while RDH equals RDT is counted by RNBC (our choice)
+-- a frame that is stored or missed while RDH equals RDT is counted by RNBC (our choice)
 abbrev pub no_buffers_counted : AdapterState → ℕ
 no_buffers_counted state = if state.receive_ring.head == state.receive_ring.tail then one_more state.no_receive_buffers
     else state.no_receive_buffers
@@ -79,7 +79,7 @@ is_last_piece state = is_last state.filter.rctl state.receiver
 abbrev pub CanMovePiece : List ℕ → AdapterState → Type 0
 CanMovePiece memory state = CanMove state.filter.rctl (ring_of state.receive_ring) memory (piece_size state)
 
--- what each answer of a data step says of the adapter and the memory before it
+-- which outcome a data step has, by the adapter and the memory before it
 abbrev pub DataAnswers : List ℕ → AdapterState → FrameOutcome → Type 0
 DataAnswers memory state Nothing = ¬ (HasFrameAndDescriptor state)
 DataAnswers memory state Fault = HasFrameAndDescriptor state × (¬ (CanMovePiece memory state))
@@ -99,8 +99,8 @@ after_move answer state =
       receive_ring = moved_on state.receive_ring;
     })
 
--- A piece of the oldest frame is in progress, and RDH has moved on. With its last piece the frame leaves the packet buffer. A fault stops
--- the engine.
+-- The adapter after a data step with this outcome: after `Part` or `Moved` a piece of the oldest frame is in progress and RDH has moved on;
+-- after `Moved` the frame has left the packet buffer; a fault stops the step.
 abbrev pub after_data : FrameOutcome → AdapterState → AdapterState
 after_data Part state = after_move (answers.Part (is_half_free (ring_of (moved_on state.receive_ring)))) state
 after_data Moved state = after_move (answers.Moved (is_half_free (ring_of (moved_on state.receive_ring)))) state
@@ -127,7 +127,7 @@ DataChangesOnly state memory memory' =
 
 -- Done steps.
 
--- what each answer of a done step says
+-- which outcome a done step has, by the adapter before it
 abbrev pub DoneAnswers : AdapterState → FrameOutcome → Type 0
 DoneAnswers state Nothing = state.receiver.work ≡ None
 DoneAnswers state Done = ¬ (state.receiver.work ≡ None)

@@ -49,7 +49,7 @@ ring-new Length = refl
 ring-new Head = refl
 ring-new Tail = refl
 
--- A register whose kept bits are its rule reads the number that is put there.
+-- A register whose kept bits are its rule reads the number that was set.
 pub with_register-same : (register : Register) (kept number : ℕ) (state : AdapterState)
     → HasRegisters state → IsInTable register → (row_of register).kept ≡ Some kept
     → answer register (with_register register number state) ≡ number
@@ -75,7 +75,7 @@ plain_reads_back register kept value state adapter within plain none =
     ∙ ap (λ (row : Option ℕ). answer register (by_row row register value state)) plain
     ∙ with_register-same register kept (bit_and value kept) state adapter within plain
 
--- A write changes what no other register reads, register by register.
+-- A write doesn't change what other registers read, register by register.
 
 ctrl-others : (other : Register) (number : ℕ) (state : AdapterState) → Ctrl ≢ other → ¬ (Touches Ctrl other)
     → answer other (record state { device_control = number }) ≡ answer other state
@@ -147,12 +147,12 @@ entry-at_reset first (suc entry) within =
     let other : (suc entry == 0) ≡ false = ne_eqb (suc entry) 0 (λ same. omega arith) in
     get_or-replicate 15 entry 0 0 (omega arith) ∙ ap (λ (test : Bool). if test then first else 0) (sym other)
 
--- no link is shown where it isn't up and asked for
+-- STATUS shows no link unless the link is up and CTRL.SLU is set
 no_link : (up : Bool) → (if up && false then status_of_link_up else 0) ≡ 0
 no_link true = refl
 no_link false = refl
 
--- each register but PBA reads its value of the table
+-- each register but PBA reads its reset value of the table
 pub answer-at_reset : (register : Register) (words : List ℕ) (phy : PhyState) (kilobytes : ℕ) → IsInTable register → register ≢ Pba
     → answer register (adapter_at_reset words phy kilobytes) ≡ (row_of register).reset words
 answer-at_reset Status words phy kilobytes within differ = no_link (link_is_up phy)
@@ -165,7 +165,7 @@ answer-at_reset (Rah entry) words phy kilobytes within differ = entry-at_reset _
 answer-at_reset (Vfta word) words phy kilobytes within differ = get_or-replicate 128 word 0 0 within
 answer-at_reset _ words phy kilobytes within differ = refl
 
--- what a reset leaves
+-- the registers after a reset
 is_reset-after : (before after : AdapterState) → after ≡ after_reset before → IsReset before after
 is_reset-after before after same =
     subst (λ (state : AdapterState). IsReset before state) (sym same) (record {

@@ -1,4 +1,4 @@
--- What a read of a register answers and leaves, what a write leaves, and what a reset leaves.
+-- What a read of a register answers, and the state after a read, after a write and after a reset.
 use Rattle.std.specs.Prelude.{◌&&◌, ℕ, Bool, false, List, ◌∷◌, Option, Some, None, bit_and, replicate, slice_index, slice_set}
 use Rattle.std.specs.Prelude.{if◌then◌else◌}
 use Rattle.eeprom.specs.declared.eerd.ReadState.TheVariants.{Idle}
@@ -61,7 +61,7 @@ abbrev pub new_adapter : List ℕ → Link → AdapterState
 new_adapter words link = adapter_at_reset words (new_phy link) 48
 
 -- CTRL.RST leaves the PHY and PBA as they are, gives every other register its value after a reset, empties both packet buffers, drops the
--- piece in progress and starts stopped engines again (our choice)
+-- piece in progress and starts engines that a fault has stopped again (our choice)
 abbrev pub after_reset : AdapterState → AdapterState
 after_reset state = adapter_at_reset state.image state.phy state.receive_kilobytes
 
@@ -96,7 +96,7 @@ answer (Ral entry) state = slice_index state.filter.ral entry
 answer (Rah entry) state = slice_index state.filter.rah entry
 answer (Vfta word) state = slice_index state.filter.vfta word
 
--- what a read leaves: ICR and the counters are cleared by it, and nothing else changes
+-- the state after a read of a register: ICR and the counters are cleared by it, and nothing else changes
 abbrev pub read_of : Register → AdapterState → AdapterState
 read_of Icr state = record state { causes = record state.causes { recorded = 0 } }
 read_of Mpc state = record state { missed_packets = 0 }
@@ -107,7 +107,7 @@ read_of register state = state
 
 -- Writes.
 
--- the state with this number in a register whose kept bits are its rule
+-- the state in which a register whose kept bits are its rule has this number
 abbrev pub with_register : Register → ℕ → AdapterState → AdapterState
 with_register Ctrl number state = record state { device_control = number }
 with_register Vet number state = record state { filter = record state.filter { vet = number } }
@@ -121,7 +121,7 @@ with_register (Rah entry) number state = record state { filter = record state.fi
 with_register (Vfta word) number state = record state { filter = record state.filter { vfta = slice_set state.filter.vfta word number } }
 with_register register number state = state
 
--- what a write leaves by the rules of their own; STATUS and the counters ignore it
+-- the state after a write of a register that has a rule of its own; STATUS and the counters ignore it
 abbrev pub by_rule : Register → ℕ → AdapterState → AdapterState
 by_rule Eerd value state = record state { eerd = eeprom.after_write value state.eerd }
 by_rule Mdic value state = record state { mdic = mdi.after_write value }
@@ -137,12 +137,12 @@ abbrev pub is_reset : Register → ℕ → Bool
 is_reset Ctrl value = is_set value ctrl_rst
 is_reset register value = false
 
--- by the kept bits of the table's row, or by the register's own rule
+-- the state after a write that is no reset: by the kept bits of the table's row, or by the register's own rule
 abbrev pub by_row : Option ℕ → Register → ℕ → AdapterState → AdapterState
 by_row (Some kept) register value state = with_register register (bit_and value kept) state
 by_row None register value state = by_rule register value state
 
--- what a write of a register leaves
+-- the state after a write of a register
 abbrev pub write_of : Register → ℕ → AdapterState → AdapterState
 write_of register value state =
     if is_reset register value then after_reset state else by_row (row_of register).kept register value state
@@ -154,12 +154,12 @@ abbrev pub answer_of : Option Register → AdapterState → ℕ
 answer_of (Some register) state = answer register state
 answer_of None state = 0
 
--- The state after a read: that of the register, or the same state if there is no register.
+-- The state after a read of a register, or the same state if there is no register.
 abbrev pub left_by_read : Option Register → AdapterState → AdapterState
 left_by_read (Some register) state = read_of register state
 left_by_read None state = state
 
--- The state after a write: that of the register, or the same state if there is no register.
+-- The state after a write of a register, or the same state if there is no register.
 abbrev pub left_by_write : Option Register → ℕ → AdapterState → AdapterState
 left_by_write (Some register) value state = write_of register value state
 left_by_write None value state = state
@@ -168,10 +168,10 @@ left_by_write None value state = state
 abbrev pub answer_at : ℕ → AdapterState → ℕ
 answer_at offset state = answer_of (register_at offset) state
 
--- what a read at an offset leaves
+-- the state after a read at an offset
 abbrev pub after_read : ℕ → AdapterState → AdapterState
 after_read offset state = left_by_read (register_at offset) state
 
--- what a write at an offset leaves
+-- the state after a write at an offset
 abbrev pub after_write : ℕ → ℕ → AdapterState → AdapterState
 after_write offset value state = left_by_write (register_at offset) value state

@@ -1,5 +1,5 @@
 -- The five registers of a descriptor ring (3.2.6 "Receive Descriptor Queue Structure" and 3.4 "Transmit Descriptor Ring
--- Structure"). That the other bits read 0 is own.
+-- Structure"). That the other bits read 0 is our choice.
 use Rattle.std.specs.Prelude.{◌+◌, ◌*◌, ◌^◌, ℕ, bit_and}
 use Rattle.descriptors.specs.declared.ring.Ring.{Ring}
 use Rattle.adapter.specs.declared.register.RingRegister.{RingRegister}
@@ -42,11 +42,11 @@ with_ring Length number ring = record ring { length_bytes = number }
 with_ring Head number ring = record ring { head = number }
 with_ring Tail number ring = record ring { tail = number }
 
--- what a write of a word leaves
+-- the ring's registers after a write of a word
 abbrev pub ring_written : RingRegister → ℕ → RingRegisters → RingRegisters
 ring_written register value ring = with_ring register (bit_and value (ring_kept register)) ring
 
--- the ring that these registers tell; the halves of its address are the high word and the low word
+-- the ring that these registers define; the halves of its address are the high word and the low word
 abbrev pub ring_of : RingRegisters → Ring
 ring_of registers = record {
   base = registers.base_high * 2 ^ 32 + registers.base_low;

@@ -1,4 +1,4 @@
--- When both engines of an adapter go on: what a step needs so that no fault stops its engine (that a fault stops an engine is own).
+-- When both engines of an adapter can run: what a step needs so that it isn't a fault (that a step can fault is our choice).
 use Rattle.std.specs.Prelude.{◌≡◌, ◌≢◌, ℕ, false, List, All}
 use Rattle.registers.specs.Bits.{HasBit}
 use Rattle.descriptors.specs.Ring.{HasValidIndices}
@@ -11,13 +11,13 @@ use Rattle.adapter.specs.World.{World, receive_ring, transmit_ring}
 abbrev pub CanTransmit : List ℕ → ℕ → Type 0
 CanTransmit memory descriptor = IsTransmittable memory (descriptor_at memory descriptor)
 
--- No step of an engine can be a fault.
+-- With `Sound`, no step of an engine can be a fault.
 pub record CanRun (world : World) : Type 0 where
-  -- No fault has stopped an engine.
+  -- No fault has stopped the receive engine.
   pub receiver_runs : world.adapter.receiver.stopped ≡ false
   -- No fault has stopped the transmit engine.
   pub transmitter_runs : world.adapter.transmitter.stopped ≡ false
-  -- Where head isn't tail, both are slots of their ring.
+  -- If RDH isn't RDT, both are indices of descriptors in the receive ring.
   pub receive_indices : world.adapter.receive_ring.head ≢ world.adapter.receive_ring.tail → HasValidIndices (receive_ring world)
   -- If TDH isn't TDT, both are indices of descriptors in the transmit ring.
   pub transmit_indices : world.adapter.transmit_ring.head ≢ world.adapter.transmit_ring.tail → HasValidIndices (transmit_ring world)
@@ -26,6 +26,6 @@ pub record CanRun (world : World) : Type 0 where
   -- The descriptors from TDH to TDT can be transmitted.
   pub transmittable : All (CanTransmit world.memory) (offered (transmit_ring world))
 
--- engines that can run in the first world can in the second
+-- If engines can run in the first world, they can in the second.
 abbrev pub GoOn : World → World → Type 0
 GoOn a b = CanRun a → CanRun b

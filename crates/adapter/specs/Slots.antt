@@ -1,5 +1,5 @@
--- The slots of a descriptor ring as a driver counts them, from its oldest one on ("3.2.6 Receive Descriptor Queue Structure", "3.4
--- Transmit Descriptor Ring Structure"). A slot is told by the address of its descriptor.
+-- The slots of a descriptor ring as a driver counts them, from its oldest one on ("3.2.6 Receive Descriptor Queue
+-- Structure", "3.4 Transmit Descriptor Ring Structure"). A slot is named by the address of its descriptor.
 use Rattle.std.specs.Prelude.{◌≡◌, ◌<◌, ◌⊎◌, ◌++◌, ℕ, Bool, false, List, [], ◌∷◌, All, Option, None, Some, map, slice_index, take_while}
 use Rattle.dma_memory.specs.HostMemory.{bytes_at}
 use Rattle.registers.specs.Bits.{is_set}
@@ -26,8 +26,8 @@ is_done memory descriptor = is_set (slice_index (bytes_at memory descriptor 16) 
 abbrev pub done_slots : List ℕ → Ring → ℕ → List ℕ
 done_slots memory ring oldest = take_while (is_done memory) (outstanding ring oldest)
 
--- From the oldest slot on there are done ones, then those that the engine has taken, then those that it is offered, and no done one among
--- these two. A ring without slots has none outstanding.
+-- From the oldest slot on there are finished slots, then those that the engine has taken, then those that it is
+-- offered. None of the latter two is done. A ring without slots has none outstanding.
 pub record IsDealt (memory : List ℕ) (ring : Ring) (oldest : ℕ) (taken : List ℕ) : Type 0 where
   -- The oldest slot is a slot of the ring, or no slot is outstanding.
   pub slot : (oldest < count_of ring) ⊎ (outstanding ring oldest ≡ [])

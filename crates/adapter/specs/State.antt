@@ -45,9 +45,9 @@ pub record AdapterState : Type 0 where
   pub transmitted_packets : ℕ
   -- RNBC
   pub no_receive_buffers : ℕ
-  -- the receive packet buffer, the piece in progress, and whether a fault has stopped the engine
+  -- the receive packet buffer, the piece in progress, and whether a fault has stopped `RxData`
   pub receiver : Receiver
-  -- the transmit packet buffer, and whether a fault has stopped the engine
+  -- the transmit packet buffer, and whether a fault has stopped `TxTake`
   pub transmitter : Transmitter
 
 -- the sizes of the filter's tables
@@ -61,7 +61,7 @@ pub record HasTables (ral rah mta vfta : List ℕ) : Type 0 where
   -- VFTA has 128 words.
   pub vfta_words : length vfta ≡ 128
 
--- no counter is above the greatest value of one
+-- each counter fits into 32 bits
 pub record CountersFit (mpc gprc gptc rnbc : ℕ) : Type 0 where
   -- MPC fits into 32 bits.
   pub missed : mpc ≤ greatest_count
@@ -72,7 +72,7 @@ pub record CountersFit (mpc gprc gptc rnbc : ℕ) : Type 0 where
   -- RNBC fits into 32 bits.
   pub no_buffers : rnbc ≤ greatest_count
 
--- causes alone are recorded, and in the mask
+-- only interrupt causes are recorded, and only causes are in the mask
 pub record CausesAlone (recorded mask : ℕ) : Type 0 where
   -- ICR contains only interrupt causes.
   pub recorded_causes : IsSubset recorded all_causes

@@ -43,7 +43,7 @@ ticked has_work = if has_work then DidTick else Nothing
 
 -- Each kind of step.
 
--- what the answer of a step says of the adapter and the memory before it
+-- which outcome a step has, by the adapter and the memory before it
 abbrev pub Answers : StepKind → Bool → List ℕ → AdapterState → FrameOutcome → Type 0
 Answers TxTake wire_free memory state answer = TakeAnswers memory state answer
 Answers TxPut wire_free memory state answer = PutAnswers wire_free state answer
@@ -58,7 +58,7 @@ TellsWork kind works state =
     (wire_free : Bool) (memory : List ℕ) (answer : FrameOutcome) → Answers kind wire_free memory state answer
     → IsTrue works ↔ (answer ≢ Nothing)
 
--- the adapter after a step with this answer on this memory
+-- the adapter after a step with this outcome on this memory
 abbrev pub after_step : StepKind → FrameOutcome → List ℕ → AdapterState → AdapterState
 after_step TxTake answer memory state = after_take answer memory state
 after_step TxPut answer memory state = after_put answer state
@@ -67,7 +67,7 @@ after_step RxDone answer memory state = after_done answer state
 after_step EepromTick answer memory state = after_eeprom_tick state
 after_step PhyTick answer memory state = after_phy_tick state
 
--- the memory after a step with this answer
+-- the memory after a step with this outcome
 abbrev pub memory_after_step : StepKind → FrameOutcome → List ℕ → AdapterState → List ℕ
 memory_after_step TxTake answer memory state = memory
 memory_after_step TxPut answer memory state = memory_after_put answer memory state
@@ -76,7 +76,7 @@ memory_after_step RxDone answer memory state = memory_after_done_step memory sta
 memory_after_step EepromTick answer memory state = memory
 memory_after_step PhyTick answer memory state = memory
 
--- Of memory a step changes at most this.
+-- The bytes that each kind of step may change in memory; all others stay.
 abbrev pub ChangesAtMost : StepKind → AdapterState → List ℕ → List ℕ → Type 0
 ChangesAtMost TxTake state memory memory' = memory' ≡ memory
 ChangesAtMost TxPut state memory memory' = PutChangesOnly state memory memory'

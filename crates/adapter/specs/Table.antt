@@ -1,5 +1,6 @@
--- The table of registers (chapter 13 "Register Descriptions"): where each stands, what a write keeps, and what it reads after a reset.
--- PBA's reset value is the manual's. The other reset values, and the kept bits where the manual has more, are own.
+-- The table of registers (chapter 13 "Register Descriptions"): the offset of each, what a write keeps, and what it
+-- reads after a reset. PBA's reset value is the manual's. The other reset values, and the kept bits where the manual
+-- has more, are own.
 use Rattle.std.specs.Prelude.{◌≡◌, ◌+◌, ◌-◌, ◌*◌, ◌/◌, ◌%◌, ◌<◌, ◌==◌, ◌&&◌, ℕ, List, [], ◌∷◌, Option, Some, None, find, nat_lt, nat_le}
 use Rattle.std.specs.Prelude.{slice_index, if◌then◌else◌}
 use Rattle.adapter.specs.declared.register.RingRegister.TheVariants.{BaseLow, BaseHigh, Length, Head, Tail}
@@ -15,7 +16,8 @@ use Rattle.rx_engine.specs.Registers.{address_high_mask}
 pub record Row : Type 0 where
   -- the offset in bytes
   pub offset : ℕ
-  -- the bits that a write changes and a read shows, where these alone are the rule; else the register has a rule of its own
+  -- the bits that a write changes and a read shows, if these alone are the rule; else the register has a rule of its
+  -- own
   pub kept : Option ℕ
   -- what it reads after a reset, by the words of the EEPROM
   pub reset : List ℕ → ℕ
@@ -74,7 +76,7 @@ row_of (Ral entry) = record { offset = 0x5400 + 8 * entry; kept = Some 0xFFFFFFF
 row_of (Rah entry) = record { offset = 0x5404 + 8 * entry; kept = Some address_high_mask; reset = address_high_at_reset entry }
 row_of (Vfta word) = plain (0x5600 + 4 * word) 0xFFFFFFFF 0
 
--- which numbers the arrays have
+-- the register exists: its number is one that its array has
 abbrev pub IsInTable : Register → Type 0
 IsInTable (Mta word) = word < 128
 IsInTable (Ral entry) = entry < 16
@@ -82,7 +84,7 @@ IsInTable (Rah entry) = entry < 16
 IsInTable (Vfta word) = word < 128
 IsInTable register = Unit {0}
 
--- the register stands at this offset
+-- the register is at this offset
 pub record StandsAt (offset : ℕ) (register : Register) : Type 0 where
   -- Its number is one that its array has.
   pub in_table : IsInTable register
@@ -104,7 +106,7 @@ array_register first count step register offset =
     then Some (register ((offset - first) / step))
     else None
 
--- the first that is there
+-- the first register, if there is one, else the second
 abbrev pub or_else : Option Register → Option Register → Option Register
 or_else (Some register) other = Some register
 or_else None other = other

@@ -95,7 +95,7 @@ offset-below (Rah entry) within = omega arith
 offset-below (Vfta word) within = omega arith
 offset-below _ within = omega arith
 
--- the first that is there is one of the two
+-- `or_else` is one of the two
 or_else-cases : (first second : Option Register) (register : Register) → or_else first second ≡ Some register
     → (first ≡ Some register) ⊎ (second ≡ Some register)
 or_else-cases (Some register') second register found = inl found
@@ -106,7 +106,7 @@ abbrev AllInTable : List Register → Type 0
 AllInTable [] = Unit {0}
 AllInTable (register ∷ others) = IsInTable register × AllInTable others
 
--- a register that a search by offset finds stands there
+-- a register that a search by offset finds is at this offset
 found_stands : (offset : ℕ) (registers : List Register) (register : Register)
     → AllInTable registers → find (λ r. (row_of r).offset == offset) registers ≡ Some register → StandsAt offset register
 found_stands offset [] register all found = cc
@@ -121,7 +121,7 @@ found_stands offset (first ∷ others) register all found =
         subst (λ (r : Register). StandsAt offset r) same (record { in_table = all.0; there = equal refl })
     by_test false equal later is = later is
 
--- a register of an array stands there
+-- a register of an array is at this offset
 array_stands : (first count step : ℕ) (word : ℕ → Register) (offset : ℕ) (register : Register)
     → ((n : ℕ) → n < count → StandsAt (first + step * n) (word n))
     → ((distance : ℕ) → distance % step ≡ 0 → step * (distance / step) ≡ distance)
@@ -169,7 +169,7 @@ register_at-only offset register found =
 pub offsets_by_table : OffsetsByTable
 offsets_by_table = record { there = register_at-there; only = register_at-only; multiple_of_four = offset-multiple; below = offset-below }
 
--- an access where a register stands is one of that register
+-- an access at the offset of a register is one of that register
 pub accesses_by_offset : AccessesByOffset
 accesses_by_offset offset register state stands =
     let found : register_at offset
@@ -180,7 +180,7 @@ accesses_by_offset offset register state stands =
       written = λ value. ap (λ (found : Option Register). left_by_write found value state) found;
     }
 
--- where no register stands, none is found
+-- if no register is at the offset, none is found
 none_found : (offset : ℕ) → ((register : Register) → ¬ (StandsAt offset register)) → register_at offset ≡ None
 none_found offset none = by_case (register_at offset) (λ register found. none register (register_at-only offset register found))
   where

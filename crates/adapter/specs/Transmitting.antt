@@ -22,7 +22,7 @@ HasNothingToTake state = IsIdle state.transmit_control state.transmitter (ring_o
 abbrev pub CanTake : List ℕ → AdapterState → Type 0
 CanTake memory state = IsFetchable memory (ring_of state.transmit_ring)
 
--- what each answer of a step that takes says of the adapter and the memory before it
+-- which outcome a step that takes has, by the adapter and the memory before it
 abbrev pub TakeAnswers : List ℕ → AdapterState → FrameOutcome → Type 0
 TakeAnswers memory state Nothing = HasNothingToTake state
 TakeAnswers memory state Fault = (¬ (HasNothingToTake state)) × (¬ (CanTake memory state))
@@ -37,8 +37,8 @@ moved_on ring = record ring { head = next_of (ring_of ring) ring.head }
 abbrev pub causes_of_taking : RingRegisters → ℕ
 causes_of_taking ring = if (moved_on ring).head == ring.tail then alone txqe else 0
 
--- The adapter after a step that takes: the frame is the last one in the packet buffer, and TDH is the next descriptor. A fault stops the
--- engine.
+-- The adapter after a step that takes, with this outcome: after `Took` the frame is the last one in the packet buffer, and TDH has moved
+-- on; a fault stops the step.
 abbrev pub after_take : FrameOutcome → List ℕ → AdapterState → AdapterState
 after_take Took memory state =
     with_causes (causes_of_taking state.transmit_ring) (record state {
@@ -58,14 +58,15 @@ abbrev pub IsOldest : List Queued → List ℕ → Type 0
 IsOldest [] frame = ⊥
 IsOldest (queued ∷ later) frame = queued.frame ≡ frame
 
--- what each answer of a step that puts says
+-- which outcome a step that puts has, by the adapter before it
 abbrev pub PutAnswers : Bool → AdapterState → FrameOutcome → Type 0
 PutAnswers wire_free state Nothing = state.transmitter.buffer ≡ []
 PutAnswers wire_free state WireFull = (state.transmitter.buffer ≢ []) × (wire_free ≡ false)
 PutAnswers wire_free state (Put frame) = (wire_free ≡ true) × IsOldest state.transmitter.buffer frame
 PutAnswers wire_free state _ = ⊥
 
--- TXDW, bit 0, where the descriptor of the oldest frame asks for a report (13.4.17; that it waits until the frame is on the wire is own)
+-- the causes that a step that puts records: TXDW, bit 0, if the descriptor of the oldest frame asks for a report
+-- (13.4.17; that it waits until the frame is on the wire is our choice)
 abbrev pub causes_of_putting : List Queued → ℕ
 causes_of_putting [] = 0
 causes_of_putting (queued ∷ later) = if queued.report then alone txdw else 0
@@ -88,7 +89,7 @@ abbrev pub reported : List Queued → List ℕ → List ℕ
 reported [] memory = memory
 reported (queued ∷ later) memory = written_back memory queued
 
--- The status byte of the descriptor of the frame put has DD alone where it asks for a report.
+-- The memory after a step that puts: the status byte of the frame's descriptor has DD alone if it asks for a report.
 abbrev pub memory_after_put : FrameOutcome → List ℕ → AdapterState → List ℕ
 memory_after_put (Put frame) memory state = reported state.transmitter.buffer memory
 memory_after_put _ memory state = memory

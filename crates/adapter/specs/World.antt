@@ -21,14 +21,14 @@ receive_ring world = ring_of world.adapter.receive_ring
 abbrev pub transmit_ring : World → Ring
 transmit_ring world = ring_of world.adapter.transmit_ring
 
--- what a register read leaves, by its offset
+-- the world after a register read, by the register's offset
 abbrev pub world_after_read : ℕ → World → World
 world_after_read offset world = record world { adapter = after_read offset world.adapter }
 
--- what a register write leaves
+-- the world after a register write, by the register's offset
 abbrev pub world_after_write : ℕ → ℕ → World → World
 world_after_write offset value world = record world { adapter = after_write offset value world.adapter }
 
--- what a store to memory leaves
+-- the world after a store to memory
 abbrev pub world_after_store : ℕ → List ℕ → World → World
 world_after_store address bytes world = record world { memory = with_bytes world.memory address bytes }

@@ -30,7 +30,7 @@ const VLAN_TYPE_BITS: u32 = 0xFFFF;
 /// A contract sees it as an `AdapterState`, plain data that `specs/State.antt` lists. Each register access has
 /// the effect that the table in [`offsets`](crate::offsets) gives. The adapter does all other work in steps:
 /// one call of [`step`](Adapter::step) is one step.
-#[derive(Clone, Drop)]
+#[derive(Drop)]
 pub struct Adapter {
     image: Image,
     phy: Phy,
@@ -50,6 +50,26 @@ impl Model for Adapter {
     ghost view = { state_of };
 
     ghost invariant = { IsConsistent };
+}
+
+impl Clone for Adapter {
+    ghost is_clone = { λ adapter copy. copy ≡ adapter };
+
+    /// An adapter in the same state.
+    ///
+    /// # Errors
+    ///
+    /// If memory is refused.
+    fn clone(&self) -> Result<Adapter, AllocError> {
+        Ok(Adapter {
+            image: self.image,
+            phy: self.phy,
+            packet_buffer: self.packet_buffer,
+            file: self.file.clone()?,
+            receiver: self.receiver.clone()?,
+            transmitter: self.transmitter.clone()?,
+        })
+    }
 }
 
 impl Adapter {
@@ -156,17 +176,19 @@ impl Adapter {
     }
 
     /// Performs one step of the adapter on its host's memory. `wire_free` means that the wire has room for a frame.
-    /// If the outcome is `Nothing`, the adapter and the memory are unchanged. A fault stops the engine until a reset,
-    /// and changes neither memory nor the head or tail of a ring (our choice).
+    /// If the outcome is `Nothing`, the adapter and the memory are unchanged.
+    ///
+    /// After a `Fault`, steps of this kind return `Nothing` until a write of CTRL with RST; other steps and arrivals
+    /// aren't affected. A fault changes neither memory nor a register of a ring (our choice).
     ///
     /// Of memory a step changes at most the buffer that the receive descriptor at RDH names
     /// ([`RxData`](StepKind::RxData)), bytes 8 to 15 of the descriptor of the piece in progress
     /// ([`RxDone`](StepKind::RxDone)), and byte 12 of the descriptor of the frame that is put on the wire
     /// ([`TxPut`](StepKind::TxPut)).
     ///
-    /// Memory must have the same size in each step. So a descriptor that the adapter writes back is within memory, as
-    /// it was when the adapter read it. In a smaller memory, `RxDone` writes nothing if the descriptor isn't within
-    /// memory, and `TxPut` writes nothing if byte 12 of the descriptor isn't.
+    /// If memory has the same size in each step, a descriptor that is written back is within memory. In a smaller
+    /// memory, `RxDone` writes nothing if the descriptor isn't within memory, and `TxPut` writes nothing if byte 12 of
+    /// the descriptor isn't.
     #[inline(always)]
     pub fn step(&mut self, kind: StepKind, memory: &mut HostMemory, wire_free: bool) -> Outcome<()>
         ensures answer { Answers kind wire_free memory.old self.old (framed result self.old) }

@@ -18,7 +18,7 @@ use bitflags::Flags;
 use descriptors::{Frame, RX_DESC_BYTES, Ring, RxDesc, RxStatus};
 use dma_memory::HostMemory;
 
-/// The next piece joins the frame that is begun. If it's the last one, the frame is the last one in the list.
+/// The next piece is added to the frame that is begun. If it is the last one, the frame is added to the list.
 pub(crate) fn append_piece(
     bytes: &[u8],
     ends: bool,
@@ -93,8 +93,8 @@ fn finished_piece<'a>(memory: &'a HostMemory, ring: &Ring, place: u16) -> Option
     Some((piece, shows_end(&desc)))
 }
 
-/// Appends the frames that end in the finished slots of a ring, from the oldest one on, and leaves what is begun after
-/// the last end.
+/// Appends the frames that end in the finished slots of a ring, from the oldest one on, and leaves in `begun` the bytes
+/// after the last end.
 pub(crate) fn append_finished(
     memory: &HostMemory,
     ring: &Ring,

@@ -28,8 +28,8 @@ pub enum Outcome<F> {
     Ticked,
     /// There was nothing to do. Nothing changed.
     Nothing,
-    /// A ring, a descriptor or its data couldn't be used. The engine is stopped until a reset. Memory and the indices
-    /// of the rings are unchanged.
+    /// A ring, a descriptor or the memory that it names couldn't be used, or RCTL.BSEX is set. Memory and the registers
+    /// of the rings are unchanged. Steps of this kind return `Nothing` until a write of CTRL with RST.
     Fault,
 }
 

@@ -13,9 +13,10 @@ const WHOLE_KILOBYTES: u32 = 64;
 /// RXA after power-on.
 const DEFAULT_KILOBYTES: u32 = 48;
 
-/// The least and the greatest RXA.
+/// The least RXA.
 const LEAST_KILOBYTES: u32 = 2;
 
+/// The greatest RXA.
 const MOST_KILOBYTES: u32 = 48;
 
 /// RXA, bits 15:0 of PBA.
@@ -59,8 +60,7 @@ impl PacketBufferAllocation {
         }
     }
 
-    /// A write of PBA: RXA is set where it is an even number from 2 to 48; any other write is
-    /// ignored (our choice).
+    /// A write of PBA: RXA is set if it is an even number from 2 to 48; any other write is ignored (our choice).
     pub(crate) fn write(&mut self, value: u32)
         ensures { self.new ≡ allocation_written value self.old }
     {

@@ -3,7 +3,8 @@
 ghost use Rattle.std.specs.Prelude.{◌≡◌, length, if◌then◌else◌};
 ghost use Rattle.registers.specs.Bits.{IsSubset};
 ghost use Rattle.registers.specs.Kept.{all_causes};
-ghost use Rattle.registers.specs.Places.{alone, rxdmt0, rxt0};
+ghost use Rattle.registers.specs.Places.{alone, rxt0};
+ghost use Rattle.adapter.specs.DataOutcomes.{causes_of_answer, outcome_of};
 ghost use Rattle.adapter.specs.Outcomes.{framed};
 ghost use Rattle.adapter.specs.State.{IsAdapter};
 ghost use Rattle.adapter.specs.Receiving.{DataAnswers, DataChangesOnly, DoneAnswers, DoneChangesOnly, IsFate};
@@ -23,7 +24,8 @@ impl Adapter {
     /// filter and the room that PBA gives the packet buffer.
     ///
     /// A frame that is missed is counted by MPC and records RXO. One that is stored or missed while RDH
-    /// equals RDT is counted by RNBC (our choice).
+    /// equals RDT is counted by RNBC (our choice). If a write of PBA makes the packet buffer smaller, the
+    /// frames in it stay, and each frame that comes is missed until it has room.
     pub fn arrive(&mut self, frame: &[u8]) -> Fate
         ensures fate { IsFate self.old frame.now result }
         ensures state { self.new ≡ after_arrive result frame.now self.old }
@@ -55,20 +57,10 @@ impl Adapter {
     {
         let file = &mut self.file;
         let mut ring = file.receive_ring.ring();
-        match rx_data(&mut self.receiver, &mut ring, file.filter.rctl(), memory) {
-            Data::Nothing => Outcome::Nothing,
-            Data::Fault => Outcome::Fault,
-            Data::Part { low } => {
-                file.receive_ring.head = ring.head;
-                file.causes.raise(causes_of_moving(low));
-                Outcome::Part
-            }
-            Data::Moved { low } => {
-                file.receive_ring.head = ring.head;
-                file.causes.raise(causes_of_moving(low));
-                Outcome::Moved
-            }
-        }
+        let answer = rx_data(&mut self.receiver, &mut ring, file.filter.rctl(), memory);
+        file.receive_ring.head = ring.head;
+        file.causes.raise(causes_of_answer(answer));
+        outcome_of(answer)
     }
 
     /// Writes the descriptor of the piece in progress back. If it is the last piece of its frame, RXT0 is recorded, and
@@ -95,12 +87,27 @@ impl Adapter {
     }
 }
 
-/// The causes that a moved piece records: RXDMT0 if the free descriptors have become half the ring.
-fn causes_of_moving(low: bool) -> Cause
-    ensures causes { result.0 ≡ (if low then alone rxdmt0 else 0) }
-    ensures alone { IsSubset result.0 all_causes }
+/// The outcome of a data step with this answer of the engine.
+fn outcome_of(answer: Data) -> Outcome<()>
+    ensures { result ≡ outcome_of answer }
 {
-    if low { Cause::RXDMT0 } else { Cause::empty() }
+    match answer {
+        Data::Nothing => Outcome::Nothing,
+        Data::Part { .. } => Outcome::Part,
+        Data::Moved { .. } => Outcome::Moved,
+        Data::Fault => Outcome::Fault,
+    }
+}
+
+/// The causes that a data step with this answer of the engine records: RXDMT0 if the free descriptors have become half
+/// the ring.
+fn causes_of_answer(answer: Data) -> Cause
+    ensures { result.0 ≡ causes_of_answer answer }
+{
+    match answer {
+        Data::Part { low: true } | Data::Moved { low: true } => Cause::RXDMT0,
+        _ => Cause::empty(),
+    }
 }
 
 /// The causes that a write-back records: RXT0 if its frame ends.

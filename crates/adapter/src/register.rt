@@ -1,4 +1,4 @@
-// Which register stands at an offset.
+// Which register is at an offset.
 
 ghost use Rattle.std.specs.Prelude.{◌≡◌, ◌≢◌, ◌<◌, ◌/◌, ◌%◌, IfSome};
 

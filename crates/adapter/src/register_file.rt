@@ -12,6 +12,7 @@ use eeprom::{Eerd, Image};
 use mdic_phy::Mdic;
 use registers::{Causes, Counter, Ctrl, Tctl};
 use rx_engine::{Filter, VLAN_TYPE};
+use std::alloc::AllocError;
 use std::hash::Hasher;
 
 /// The bits of a word of the EEPROM.
@@ -21,7 +22,7 @@ const WORD_BITS: u32 = 16;
 const ADDRESS_VALID: u32 = 1 << 31;
 
 /// The registers that a reset sets, all but PBA and those of the PHY. The filter has RCTL and VET, too.
-#[derive(Clone, Drop)]
+#[derive(Drop)]
 pub(crate) struct RegisterFile {
     pub(crate) ctrl: Ctrl,
     pub(crate) eerd: Eerd,
@@ -35,6 +36,32 @@ pub(crate) struct RegisterFile {
     pub(crate) gptc: Counter,
     pub(crate) rnbc: Counter,
     pub(crate) filter: Filter,
+}
+
+impl Clone for RegisterFile {
+    ghost is_clone = { λ file copy. copy ≡ file };
+
+    /// The same registers.
+    ///
+    /// # Errors
+    ///
+    /// None: no memory is taken.
+    fn clone(&self) -> Result<RegisterFile, AllocError> {
+        Ok(RegisterFile {
+            ctrl: self.ctrl,
+            eerd: self.eerd,
+            mdic: self.mdic,
+            causes: self.causes,
+            tctl: self.tctl,
+            receive_ring: self.receive_ring,
+            transmit_ring: self.transmit_ring,
+            mpc: self.mpc,
+            gprc: self.gprc,
+            gptc: self.gptc,
+            rnbc: self.rnbc,
+            filter: self.filter.clone()?,
+        })
+    }
 }
 
 impl RegisterFile {
@@ -62,8 +89,7 @@ impl RegisterFile {
         }
     }
 
-    /// A frame that gets as far as the packet buffer is counted by RNBC where there is no receive
-    /// descriptor for it.
+    /// Counts a frame that reaches the packet buffer by RNBC, if there is no receive descriptor for it.
     pub(crate) fn count_no_buffers(&mut self)
         ensures { self.new ≡ record self.old {
           rnbc = (if self.old.receive_ring.head == self.old.receive_ring.tail then one_more self.old.rnbc

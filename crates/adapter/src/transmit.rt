@@ -68,8 +68,8 @@ impl Adapter {
         Outcome::Put(())
     }
 
-    /// Drops the oldest frame of a packet buffer that isn't empty, once it is on the wire: it is counted, and
-    /// reported where its descriptor asks for that.
+    /// Drops the oldest frame of a packet buffer that isn't empty, once it is on the wire: it is counted, and reported
+    /// if its descriptor asks for that.
     fn drop_put_frame(&mut self, memory: &mut HostMemory)
         requires { self.old.transmitter.buffer ≢ [] }
         ensures state { self.new ≡ without_oldest self.old }
@@ -84,7 +84,7 @@ impl Adapter {
     }
 }
 
-/// The causes that a taken frame records: TXQE where head has become tail.
+/// The causes that a taken frame records: TXQE if head has become tail.
 fn causes_of_taking(emptied: bool) -> Cause
     ensures causes { result.0 ≡ (if emptied then alone txqe else 0) }
     ensures alone { IsSubset result.0 all_causes }
@@ -92,8 +92,8 @@ fn causes_of_taking(emptied: bool) -> Cause
     if emptied { Cause::TXQE } else { Cause::empty() }
 }
 
-/// Puts the oldest frame of a packet buffer that isn't empty onto the wire, and tells the causes that this records:
-/// TXDW where its descriptor asks for a report.
+/// Puts the oldest frame of a packet buffer that isn't empty onto the wire, and returns the causes that this records:
+/// TXDW if its descriptor asks for a report.
 fn put_oldest(engine: &mut TxEngine, memory: &mut HostMemory) -> Cause
     requires { engine.old.buffer ≢ [] }
     ensures causes { result.0 ≡ causes_of_putting engine.old.buffer }

@@ -1,4 +1,4 @@
-//! Calls that take no memory, as what they need was made before. They succeed, even if every allocation after that fails.
+//! Calls that take no memory, as what they need was made before. They succeed, even if every later allocation fails.
 
 use adapter::offsets::{GPRC, GPTC, RCTL, RDLEN, RDT, TCTL, TDBAL, TDLEN, TDT};
 use adapter::{Adapter, Fate, Outcome, StepKind};

@@ -24,7 +24,7 @@ fn the_code_of_the_readme_of_rx_engine(rt: HostRuntime) -> Result<(), Fail> {
         tail: 1,
     };
     let mut engine = RxEngine::new(rt.alloc())?;
-    // A broadcast frame arrives at a packet buffer of 48 kilobytes, and moves to memory. Its descriptor is written back.
+    // A broadcast frame arrives at a packet buffer of 48 KB, and moves to memory. Its descriptor is written back.
     let frame = [0xFF; 60];
     assert_eq!(rt; arrive(&mut engine, &filter, 49_152, &frame), Fate::Stored);
     let moved = rx_data(&mut engine, &mut ring, control, &mut memory);

@@ -1,4 +1,4 @@
--- What accesses of a driver leave as it is: the adapter, its engines, or the causes that it has recorded (our choice).
+-- What accesses of a driver don't change: the adapter, its engines, or the causes that it has recorded (our choice).
 use Rattle.std.specs.Prelude.{⊤, ◌≡◌, ◌≢◌, ℕ, false, Some, IfSome}
 use Rattle.adapter.specs.Registers.{is_reset}
 use Rattle.adapter.specs.Table.{register_at, row_of}
@@ -12,7 +12,7 @@ use Rattle.bus.specs.Trails.{world_after_access}
 
 -- Quiet accesses.
 
--- a read clears it: ICR and the counters
+-- a read of the register clears it: ICR and the counters
 abbrev pub IsClearedByRead : Register → Type 0
 IsClearedByRead Icr = ⊤
 IsClearedByRead Mpc = ⊤
@@ -37,73 +37,74 @@ IsStore (Writes offset value) = ⊥
 IsStore (Loads address size) = ⊥
 IsStore (Stores address bytes) = ⊤
 
--- A quiet access leaves the adapter,
+-- A quiet access doesn't change the adapter.
 abbrev pub QuietAccessesLeaveAdapters : Type 0
 QuietAccessesLeaveAdapters = (access : Access) (world : World) → IsQuiet access → (world_after_access access world).adapter ≡ world.adapter
 
--- and one that is no store leaves memory, too.
+-- A quiet access that is no store doesn't change memory.
 abbrev pub QuietAccessesLeaveWorlds : Type 0
 QuietAccessesLeaveWorlds = (access : Access) (world : World) → IsQuiet access → ¬ (IsStore access) → world_after_access access world ≡ world
 
 -- Writes.
 
--- a write of it moves the recorded causes: ICR and ICS
+-- a write of the register moves the recorded causes: ICR and ICS
 abbrev pub MovesCauses : Register → Type 0
 MovesCauses Icr = ⊤
 MovesCauses Ics = ⊤
 MovesCauses register = ⊥
 
--- a write of it moves their mask: IMS and IMC
+-- a write of the register moves the mask: IMS and IMC
 abbrev pub MovesMask : Register → Type 0
 MovesMask Ims = ⊤
 MovesMask Imc = ⊤
 MovesMask register = ⊥
 
--- a write of this word is no reset
+-- a write of this word to the register is no reset
 abbrev pub ResetsNothing : ℕ → Register → Type 0
 ResetsNothing value register = is_reset register value ≡ false
 
--- nor does it move the recorded causes
+-- a write of this word to the register is no reset, and doesn't move the recorded causes
 abbrev pub WriteLeavesCauses : ℕ → Register → Type 0
 WriteLeavesCauses value register = (¬ (MovesCauses register)) × ResetsNothing value register
 
--- nor their mask
+-- a write of this word to the register is no reset, and doesn't move the mask
 abbrev pub WriteLeavesMask : ℕ → Register → Type 0
 WriteLeavesMask value register = (¬ (MovesMask register)) × ResetsNothing value register
 
 -- Accesses.
 
--- it isn't a write of CTRL with RST
+-- the access isn't a write of CTRL with RST
 abbrev pub IsNoReset : Access → Type 0
 IsNoReset (Reads offset value) = ⊤
 IsNoReset (Writes offset value) = IfSome (register_at offset) (ResetsNothing value)
 IsNoReset (Loads address size) = ⊤
 IsNoReset (Stores address bytes) = ⊤
 
--- it is neither a read of ICR, nor a write of ICR or ICS, nor a reset
+-- the access is neither a read of ICR, nor a write of ICR or ICS, nor a reset
 abbrev pub LeavesCauses : Access → Type 0
 LeavesCauses (Reads offset value) = register_at offset ≢ Some Icr
 LeavesCauses (Writes offset value) = IfSome (register_at offset) (WriteLeavesCauses value)
 LeavesCauses (Loads address size) = ⊤
 LeavesCauses (Stores address bytes) = ⊤
 
--- it is neither a write of IMS or IMC, nor a reset
+-- the access is neither a write of IMS or IMC, nor a reset
 abbrev pub LeavesMask : Access → Type 0
 LeavesMask (Reads offset value) = ⊤
 LeavesMask (Writes offset value) = IfSome (register_at offset) (WriteLeavesMask value)
 LeavesMask (Loads address size) = ⊤
 LeavesMask (Stores address bytes) = ⊤
 
--- it does all three
+-- the access is no reset, and moves neither the recorded causes nor the mask
 pub record LeavesInterrupts (access : Access) : Type 0 where
   pub no_reset : IsNoReset access
   pub causes : LeavesCauses access
   pub mask : LeavesMask access
 
--- So do quiet accesses,
+-- Quiet accesses are no resets, and move neither the recorded causes nor the mask.
 abbrev pub QuietAccessesLeaveInterrupts : Type 0
 QuietAccessesLeaveInterrupts = (access : Access) → IsQuiet access → LeavesInterrupts access
 
--- and so do writes of a ring's registers, RDT and TDT among them.
+-- Writes of a ring's registers, RDT and TDT among them, are no resets, and move neither the recorded causes nor the
+-- mask.
 abbrev pub RingWritesLeaveInterrupts : Type 0
 RingWritesLeaveInterrupts = (register : Register) (value : ℕ) → IsOfRing register → LeavesInterrupts (Writes (row_of register).offset value)

@@ -16,23 +16,28 @@ use Rattle.bus.specs.declared.event.Access.{Access}
 use Rattle.bus.specs.declared.event.Access.TheVariants.{Loads, Reads, Stores, Writes}
 use Rattle.bus.specs.Trails.{world_after_access}
 
--- Its rings offer nothing, its engines hold no frame and no fault has stopped them, RCTL is 0, and MPC counts nothing.
+-- An adapter at rest: its rings offer nothing, its engines hold no frame, no fault has stopped them, and RCTL and MPC are 0.
 pub record IsAtRest (world : World) : Type 0 where
+  -- The rings offer nothing.
   pub rings : HasIdleRings world
+  -- The receive engine holds no frame, and no fault has stopped it.
   pub receiver : world.adapter.receiver ≡ new_receiver
+  -- The transmit engine holds no frame, and no fault has stopped it.
   pub transmitter : world.adapter.transmitter ≡ new_transmitter
+  -- RCTL is 0.
   pub control : world.adapter.filter.rctl ≡ 0
+  -- MPC is 0.
   pub none_missed : world.adapter.missed_packets ≡ 0
 
--- Then its rings are idle, and its engines can run.
+-- An adapter at rest has idle rings, and its engines can run.
 abbrev pub RestIsIdle : Type 0
 RestIsIdle = (world : World) → IsAtRest world → IsIdle world × CanRun world
 
--- So it is after a reset.
+-- After a reset an adapter is at rest.
 abbrev pub RestAfterReset : Type 0
 RestAfterReset = (world : World) → IsAtRest (record world { adapter = after_reset world.adapter })
 
--- No frame came or left, and none was missed.
+-- No frame was put on the wire, stored or missed.
 pub record NoFrame (past : Past) : Type 0 where
   -- no frame was put on the wire
   pub none_put : past.put ≡ []
@@ -41,7 +46,7 @@ pub record NoFrame (past : Past) : Type 0 where
   -- no frame was missed
   pub none_missed : past.missed ≡ 0
 
--- Whatever happens leaves it at rest, and no frame comes or leaves.
+-- Whatever happens to an adapter at rest leaves it at rest, and no frame is put on the wire, stored or missed.
 abbrev pub HappeningsKeepRest : Type 0
 HappeningsKeepRest = (a b : World) (past : Past) → Happens a b past → IsAdapter b.adapter → IsAtRest a → IsAtRest b × NoFrame past
 
@@ -52,14 +57,14 @@ IsElsewhere (Some (Receive part)) = ⊥
 IsElsewhere (Some (Transmit part)) = ⊥
 IsElsewhere _ = ⊤
 
--- any access but a write of these
+-- any access but a write of RCTL or of a register of a ring
 abbrev pub LeavesRest : Access → Type 0
 LeavesRest (Reads offset value) = ⊤
 LeavesRest (Writes offset value) = IsElsewhere (register_at offset)
 LeavesRest (Loads address size) = ⊤
 LeavesRest (Stores address bytes) = ⊤
 
--- Such an access, within memory, leaves it at rest.
+-- An access within memory, but no write of RCTL or of a register of a ring, leaves an adapter at rest.
 abbrev pub AccessesKeepRest : Type 0
 AccessesKeepRest =
     (access : Access) (world : World) → LeavesRest access → length (world_after_access access world).memory ≡ length world.memory

@@ -9,7 +9,7 @@ use Rattle.adapter.specs.World.{World}
 abbrev pub HappeningsJoin : Type 0
 HappeningsJoin = (a b c : World) (first later : Past) → Happens a b first → Happens b c later → Happens a c (joined first later)
 
--- Nothing at all may happen.
+-- It may be that nothing happens.
 abbrev pub NothingHappens : Type 0
 NothingHappens = (a : World) → Happens a a nothing
 

@@ -30,7 +30,7 @@ pub record IsDriversSlot (ring : Ring) (oldest slot : ℕ) : Type 0 where
   pub below : slot < count_of ring
   pub apart : All (λ other. other ≢ address_of ring slot) (outstanding ring oldest)
 
--- A slot of the one ring or the other that is the driver's stays so, and its descriptor stays.
+-- A slot of a ring that is the driver's stays the driver's, and its descriptor stays.
 pub record DriversSlotStays (ring : World → Ring) (oldest slot : ℕ) (a b : World) : Type 0 where
   pub own : IsDriversSlot (ring b) oldest slot
   pub bytes : bytes_in b.memory (descriptor_area (address_of (ring a) slot))
@@ -54,7 +54,7 @@ pub record KeepsAllButStatus (a b : World) (descriptor : ℕ) : Type 0 where
   pub fields : descriptor_at b.memory descriptor
       ≡ record (descriptor_at a.memory descriptor) { status = (descriptor_at b.memory descriptor).status }
 
--- Every transmit descriptor does.
+-- Every transmit descriptor keeps all but its status.
 abbrev pub RequestsStay : World → World → Type 0
 RequestsStay a b = (slot : ℕ) → slot < count_of (transmit_ring a) → KeepsAllButStatus a b (address_of (transmit_ring a) slot)
 
@@ -63,7 +63,7 @@ pub record SameOutstanding (oldest_receive oldest_transmit : ℕ) (a b : World) 
   pub received : outstanding (receive_ring b) oldest_receive ≡ outstanding (receive_ring a) oldest_receive
   pub sent : outstanding (transmit_ring b) oldest_transmit ≡ outstanding (transmit_ring a) oldest_transmit
 
--- Between two calls of a driver: what the law says where its conditions hold, these conditions among it; the same slots are outstanding;
+-- Between two calls of a driver: all that the law states hold, its conditions among it; the same slots are outstanding;
 -- and finished slots, written-back slots, the driver's own slots, and what it wrote into descriptors stay.
 pub record DriversSideStays (oldest_receive oldest_transmit : ℕ) (a b : World) (past : Past) : Type 0 where
   pub between : Between oldest_receive oldest_transmit a b past

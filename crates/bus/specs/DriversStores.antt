@@ -1,4 +1,4 @@
--- A driver's store to memory of its own leaves what the law speaks of.
+-- A driver's store to memory of its own doesn't change what the law is about.
 use Rattle.std.specs.Prelude.{◌≡◌, ◌≤◌, ℕ, List, All, length}
 use Rattle.dma_memory.specs.Areas.{AreApart, Area, descriptor_area}
 use Rattle.dma_memory.specs.HostMemory.{LiesIn}
@@ -32,7 +32,7 @@ pub record SameFrames (oldest_receive oldest_transmit : ℕ) (a b : World) : Typ
   pub fits : (size : ℕ) → (HasBit b.adapter.filter.rctl rctl_en → buffer_size b ≤ size)
       → FitBuffers size oldest_receive a → FitBuffers size oldest_receive b
 
--- And engines that could run still can.
+-- The frames are the same, and engines that could run still can.
 pub record LeavesFrames (oldest_receive oldest_transmit : ℕ) (a b : World) : Type 0 where
   pub same : SameFrames oldest_receive oldest_transmit a b
   pub runs : GoOn a b

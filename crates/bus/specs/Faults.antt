@@ -8,7 +8,7 @@ use Rattle.adapter.specs.Conditions.{Sound}
 use Rattle.adapter.specs.Running.{CanRun}
 use Rattle.adapter.specs.World.{World}
 
--- Where the conditions of the law hold and the engines can run, no answer of a step is a fault.
+-- If the conditions of the law hold and the engines can run, no answer of a step is a fault.
 abbrev pub FaultsNeverCome : Type 0
 FaultsNeverCome =
     (oldest_receive oldest_transmit : ℕ) (world : World) (kind : StepKind) (wire_free : Bool) (answer : FrameOutcome)

@@ -10,8 +10,8 @@ use Rattle.adapter.specs.World.{transmit_ring, World}
 abbrev pub behind_oldest_transmit : ℕ → World → ℕ
 behind_oldest_transmit oldest world = next_of (transmit_ring world) oldest
 
--- The slot stands at the driver's oldest place. With the next place as the oldest the conditions hold, and the slot is no longer
--- outstanding but the driver's. The frames to be sent don't depend on which slot is the oldest.
+-- The slot is at the driver's oldest place. With the next place as the oldest the conditions hold, and the slot is no
+-- longer outstanding but the driver's. The frames to be sent don't depend on which slot is the oldest.
 pub record Freed (oldest_receive oldest_transmit : ℕ) (world : World) (slot : ℕ) (later : List ℕ) : Type 0 where
   pub stands : slot ≡ address_of (transmit_ring world) oldest_transmit
   pub sound : Sound oldest_receive (behind_oldest_transmit oldest_transmit world) world

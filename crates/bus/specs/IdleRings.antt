@@ -24,35 +24,35 @@ pub record HasIdleRings (world : World) : Type 0 where
 abbrev pub moved_bytes : Receiver → List ℕ
 moved_bytes receiver = take receiver.moved (oldest receiver.buffer)
 
--- And no slot is taken: no piece is in progress, and no frame is in the transmit packet buffer. In the receive packet buffer frames may
--- wait, of which no byte is moved.
+-- The rings offer nothing and no slot is taken: no piece is in progress, and no frame is in the transmit packet buffer.
+-- In the receive packet buffer frames may wait, of which no byte is moved.
 pub record IsIdle (world : World) : Type 0 where
   pub work : world.adapter.receiver.work ≡ None
   pub unmoved : moved_bytes world.adapter.receiver ≡ []
   pub buffer : world.adapter.transmitter.buffer ≡ []
   pub rings : HasIdleRings world
 
--- Then the conditions of the law hold, with the tails as the driver's oldest slots.
+-- If an adapter is idle, the conditions of the law hold, with the tails as the driver's oldest slots.
 abbrev pub IdleRingsAreSound : Type 0
 IdleRingsAreSound = (world : World) → IsIdle world → Sound world.adapter.receive_ring.tail world.adapter.transmit_ring.tail world
 
--- So it is after power-on,
+-- An adapter is idle after power-on.
 abbrev pub IdleAfterPowerOn : Type 0
 IdleAfterPowerOn = (memory words : List ℕ) (link : Link) → IsIdle (record { memory = memory; adapter = new_adapter words link })
 
--- and after a reset.
+-- After a reset an adapter is idle, in a memory of any size.
 abbrev pub IdleAfterReset : Type 0
 IdleAfterReset = (world : World) → IsIdle (record world { adapter = after_reset world.adapter })
 
--- Whatever happens between two accesses leaves it so,
+-- Whatever happens between two accesses, an idle adapter stays idle.
 abbrev pub HappeningsKeepIdle : Type 0
 HappeningsKeepIdle = (a b : World) (past : Past) → Happens a b past → IsIdle a → IsIdle b
 
--- a read of any register,
+-- After a read of any register an idle adapter is idle.
 abbrev pub ReadsKeepIdle : Type 0
 ReadsKeepIdle = (offset : ℕ) (world : World) → IsIdle world → IsIdle (world_after_read offset world)
 
--- a store that leaves the size of memory,
+-- After a store that doesn't change the size of memory an idle adapter is idle.
 abbrev pub StoresKeepIdle : Type 0
 StoresKeepIdle =
     (address : ℕ) (bytes : List ℕ) (world : World)
@@ -65,13 +65,13 @@ IsOfRing (Receive part) = ⊤
 IsOfRing (Transmit part) = ⊤
 IsOfRing register = ⊥
 
--- a write of any register that isn't one of a ring, CTRL.RST among them,
+-- After a write of any register that isn't one of a ring, CTRL.RST among them, an idle adapter is idle.
 abbrev pub OtherWritesKeepIdle : Type 0
 OtherWritesKeepIdle =
     (register : Register) (value : ℕ) (world : World)
     → ¬ (IsOfRing register) → IsIdle world → IsIdle (record world { adapter = write_of register value world.adapter })
 
--- and a write of any register after which the rings are so.
+-- After a write of any register, an idle adapter is idle if its rings are.
 abbrev pub WritesKeepIdle : Type 0
 WritesKeepIdle =
     (offset value : ℕ) (world : World) → IsIdle world → HasIdleRings (world_after_write offset value world)

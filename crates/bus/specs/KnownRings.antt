@@ -7,7 +7,7 @@ use Rattle.adapter.specs.World.{World, world_after_write}
 use Rattle.bus.specs.Law.{Steady}
 use Rattle.bus.specs.PastOfStretch.{Past}
 
--- Whatever happens between two accesses, a driver that knows where the one ring or the other stands knows it still.
+-- Whatever happens between two accesses, what a driver knows of this ring still holds.
 abbrev pub KnownRingStays : (World → Ring) → Type 0
 KnownRingStays ring =
     (a b : World) (past : Past) (base count tail : ℕ) → Steady a b past → KnowsRing (ring a) base count tail

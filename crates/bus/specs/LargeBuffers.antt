@@ -6,7 +6,8 @@ use Rattle.adapter.specs.Conditions.{AreCut}
 use Rattle.adapter.specs.HostFrames.{pieces_in_slots}
 use Rattle.adapter.specs.World.{World}
 
--- Then each finished slot, and the one in progress, contains the last piece of its frame, which is the whole frame.
+-- If receive buffers have room for each legal frame, each finished slot, and the one in progress, contains the last
+-- piece of its frame, which is the whole frame.
 abbrev pub LargeBuffersTakeFrames : Type 0
 LargeBuffersTakeFrames =
     (size oldest_receive : ℕ) (world : World) → longest_frame ≤ size → AreCut size oldest_receive world

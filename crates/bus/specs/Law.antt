@@ -42,18 +42,18 @@ phy_ticked management =
 
 -- Registers that only a driver's accesses change.
 pub record RegistersStay (a b : AdapterState) : Type 0 where
-  -- IMS
+  -- IMS doesn't change.
   pub mask : b.causes.mask ≡ a.causes.mask
-  -- RAL, RAH, MTA, VFTA, RCTL and VET
+  -- RAL, RAH, MTA, VFTA, RCTL and VET don't change.
   pub filter : b.filter ≡ a.filter
-  -- CTRL
+  -- CTRL doesn't change.
   pub device_control : b.device_control ≡ a.device_control
-  -- TCTL
+  -- TCTL doesn't change.
   pub transmit_control : b.transmit_control ≡ a.transmit_control
-  -- PBA
+  -- PBA doesn't change.
   pub allocation : b.receive_kilobytes ≡ a.receive_kilobytes
 
--- The registers of a ring.
+-- Of the registers of a ring only the head moves.
 pub record OnlyHeadMoves (a b : RingRegisters) : Type 0 where
   -- Base, length and tail stay.
   pub others : b ≡ record a { head = b.head }
@@ -64,16 +64,16 @@ pub record OnlyHeadMoves (a b : RingRegisters) : Type 0 where
 pub record CountsArrivals (a b : World) (past : Past) : Type 0 where
   -- MPC grows by the number of missed frames, up to its greatest value, where it remains.
   pub missed : b.adapter.missed_packets ≡ max a.adapter.missed_packets (min (a.adapter.missed_packets + past.missed) greatest_count)
-  -- Where RCTL.EN is 0 no frame is stored or missed.
+  -- If RCTL.EN is 0 no frame is stored or missed.
   pub off : ¬ (HasBit a.adapter.filter.rctl rctl_en) → (past.stored ≡ []) × (past.missed ≡ 0)
   -- Each stored frame has 60 to 1,518 bytes.
   pub legal : All IsLegal past.stored
 
 -- What ticks alone change.
 pub record MovesByTicks (a b : World) (past : Past) : Type 0 where
-  -- EERD
+  -- EERD changes by ticks of the EEPROM alone.
   pub eerd : b.adapter.eerd ≡ iterate (eeprom.after_tick a.adapter.image) past.eeprom_ticks a.adapter.eerd
-  -- MDIC and the PHY
+  -- MDIC and the PHY change by ticks of the PHY alone.
   pub management : management_of b.adapter ≡ iterate phy_ticked past.phy_ticks (management_of a.adapter)
 
 -- What holds in every state, whatever the registers and the memory contain.
@@ -133,7 +133,7 @@ pub record Happens (a b : World) (past : Past) : Type 0 where
   pub between : (oldest_receive oldest_transmit : ℕ) → Sound oldest_receive oldest_transmit a
       → Between oldest_receive oldest_transmit a b past
 
--- ticks of both kinds fell
+-- at least one tick of the EEPROM and one of the PHY happened
 pub record HasTicks (past : Past) : Type 0 where
   pub eeprom : 1 ≤ past.eeprom_ticks
   pub phy : 1 ≤ past.phy_ticks
@@ -147,7 +147,7 @@ pub record BusView (B : Type 0) : Type 1 where
 abbrev pub view : {B : Type 0} → (B → World) → (B → B → Past → Type 0) → (B → Type 0) → BusView B
 view world happened lively = record { world = world; happened = happened; lively = lively }
 
--- One access of a driver over a bus: something happens, of which the bus tells by its own words, and then the access itself. A lively bus
+-- One access of a driver over a bus: something happens, which the bus reports, and then the access itself. A lively bus
 -- plays ticks before each.
 pub record Acts {B : Type 0} (bus : BusView B) (old new : B) (access : Access) (effect : World → World → Type 0) : Type 0 where
   -- where the access itself begins

@@ -24,23 +24,23 @@ IsNotOfPhy (Some Ctrl) = ⊥
 IsNotOfPhy (Some Mdic) = ⊥
 IsNotOfPhy _ = ⊤
 
--- the write is neither of CTRL nor of MDIC
+-- the write is neither one of CTRL nor one of MDIC
 abbrev pub LeavesPhy : Write → Type 0
 LeavesPhy write = IsNotOfPhy (register_at write.offset)
 
--- Where neither is written in an interval, a link that is up at its beginning is up at its end.
+-- If neither CTRL nor MDIC is written in an interval, a link that is up at its beginning is up at its end.
 abbrev pub KeepsLink : World → World → Past → Type 0
 KeepsLink a b past = All LeavesPhy (writes_in past.accesses) → HasLink a → HasLink b
 
--- So it is whatever happens between two accesses,
+-- Whatever happens between two accesses, a link that is up stays up.
 abbrev pub HappeningsKeepLink : Type 0
 HappeningsKeepLink = (a b : World) (past : Past) → Happens a b past → HasLink a → HasLink b
 
--- at each access but such a write,
+-- At an access that writes neither CTRL nor MDIC, a link that is up stays up.
 abbrev pub AccessesKeepLink : Type 0
 AccessesKeepLink =
     (access : Access) (world : World) → All LeavesPhy (writes_in (access ∷ [])) → HasLink world → HasLink (world_after_access access world)
 
--- and over two intervals, where it is over each.
+-- What holds of a link over each of two consecutive intervals holds over both together.
 abbrev pub LinkStretchesJoin : Type 0
 LinkStretchesJoin = (a b c : World) (first later : Past) → KeepsLink a b first → KeepsLink b c later → KeepsLink a c (joined first later)

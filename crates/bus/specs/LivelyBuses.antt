@@ -23,7 +23,7 @@ most_accesses = 2 ^ 64 - 1
 pub record IsSameMachine (a b : LivelyBus) : Type 0 where
   pub machine : b.machine.ghost_name ≡ a.machine.ghost_name
 
--- it is an access, or a step of the EEPROM or the PHY
+-- the event is an access, or a step of the EEPROM or the PHY
 abbrev pub IsQuietEvent : Event → Type 0
 IsQuietEvent (Steps EepromTick wire_free outcome) = ⊤
 IsQuietEvent (Steps PhyTick wire_free outcome) = ⊤

@@ -8,7 +8,7 @@ pub record Past : Type 0 where
   pub put : List (List ℕ)
   -- the frames from the wire that its packet buffer stored
   pub stored : List (List ℕ)
-  -- how many it missed
+  -- the number of frames that it missed
   pub missed : ℕ
   -- The number of ticks of the EEPROM.
   pub eeprom_ticks : ℕ

@@ -33,7 +33,8 @@ abbrev pub with_tail : ℕ → World → World
 with_tail index world = record world
     { adapter = record world.adapter { receive_ring = record world.adapter.receive_ring { tail = index } } }
 
--- RDT moved on by so many, in one write: the conditions hold again, these slots are the last that are outstanding, and frames are the same.
+-- RDT is moved on by k slots in one write: the conditions hold again, these slots are the last that are outstanding,
+-- and frames are the same.
 pub record OfferedMany (oldest_receive oldest_transmit k : ℕ) (a b : World) : Type 0 where
   pub same : SameFrames oldest_receive oldest_transmit a b
   pub runs : GoOn a b
@@ -62,7 +63,7 @@ pub record ReceiverSet (oldest_receive oldest_transmit : ℕ) (a b : World) : Ty
   pub same : SameFrames oldest_receive oldest_transmit a b
   pub runs : ¬ (HasBit b.adapter.filter.rctl rctl_bsex) → GoOn a b
 
--- RCTL may be written where the rings, the frames and the buffers that then count are apart, in memory.
+-- RCTL may be written if the rings, the frames and the buffers that then count are in memory, apart from one another.
 abbrev pub ReceiverCanBeSet : Type 0
 ReceiverCanBeSet =
     (oldest_receive oldest_transmit control : ℕ) (world : World) → Sound oldest_receive oldest_transmit world
@@ -73,7 +74,7 @@ ReceiverCanBeSet =
 abbrev pub with_transmit_control : ℕ → World → World
 with_transmit_control control world = record world { adapter = record world.adapter { transmit_control = control } }
 
--- TCTL may be written where PSP is set, or TDH is TDT.
+-- TCTL may be written if PSP is set, or TDH is TDT.
 abbrev pub TransmitterCanBeSet : Type 0
 TransmitterCanBeSet =
     (oldest_receive oldest_transmit control : ℕ) (world : World) → Sound oldest_receive oldest_transmit world
@@ -96,7 +97,8 @@ pub record TransmitRingSet (oldest_receive : ℕ) (a b : World) : Type 0 where
   pub fits : (size : ℕ) → FitBuffers size oldest_receive a → FitBuffers size oldest_receive b
   pub runs : GoOn a b
 
--- While no frame is in the transmit packet buffer the transmit ring may be set up, with TDH equal to TDT, where it is apart from all else.
+-- While no frame is in the transmit packet buffer the transmit ring may be set up, with TDH equal to TDT, if it is
+-- apart from all else.
 abbrev pub TransmitRingCanBeSet : Type 0
 TransmitRingCanBeSet =
     (oldest_receive oldest_transmit : ℕ) (ring : RingRegisters) (world : World) → Sound oldest_receive oldest_transmit world
@@ -114,14 +116,15 @@ IsOfConditions (Receive part) = ⊤
 IsOfConditions (Transmit part) = ⊤
 IsOfConditions register = ⊥
 
--- A write of any other register leaves the conditions, slots and frames, a reset apart,
+-- A write of a register that the conditions don't read, except for a reset, changes neither the conditions nor slots
+-- nor frames.
 abbrev pub OtherWritesLeaveFrames : Type 0
 OtherWritesLeaveFrames =
     (oldest_receive oldest_transmit : ℕ) (register : Register) (value : ℕ) (world : World)
     → Sound oldest_receive oldest_transmit world → ¬ (IsOfConditions register) → is_reset register value ≡ false
     → LeavesFrames oldest_receive oldest_transmit world (record world { adapter = write_of register value world.adapter })
 
--- and so does a read of any register.
+-- A read of any register changes neither the conditions nor slots nor frames.
 abbrev pub ReadsLeaveFrames : Type 0
 ReadsLeaveFrames =
     (oldest_receive oldest_transmit offset : ℕ) (world : World)

@@ -35,10 +35,10 @@ pub record IsCutRun (size oldest_receive : ℕ) (world : World) (run : List ℕ)
 pub record RunBecomesDrivers (oldest_receive : ℕ) (world : World) (run : List ℕ) : Type 0 where
   -- The slots follow one another in the ring, from the oldest one on.
   pub stand : run ≡ map (address_of (receive_ring world)) (places_of_run oldest_receive run world)
-  -- They are no longer outstanding,
+  -- They are no longer outstanding.
   pub first : outstanding (receive_ring world) oldest_receive
       ≡ run ++ outstanding (receive_ring world) (after_run oldest_receive run world)
-  -- but the driver's.
+  -- They are the driver's.
   pub own : All (IsDriversSlot (receive_ring world) (after_run oldest_receive run world)) (places_of_run oldest_receive run world)
   -- Their bytes aren't the adapter's to write.
   pub foreign : All (λ slot. IsForeign world (named world.memory slot)) run
@@ -48,9 +48,9 @@ pub record RunContainsFrame (oldest_receive : ℕ) (world : World) (run : List �
   -- the bytes that each slot names, and how many its descriptor says they are
   pub bytes : map (frame_named world) run ≡ seen ++ last ∷ []
   pub sizes : map (λ slot. (descriptor_at world.memory slot).length) run ≡ map length (seen ++ last ∷ [])
-  -- The frame leaves the front of the frames held,
+  -- The frame leaves the front of the frames held.
   pub held : frames_held oldest_receive world ≡ (concat seen ++ last) ∷ frames_held (after_run oldest_receive run world) world
-  -- and of the frames that end in finished slots.
+  -- The frame leaves the front of the frames that end in finished slots.
   pub ended : frames_of (finished_pieces oldest_receive world)
       ≡ (concat seen ++ last) ∷ frames_of (finished_pieces (after_run oldest_receive run world) world)
 

@@ -19,9 +19,9 @@ use Rattle.bus.specs.declared.event.Access.TheVariants.{Loads, Reads, Stores, Wr
 
 -- What only writes of registers change, and what never changes.
 pub record Settings : Type 0 where
-  -- the words of the EEPROM, and how the PHY's link comes up, which nothing changes
+  -- the words of the EEPROM, which nothing changes
   pub image : List ℕ
-  -- When the PHY's link is up.
+  -- when the PHY's link comes up, which nothing changes
   pub link : Link
   -- PBA
   pub receive_kilobytes : ℕ
@@ -33,9 +33,9 @@ pub record Settings : Type 0 where
   pub filter : FilterRegisters
   -- TCTL
   pub transmit_control : ℕ
-  -- bases, lengths and tails; the heads, which the adapter moves, count as 0
+  -- RDBAL to RDT, with 0 in place of RDH
   pub receive_ring : RingRegisters
-  -- TDBAL to TDT, with 0 in place of TDH.
+  -- TDBAL to TDT, with 0 in place of TDH
   pub transmit_ring : RingRegisters
 
 -- The settings of an adapter.
@@ -78,11 +78,11 @@ writes_in (Writes offset value ∷ later) = record { offset = offset; value = va
 writes_in (Loads address size ∷ later) = writes_in later
 writes_in (Stores address bytes ∷ later) = writes_in later
 
--- what a write leaves of the settings
+-- the settings after a write
 abbrev pub settings_after : Write → Settings → Settings
 settings_after write settings = settings_of (after_write write.offset write.value (adapter_with settings))
 
--- what writes leave of them, one after the other
+-- what these writes, one after the other, leave of the settings
 abbrev pub settings_after_all : List Write → Settings → Settings
 settings_after_all [] settings = settings
 settings_after_all (write ∷ later) settings = settings_after_all later (settings_after write settings)
@@ -91,15 +91,15 @@ settings_after_all (write ∷ later) settings = settings_after_all later (settin
 abbrev pub AreSet : World → World → Past → Type 0
 AreSet a b past = settings_of b.adapter ≡ settings_after_all (writes_in past.accesses) (settings_of a.adapter)
 
--- Two stretches set what they set together.
+-- What two intervals set, one after the other, their joined interval sets.
 abbrev pub SettingsJoin : Type 0
 SettingsJoin = (a b c : World) (first later : Past) → AreSet a b first → AreSet b c later → AreSet a c (joined first later)
 
--- Whatever happens between two accesses leaves the settings,
+-- Whatever happens between two accesses leaves the settings.
 abbrev pub HappeningsLeaveSettings : Type 0
 HappeningsLeaveSettings = (a b : World) (past : Past) → Happens a b past → settings_of b.adapter ≡ settings_of a.adapter
 
--- and a write of any register sets what it would set on an adapter at rest.
+-- A write of any register sets what it sets on an adapter at rest with these settings.
 abbrev pub WritesSet : Type 0
 WritesSet =
     (offset value : ℕ) (adapter : AdapterState)
@@ -116,7 +116,7 @@ abbrev pub IsNotReceiveControl : Option Register → Type 0
 IsNotReceiveControl (Some Rctl) = ⊥
 IsNotReceiveControl _ = ⊤
 
--- the write isn't of RCTL
+-- the write isn't one of RCTL
 abbrev pub LeavesReceiver : Write → Type 0
 LeavesReceiver write = IsNotReceiveControl (register_at write.offset)
 
@@ -127,11 +127,11 @@ pub record NoArrival (past : Past) : Type 0 where
   -- No frame was missed.
   pub none_missed : past.missed ≡ 0
 
--- Where RCTL.EN is 0, and isn't written, no frame is stored or missed.
+-- If RCTL.EN is 0 and RCTL isn't written, no frame is stored or missed.
 abbrev pub WhileOff : World → Past → Type 0
 WhileOff a past = IsOff a → All LeavesReceiver (writes_in past.accesses) → NoArrival past
 
--- It stays 0 then, a reset among the writes or not.
+-- After writes of other registers than RCTL, also one that resets, RCTL.EN is still 0.
 abbrev pub StaysOff : Type 0
 StaysOff = (writes : List Write) (settings : Settings) → All LeavesReceiver writes → ¬ (HasBit settings.filter.rctl rctl_en)
     → ¬ (HasBit (settings_after_all writes settings).filter.rctl rctl_en)

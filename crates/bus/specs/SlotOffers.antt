@@ -40,17 +40,18 @@ pub record CanOffer (oldest : ℕ) (world : World) : Type 0 where
   pub ring : HasRoom oldest world.adapter.receive_ring
   -- Its descriptor isn't done.
   pub fresh : is_done world.memory (address_of (receive_ring world) world.adapter.receive_ring.tail) ≡ false
-  -- The buffer is in memory,
+  -- While RCTL.EN is set, the buffer is in memory.
   pub lies : HasBit world.adapter.filter.rctl rctl_en
       → LiesIn world.memory (buffer_of world (address_of (receive_ring world) world.adapter.receive_ring.tail)).address
       (buffer_of world 0).size
-  -- apart from all that the conditions name.
+  -- While RCTL.EN is set, the buffer is apart from all that the conditions name.
   pub apart : HasBit world.adapter.filter.rctl rctl_en
       → All (λ area. AreApart area (buffer_of world (address_of (receive_ring world) world.adapter.receive_ring.tail)))
       (areas oldest world)
 
--- Then the conditions hold again, the slot is the last that is outstanding, frames are the same, and engines that could run still can. What
--- isn't the adapter's stays so, apart from where it may report the slot and, while RCTL.EN is set, from the slot's buffer.
+-- After the offer the conditions hold again, the slot is the last that is outstanding, frames are the same, and engines
+-- that could run still can. What isn't the adapter's stays so, apart from where it may report the slot and, while
+-- RCTL.EN is set, from the slot's buffer.
 pub record Offered (oldest_receive oldest_transmit : ℕ) (a b : World) : Type 0 where
   pub same : SameFrames oldest_receive oldest_transmit a b
   pub runs : GoOn a b
@@ -100,7 +101,7 @@ pub record SameReceived (oldest_receive : ℕ) (a b : World) : Type 0 where
   pub whole : (size : ℕ) → AreCut size oldest_receive a → AreCut size oldest_receive b
   pub fits : (size : ℕ) → FitBuffers size oldest_receive a → FitBuffers size oldest_receive b
 
--- Then the conditions hold again, with one more slot that is outstanding.
+-- After the offer the conditions hold again, with one more slot that is outstanding.
 pub record OfferedFrame (oldest_receive oldest_transmit : ℕ) (a b : World) : Type 0 where
   pub sound : Sound oldest_receive oldest_transmit b
   -- Its frame, padded, is the last that is to be sent.

@@ -38,7 +38,7 @@ missed_by Filtered = 0
 missed_by Missed = 1
 missed_by Stored = 0
 
--- what happens where a frame with this fate arrives
+-- what happens when a frame with this fate arrives
 abbrev pub past_of_arrival : Fate → List ℕ → Past
 past_of_arrival fate frame = record nothing { stored = kept fate frame; missed = missed_by fate }
 
@@ -46,14 +46,14 @@ past_of_arrival fate frame = record nothing { stored = kept fate frame; missed =
 abbrev pub world_after_arrival : Fate → List ℕ → World → World
 world_after_arrival fate frame world = record world { adapter = after_arrive fate frame world.adapter }
 
--- Each step is one of the things that may happen.
+-- Each step of the adapter may happen between two accesses.
 abbrev pub StepsHappen : Type 0
 StepsHappen =
     (world : World) (kind : StepKind) (wire_free : Bool) (answer : FrameOutcome)
     → IsAdapter world.adapter → Answers kind wire_free world.memory world.adapter answer
     → Happens world (world_after_step kind answer world) (past_of_step kind answer)
 
--- Each delivery is.
+-- Each delivery of a frame may happen between two accesses.
 abbrev pub ArrivalsHappen : Type 0
 ArrivalsHappen =
     (world : World) (fate : Fate) (frame : List ℕ)

@@ -7,7 +7,7 @@ abbrev pub group_of : {T : Type 0} → (T → Bool) → List T → List T
 group_of is_go [] = []
 group_of is_go (tick ∷ later) = if is_go tick then [] else tick ∷ group_of is_go later
 
--- the ticks after it and its Go
+-- the ticks after the next group and its Go
 abbrev pub behind_group : {T : Type 0} → (T → Bool) → List T → List T
 behind_group is_go [] = []
 behind_group is_go (tick ∷ later) = if is_go tick then later else behind_group is_go later

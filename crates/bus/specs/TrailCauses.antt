@@ -25,12 +25,12 @@ use Rattle.bus.specs.declared.event.Event.TheVariants.{Accesses, Arrives, Steps}
 
 -- What one event records.
 
--- a tick of the PHY: LSC and MDAC, as it tells
+-- the causes that a tick of the PHY records: LSC and MDAC
 abbrev pub causes_by_tick : Option Ticked → ℕ
 causes_by_tick (Some ticked) = causes_told ticked
 causes_by_tick None = 0
 
--- a step of this adapter with this outcome
+-- the causes that a step of this adapter with this outcome records
 abbrev pub causes_by_step : StepKind → FrameOutcome → AdapterState → ℕ
 causes_by_step TxTake Took adapter = causes_of_taking adapter.transmit_ring
 causes_by_step TxPut (Put frame) adapter = causes_of_putting adapter.transmitter.buffer
@@ -40,7 +40,7 @@ causes_by_step RxDone Done adapter = if is_ending adapter.receiver.work then alo
 causes_by_step PhyTick answer adapter = causes_by_tick (told adapter.mdic adapter.phy)
 causes_by_step kind answer adapter = 0
 
--- an arrival: RXO, bit 6, where the frame is missed
+-- the causes that an arrival records: RXO, bit 6, if the frame is missed
 abbrev pub causes_by_arrival : Fate → ℕ
 causes_by_arrival Missed = alone rxo
 causes_by_arrival fate = 0
@@ -55,13 +55,13 @@ abbrev pub causes_in : List Event → World → ℕ
 causes_in [] world = 0
 causes_in (event ∷ later) world = union (causes_by event world) (causes_in later (world_after event world))
 
--- At a trail's end the recorded causes are those before and what its events recorded, where no access moves causes.
+-- At a trail's end the recorded causes are those before and what its events recorded, if no access moves causes.
 abbrev pub CausesAreThoseOfSteps : Type 0
 CausesAreThoseOfSteps =
     (events : List Event) (a b : World) → All LeavesCauses (past_of events).accesses → Trail events a b
     → b.adapter.causes.recorded ≡ union a.adapter.causes.recorded (causes_in events a)
 
--- Their mask stays, where no access moves it.
+-- The mask doesn't change if no access moves it.
 abbrev pub MasksStay : Type 0
 MasksStay =
     (events : List Event) (a b : World) → All LeavesMask (past_of events).accesses → Trail events a b
@@ -89,11 +89,11 @@ pub record IsRecorded (later : List Event) (a b : World) : Type 0 where
   -- RXT0, bit 7: the last piece of a received frame was written back.
   pub done : (wire_free : Bool) → Trail (Steps RxDone wire_free Done ∷ later) a b → is_ending a.adapter.receiver.work ≡ true
       → HasBit b.adapter.causes.recorded rxt0
-  -- MDAC, bit 9: a command of MDIC whose end is told ended at a tick of the PHY.
+  -- MDAC, bit 9: a command of MDIC whose I bit is set ended at a tick of the PHY.
   pub management : (wire_free : Bool) (answer : FrameOutcome) → Trail (Steps PhyTick wire_free answer ∷ later) a b
       → (ticked : Ticked) → told a.adapter.mdic a.adapter.phy ≡ Some ticked → ticked.access_complete ≡ true
       → HasBit b.adapter.causes.recorded mdac
 
--- It is, where no access after it moves causes; accesses in front of it may.
+-- What the first event of a trail records is still recorded at its end, if no access after that event moves causes.
 abbrev pub RecordedCausesStay : Type 0
 RecordedCausesStay = (later : List Event) (a b : World) → All LeavesCauses (past_of later).accesses → IsRecorded later a b

@@ -18,18 +18,18 @@ pub record StaysStopped (a b : AdapterState) : Type 0 where
   pub receiver : a.receiver.stopped ≡ true → b.receiver.stopped ≡ true
   pub transmitter : a.transmitter.stopped ≡ true → b.transmitter.stopped ≡ true
 
--- it isn't a step whose answer is a fault
+-- the event isn't a step whose answer is a fault
 abbrev pub IsNoFault : Event → Type 0
 IsNoFault (Steps kind wire_free answer) = answer ≢ Fault
 IsNoFault (Arrives frame fate) = ⊤
 IsNoFault (Accesses access) = ⊤
 
--- Along a trail without a reset a stopped engine stays stopped.
+-- On a trail without a reset a stopped engine stays stopped.
 abbrev pub FaultsStay : Type 0
 FaultsStay =
     (events : List Event) (a b : World) → All IsNoReset (past_of events).accesses → Trail events a b → StaysStopped a.adapter b.adapter
 
--- So where both engines run at its end, no answer of a step was a fault.
+-- If both engines run at the end of a trail without a reset, no answer of a step was a fault.
 abbrev pub RunningEnginesMetNoFault : Type 0
 RunningEnginesMetNoFault =
     (events : List Event) (a b : World) → All IsNoReset (past_of events).accesses → Trail events a b

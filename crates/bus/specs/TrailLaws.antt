@@ -1,4 +1,4 @@
--- Trails join.
+-- Two trails, the second from the world in which the first ends, are one.
 use Rattle.std.proofs.Common.{◌≡◌, ℕ, List, [], ◌∷◌, ◌++◌, refl, sym, ap, subst, ◌∙◌, append_assoc, arith}
 use Rattle.bus.specs.PastOfStretch.{Past, joined, nothing}
 use Rattle.bus.specs.declared.event.Access.{Access}
@@ -10,7 +10,7 @@ pub trail_joins : (first later : List Event) (a b c : World) → Trail first a b
 trail_joins [] later a b c one two = subst (λ (w : World). Trail later w c) one two
 trail_joins (event ∷ first) later a b c one two = (one.0, trail_joins first later (world_after event a) b c one.1 two)
 
--- Pasts with the same parts.
+-- Two pasts with equal parts are equal.
 pub same_past : (put put' stored stored' : List (List ℕ)) (missed missed' eeprom eeprom' phy phy' : ℕ) (accesses accesses' : List Access)
     → put ≡ put' → stored ≡ stored' → missed ≡ missed' → eeprom ≡ eeprom' → phy ≡ phy' → accesses ≡ accesses'
     → (let p : Past = record { put = put; stored = stored; missed = missed; eeprom_ticks = eeprom; phy_ticks = phy; accesses = accesses }

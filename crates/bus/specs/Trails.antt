@@ -1,4 +1,4 @@
--- What happens to a world, event by event: adapter steps, deliveries and accesses, each as it is.
+-- What happens to a world, event by event: adapter steps, deliveries and accesses.
 use Rattle.std.specs.Prelude.{◌≡◌, List, [], ◌∷◌, All, ⊤}
 use Rattle.adapter.specs.Receiving.{IsFate}
 use Rattle.adapter.specs.Registers.{answer_at}
@@ -13,7 +13,7 @@ use Rattle.bus.specs.StepsAndArrivals.{past_of_arrival, past_of_step, world_afte
 use Rattle.adapter.specs.State.{IsAdapter}
 use Rattle.adapter.specs.World.{World, world_after_read, world_after_store, world_after_write}
 
--- what an access says of the world that it finds
+-- what an access says of the world before it: a read has the answer of the register
 abbrev pub IsAnswered : Access → World → Type 0
 IsAnswered (Reads offset value) world = value ≡ answer_at offset world.adapter
 IsAnswered (Writes offset value) world = ⊤
@@ -39,7 +39,7 @@ world_after (Steps kind wire_free answer) world = world_after_step kind answer w
 world_after (Arrives frame fate) world = world_after_arrival fate frame world
 world_after (Accesses access) world = world_after_access access world
 
--- These events lead from one world to another.
+-- These events, one after the other, lead from the first world to the second.
 abbrev pub Trail : List Event → World → World → Type 0
 Trail [] a b = b ≡ a
 Trail (event ∷ later) a b = Occurs event a × Trail later (world_after event a) b
@@ -55,7 +55,7 @@ abbrev pub past_of : List Event → Past
 past_of [] = nothing
 past_of (event ∷ later) = joined (past_of_event event) (past_of later)
 
--- it is no access
+-- a step or an arrival
 abbrev pub IsStep : Event → Type 0
 IsStep (Steps kind wire_free answer) = ⊤
 IsStep (Arrives frame fate) = ⊤

@@ -11,20 +11,21 @@ use Rattle.adapter.specs.World.{receive_ring, transmit_ring, World}
 use Rattle.bus.specs.DriversSlots.{IsDriversSlot}
 use Rattle.bus.specs.DriversStores.{IsDriversArea}
 
--- A descriptor that a driver can write: it lies in memory, a store to it leaves what the law speaks of, and it isn't the adapter's.
+-- A descriptor that a driver can write: it lies in memory, a store to it doesn't change what the law is about, and it
+-- isn't the adapter's.
 pub record CanBeWritten (oldest_receive oldest_transmit : ℕ) (world : World) (descriptor : ℕ) : Type 0 where
   pub lies : LiesIn world.memory descriptor descriptor_bytes
   pub own : IsDriversArea oldest_receive oldest_transmit world (descriptor_area descriptor)
   pub foreign : IsForeign world (descriptor_area descriptor)
 
--- Each slot of the receive ring that is the driver's can be written,
+-- Each slot of the receive ring that is the driver's can be written.
 abbrev pub DriversReceiveSlotsCanBeWritten : Type 0
 DriversReceiveSlotsCanBeWritten =
     (oldest_receive oldest_transmit slot : ℕ) (world : World)
     → Sound oldest_receive oldest_transmit world → IsDriversSlot (receive_ring world) oldest_receive slot
     → CanBeWritten oldest_receive oldest_transmit world (address_of (receive_ring world) slot)
 
--- and each of the transmit ring.
+-- Each slot of the transmit ring that is the driver's can be written.
 abbrev pub DriversTransmitSlotsCanBeWritten : Type 0
 DriversTransmitSlotsCanBeWritten =
     (oldest_receive oldest_transmit slot : ℕ) (world : World)
@@ -37,7 +38,7 @@ SlotsFromTailBelongToDriver =
     (ring : Ring) (oldest slot : ℕ) → oldest < count_of ring → slot < count_of ring
     → distance_of ring oldest ring.tail ≤ distance_of ring oldest slot → IsDriversSlot ring oldest slot
 
--- So is the one at the tail.
+-- The slot at the tail belongs to the driver.
 abbrev pub TailSlotsBelongToDriver : Type 0
 TailSlotsBelongToDriver =
     (ring : Ring) (oldest : ℕ) → oldest < count_of ring → ring.tail < count_of ring → IsDriversSlot ring oldest ring.tail

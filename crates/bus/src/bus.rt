@@ -9,8 +9,7 @@ ghost use Rattle.bus.specs.declared.event.Access.TheVariants.{Loads, Reads, Stor
 ghost use Rattle.adapter.specs.World.{World, world_after_read, world_after_store, world_after_write};
 ghost use Rattle.dma_memory.specs.HostMemory.{bytes_at};
 
-/// What a driver reaches its adapter and its memory by. Each call but [`size`](Bus::size) is one
-/// access.
+/// The way by which a driver accesses its adapter and its memory. Each call but [`size`](Bus::size) is one access.
 ///
 /// Any type may implement it. Of a bus that isn't `honest` only this is known: its size and the values that it
 /// was lent don't change, and if it was lively it still is. An honest bus has one adapter and one memory.
@@ -70,7 +69,7 @@ pub trait Bus {
     /// Reports join over consecutive intervals, and so does what `lent_stays` states.
     ghost composes: { Composes happened lent_stays };
 
-    /// The memory of an honest bus is as large as it says.
+    /// The memory of an honest bus is as large as [`size`](Bus::size) says.
     ghost sized: { (b : Self) → honest b → length (world b).memory ≡ extent b };
 }
 

@@ -77,11 +77,11 @@ pub enum Access {
     Stores(u64, StoredBytes),
 }
 
-/// What happens to an adapter and its host's memory. Contracts speak of lists of these (`Trail`), and what
-/// code holds of them is the same.
+/// What happens to an adapter and its host's memory. Contracts speak of lists of these (`Trail`), which have the same
+/// events as those of code.
 #[derive(Debug, Drop, PartialEq, Eq)]
 pub enum Event {
-    /// The adapter took a step of this kind, with or without room on its wire, and this came of it.
+    /// The adapter took a step of this kind, with or without room on its wire, and this was its outcome.
     Steps(StepKind, bool, Outcome<Frame>),
     /// A frame was delivered, and met this fate.
     Arrives(Frame, Fate),

@@ -46,8 +46,8 @@ pub fn steps_are_instances()
     ensures arrivals { ArrivalsHappen }
 {}
 
-/// Where the conditions of the law hold and both engines can run, no step that the adapter takes by
-/// itself is a fault. By the law both can run further, whatever happens.
+/// If the conditions of the law hold and both engines can run, no step that the adapter takes by itself is a fault. By
+/// the law both can run further, whatever happens.
 pub fn faults_never_come()
     ensures { FaultsNeverCome }
 {}
@@ -95,19 +95,18 @@ pub fn tails_can_be_moved()
     ensures transmit { TransmitTailMoves }
 {}
 
-/// A driver may offer its next receive slot, by moving RDT on by one, where its descriptor isn't done and
-/// its buffer lies in memory, apart from all that the conditions of the law name: these then hold again,
-/// frames are the same, and engines that could run still can. What isn't the adapter's stays so, apart
-/// from bytes 8 to 15 of the descriptor and from the buffer.
+/// A driver may offer its next receive slot, by moving RDT on by one, if its descriptor isn't done and its buffer lies
+/// in memory, apart from all that the conditions of the law name: these then hold again, frames are the same, and
+/// engines that could run still can. What isn't the adapter's stays so, apart from bytes 8 to 15 of the descriptor and
+/// from the buffer.
 pub fn slots_can_be_offered()
     ensures { SlotsCanBeOffered }
 {}
 
-/// A driver may offer its next transmit slot, by moving TDT on by one, where its descriptor isn't done and
-/// asks for a report, and its data lies in memory, apart from all that the conditions of the law name:
-/// these then hold again, and its frame, padded, is the last that is to be sent. Where its descriptor can
-/// be transmitted, engines that could run still can. What isn't the adapter's stays so, apart from byte 12
-/// of the descriptor.
+/// A driver may offer its next transmit slot, by moving TDT on by one, if its descriptor isn't done and asks for a
+/// report, and its data lies in memory, apart from all that the conditions of the law name: these then hold again, and
+/// its frame, padded, is the last that is to be sent. Where its descriptor can be transmitted, engines that could run
+/// still can. What isn't the adapter's stays so, apart from byte 12 of the descriptor.
 pub fn frames_can_be_offered()
     ensures { FramesCanBeOffered }
 {}
@@ -162,8 +161,7 @@ pub fn idle_rings_stay_idle()
     ensures writes { WritesKeepIdle }
 {}
 
-/// A driver may offer many receive slots by one write of RDT, where each could be offered after the one
-/// before it.
+/// A driver may offer many receive slots by one write of RDT, if each could be offered after the one before it.
 pub fn many_slots_can_be_offered()
     ensures { ManySlotsCanBeOffered }
 {}

@@ -8,7 +8,7 @@ ghost use Rattle.bus.specs.TrailFaults.{FaultsStay, RunningEnginesMetNoFault};
 /// A fault stays visible until the next reset.
 /// - `stays`: after any steps, deliveries and accesses without a reset, an engine that was stopped is
 ///   still stopped.
-/// - `none`: where both engines run there, no answer of a step was a fault.
+/// - `none`: if both engines run at the end, no answer of a step was a fault.
 pub fn faults_stay_visible()
     ensures stays { FaultsStay }
     ensures none { RunningEnginesMetNoFault }
@@ -30,7 +30,7 @@ pub fn causes_are_those_of_steps()
 /// A load, a store, and a read of any register but ICR and the counters leave the adapter as it is.
 /// - `worlds`: a load and such a read leave memory, too.
 /// - `interrupts`: they are no resets, and move neither causes nor their mask.
-/// - `rings`: no more does a write of a ring's register, as of RDT or TDT.
+/// - `rings`: a write of a ring's register, such as RDT or TDT, is no reset either, and moves neither.
 pub fn quiet_accesses_leave_adapters()
     ensures adapters { QuietAccessesLeaveAdapters }
     ensures worlds { QuietAccessesLeaveWorlds }

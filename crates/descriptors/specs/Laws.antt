@@ -1,4 +1,5 @@
--- Descriptors and their bytes come back from one another, and what padding makes of a frame.
+-- A descriptor's bytes give the descriptor, and sixteen bytes give the same bytes back; and what padding does to a
+-- frame.
 use Rattle.std.proofs.Common.{◌≡◌, ◌≤◌, ◌<◌, ◌+◌, ◌-◌, ◌*◌, ◌/◌, ◌%◌, ◌^◌, ◌++◌, ◌∷◌, [], IsTrue, ℕ, zero, suc, List, length, take, drop}
 use Rattle.std.proofs.Common.{replicate, slice_index, refl, sym, ap, ◌∙◌, rules, arith}
 use Rattle.std.proofs.lemmas.List.{append-nil, length-append, length-replicate, take_all, take_at, length-drop, get_or-drop}

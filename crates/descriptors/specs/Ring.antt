@@ -20,15 +20,15 @@ pub record HasValidIndices (ring : Ring) : Type 0 where
 abbrev pub next_of : Ring → ℕ → ℕ
 next_of ring index = (index + 1) % count_of ring
 
--- How many slots it is from one index on to another.
+-- The distance in slots from one index on to another, wrapping.
 abbrev pub distance_of : Ring → ℕ → ℕ → ℕ
 distance_of ring from to = (to + count_of ring - from) % count_of ring
 
--- Where the descriptor of a slot stands in memory.
+-- The address of a slot's descriptor.
 abbrev pub address_of : Ring → ℕ → ℕ
 address_of ring index = ring.base + 16 * index
 
--- So many slots of a ring of n, from an index on.
+-- A number of slots of a ring of n, from an index on, wrapping.
 abbrev pub slots_from : ℕ → ℕ → ℕ → List ℕ
 slots_from n index zero = []
 slots_from n index (suc k) = index ∷ slots_from n ((index + 1) % n) k
@@ -40,20 +40,21 @@ offered_places ring = slots_from (count_of ring) ring.head (distance_of ring rin
 
 -- Laws of rings whose head and tail are slots.
 
--- Where head differs from tail, the slot at the head comes first, and then those after it.
+-- If head differs from tail, the slot at the head comes first, and then those after it.
 abbrev pub OfferedBeginAtHead : Type 0
 OfferedBeginAtHead = (ring : Ring) → HasValidIndices ring → ¬ (ring.head ≡ ring.tail)
     → offered_places ring ≡ ring.head ∷ offered_places (record ring { head = next_of ring ring.head })
 
--- Where head equals tail, the adapter owns none.
+-- If head equals tail, the adapter owns no slot.
 abbrev pub NoneIsOffered : Type 0
 NoneIsOffered = (ring : Ring) → ring.head ≡ ring.tail → offered_places ring ≡ []
 
--- The adapter owns as many slots as it is from head to tail, fewer than the ring has.
+-- The number of slots that the adapter owns is the distance from head to tail, which is below the number of slots of
+-- the ring.
 abbrev pub OfferedAreDistance : Type 0
 OfferedAreDistance = (ring : Ring) → length (offered_places ring) ≡ distance_of ring ring.head ring.tail
 
--- Where the slot after tail isn't the head, moving tail on by one gives the slot at the old tail to the adapter, as the
+-- If the slot after tail isn't the head, moving tail on by one gives the slot at the old tail to the adapter, as the
 -- last one.
 abbrev pub OfferedGrowAtTail : Type 0
 OfferedGrowAtTail =

@@ -1,4 +1,4 @@
--- Which slots of a ring the adapter owns, and how they change where head or tail moves on.
+-- Which slots of a ring the adapter owns, and how they change when head or tail moves on.
 use Rattle.std.proofs.Common.{◌≡◌, ⊎_elim, ◌≤◌, ◌<◌, ◌+◌, ◌-◌, ◌%◌, ◌++◌, ◌∷◌, [], ℕ, zero, suc, List, length, refl, ap, ◌∙◌, arith}
 use Rattle.std.proofs.lemmas.Bool.{cases_eq, cases_lt}
 use Rattle.std.proofs.lemmas.Nat.{mod_below}
@@ -6,7 +6,7 @@ use Rattle.std.proofs.Math.Nat.{mod-eq_of_lt, mod_self, add-mod_left}
 use Rattle.descriptors.specs.Ring.{count_of, distance_of, slots_from, offered_places, OfferedBeginAtHead, NoneIsOffered, OfferedAreDistance}
 use Rattle.descriptors.specs.Ring.{OfferedGrowAtTail}
 
--- The slot after an index, where it isn't the last one, and where it is.
+-- The slot after one that isn't the last has the next number.
 pub next-inner : (n i : ℕ) → i + 1 < n → (i + 1) % n ≡ i + 1
 next-inner n i inner = mod-eq_of_lt inner
 
@@ -17,7 +17,7 @@ next-last n i last = ap (λ (k : ℕ). k % n) last ∙ mod_self n
 pub next-below : (n i : ℕ) → i < n → (i + 1) % n < n
 next-below n i slot = mod_below (i + 1) n (omega arith)
 
--- How far it is, where the second slot doesn't stand before the first, and where it does.
+-- The distance to a slot that isn't before the first one is the difference of both.
 pub distance-forward : (n from to : ℕ) → to < n → from ≤ to → (to + n - from) % n ≡ to - from
 distance-forward n from to slot forward =
     let moved : to + n - from ≡ n + (to - from) = omega arith in
@@ -26,7 +26,7 @@ distance-forward n from to slot forward =
 pub distance-around : (n from to : ℕ) → from < n → to < from → (to + n - from) % n ≡ to + n - from
 distance-around n from to slot around = mod-eq_of_lt (omega arith)
 
--- One step towards another slot makes the way shorter by one.
+-- One slot further, the distance to another slot is shorter by one.
 pub distance-step : (n from to : ℕ) → from < n → to < n → ¬ (from ≡ to) → (to + n - from) % n ≡ suc ((to + n - (from + 1) % n) % n)
 distance-step n from to slot_from slot_to apart =
     ⊎_elim
@@ -47,7 +47,7 @@ distance-step n from to slot_from slot_to apart =
     (omega arith))
     (cases_lt to from)
 
--- To a slot after another it is one more.
+-- The distance to the slot after another is longer by one.
 pub distance-grows : (n from to : ℕ) → from < n → to < n → ¬ ((to + 1) % n ≡ from)
     → ((to + 1) % n + n - from) % n ≡ suc ((to + n - from) % n)
 distance-grows n from to slot_from slot_to apart =
@@ -66,22 +66,22 @@ distance-grows n from to slot_from slot_to apart =
     (cases_lt to from))
     (cases_eq (to + 1) n)
 
--- So many slots are so many.
+-- This list of k slots has k entries.
 pub length-slots_from : (n index k : ℕ) → length (slots_from n index k) ≡ k
 length-slots_from n index zero = refl
 length-slots_from n index (suc k) = ap suc (length-slots_from n ((index + 1) % n) k)
 
--- The slot this number of places after an index.
+-- The slot that is this number of slots after an index.
 abbrev pub place : ℕ → ℕ → ℕ → ℕ
 place n index zero = index
 place n index (suc k) = place n ((index + 1) % n) k
 
--- One slot more stands at the end.
+-- One more slot is at the end of the list.
 pub slots_from-push : (n index k : ℕ) → slots_from n index (suc k) ≡ slots_from n index k ++ place n index k ∷ []
 slots_from-push n index zero = refl
 slots_from-push n index (suc k) = ap (λ (slots : List ℕ). index ∷ slots) (slots_from-push n ((index + 1) % n) k)
 
--- The slot as many places after one slot as it is to another is that other.
+-- The slot that is after a slot by its distance to another slot is that other slot.
 pub place-distance : (n k from to : ℕ) → from < n → to < n → (to + n - from) % n ≡ k → place n from k ≡ to
 place-distance n zero from to slot_from slot_to none =
     ⊎_elim
@@ -106,7 +106,7 @@ unfolding offered_places
 places-head ring sound apart = ap (slots_from (count_of ring) ring.head)
     (distance-step (count_of ring) ring.head ring.tail sound.head sound.tail apart)
 
--- Where head equals tail there are none.
+-- If head equals tail, the adapter owns no slot.
 pub places-none : NoneIsOffered
 unfolding offered_places
 places-none ring same =
@@ -114,7 +114,7 @@ places-none ring same =
     let round : ring.tail + n - ring.head ≡ n = omega (arith, same) in
     ap (slots_from n ring.head) (ap (λ (k : ℕ). k % n) round ∙ mod_self n)
 
--- There are as many as it is from head to tail.
+-- The number of slots that the adapter owns is the distance from head to tail.
 pub length-places : OfferedAreDistance
 unfolding offered_places
 length-places ring = length-slots_from (count_of ring) ring.head (distance_of ring ring.head ring.tail)

@@ -6,14 +6,14 @@ use Rattle.descriptors.specs.declared.rx_status.RxStatus.{RxStatus}
 abbrev pub status_bits : RxStatus → ℕ
 status_bits status = status.0
 
--- Where DD, descriptor done, and EOP, end of packet, stand.
+-- the place of DD, descriptor done (3.2.3.1)
 abbrev pub dd : ℕ
 dd = 0
 
--- EOP, end of packet
+-- the place of EOP, end of packet (3.2.3.1)
 abbrev pub eop : ℕ
 eop = 1
 
--- The status with these bits, those without a name among them.
+-- the status with these bits, also those without a name
 abbrev pub status_of : ℕ → RxStatus
 status_of bits = record { 0 = bits }

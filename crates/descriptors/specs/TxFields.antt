@@ -8,23 +8,23 @@ use Rattle.descriptors.specs.declared.tx_status.TxStatus.{TxStatus}
 abbrev pub command_bits : TxCommand → ℕ
 command_bits command = command.0
 
--- Where EOP, end of packet, IFCS, insert the check sequence, RS, report status, and DEXT, descriptor extension, stand (3.3.3.1).
+-- the place of EOP, end of packet (3.3.3.1)
 abbrev pub tx_eop : ℕ
 tx_eop = 0
 
--- IFCS, insert the check sequence
+-- the place of IFCS, insert the check sequence (3.3.3.1)
 abbrev pub tx_ifcs : ℕ
 tx_ifcs = 1
 
--- RS, report status
+-- the place of RS, report status (3.3.3.1)
 abbrev pub tx_rs : ℕ
 tx_rs = 3
 
--- DEXT, descriptor extension
+-- the place of DEXT, descriptor extension (3.3.3.1)
 abbrev pub tx_dext : ℕ
 tx_dext = 5
 
--- The command with these bits, those without a name among them.
+-- the command with these bits, also those without a name
 abbrev pub command_of : ℕ → TxCommand
 command_of bits = record { 0 = bits }
 
@@ -32,10 +32,10 @@ command_of bits = record { 0 = bits }
 abbrev pub sent_bits : TxStatus → ℕ
 sent_bits status = status.0
 
--- Where DD, descriptor done, stands (3.3.3.2).
+-- the place of DD, descriptor done (3.3.3.2)
 abbrev pub tx_dd : ℕ
 tx_dd = 0
 
--- The status byte with these bits, those without a name among them.
+-- the status byte with these bits, also those without a name
 abbrev pub sent_of : ℕ → TxStatus
 sent_of bits = record { 0 = bits }

@@ -42,7 +42,7 @@ impl Frame {
     /// The most bytes of a frame.
     pub const MAX_LEN: usize = LONGEST_LEGAL;
 
-    /// The frame without a byte.
+    /// An empty frame.
     pub fn new() -> Frame
         ensures { result ≡ [] }
     {
@@ -82,7 +82,7 @@ impl Frame {
         self.bytes.len()
     }
 
-    /// Whether the frame has no byte.
+    /// Whether the frame is empty.
     pub fn is_empty(&self) -> bool
         ensures { result ≡ (length self.now == 0) }
     {
@@ -109,7 +109,7 @@ impl Clone for Frame {
     }
 }
 
-/// The frame without a byte.
+/// An empty frame.
 impl Default for Frame {
     ghost is_default = { λ frame. frame ≡ [] };
 

@@ -21,9 +21,9 @@ pub fn transmit_descriptors_come_back()
     ensures bytes { TxBytesComeBack }
 {}
 
-/// Laws of rings whose head and tail are slots: the slots that the adapter owns begin at the head, and are those
-/// after it once head moves on; there are none where head equals tail, and else as many as it is from head to tail;
-/// moving tail on gives the slot at the old tail to the adapter, as the last one.
+/// Laws of rings whose head and tail are slots: the slots that the adapter owns begin at the head, and are those after
+/// it once head moves on; there is none if head equals tail, and their number is the distance from head to tail
+/// otherwise; moving tail on gives the slot at the old tail to the adapter, as the last one.
 ///
 /// It does nothing: its contract is the laws.
 pub fn offered_places_go_from_head_to_tail()

@@ -1,5 +1,5 @@
-//! What travels between a driver, its adapter and the wire: descriptors, which stand as sixteen bytes in a host's
-//! memory, and Ethernet frames.
+//! What travels between a driver, its adapter and the wire: descriptors, which are sixteen bytes in a host's memory,
+//! and Ethernet frames.
 //!
 //! A frame here is destination address to end of data, without the check sequence.
 #![tactic(auto)]

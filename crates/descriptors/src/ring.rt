@@ -7,7 +7,7 @@ const DESCRIPTOR_BYTES: u32 = 16;
 const MOST_INDEXED: u32 = 1 << 16;
 
 /// A ring of descriptors as its registers define it: base address, length, head and tail (Intel's manual, "13.4.25
-/// Receive Descriptor Base Address Low" up to "13.4.29 Receive Descriptor Tail", and the same of transmit
+/// Receive Descriptor Base Address Low" up to "13.4.29 Receive Descriptor Tail", and the registers of transmit
 /// descriptors).
 ///
 /// The adapter owns the descriptors from head up to, not including, tail, wrapping.
@@ -51,7 +51,7 @@ impl Ring {
         if next == self.count() { 0 } else { next as u16 }
     }
 
-    /// How many slots it is from one slot on to another.
+    /// The distance in slots from one slot on to another, wrapping.
     pub fn distance(&self, from: u16, to: u16) -> u32
         requires from_slot { from < count_of self.now }
         requires to_slot { to < count_of self.now }
@@ -64,8 +64,7 @@ impl Ring {
         }
     }
 
-    /// Where the descriptor of a slot stands in memory, or `None` exactly if that is no address of 64 bits:
-    /// addresses don't wrap.
+    /// The address of a slot's descriptor, or `None` exactly if 64 bits can't hold it: addresses don't wrap.
     pub fn descriptor(&self, index: u16) -> Option<u64>
         ensures in_range { IsSome result ↔ (address_of self.now index < 2 ^ 64) }
         ensures value { IfSome result (λ address. address ≡ address_of self.now index) }

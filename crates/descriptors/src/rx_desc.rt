@@ -7,7 +7,7 @@ use byteorder::{ByteOrder, LittleEndian};
 /// The bytes of a receive descriptor.
 pub const RX_DESC_BYTES: usize = 16;
 
-/// A receive descriptor: where the adapter is to put a frame, and what it says of the frame that it has put there
+/// A receive descriptor: where the adapter is to put a frame, and what it reports of the frame that it has put there
 /// (Intel's manual, "3.2.3 Receive Descriptor Format").
 #[derive(Clone, Copy, Debug, PartialEq, Eq)]
 pub struct RxDesc {
@@ -19,7 +19,7 @@ pub struct RxDesc {
     pub checksum: u16,
     /// Whether the adapter is done with the descriptor, and whether the packet ends here.
     pub status: RxStatus,
-    /// The error bits; 0 where there was no error.
+    /// The error bits; 0 if there was no error.
     pub errors: u8,
     /// VLAN tag information.
     pub special: u16,
@@ -28,7 +28,7 @@ pub struct RxDesc {
 impl RxDesc {
     ghost use Rattle.descriptors.specs.RxDesc.{rx_desc_bytes, rx_desc_of};
 
-    /// The descriptor as it stands in memory: its fields in order, each little-endian.
+    /// The bytes of the descriptor in memory: its fields in order, each little-endian.
     #[tactic(auto, unfolding(crate::specs::RxDesc::rx_desc_bytes))]
     pub fn to_bytes(&self) -> [u8; 16]
         ensures { result ≡ rx_desc_bytes self.now }
@@ -43,7 +43,7 @@ impl RxDesc {
         bytes
     }
 
-    /// The descriptor that stands in memory as these bytes.
+    /// The descriptor that these bytes of memory are.
     #[tactic(auto, unfolding(crate::specs::RxDesc::rx_desc_of))]
     pub fn from_bytes(bytes: &[u8; 16]) -> RxDesc
         ensures { result ≡ rx_desc_of bytes.now }

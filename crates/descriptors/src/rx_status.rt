@@ -10,7 +10,7 @@ pub struct RxStatus(u8);
 
 bitflag_items! {
     impl RxStatus: u8 {
-        /// The adapter is done with the descriptor: its frame stands in memory.
+        /// The adapter is done with the descriptor: the bytes received are in its buffer.
         const DD = 1 << 0;
         /// The buffer holds the end of its packet.
         const EOP = 1 << 1;

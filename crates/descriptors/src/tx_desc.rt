@@ -7,8 +7,8 @@ use byteorder::{ByteOrder, LittleEndian};
 /// The bytes of a transmit descriptor.
 pub const TX_DESC_BYTES: usize = 16;
 
-/// A transmit descriptor of the legacy format: where the frame to be sent stands, what the adapter is to do with it,
-/// and whether it has gone out (Intel's manual, "3.3.3 Legacy Transmit Descriptor Format").
+/// A transmit descriptor of the legacy format: where the frame to be sent is, what the adapter is to do with it, and
+/// whether it has gone out (Intel's manual, "3.3.3 Legacy Transmit Descriptor Format").
 #[derive(Clone, Copy, Debug, PartialEq, Eq)]
 pub struct TxDesc {
     /// The address of the frame's bytes in the host's memory.
@@ -30,7 +30,7 @@ pub struct TxDesc {
 impl TxDesc {
     ghost use Rattle.descriptors.specs.TxDesc.{tx_desc_bytes, tx_desc_of};
 
-    /// The descriptor as it stands in memory: its fields in order, each little-endian.
+    /// The bytes of the descriptor in memory: its fields in order, each little-endian.
     #[tactic(auto, unfolding(crate::specs::TxDesc::tx_desc_bytes))]
     pub fn to_bytes(&self) -> [u8; 16]
         ensures { result ≡ tx_desc_bytes self.now }
@@ -46,7 +46,7 @@ impl TxDesc {
         bytes
     }
 
-    /// The descriptor that stands in memory as these bytes.
+    /// The descriptor that these bytes of memory are.
     #[tactic(auto, unfolding(crate::specs::TxDesc::tx_desc_of))]
     pub fn from_bytes(bytes: &[u8; 16]) -> TxDesc
         ensures { result ≡ tx_desc_of bytes.now }

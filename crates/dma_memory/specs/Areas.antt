@@ -2,7 +2,7 @@
 use Rattle.std.specs.Prelude.{◌≡◌, ◌≤◌, ◌+◌, ◌⊎◌, ℕ, List, length, All, AllPairs}
 use Rattle.dma_memory.specs.HostMemory.{bytes_at, LiesIn}
 
--- so many bytes from an address on
+-- a range of bytes in a host's memory
 pub record Area : Type 0 where
   -- the address of the first byte
   pub address : ℕ
@@ -17,7 +17,7 @@ area_at address size = record { address = address; size = size }
 abbrev pub descriptor_area : ℕ → Area
 descriptor_area address = area_at address 16
 
--- the bytes that stand in an area
+-- the bytes of an area
 abbrev pub bytes_in : List ℕ → Area → List ℕ
 bytes_in memory area = bytes_at memory area.address area.size
 

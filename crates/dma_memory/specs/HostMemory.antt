@@ -6,12 +6,12 @@ use Rattle.std.specs.Prelude.{◌≤◌, ◌+◌, ◌-◌, ◌++◌, ℕ, List, 
 abbrev pub bytes_at : List ℕ → ℕ → ℕ → List ℕ
 bytes_at memory address n = take n (drop address memory)
 
--- The memory with these bytes in place of as many from the address on. With no bytes it is the memory as it was,
--- whatever the address: all before the address, then all from it on.
+-- The memory in which these bytes replace the bytes from the address on. If there are no bytes, memory is unchanged,
+-- whatever the address.
 abbrev pub with_bytes : List ℕ → ℕ → List ℕ → List ℕ
 with_bytes memory address bytes = take address memory ++ bytes ++ drop (address + length bytes) memory
 
--- The memory has n bytes from the address on. A difference of numbers stops at 0, so no bytes lie in it at every
--- address, and some bytes only where the last of them lies below its size.
+-- The memory has n bytes from the address on. A difference of numbers stops at 0, so an empty range is in it at every
+-- address, and any other range only if its last byte is below its size.
 abbrev pub LiesIn : List ℕ → ℕ → ℕ → Type 0
 LiesIn memory address n = n ≤ length memory - address

@@ -1,4 +1,4 @@
--- What stands in a memory after a store.
+-- What a memory contains after a store.
 use Rattle.std.proofs.Common.{◌≡◌, ◌≤◌, ◌<◌, ◌+◌, ◌-◌, inl, inr, ◌++◌, ◌∷◌, [], ℕ, zero, suc, List, length, take, drop, replicate, refl}
 use Rattle.std.proofs.Common.{sym, ap, ◌∙◌, append_assoc, arith}
 use Rattle.std.proofs.lemmas.List.{length-append, length-take-le, length-drop, length-replicate, take-replicate, drop-replicate}
@@ -7,21 +7,21 @@ use Rattle.std.proofs.Math.Seq.{take-add}
 use Rattle.dma_memory.specs.HostMemory.{bytes_at, with_bytes, LiesIn}
 use Rattle.dma_memory.specs.Areas.{area_at, AreApart}
 
--- No bytes stored leave the memory, whatever the address.
+-- A store of no bytes doesn't change memory, whatever the address.
 pub with_bytes-none : (memory : List ℕ) (address : ℕ) → with_bytes memory address [] ≡ memory
 with_bytes-none memory address =
     let none : address + 0 ≡ address = omega arith in
     append_assoc (take address memory) [] (drop (address + 0) memory) ∙ ap (λ (end : ℕ). take address memory ++ drop end memory) none
     ∙ take-append-drop address memory
 
--- The bytes that a front and a rest have, in the front alone.
+-- Bytes inside the first of two joined lists are bytes of this list.
 bytes_at-front : (front rest : List ℕ) (address n : ℕ) → address + n ≤ length front
     → bytes_at (front ++ rest) address n ≡ bytes_at front address n
 bytes_at-front front rest address n fits =
     ap (take n) (drop-append-le address front rest (omega arith))
     ∙ take-append-le n (drop address front) rest (omega (arith, length-drop address front))
 
--- and in the rest alone.
+-- Bytes inside the second of two joined lists are bytes of this list.
 bytes_at-rest : (front rest : List ℕ) (address n : ℕ) → length front ≤ address
     → bytes_at (front ++ rest) address n ≡ bytes_at rest (address - length front) n
 bytes_at-rest front rest address n past =
@@ -45,7 +45,7 @@ length-with_bytes memory (x ∷ xs) address fits =
       length-drop (address + length bytes) memory,
     )
 
--- The bytes that were stored stand there.
+-- A load at the address of a store returns the bytes that were stored.
 pub bytes_at-stored : (memory bytes : List ℕ) (address : ℕ) → LiesIn memory address (length bytes)
     → bytes_at (with_bytes memory address bytes) address (length bytes) ≡ bytes
 bytes_at-stored memory [] address fits = refl
@@ -58,7 +58,7 @@ bytes_at-stored memory (x ∷ xs) address fits =
     (length-take-le address memory (omega arith)))
     ∙ take_at bytes (drop (address + length bytes) memory) (length bytes) refl
 
--- The bytes before what was stored stay.
+-- A store doesn't change the bytes before it.
 pub bytes_at-before : (memory bytes : List ℕ) (address i n : ℕ) → LiesIn memory address (length bytes) → i + n ≤ address
     → bytes_at (with_bytes memory address bytes) i n ≡ bytes_at memory i n
 bytes_at-before memory [] address i n fits before = ap (λ (m : List ℕ). bytes_at m i n) (with_bytes-none memory address)
@@ -83,13 +83,13 @@ bytes_at-after memory (x ∷ xs) address i n fits after =
     ∙ ap (take n) (drop-drop (i - length (take address memory ++ bytes)) (address + length bytes) memory)
     ∙ ap (λ (j : ℕ). take n (drop j memory)) k
 
--- Bytes apart from what was stored stay.
+-- A store doesn't change bytes that are apart from it.
 pub bytes_at-elsewhere : (memory bytes : List ℕ) (address i n : ℕ) → LiesIn memory address (length bytes)
     → AreApart (area_at address (length bytes)) (area_at i n) → bytes_at (with_bytes memory address bytes) i n ≡ bytes_at memory i n
 bytes_at-elsewhere memory bytes address i n fits (inl after) = bytes_at-after memory bytes address i n fits after
 bytes_at-elsewhere memory bytes address i n fits (inr before) = bytes_at-before memory bytes address i n fits before
 
--- The same where the first store begins in the memory.
+-- Two stores, the second right after the first, are one store, if the first begins inside memory.
 adjacent : (memory first second : List ℕ) (address : ℕ) → address ≤ length memory
     → with_bytes (with_bytes memory address first) (address + length first) second ≡ with_bytes memory address (first ++ second)
 adjacent memory first second address fits =
@@ -118,18 +118,18 @@ with_bytes-adjacent memory (x ∷ xs) second address fits = adjacent memory (x �
 pub length-bytes_at : (memory : List ℕ) (address n : ℕ) → LiesIn memory address n → length (bytes_at memory address n) ≡ n
 length-bytes_at memory address n fits = length-take-le n (drop address memory) (omega (arith, length-drop address memory))
 
--- Among zeros stand zeros.
+-- Each range of bytes of a memory of zeros contains zeros.
 pub bytes_at-zeros : (size address n : ℕ) → LiesIn (replicate size 0) address n → bytes_at (replicate size 0) address n ≡ replicate n 0
 bytes_at-zeros size address n fits =
     ap (take n) (drop-replicate address size 0) ∙ take-replicate n (size - address) 0 (omega (arith, length-replicate {A = ℕ} size 0))
 
--- Bytes are the first of them and then the others.
+-- The first bytes of a range, and then the others, are the range.
 pub bytes_at-parts : (memory : List ℕ) (address n k : ℕ)
     → bytes_at memory address (n + k) ≡ bytes_at memory address n ++ bytes_at memory (address + n) k
 bytes_at-parts memory address n k = take-add n k (drop address memory)
     ∙ ap (λ (xs : List ℕ). bytes_at memory address n ++ take k xs) (drop-drop n address memory)
 
--- So many bytes lie in a memory exactly if each of them does.
+-- A range of bytes is inside a memory if and only if each of its bytes is.
 pub LiesIn-each : (memory : List ℕ) (address n : ℕ) → LiesIn memory address n → (i : ℕ) → i < n → address + i < length memory
 LiesIn-each memory address n lies i below = omega arith
 

@@ -1,4 +1,4 @@
--- Where the rings and buffers of a driver stand in its host's memory.
+-- Where the rings and buffers of a driver are in its host's memory.
 use Rattle.std.specs.Prelude.{◌≡◌, ◌≢◌, ◌≤◌, ◌<◌, ◌+◌, ◌*◌, ◌%◌, ℕ}
 use Rattle.std.specs.Int.{next_multiple_of}
 use Rattle.dma_memory.specs.Areas.{Area, area_at, AreApart}
@@ -31,11 +31,11 @@ pub record IsBufferCount (rx buffers : ℕ) : Type 0 where
 
 -- What a layout has room for (our choice).
 pub record IsAllowed (counts : Counts) : Type 0 where
-  -- of the receive ring
+  -- The receive ring has an allowed size.
   pub rx : IsRingSize counts.rx
-  -- of the transmit ring
+  -- The transmit ring has an allowed size.
   pub tx : IsRingSize counts.tx
-  -- of the receive buffers
+  -- The number of receive buffers is allowed.
   pub buffers : IsBufferCount counts.rx counts.buffers
 
 -- How many bytes a descriptor has ("3.2.3 Receive Descriptor Format", "3.3.3 Legacy Transmit Descriptor Format").
@@ -75,7 +75,7 @@ start_of counts TransmitRing = descriptor_bytes * counts.rx
 start_of counts (TransmitBuffer slot) = buffers_start counts + transmit_buffer_bytes * slot
 start_of counts (ReceiveBuffer number) = buffers_start counts + transmit_buffer_bytes * counts.tx + receive_buffer_bytes * number
 
--- How many bytes stand at a place.
+-- The size of a place in bytes.
 abbrev pub bytes_of : Counts → Place → ℕ
 bytes_of counts ReceiveRing = descriptor_bytes * counts.rx
 bytes_of counts TransmitRing = descriptor_bytes * counts.tx

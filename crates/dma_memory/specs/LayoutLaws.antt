@@ -5,7 +5,7 @@ use Rattle.dma_memory.specs.Areas.{area_at, AreApart}
 use Rattle.dma_memory.specs.Layout.{Counts, ReceiveRing, TransmitRing, TransmitBuffer, ReceiveBuffer, buffers_start, PlacesAreApart}
 use Rattle.dma_memory.specs.Layout.{PlacesLieBelowSize, BeginsAtNextMultiple}
 
--- Where the buffers begin.
+-- The buffers begin at the first multiple of a transmit buffer's size after both rings.
 pub begins : (counts : Counts) → BeginsAtNextMultiple counts
 begins counts = record { multiple = omega arith; behind_rings = omega arith; first = omega arith }
 

@@ -2,7 +2,7 @@
 use Rattle.std.specs.Prelude.{ℕ, List}
 
 pub record Numbers : Type 0 where
-  -- how many numbers the pool gives out: all below this one
+  -- the number of buffers: each number of the pool is below it
   pub buffers : ℕ
-  -- those that are in it
+  -- the numbers that are in the pool
   pub free : List ℕ

@@ -2,34 +2,33 @@
 -- and a number has as many owners as it has places there.
 use Rattle.std.specs.Prelude.{◌≡◌, ◌≤◌, ◌<◌, ◌+◌, ◌↔◌, ◌==◌, ◌++◌, ◌∷◌, ℕ, List, Some, length, count_by, nat_lt, slice_get, if◌then◌else◌}
 
--- How many times a number stands in a list.
+-- How many times a number occurs in a list.
 abbrev pub copies : ℕ → List ℕ → ℕ
 copies k numbers = count_by (λ number. k == number) numbers
 
--- One owner: each number below n stands in the list exactly once, and no other number does.
+-- Each number below n has one owner: it occurs in the list exactly once. No other number occurs.
 abbrev pub HasOneOwner : ℕ → List ℕ → Type 0
 HasOneOwner n numbers = (k : ℕ) → copies k numbers ≡ (if nat_lt k n then 1 else 0)
 
--- No second owner: each number below n stands in the list at most once, and no other number does.
+-- No number below n has a second owner: it occurs in the list at most once. No other number occurs.
 abbrev pub HasNoSecondOwner : ℕ → List ℕ → Type 0
 HasNoSecondOwner n numbers = (k : ℕ) → copies k numbers ≤ (if nat_lt k n then 1 else 0)
 
--- Two lists have the same numbers, each as many times.
+-- Each number occurs as often in one list as in the other.
 abbrev pub HaveSameNumbers : List ℕ → List ℕ → Type 0
 HaveSameNumbers xs ys = (k : ℕ) → copies k xs ≡ copies k ys
 
--- One owner, said by places: each number below n stands at a place of the list, at no two places, and only such numbers
--- stand there.
+-- Each number below n is at one place of the list, and at no two places. No other number is at a place.
 pub record EachStandsOnce (n : ℕ) (numbers : List ℕ) : Type 0 where
   pub somewhere : (k : ℕ) → k < n → (i : ℕ) × (slice_get numbers i ≡ Some k)
   pub nowhere_else : (i j k : ℕ) → slice_get numbers i ≡ Some k → slice_get numbers j ≡ Some k → i ≡ j
   pub known : (i k : ℕ) → slice_get numbers i ≡ Some k → k < n
 
--- One owner by counts is one owner by places.
+-- Each number has one owner by counts (`HasOneOwner`) if and only if it has by places (`EachStandsOnce`).
 abbrev pub CountsArePlaces : Type 0
 CountsArePlaces = (n : ℕ) (numbers : List ℕ) → HasOneOwner n numbers ↔ EachStandsOnce n numbers
 
--- Two owners together have a number as many times as the one and the other.
+-- A number occurs in two joined lists as often as in the first and in the second together.
 abbrev pub OwnersAddUp : Type 0
 OwnersAddUp = (k : ℕ) (xs ys : List ℕ) → copies k (xs ++ ys) ≡ copies k xs + copies k ys
 
@@ -43,15 +42,15 @@ abbrev pub OwnedIsNowhereElse : Type 0
 OwnedIsNowhereElse = (n number : ℕ) (xs ys : List ℕ) → HasOneOwner n (xs ++ ys) → 0 < copies number ys → (number < n)
     × (copies number xs ≡ 0)
 
--- With one owner for each, there are n numbers in the list.
+-- If each number below n has one owner, the list has n numbers.
 abbrev pub OneOwnerCounts : Type 0
 OneOwnerCounts = (n : ℕ) (numbers : List ℕ) → HasOneOwner n numbers → length numbers ≡ n
 
--- With no second owner, there are at most n numbers in the list,
+-- If no number has a second owner, the list has at most n numbers.
 abbrev pub NoSecondOwnerBounds : Type 0
 NoSecondOwnerBounds = (n : ℕ) (numbers : List ℕ) → HasNoSecondOwner n numbers → length numbers ≤ n
 
--- and fewer where one is missing.
+-- If no number has a second owner and one is missing, the list has fewer than n numbers.
 abbrev pub MissingLeavesRoom : Type 0
 MissingLeavesRoom = (n number : ℕ) (numbers : List ℕ) → HasNoSecondOwner n numbers → number < n → copies number numbers ≡ 0
     → length numbers < n

@@ -6,11 +6,11 @@ use Rattle.std.proofs.lemmas.List.Sums.{sum_by-cons, sum_by-append, sum_by_push}
 use Rattle.dma_memory.specs.Owners.{copies, HasOneOwner, HasNoSecondOwner, HaveSameNumbers, OwnersAddUp, MovesKeepOneOwner}
 use Rattle.dma_memory.specs.Owners.{OwnedIsNowhereElse, OneOwnerCounts, NoSecondOwnerBounds, MissingLeavesRoom}
 
--- 1 where k is x, else 0.
+-- 1 if k is x, else 0.
 abbrev pub if_same : ℕ → ℕ → ℕ
 if_same k x = if k == x then 1 else 0
 
--- 1 where k is below n, else 0.
+-- 1 if k is below n, else 0.
 abbrev pub if_below : ℕ → ℕ → ℕ
 if_below k n = if nat_lt k n then 1 else 0
 
@@ -38,36 +38,36 @@ if_below-next k n next is_next = grind (arith, nat_tests)
 if_same-swap : (k x : ℕ) → if_same k x ≡ if_same x k
 if_same-swap k x = grind (arith, nat_tests)
 
--- A number before a list.
+-- How often a number occurs once another is put before the list.
 pub copies-cons : (k x : ℕ) (xs : List ℕ) → copies k (x ∷ xs) ≡ if_same k x + copies k xs
 copies-cons k x xs = sum_by-cons (λ y. if k == y then 1 else 0) x xs
 
 pub copies-itself : (k : ℕ) (xs : List ℕ) → copies k (k ∷ xs) ≡ 1 + copies k xs
 copies-itself k xs = omega (arith, copies-cons k k xs, if_same-yes k k refl)
 
--- A number after a list.
+-- How often a number occurs once another is put after the list.
 pub copies-push : (k x : ℕ) (xs : List ℕ) → copies k (xs ++ x ∷ []) ≡ copies k xs + if_same k x
 copies-push k x xs = sum_by_push (λ y. if k == y then 1 else 0) xs x
 
 pub copies-last : (k : ℕ) (xs : List ℕ) → copies k (xs ++ k ∷ []) ≡ copies k xs + 1
 copies-last k xs = omega (arith, copies-push k k xs, if_same-yes k k refl)
 
--- One list after the other.
+-- A number occurs in two joined lists as often as in both together.
 pub copies-append : OwnersAddUp
 copies-append k xs ys = sum_by-append (λ y. if k == y then 1 else 0) xs ys
 
--- With one owner for each number there is no second owner.
+-- If each number has one owner, none has a second one.
 pub no_second_from_one : (n : ℕ) (xs : List ℕ) → HasOneOwner n xs → HasNoSecondOwner n xs
 no_second_from_one n xs one k = omega (arith, one k)
 
--- Of two owners without a second one, neither has a second one by itself.
+-- If no number has a second owner in two joined lists, none has in the first list.
 pub no_second-first : (n : ℕ) (xs ys : List ℕ) → HasNoSecondOwner n (xs ++ ys) → HasNoSecondOwner n xs
 no_second-first n xs ys once k = omega (arith, once k, copies-append k xs ys)
 
 pub no_second-last : (n : ℕ) (xs ys : List ℕ) → HasNoSecondOwner n (xs ++ ys) → HasNoSecondOwner n ys
 no_second-last n xs ys once k = omega (arith, once k, copies-append k xs ys)
 
--- A number that stands in a list without a second owner is below n, and stands there once.
+-- A number in a list in which none has a second owner is below n, and occurs once.
 pub known_from_no_second : (n number : ℕ) (xs : List ℕ) → HasNoSecondOwner n xs → 0 < copies number xs → number < n
 known_from_no_second n number xs once some = below_from_if_below number n (omega (arith, once number))
 
@@ -81,7 +81,7 @@ one_owner-same n xs ys one same k = omega (arith, one k, same k)
 pub one_owner-swap : (n : ℕ) (xs ys : List ℕ) → HasOneOwner n (xs ++ ys) → HasOneOwner n (ys ++ xs)
 one_owner-swap n xs ys one k = omega (arith, one k, copies-append k xs ys, copies-append k ys xs)
 
--- What one of two owners takes, both together take.
+-- A number added to the first of two lists is added to the joined list.
 pub taken-first : (number : ℕ) (xs xs' ys : List ℕ) → HaveSameNumbers (number ∷ xs) xs' → HaveSameNumbers (number ∷ (xs ++ ys)) (xs' ++ ys)
 taken-first number xs xs' ys same k =
     omega (arith, same k, copies-append k xs ys, copies-append k xs' ys, copies-cons k number xs, copies-cons k number (xs ++ ys))
@@ -132,7 +132,7 @@ owned-nowhere_else n number xs ys one some =
     let both = copies-append number xs ys in
     (below_from_if_below number n (omega (arith, one number)), omega (arith, one number, if_below-most number n))
 
--- How many places the numbers below n have in a list.
+-- At how many places of a list the numbers below n are.
 abbrev places : ℕ → List ℕ → ℕ
 places zero xs = 0
 places (suc n) xs = places n xs + copies n xs
@@ -145,7 +145,7 @@ places-cons : (n x : ℕ) (xs : List ℕ) → places n (x ∷ xs) ≡ if_below x
 places-cons zero x xs = omega (arith, if_below-no x 0 (omega arith))
 places-cons (suc n) x xs = omega (arith, places-cons n x xs, copies-cons n x xs, if_below-next x n (suc n) (omega arith), if_same-swap x n)
 
--- A list of numbers below n is as long as they have places in it,
+-- A list of numbers below n is as long as the number of places at which these numbers are.
 length-places : (n : ℕ) (xs : List ℕ) → HasNoSecondOwner n xs → length xs ≡ places n xs
 length-places n [] once = sym (places-none n)
 length-places n (x ∷ xs) once =
@@ -153,7 +153,7 @@ length-places n (x ∷ xs) once =
     let rest = no_second-taken n x (x ∷ xs) xs once (λ k. refl) in
     omega (arith, if_below-yes x n known, length-places n xs rest, places-cons n x xs)
 
--- which are m for the first m numbers that each stand once, and at most m for those that stand at most once.
+-- The first m numbers are at m places if each occurs once, and at most at m places if each occurs at most once.
 places-once : (m : ℕ) (xs : List ℕ) → ((k : ℕ) → k < m → copies k xs ≡ 1) → places m xs ≡ m
 places-once zero xs once = refl
 places-once (suc m) xs once =
@@ -163,7 +163,7 @@ places-most : (m : ℕ) (xs : List ℕ) → ((k : ℕ) → copies k xs ≤ 1) �
 places-most zero xs most = omega arith
 places-most (suc m) xs most = omega (arith, most m, places-most m xs most)
 
--- With one owner for each, there are n numbers in the list.
+-- If each number below n has one owner, the list has n numbers.
 pub length-one_owner : OneOwnerCounts
 length-one_owner n xs one =
     omega (
@@ -173,7 +173,7 @@ length-one_owner n xs one =
           (λ k below. omega (arith, one k, if_below-yes k n below)),
     )
 
--- With no second owner, there are at most n, and fewer where one is missing.
+-- If no number has a second owner, the list has at most n numbers, and fewer if one is missing.
 pub length-no_second : NoSecondOwnerBounds
 length-no_second n xs once =
     omega (arith, length-places n xs once, places-most n xs (λ k. once_from_no_second n k xs once))
@@ -182,7 +182,7 @@ pub length-missing : MissingLeavesRoom
 length-missing n number xs once known out =
     omega (arith, length-no_second n (number ∷ xs) (no_second-given n number xs (number ∷ xs) once known out (λ k. refl)))
 
--- One of two owners has room for a number that the other has.
+-- The list of one owner is shorter than n if another owner has a number.
 pub length-elsewhere : (n number : ℕ) (xs ys : List ℕ) → HasOneOwner n (xs ++ ys) → 0 < copies number xs → length ys < n
 length-elsewhere n number xs ys one some =
     let missing = owned-nowhere_else n number ys xs (one_owner-swap n xs ys one) some in

@@ -1,4 +1,4 @@
--- How a pool keeps its numbers (our choice): those that are in it stand in a vector that has room for all of them.
+-- How a pool keeps its numbers (our choice): a vector with room for all numbers contains those that are in the pool.
 use Rattle.std.specs.Prelude.{◌≤◌, ◌<◌, ◌^◌, vec_capacity}
 use Rattle.dma_memory.specs.Owners.{HasNoSecondOwner}
 use Rattle.dma_memory.specs.Numbers.{Numbers}
@@ -8,9 +8,9 @@ abbrev pub numbers_of : Inside → Numbers
 numbers_of pool = record { buffers = pool.buffers; free = pool.free.items }
 
 pub record IsConsistent (pool : Inside) : Type 0 where
-  -- what is in the pool is in it once
+  -- Each number is in the pool at most once.
   pub once : HasNoSecondOwner pool.buffers pool.free.items
-  -- the vector never grows
+  -- The vector has room for all numbers, so it never grows.
   pub room : pool.buffers ≤ vec_capacity pool.free
-  -- the count has 16 bits
+  -- The number of buffers is below 65,536.
   pub most : pool.buffers < 2 ^ 16

@@ -3,7 +3,7 @@ use Rattle.std.specs.Prelude.{◌≡◌, ◌<◌, ◌+◌, ◌↔◌, ◌++◌, 
 use Rattle.dma_memory.specs.HostMemory.{bytes_at, with_bytes, LiesIn}
 use Rattle.dma_memory.specs.Areas.{Area, area_at, bytes_in, AreApart}
 
--- So many bytes lie in a memory exactly if the address of each is below its size.
+-- A range of bytes is inside a memory if and only if the address of each byte is below its size.
 abbrev pub LieWhereEachLies : Type 0
 LieWhereEachLies = (memory : List ℕ) (address n : ℕ) → LiesIn memory address n ↔ ((i : ℕ) → i < n → address + i < length memory)
 
@@ -12,12 +12,12 @@ abbrev pub StoreKeepsSize : Type 0
 StoreKeepsSize = (memory bytes : List ℕ) (address : ℕ) → LiesIn memory address (length bytes)
     → length (with_bytes memory address bytes) ≡ length memory
 
--- What was stored is what stands there.
+-- A load at the address of a store returns the bytes that were stored.
 abbrev pub StoredIsLoaded : Type 0
 StoredIsLoaded = (memory bytes : List ℕ) (address : ℕ) → LiesIn memory address (length bytes)
     → bytes_at (with_bytes memory address bytes) address (length bytes) ≡ bytes
 
--- Bytes apart from those that are stored stay.
+-- A store doesn't change bytes that are apart from it.
 abbrev pub OthersStay : Type 0
 OthersStay = (memory bytes : List ℕ) (address : ℕ) (other : Area) → LiesIn memory address (length bytes)
     → AreApart (area_at address (length bytes)) other → bytes_in (with_bytes memory address bytes) other ≡ bytes_in memory other

@@ -14,8 +14,8 @@ pub struct OutOfRange;
 /// The memory of a host: bytes with the addresses from 0 to its size - 1, which the host's driver and
 /// its adapter both load and store.
 ///
-/// No bytes lie in it at every address, so a load or a store of none is never refused. Its size
-/// never changes.
+/// An empty range is in it at every address, so a load or a store of no bytes is never refused. Its
+/// size never changes.
 #[derive(Clone, Drop)]
 pub struct HostMemory {
     bytes: Vec<u8>,
@@ -92,7 +92,7 @@ impl HostMemory {
         Ok(())
     }
 
-    /// The `count` bytes from `address` on, where they stand.
+    /// The `count` bytes from `address` on, without a copy.
     ///
     /// # Errors
     ///

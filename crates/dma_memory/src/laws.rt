@@ -30,7 +30,7 @@ pub fn places_are_apart()
 
 /// Laws of owners, over all lists of numbers: one owner by counts is one owner by places; what two owners have adds up;
 /// a number that is handed on still has one owner; what one owner has, no other has; with one owner for each of n
-/// numbers the list is n long; with no second owner it is at most n long, and shorter where a number is missing.
+/// numbers the list is n long; with no second owner it is at most n long, and shorter if a number is missing.
 ///
 /// It does nothing: its contract is the laws.
 pub fn numbers_have_one_owner()

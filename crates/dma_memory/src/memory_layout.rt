@@ -16,8 +16,8 @@ pub const TRANSMIT_BUFFER_BYTES: u64 = 2048;
 /// 1,518 bytes, needs six receive buffers.
 pub const RECEIVE_BUFFER_BYTES: u64 = 256;
 
-/// A ring has a multiple of so many descriptors, and at least so many (Intel's manual, "13.4.27 Receive
-/// Descriptor Length": 128 bytes).
+/// The number of descriptors of a ring is a multiple of this number, and at least this number (Intel's manual, "13.4.27
+/// Receive Descriptor Length": 128 bytes).
 pub const RING_STEP: u16 = 8;
 
 /// The most descriptors of a ring (our choice).
@@ -40,7 +40,7 @@ pub enum LayoutError {
     BufferCount,
 }
 
-/// Where the rings and buffers of one driver stand in its host's memory, by byte addresses.
+/// Where the rings and buffers of one driver are in its host's memory, by byte addresses.
 ///
 /// The receive ring stands at 0, the transmit ring right after it, 16 bytes for each descriptor. Then, from the next
 /// multiple of 2,048 on, follow a transmit buffer of 2,048 bytes for each transmit descriptor, and the receive buffers
@@ -69,7 +69,7 @@ fn is_ring_size(n: u16) -> bool
     n % RING_STEP == 0 && RING_STEP <= n && n <= MOST_DESCRIPTORS
 }
 
-/// Whether there may be so many buffers for a receive ring of `rx` descriptors.
+/// Whether a layout may have this number of receive buffers for a receive ring of `rx` descriptors.
 fn is_buffer_count(rx: u16, buffers: u16) -> bool
     ensures { IsTrue result ↔ IsBufferCount rx buffers }
 {
@@ -77,8 +77,8 @@ fn is_buffer_count(rx: u16, buffers: u16) -> bool
 }
 
 impl Layout {
-    /// The layout for a receive ring of `rx` and a transmit ring of `tx` descriptors, with so many
-    /// receive buffers.
+    /// The layout for a receive ring of `rx` and a transmit ring of `tx` descriptors, with this number of receive
+    /// buffers.
     ///
     /// # Errors
     ///

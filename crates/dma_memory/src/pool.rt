@@ -6,7 +6,7 @@ use std::marker::Model;
 
 /// The number of a receive buffer, in the hands of its one owner.
 ///
-/// It can't be copied, and a [`Pool`] alone makes one. To let it go is to lose the number.
+/// It can't be copied, and a [`Pool`] alone makes one. If it is dropped, the number is lost.
 #[derive(Drop)]
 pub struct BufId {
     number: u16,
@@ -29,7 +29,8 @@ impl BufId {
     }
 }
 
-/// The receive buffers that nobody else owns, by their numbers.
+/// The numbers of the receive buffers that nobody else owns. A new pool contains all numbers below a count. Later each
+/// number is in the pool, or the caller that took it is its one owner.
 ///
 /// It is made with all numbers below a count. Each is in it or out, at the one owner to whom it was given.
 #[derive(Drop)]
@@ -82,8 +83,8 @@ impl Pool {
         self.free.is_empty()
     }
 
-    /// Takes a number out of the pool; `None` exactly if the pool is empty. Which of its numbers that is, is left
-    /// open.
+    /// Takes a number out of the pool; `None` exactly if the pool is empty. The contract doesn't state which of its
+    /// numbers.
     pub fn take(&mut self) -> Option<BufId>
         ensures none { IsNone result ↔ (self.old.free ≡ []) }
         ensures taken { IfSome result (λ number. HaveSameNumbers self.old.free (number ∷ self.new.free)) }
@@ -95,7 +96,7 @@ impl Pool {
         self.free.pop()
     }
 
-    /// Puts a number of this pool that is out back into it. It takes no memory and never fails.
+    /// Returns a number that was taken from this pool to it. It takes no memory and never fails.
     pub fn give(&mut self, buffer: BufId)
         requires known { buffer < self.old.buffers }
         requires out { copies buffer self.old.free ≡ 0 }

@@ -36,7 +36,7 @@ shown_before address = address * 256
 abbrev pub shown_after : ℕ → ℕ → ℕ
 shown_after address word = word * 65536 + address * 256 + 16
 
--- What the register reads; START reads 0, and a new one reads 0 (our choice).
+-- What the register reads; START reads 0, and a new register reads 0 (our choice).
 abbrev pub shown : ReadState → ℕ
 shown Idle = 0
 shown (Pending address) = shown_before address

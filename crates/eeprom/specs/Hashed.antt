@@ -4,7 +4,7 @@ use Rattle.std.specs.Hash.{HashWrites, u8, u16}
 use Rattle.eeprom.specs.declared.eerd.ReadState.{ReadState}
 use Rattle.eeprom.specs.declared.eerd.ReadState.TheVariants.{Idle, Pending, Done}
 
--- a tag for the state of the read, and then what the state holds
+-- what EERD feeds: a tag for the state of the read, and then what the state contains
 abbrev pub eerd_writes : ReadState → HashWrites
 eerd_writes Idle = u8 0
 eerd_writes (Pending address) = u8 1 ++ u8 address

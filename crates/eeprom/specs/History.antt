@@ -44,8 +44,9 @@ HasTick operations = IsTrue (list_any is_tick operations)
 abbrev pub reads_after : List ℕ → List Operation → ℕ
 reads_after words operations = shown (after_all words operations Idle)
 
--- The history alone says what is read: the last write with START, and whether a tick came after it
--- (manual, 13.4.4; that a later START replaces a pending one, and a write without START does nothing: own).
+-- What EERD reads follows from its history alone: from the last write with START, and from whether a tick came after it
+-- (manual, 13.4.4; that a later START replaces a pending one, and that a write without START does nothing, is our
+-- choice).
 pub record AnswersByHistory : Type 0 where
   -- Without a write with START the register reads 0.
   pub never_asked : (words : List ℕ) (all : List Operation) → NoStart all → reads_after words all ≡ 0

@@ -17,7 +17,7 @@ address_bytes words =
 abbrev pub HasRightSum : List ℕ → Type 0
 HasRightSum words = sum words % 65536 ≡ 0xBABA
 
--- The word that makes the sum right beside three others (our choice: the other 60 words are 0).
+-- The checksum word of an image that begins with these three words, if the other 60 words are 0 (our choice).
 abbrev pub checksum_word : ℕ → ℕ → ℕ → ℕ
 checksum_word first second third = (0xBABA + 3 * 65536 - first - second - third) % 65536
 

@@ -14,7 +14,7 @@ pub after_all-append : (words : List ℕ) (before after : List Operation) (state
 after_all-append words [] after state = refl
 after_all-append words (operation ∷ before) after state = after_all-append words before after (after_operation words operation state)
 
--- a write without START leaves the register as it is
+-- a write without START doesn't change the register
 pub after_write-no_start : (value : ℕ) (state : ReadState) → has_start value ≡ false → after_write value state ≡ state
 after_write-no_start value state none = rw none refl
 
@@ -22,7 +22,7 @@ after_write-no_start value state none = rw none refl
 pub after_write-start : (value : ℕ) (state : ReadState) → has_start value ≡ true → after_write value state ≡ Pending (addr value)
 after_write-start value state starts = rw starts refl
 
--- without a write with START, a register that was not asked stays so
+-- without a write with START, a register for which no read was begun stays so
 pub stays_idle : (words : List ℕ) (all : List Operation) → NoStart all → after_all words all Idle ≡ Idle
 stays_idle words [] none = refl
 stays_idle words (Write value ∷ all) none =
@@ -30,7 +30,7 @@ stays_idle words (Write value ∷ all) none =
     ap (after_all words all) (after_write-no_start value Idle parts.0) ∙ stays_idle words all parts.1
 stays_idle words (Tick ∷ all) none = stays_idle words all none
 
--- and one that has read keeps what it read
+-- without a write with START, a register that has read a word keeps it
 pub stays_done : (words : List ℕ) (all : List Operation) (address word : ℕ) → NoStart all
     → after_all words all (Done address word) ≡ Done address word
 stays_done words [] address word none = refl
@@ -39,7 +39,7 @@ stays_done words (Write value ∷ all) address word none =
     ap (after_all words all) (after_write-no_start value (Done address word) parts.0) ∙ stays_done words all address word parts.1
 stays_done words (Tick ∷ all) address word none = stays_done words all address word none
 
--- a read that is pending goes on without a tick
+-- without a tick and a write with START, a pending read stays pending
 pub stays_pending : (words : List ℕ) (all : List Operation) (address : ℕ) → NoStart all → NoTick all
     → after_all words all (Pending address) ≡ Pending address
 stays_pending words [] address none still = refl
@@ -48,7 +48,7 @@ stays_pending words (Write value ∷ all) address none still =
     ap (after_all words all) (after_write-no_start value (Pending address) parts.0) ∙ stays_pending words all address parts.1 still
 stays_pending words (Tick ∷ all) address none still = absurd (true≢false still)
 
--- and the first tick ends it
+-- without a write with START, the first tick ends a pending read
 pub ends_pending : (words : List ℕ) (all : List Operation) (address : ℕ) → NoStart all → HasTick all
     → after_all words all (Pending address) ≡ Done address (word_at words address)
 ends_pending words [] address none ticks = absurd (false≢true ticks)

@@ -17,17 +17,19 @@ const ADDR_SHIFT: u32 = 8;
 /// The lowest bit of DATA, bits 31:16.
 const DATA_SHIFT: u32 = 16;
 
-/// The bytes that stand for the states of a read in a hash.
+/// The tag of `Idle` in a hash.
 const IDLE_TAG: u8 = 0;
 
+/// The tag of `Pending` in a hash.
 const PENDING_TAG: u8 = 1;
 
+/// The tag of `Done` in a hash.
 const DONE_TAG: u8 = 2;
 
-/// How far the read stands that EERD was asked for.
+/// The state of EERD: whether it was asked to read a word, and whether the read has ended.
 #[derive(Clone, Copy, Debug, PartialEq, Eq)]
 pub enum ReadState {
-    /// None was asked for.
+    /// No read was begun.
     Idle,
     /// The word at this address is being read.
     Pending(u8),
@@ -59,7 +61,7 @@ impl Eerd {
     ghost use Rattle.eeprom.specs.Eerd.{after_tick, after_write, is_pending, shown};
     ghost use Rattle.eeprom.specs.Hashed.{eerd_writes};
 
-    /// A register that was not asked for anything: it reads 0.
+    /// A register for which no read was begun: it reads 0.
     pub fn new() -> Self
         ensures { result ≡ Idle }
     {
@@ -68,8 +70,8 @@ impl Eerd {
         }
     }
 
-    /// A write with START begins a read of the word at ADDR, in place of one that is pending.
-    /// A write without START is ignored (both own).
+    /// A write with START begins a read of the word at ADDR, in place of one that is pending. A write without START is
+    /// ignored (both are our choice).
     pub fn write(&mut self, value: u32)
         ensures { self.new ≡ after_write value self.old }
     {
@@ -79,8 +81,8 @@ impl Eerd {
         }
     }
 
-    /// What the register reads: 0 where nothing was asked for, ADDR alone while a read is
-    /// pending, and DATA, ADDR and DONE once it has ended. START reads 0 (our choice).
+    /// What the register reads: 0 if no read was begun, ADDR alone while a read is pending, and DATA, ADDR and DONE
+    /// once it has ended. START reads 0 (our choice).
     #[tactic(auto, using(crate::proofs::Fields::or_fields))]
     pub fn read(&self) -> u32
         ensures { result ≡ shown self.now }

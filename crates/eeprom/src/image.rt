@@ -9,10 +9,10 @@ pub const WORDS: usize = 64;
 /// The place of the word that makes the sum of all words right, 3Fh.
 const CHECKSUM_WORD: usize = 63;
 
-/// What the 64 words add up to, modulo 65,536.
+/// The sum of the 64 words, modulo 65,536.
 const CHECKSUM: u16 = 0xBABA;
 
-/// The sum of the words is asked for modulo this number.
+/// The sum of the words counts modulo this number.
 const MODULUS: u32 = 1 << 16;
 
 /// What a read past the last word gives.
@@ -93,7 +93,7 @@ pub fn checksum_ok(image: &Image) -> bool
     sum_of(&image.words) % MODULUS == u32::from(CHECKSUM)
 }
 
-/// The sum of words, which so few can't overflow.
+/// The sum of the words: 32 bits have room for it.
 fn sum_of(words: &[u16]) -> u32
     requires { length words.now ≤ WORDS }
     ensures { result ≡ sum words.now }

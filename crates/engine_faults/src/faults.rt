@@ -19,9 +19,9 @@ use bus::Machine;
 use descriptors::{LONGEST_SENDABLE, Ring, TX_DESC_BYTES, TxCommand, TxDesc};
 use registers::Rctl;
 
-/// Why a step of this kind is a fault: for a step whose outcome is a fault, before the step or right after it. If the
-/// step isn't a fault, its result doesn't apply. Steps of the kinds other than [`TxTake`](StepKind::TxTake) and
-/// [`RxData`](StepKind::RxData) are never faults.
+/// Why a step of this kind is a fault: for a step whose outcome is a fault, before the step or right after it. For
+/// another step of these kinds the result has no meaning. Steps of the kinds other than [`TxTake`](StepKind::TxTake)
+/// and [`RxData`](StepKind::RxData) are never faults.
 pub fn fault_of(machine: &Machine, kind: StepKind) -> Option<EngineFault>
     ensures fault { result ≡ fault_if_any kind machine.now.world }
 {

@@ -18,9 +18,9 @@ pub struct RingWords {
     pub base: u64,
     /// Its length in bytes.
     pub bytes: u32,
-    /// The first descriptor that is the adapter's.
+    /// The head: the index of the first descriptor that the adapter owns.
     pub head: u32,
-    /// The first descriptor after the adapter's.
+    /// The tail: the index of the first descriptor after those that the adapter owns.
     pub tail: u32,
 }
 

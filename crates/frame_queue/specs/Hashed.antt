@@ -2,10 +2,10 @@
 use Rattle.std.specs.Prelude.{◌++◌, ◌∷◌, [], ℕ, List, length}
 use Rattle.std.specs.Hash.{HashWrites, slice, usize}
 
--- its length, and then its bytes
+-- what a frame feeds to a hasher: its length, and then its bytes
 abbrev pub frame_writes : List ℕ → HashWrites
 frame_writes frame = usize (length frame) ++ frame ∷ []
 
--- how many frames there are, and then each frame, the oldest first
+-- what frames feed to a hasher: how many they are, and then each frame, the oldest first
 abbrev pub frames_writes : List (List ℕ) → HashWrites
 frames_writes frames = slice frame_writes frames

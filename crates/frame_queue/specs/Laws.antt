@@ -6,7 +6,7 @@ use Rattle.std.proofs.lemmas.Grind.{flat_map-append}
 use Rattle.std.specs.Hash.{HashWrites}
 use Rattle.circular_buffer.specs.Buffer.{keep_last}
 
--- One item more, where there is room, leaves all.
+-- If there is room for one more item, a push drops none of the others.
 pub keep_last-room : {A : Type 0} (items : List A) (capacity : ℕ) (item : A) → length items < capacity
     → keep_last capacity (items ++ item ∷ []) ≡ items ++ item ∷ []
 keep_last-room items capacity item room =

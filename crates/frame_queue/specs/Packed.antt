@@ -30,9 +30,9 @@ packed_of queue = record {
 
 -- What holds of the fields at all times.
 pub record IsPacked (queue : Inside) : Type 0 where
-  -- The frames' bytes follow one another from `first` up to `end`.
+  -- The bytes of the frames follow one another from `first` up to `end`.
   pub end_is : queue.end ≡ queue.first + total queue.lengths.items
-  -- They are in the queue's memory.
+  -- These bytes are inside the queue's memory.
   pub fits : queue.end ≤ length queue.bytes.items
   -- There are at most as many frames as the capacity.
   pub count : length queue.lengths.items ≤ queue.lengths.capacity

@@ -1,5 +1,5 @@
--- Where the frames of a queue stand in its bytes (our choice): in places of 1,518 bytes, one after the other from the first on, and
--- at the front again after the last place.
+-- Where the frames of a queue are in its bytes (our choice): in places of 1,518 bytes, one after the other from the
+-- first on, and at the front again after the last place.
 use Rattle.std.specs.Prelude.{◌≡◌, ◌+◌, ◌*◌, ◌<◌, ◌≤◌, ℕ, List, [], ◌∷◌, All, length, take, drop}
 use Rattle.frame_queue.specs.Frames.{Frames}
 use Rattle.frame_queue.specs.Wrapping.{wrapped}

@@ -1,6 +1,6 @@
 //! Queues of Ethernet frames, with their memory taken once.
 //!
-//! A [`FrameQueue`] is what a packet buffer of a network adapter is: at most so many frames, first in, first out.
+//! A [`FrameQueue`] is what a packet buffer of a network adapter is: a limited number of frames, first in, first out.
 #![tactic(auto)]
 
 mod buffers;

@@ -174,8 +174,8 @@ fn make_room(bytes: &mut [u8], first: usize, end: usize, more: usize) -> usize
     0
 }
 
-/// Writes a frame after the bytes from `first` up to `end`. If it doesn't fit there, first moves these bytes to the start
-/// of the memory. Returns the index of the first of them.
+/// Writes a frame after the bytes from `first` up to `end`. If it doesn't fit there, first moves these bytes to the
+/// start of the memory. Returns the index of the first of them.
 fn append(bytes: &mut [u8], first: usize, end: usize, frame: &[u8]) -> usize
     requires order { first ≤ end }
     requires lies { end ≤ length bytes.old }

@@ -16,8 +16,7 @@ pub const PLACE_BYTES: usize = 1518;
 
 /// At most so many frames of at most 1,518 bytes each, first in, first out.
 ///
-/// Its memory is taken when it is made. A frame is copied once, when it is pushed, and can be looked at where it
-/// stands.
+/// Its memory is taken when it is made. A frame is copied once, when it is pushed, and can be read without a copy.
 #[derive(Debug, Drop)]
 pub struct FrameQueue {
     bytes: Vec<u8>,
@@ -101,7 +100,7 @@ impl FrameQueue {
         self.lengths.is_full()
     }
 
-    /// The oldest frame, where it stands; `None` exactly if the queue is empty.
+    /// The oldest frame, without a copy; `None` exactly if the queue is empty.
     pub fn front(&self) -> Option<&[u8]>
         ensures none { IsNone result ↔ (self.now.frames ≡ []) }
         ensures oldest { IfSome result (λ frame. slice_get self.now.frames 0 ≡ Some frame.now) }
@@ -121,8 +120,8 @@ impl FrameQueue {
         self.push_padded(frame, 0);
     }
 
-    /// Puts a frame after the others, followed by zeros where it has less than `least` bytes, up to that length. The
-    /// queue isn't full, and neither the frame nor `least` is above 1,518 bytes.
+    /// Puts a frame after the others, followed by zeros up to `least` bytes if it has fewer. The queue isn't full, and
+    /// neither the frame nor `least` is above 1,518 bytes.
     pub fn push_padded(&mut self, frame: &[u8], least: usize)
         requires room { length self.old.frames < self.old.capacity }
         requires fits { length frame.now ≤ PLACE_BYTES }
@@ -181,7 +180,7 @@ impl FrameQueue {
     }
 }
 
-/// The place that is meant by a number of places counted on past the last one, at most once round.
+/// The place that a number means: past the last place the numbers go on at the first one, once at most.
 fn wrap(place: usize, capacity: usize) -> usize
     ensures { result ≡ wrapped capacity place }
 {

@@ -16,16 +16,16 @@ pending_tag None = 0
 pending_tag (Some Write) = 1
 pending_tag (Some Read) = 2
 
--- the register and its command
+-- what MDIC feeds: its value and its command
 abbrev pub mdic_writes : MdicState → HashWrites
 mdic_writes mdic = u32 mdic.value ++ u8 (pending_tag mdic.pending)
 
--- a tag, and the count of ticks where there is one
+-- what the setting of a link feeds: a tag, and the number of ticks if there is one
 abbrev pub link_writes : Link → HashWrites
 link_writes (After ticks) = u8 0 ++ u16 ticks
 link_writes Never = u8 1
 
--- a tag, and the ticks that are left if negotiation is running
+-- what negotiation feeds: a tag, and the ticks that are left if it is running
 abbrev pub negotiation_writes : Negotiation → HashWrites
 negotiation_writes NotStarted = u8 0
 negotiation_writes (Running ticks) = u8 1 ++ u16 ticks

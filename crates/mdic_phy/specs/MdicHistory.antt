@@ -41,8 +41,8 @@ access_of None value = []
 access_of (Some operation.Write) value = if reaches_phy value then phy.Write (regadd value) (data_of value) ∷ [] else []
 access_of (Some operation.Read) value = if reaches_phy value then phy.Read (regadd value) ∷ [] else []
 
--- What comes to the PHY: each tick, and after it the access of the write that stands right before that tick. A
--- write with another one after it, or with no tick yet, comes to nothing.
+-- What comes to the PHY: each tick, and after it the access of the write that is right before that tick. A write with
+-- another one after it, or with no tick yet, comes to nothing.
 abbrev pub accesses : List MdicEvent → List PhyEvent
 accesses [] = []
 accesses (Tick ∷ later) = phy.Tick ∷ accesses later
@@ -65,7 +65,7 @@ NoWrite events = list_any is_write events ≡ false
 abbrev pub mdic_reads : PhyState → List MdicEvent → ℕ
 mdic_reads state events = (both_behind state events).mdic.value
 
--- The PHY behind a list of events of MDIC and one more tick.
+-- The PHY after a list of events of MDIC and one more tick.
 abbrev pub ticked_phy : PhyState → List MdicEvent → PhyState
 ticked_phy state events = after_events (accesses events ++ phy.Tick ∷ []) state
 
@@ -73,16 +73,17 @@ ticked_phy state events = after_events (accesses events ++ phy.Tick ∷ []) stat
 abbrev pub told_behind : PhyState → List MdicEvent → Option Ticked
 told_behind state events = told (both_behind state events).mdic (both_behind state events).phy
 
--- The PHY behind a list of events of MDIC.
+-- The PHY after a list of events of MDIC.
 abbrev pub phy_of : PhyState → List MdicEvent → PhyState
 phy_of state events = after_events (accesses events) state
 
--- What a tick tells where no command was written right before it: that the link came up, or nothing where no count ran.
+-- What a tick gives the adapter to record if no command was written right before it: that the link came up, or nothing
+-- if no count ran.
 abbrev pub told_of_link : PhyState → Option Ticked
 told_of_link phy = if is_counting phy then Some (record { link_changed = comes_up phy; access_complete = false }) else None
 
--- A tick tells that the link came up (the cause LSC), and that a command ended whose I is set (the cause MDAC; manual,
--- 13.4.7): the command of the write right before that tick, and no other.
+-- A tick reports that the link came up (the cause LSC), and that a command ended whose I is set (the cause MDAC;
+-- manual, 13.4.7): the command of the write right before that tick, and no other.
 pub record ToldByHistory : Type 0 where
   pub first : (state : PhyState) → told_behind state [] ≡ told_of_link state
   pub ticked : (state : PhyState) (before : List MdicEvent)
@@ -93,27 +94,27 @@ pub record ToldByHistory : Type 0 where
       → told_behind state (before ++ Write value ∷ [])
       ≡ Some (record { link_changed = comes_up (phy_of state (before ++ Write value ∷ [])); access_complete = is_set value mdic_i })
 
--- What MDIC reads follows from the last write, from whether a tick came after it, and from what the PHY's register
--- was at that tick (manual, 13.4.7). Commands of writes before the last have no part in it.
+-- What MDIC reads follows from the last write, from whether a tick came after it, and from what the PHY's register was
+-- at that tick (manual, 13.4.7). Commands of earlier writes don't matter.
 pub record MdicByHistory : Type 0 where
   -- Without a write it reads 0.
   pub never_written : (state : PhyState) (all : List MdicEvent) → NoWrite all → mdic_reads state all ≡ 0
-  -- Until a tick it reads what was last written, without R, E and bit 31;
+  -- Until a tick it reads what was last written, without R, E and bit 31.
   pub no_tick_yet : (state : PhyState) (before : List MdicEvent) (value : ℕ) → mdic_reads state (before ++ Write value ∷ []) ≡ kept value
-  -- and so it stays where OP is 00 or 11.
+  -- If OP of the last write is 00 or 11, it reads so after ticks, too.
   pub no_command : (state : PhyState) (before : List MdicEvent) (value : ℕ) (after : List MdicEvent) → operation_of value ≡ None
       → NoWrite after
       → mdic_reads state (before ++ Write value ∷ after) ≡ kept value
-  -- After a tick, a write command has R set;
+  -- After a tick, a write command has R set.
   pub written : (state : PhyState) (before : List MdicEvent) (value : ℕ) (after : List MdicEvent)
       → operation_of value ≡ Some operation.Write → phyadd value ≡ 1 → NoWrite after
       → mdic_reads state (before ++ Write value ∷ Tick ∷ after) ≡ with_ready (kept value)
-  -- a read command also has the register of the PHY in DATA, as it was at that tick;
+  -- After a tick, a read command has R set, and in DATA the PHY's register as it was at that tick.
   pub read : (state : PhyState) (before : List MdicEvent) (value : ℕ) (after : List MdicEvent) → operation_of value ≡ Some operation.Read
       → phyadd value ≡ 1 → NoWrite after
       → mdic_reads state (before ++ Write value ∷ Tick ∷ after)
       ≡ with_ready (with_data (read_value (regadd value) (ticked_phy state before)) (kept value))
-  -- and a command for another PHY has R and E set, and its DATA.
+  -- After a tick, a command for another PHY has R and E set, and the DATA that was written.
   pub not_there : (state : PhyState) (before : List MdicEvent) (value : ℕ) (asked : Operation) (after : List MdicEvent)
       → operation_of value ≡ Some asked → phyadd value ≢ 1 → NoWrite after
       → mdic_reads state (before ++ Write value ∷ Tick ∷ after) ≡ with_error (kept value)

@@ -69,7 +69,7 @@ after_access (Some operation.Read) value s =
     ∙ ap (λ (p : ℕ). cond (p == 1) (state.after_read (regadd value) s) s) (sym (phyadd-kept value))
     ∙ ap (λ (r : ℕ). cond (reaches_phy (kept value)) (state.after_read r s) s) (sym (regadd-kept value))
 
--- a register without a command that is pending
+-- a register without a pending command
 abbrev without_command : ℕ → PhyState → MdicAndPhy
 without_command value phy = record { mdic = record { value = value; pending = None }; phy = phy }
 
@@ -95,7 +95,7 @@ pub after_mdic_events-append : (before after : List MdicEvent) (both : MdicAndPh
 after_mdic_events-append [] after both = refl
 after_mdic_events-append (event ∷ before) after both = after_mdic_events-append before after (after_mdic_event event both)
 
--- without a command and without a write the register stays
+-- without a command and without a write the register doesn't change
 pub value-stays : (after : List MdicEvent) (value : ℕ) (s : PhyState) → NoWrite after
     → (after_mdic_events after (without_command value s)).mdic.value ≡ value
 value-stays [] value s none = refl
@@ -161,7 +161,7 @@ mdic_by_history = record {
 
 -- ---- what a tick tells
 
--- the register and its PHY behind a list and one event more
+-- the register and its PHY after a list and one event more
 pub both-behind : (s : PhyState) (before : List MdicEvent) (event : MdicEvent)
     → both_behind s (before ++ event ∷ []) ≡ after_mdic_event event (both_behind s before)
 both-behind s before event = after_mdic_events-append before (event ∷ []) (record { mdic = new_mdic; phy = s })
@@ -175,7 +175,7 @@ interrupt-kept value =
 abbrev told_by : Bool → Bool → Option Ticked
 told_by up complete = Some (record { link_changed = up; access_complete = complete })
 
--- nothing pending: a count alone gives work
+-- if no command is pending, a tick has something to do only if a count runs
 told-counting : (counts up : Bool) → cond (counts || false) (told_by up false) None ≡ cond counts (told_by up false) None
 told-counting true up = refl
 told-counting false up = refl

@@ -8,8 +8,7 @@ use Rattle.mdic_phy.specs.declared.phy.Negotiation.{Negotiation}
 use Rattle.mdic_phy.specs.declared.phy.Negotiation.TheVariants.{NotStarted, Running, Complete}
 use Rattle.mdic_phy.specs.Places.{control_enable, control_reset, control_restart, status_complete, status_link}
 
--- What a PHY knows: when its link is up, whether negotiation is enabled (register 0, bit 12), how far
--- negotiation stands, and whether the link status (register 1, bit 2) is latched low.
+-- The state of a PHY.
 pub record PhyState : Type 0 where
   -- when the link is up
   pub link : Link
@@ -57,24 +56,24 @@ after_control value phy =
 abbrev pub after_write : ℕ → ℕ → PhyState → PhyState
 after_write register value phy = if register == 0 then after_control value phy else phy
 
--- Register 0 reads its bit 12; the others read 0 (our choice).
+-- Register 0 reads its bit 12; its other bits read 0 (our choice).
 abbrev pub control_value : PhyState → ℕ
 control_value phy = if phy.negotiation_enabled then alone control_enable else 0
 
--- The status register with Auto-Negotiation Complete alone, and with Link Status too (22.2.4.2).
+-- The status register if autonegotiation is complete, without Link Status (22.2.4.2).
 abbrev pub link_unseen : ℕ
 link_unseen = alone status_complete
 
--- the status register with Auto-Negotiation Complete and Link Status
+-- The status register if autonegotiation is complete, with Link Status (22.2.4.2).
 abbrev pub link_seen : ℕ
 link_seen = union (alone status_complete) (alone status_link)
 
--- Register 1 (22.2.4.2): bit 5 where negotiation is complete, bit 2 where the link is up and its status isn't
--- latched low; the others read 0 (our choice).
+-- Register 1 (22.2.4.2): bit 5 if negotiation is complete, bit 2 if the link is up and its status isn't latched low;
+-- the other bits read 0 (our choice).
 abbrev pub status_value : PhyState → ℕ
 status_value phy = if link_is_up phy then (if phy.latched_low then link_unseen else link_seen) else 0
 
--- What a register reads: control, status, the two identifiers (22.2.4.3.1), and 0 (our choice).
+-- What a register reads: control, status, the two identifiers (22.2.4.3.1), and 0 for each other register (our choice).
 abbrev pub read_value : ℕ → PhyState → ℕ
 read_value register phy =
     if register == 0 then control_value phy else
@@ -82,7 +81,7 @@ read_value register phy =
     (if register == 2 then 0x0141 else
     (if register == 3 then 0x0C20 else 0)))
 
--- A read of register 1 clears the latch, also where the link is down (22.2.4.2, "Link Status").
+-- A read of register 1 clears the latch, also if the link is down (22.2.4.2, "Link Status").
 abbrev pub after_read : ℕ → PhyState → PhyState
 after_read register phy = if register == 1 then record phy { latched_low = false } else phy
 
@@ -106,6 +105,6 @@ counted Complete = Complete
 abbrev pub after_tick : PhyState → PhyState
 after_tick phy = record phy { negotiation = counted phy.negotiation }
 
--- A tick brings the link up, where it was down.
+-- Whether a tick brings up a link that was down.
 abbrev pub comes_up : PhyState → Bool
 comes_up phy = link_is_up (after_tick phy) && not (link_is_up phy)

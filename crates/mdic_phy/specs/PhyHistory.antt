@@ -20,7 +20,7 @@ after_event Tick phy = after_tick phy
 after_event (Read register) phy = after_read register phy
 after_event (Write register value) phy = after_write register value phy
 
--- The PHY behind a list of events, the oldest first, by the steps of the calls.
+-- The PHY after a list of events, the oldest first, by the steps of the calls.
 abbrev pub after_events : List PhyEvent → PhyState → PhyState
 after_events [] phy = phy
 after_events (event ∷ later) phy = after_events later (after_event event phy)
@@ -67,24 +67,24 @@ HasNo test events = list_any test events ≡ false
 
 -- The link is up exactly if at least d ticks came since the write that last started negotiation, with no reset after it.
 pub record LinkByHistory : Type 0 where
-  -- It is down where negotiation was never started,
+  -- The link is down if negotiation was never started.
   pub never_started : (link : Link) (all : List PhyEvent) → HasNo is_restart all → link_is_up (phy_behind link all) ≡ false
-  -- and where it wasn't started since a reset;
+  -- The link is down if negotiation wasn't started since the last reset.
   pub reset : (link : Link) (before : List PhyEvent) (event : PhyEvent) (after : List PhyEvent) → IsTrue (is_reset event)
       → HasNo is_restart after
       → link_is_up (phy_behind link (before ++ event ∷ after)) ≡ false
-  -- from the last start on, if no reset came after it, it is up once there were d ticks;
+  -- From the last start of negotiation on, if no reset came after it, the link is up once there were d ticks.
   pub started : (d : ℕ) (before : List PhyEvent) (event : PhyEvent) (after : List PhyEvent) → 1 ≤ d → IsTrue (is_restart event)
       → HasNo takes_down after
       → link_is_up (phy_behind (After d) (before ++ event ∷ after)) ≡ nat_le d (count_by is_tick after)
-  -- and a link that is never up is down.
+  -- A link that is set to `Never` is down.
   pub never : (all : List PhyEvent) → link_is_up (phy_behind Never all) ≡ false
 
 -- What the status register reads after a list of events.
 abbrev pub status_behind : Link → List PhyEvent → ℕ
 status_behind link events = read_value 1 (phy_behind link events)
 
--- The value if the link is up, and 0 if it is down.
+-- This value if the link is up after the events, and 0 if it is down.
 abbrev pub where_up : Link → List PhyEvent → ℕ → ℕ
 where_up link events value = if link_is_up (phy_behind link events) then value else 0
 
@@ -93,11 +93,11 @@ where_up link events value = if link_is_up (phy_behind link events) then value e
 pub record LatchByHistory : Type 0 where
   -- The first read has no bit 2.
   pub never_read : (link : Link) (all : List PhyEvent) → HasNo is_status_read all → status_behind link all ≡ where_up link all link_unseen
-  -- A read has no bit 2 where a reset or a restart came and no read after it.
+  -- A read has no bit 2 if a reset or a restart came and no read after it.
   pub taken_down : (link : Link) (before : List PhyEvent) (event : PhyEvent) (after : List PhyEvent) → IsTrue (takes_down event)
       → HasNo is_status_read after
       → status_behind link (before ++ event ∷ after) ≡ where_up link (before ++ event ∷ after) link_unseen
-  -- A read has bit 2, where the link is up, if a read came before it and neither a reset nor a restart after that.
+  -- A read has bit 2 if the link is up, a read came before it, and neither a reset nor a restart came after that read.
   pub stayed : (link : Link) (before : List PhyEvent) (event : PhyEvent) (after : List PhyEvent) → IsTrue (is_status_read event)
       → HasNo takes_down after
       → status_behind link (before ++ event ∷ after) ≡ where_up link (before ++ event ∷ after) link_seen
@@ -106,7 +106,8 @@ pub record LatchByHistory : Type 0 where
 abbrev pub control_behind : Link → List PhyEvent → ℕ
 control_behind link events = read_value 0 (phy_behind link events)
 
--- The control register reads bit 12 of what was last written to it, or bit 12 alone where that was a reset or nothing.
+-- The control register reads bit 12 of what was last written to it, or bit 12 alone if that was a reset or nothing was
+-- written.
 pub record ControlByHistory : Type 0 where
   pub never_written : (link : Link) (all : List PhyEvent) → HasNo is_control_write all → control_behind link all ≡ alone control_enable
   pub reset : (link : Link) (before : List PhyEvent) (value : ℕ) (after : List PhyEvent) → is_set value control_reset ≡ true

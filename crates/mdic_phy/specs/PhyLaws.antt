@@ -83,7 +83,7 @@ restart-after_event (Read register) phy is = absurd (false≢true is)
 restart-after_event (Write register value) phy is = restart-by_tests (register == 0) (is_set value control_reset)
     (is_set value control_enable) (is_set value control_restart) phy is
 
--- a link that is never up
+-- a link that is set to `Never` stays down
 pub never-after_event : (event : PhyEvent) (phy : PhyState) → phy.link ≡ Never → phy.negotiation ≡ NotStarted
     → (after_event event phy).negotiation ≡ NotStarted
 never-after_event Tick phy never idle = ap counted idle
@@ -107,7 +107,7 @@ counted-after_event (Read register) phy none still = negotiation-after_read (reg
 counted-after_event (Write register value) phy none still = negotiation-by_tests (register == 0) (is_set value control_reset)
     (is_set value control_enable) (is_set value control_restart) phy none
 
--- what is complete stays so
+-- complete negotiation stays complete
 pub complete-after_events : (events : List PhyEvent) (phy : PhyState) → HasNo takes_down events → phy.negotiation ≡ Complete
     → (after_events events phy).negotiation ≡ Complete
 complete-after_events [] phy none up = up
@@ -201,14 +201,14 @@ latched-after_events (event ∷ later) phy none was =
     latched-after_events later (after_event event phy) (later_fail is_status_read event later none)
     (latched-after_event event phy (first_fails is_status_read event later none) was)
 
--- whatever takes the link down latches
+-- an event that takes the link down latches the link status low
 pub taken_down-after_event : (event : PhyEvent) (phy : PhyState) → takes_down event ≡ true → (after_event event phy).latched_low ≡ true
 taken_down-after_event Tick phy is = absurd (false≢true is)
 taken_down-after_event (Read register) phy is = absurd (false≢true is)
 taken_down-after_event (Write register value) phy is = latched-by_tests (register == 0) (is_set value control_reset)
     (is_set value control_enable) (is_set value control_restart) phy is
 
--- and nothing else does
+-- an event that doesn't take the link down doesn't latch the link status low
 pub unlatched-after_event : (event : PhyEvent) (phy : PhyState) → takes_down event ≡ false → phy.latched_low ≡ false
     → (after_event event phy).latched_low ≡ false
 unlatched-after_event Tick phy none was = was

@@ -48,7 +48,7 @@ reset-by_tests false r e a phy is = absurd (false≢true is)
 reset-by_tests true true e a phy is = refl
 reset-by_tests true false e a phy is = absurd (false≢true is)
 
--- a restart starts it
+-- a restart starts negotiation
 pub restart-by_tests : (c r e a : Bool) (phy : PhyState) → restarts c r e a ≡ true
     → (by_tests c r e a phy).negotiation ≡ negotiation_of phy.link
 restart-by_tests false r e a phy is = absurd (false≢true is)
@@ -57,7 +57,7 @@ restart-by_tests true false true true phy is = refl
 restart-by_tests true false true false phy is = absurd (false≢true is)
 restart-by_tests true false false a phy is = absurd (false≢true is)
 
--- a write that does neither leaves negotiation as it is
+-- a write that neither resets nor restarts doesn't change negotiation
 pub negotiation-by_tests : (c r e a : Bool) (phy : PhyState) → (resets c r || restarts c r e a) ≡ false
     → (by_tests c r e a phy).negotiation ≡ phy.negotiation
 negotiation-by_tests false r e a phy none = refl
@@ -66,7 +66,7 @@ negotiation-by_tests true false true true phy none = absurd (true≢false none)
 negotiation-by_tests true false true false phy none = refl
 negotiation-by_tests true false false a phy none = refl
 
--- and the latch
+-- a write that neither resets nor restarts doesn't change the latch
 pub latch-by_tests : (c r e a : Bool) (phy : PhyState) → (resets c r || restarts c r e a) ≡ false
     → (by_tests c r e a phy).latched_low ≡ phy.latched_low
 latch-by_tests false r e a phy none = refl
@@ -75,7 +75,7 @@ latch-by_tests true false true true phy none = absurd (true≢false none)
 latch-by_tests true false true false phy none = refl
 latch-by_tests true false false a phy none = refl
 
--- a write that does one of them latches the link low
+-- a write that resets or restarts latches the link status low
 pub latched-by_tests : (c r e a : Bool) (phy : PhyState) → (resets c r || restarts c r e a) ≡ true
     → (by_tests c r e a phy).latched_low ≡ true
 latched-by_tests false r e a phy is = absurd (false≢true is)
@@ -84,7 +84,7 @@ latched-by_tests true false true true phy is = refl
 latched-by_tests true false true false phy is = absurd (false≢true is)
 latched-by_tests true false false a phy is = absurd (false≢true is)
 
--- and none unlatches it
+-- no write unlatches the link status
 pub still_latched-by_tests : (c r e a : Bool) (phy : PhyState) → phy.latched_low ≡ true → (by_tests c r e a phy).latched_low ≡ true
 still_latched-by_tests false r e a phy was = was
 still_latched-by_tests true true e a phy was = refl
@@ -92,7 +92,7 @@ still_latched-by_tests true false true true phy was = refl
 still_latched-by_tests true false true false phy was = was
 still_latched-by_tests true false false a phy was = was
 
--- a link that is never up
+-- a link that is set to `Never` stays down
 pub never-by_tests : (c r e a : Bool) (phy : PhyState) → phy.link ≡ Never → phy.negotiation ≡ NotStarted
     → (by_tests c r e a phy).negotiation ≡ NotStarted
 never-by_tests false r e a phy never idle = idle
@@ -101,7 +101,7 @@ never-by_tests true false true true phy never idle = ap negotiation_of never
 never-by_tests true false true false phy never idle = idle
 never-by_tests true false false a phy never idle = idle
 
--- what the write leaves of bit 12
+-- bit 12 after the write
 pub enabled-by_tests : (r e a : Bool) (phy : PhyState) → (by_tests true r e a phy).negotiation_enabled ≡ cond r true e
 enabled-by_tests true e a phy = refl
 enabled-by_tests false true true phy = refl

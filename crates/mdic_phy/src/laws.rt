@@ -3,8 +3,8 @@
 ghost use Rattle.mdic_phy.specs.MdicHistory.{AccessesByHistory, MdicByHistory, ToldByHistory};
 ghost use Rattle.mdic_phy.specs.PhyHistory.{ControlByHistory, LatchByHistory, LinkByHistory};
 
-/// When the link is up, by the history alone: at least d ticks came since the write that last
-/// started negotiation, with no reset after it; and never, where the link is never up.
+/// When the link is up, by the history alone: at least d ticks came since the write that last started negotiation, with
+/// no reset after it; and never, if the setting of the link is `Never`.
 pub fn link_by_history()
     ensures { LinkByHistory }
 {}

@@ -20,17 +20,19 @@ const ADDRESS: u32 = 0x1F;
 /// The lowest bit of OP, bits 27:26.
 const OP_SHIFT: u32 = 26;
 
-/// The bits of OP, and what they say.
+/// The bits of OP, moved to the lowest places.
 const OP: u32 = 0b11;
 
+/// OP of a write.
 const OP_WRITE: u32 = 0b01;
 
+/// OP of a read.
 const OP_READ: u32 = 0b10;
 
 /// R, bit 28: the command has ended.
 const READY: u32 = 1 << 28;
 
-/// I, bit 29: the end of the command is to be told.
+/// I, bit 29: the end of the command records MDAC.
 const INTERRUPT: u32 = 1 << 29;
 
 /// E, bit 30: the command has failed.
@@ -42,11 +44,13 @@ const KEPT: u32 = 0x2FFF_FFFF;
 /// The address of the PHY.
 const PHY_ADDRESS: u32 = 1;
 
-/// The bytes that stand for the pending command in a hash.
+/// The tag of no pending command in a hash.
 const NO_COMMAND_TAG: u8 = 0;
 
+/// The tag of a pending write in a hash.
 const WRITE_TAG: u8 = 1;
 
+/// The tag of a pending read in a hash.
 const READ_TAG: u8 = 2;
 
 /// What a command asks of the PHY.
@@ -113,8 +117,8 @@ impl Mdic {
         };
     }
 
-    /// What the register reads: what was written, and where the command has ended also R, the
-    /// DATA that was read, or E.
+    /// What the register reads: what was written, and once the command has ended also R, and the DATA that was read or
+    /// E.
     pub fn read(&self) -> u32
         ensures { result ≡ self.now.value }
     {
@@ -128,9 +132,8 @@ impl Mdic {
         phy.is_counting() || self.pending.is_some()
     }
 
-    /// A moment passes: the PHY's count is lowered, and then a pending command ends. Answers
-    /// what the adapter has to record, or `None` where no count ran and no command was pending:
-    /// then nothing changes.
+    /// A tick: the PHY's count is lowered, and then a pending command ends. Returns what the adapter has to record, or
+    /// `None` if no count ran and no command was pending: then nothing changes.
     pub fn tick(&mut self, phy: &mut Phy) -> Option<Ticked>
         ensures mdic { self.new ≡ mdic_after_tick self.old phy.old }
         ensures phy { phy.new ≡ phy_after_tick self.old phy.old }
@@ -179,8 +182,8 @@ impl Default for Mdic {
     }
 }
 
-/// Ends a command at the PHY. Answers what the register then reads: with R, and with the register
-/// of the PHY in DATA or with E.
+/// Ends a command at the PHY. Returns what the register then reads: with R, and with the register of the PHY in DATA or
+/// with E.
 fn end(operation: Operation, value: u32, phy: &mut Phy) -> u32
     ensures value { result ≡ ended_value operation phy.old value }
     ensures phy { phy.new ≡ ended_phy operation value phy.old }

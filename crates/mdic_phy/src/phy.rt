@@ -6,30 +6,34 @@ use bitflags::Flags;
 use std::hash::{Hash, Hasher};
 use std::marker::Model;
 
-/// The place of the control register (IEEE 802.3, 22.2.4.1).
+/// The number of the control register (IEEE 802.3, 22.2.4.1).
 const CONTROL: u8 = 0;
 
-/// The place of the status register (IEEE 802.3, 22.2.4.2).
+/// The number of the status register (IEEE 802.3, 22.2.4.2).
 const STATUS: u8 = 1;
 
-/// The places of the two identifier registers (IEEE 802.3, 22.2.4.3.1).
+/// The number of the first identifier register (IEEE 802.3, 22.2.4.3.1).
 const IDENTIFIER_HIGH: u8 = 2;
 
+/// The number of the second identifier register.
 const IDENTIFIER_LOW: u8 = 3;
 
 /// What the identifier registers read.
 const IDENTIFIERS: [u16; 2] = [0x0141, 0x0C20];
 
-/// The bytes that stand for the kinds of links in a hash.
+/// The tag of `After` in a hash.
 const AFTER_TAG: u8 = 0;
 
+/// The tag of `Never` in a hash.
 const NEVER_TAG: u8 = 1;
 
-/// The bytes that stand for the states of negotiation in a hash.
+/// The tag of `NotStarted` in a hash.
 const NOT_STARTED_TAG: u8 = 0;
 
+/// The tag of `Running` in a hash.
 const RUNNING_TAG: u8 = 1;
 
+/// The tag of `Complete` in a hash.
 const COMPLETE_TAG: u8 = 2;
 
 /// How long negotiation takes until the link is up.
@@ -41,7 +45,7 @@ pub enum Link {
     Never,
 }
 
-/// How far negotiation stands. The link is up exactly if it is complete (our choice).
+/// The state of negotiation. The link is up exactly if it is complete (our choice).
 #[derive(Clone, Copy, Debug, PartialEq, Eq)]
 pub enum Negotiation {
     /// It was not started since the PHY was new or reset, or it never ends.
@@ -143,8 +147,7 @@ impl Phy {
         }
     }
 
-    /// A moment passes: a running count is lowered, and at 0 the link is up. Answers whether the
-    /// link came up.
+    /// A tick: a running count is lowered, and at 0 the link is up. Returns whether the link came up.
     pub fn tick(&mut self) -> bool
         ensures state { self.new ≡ after_tick self.old }
         ensures came_up { result ≡ comes_up self.old }
@@ -227,8 +230,8 @@ impl Phy {
         status
     }
 
-    /// A write of the control register resets the PHY, or sets whether negotiation is enabled
-    /// and, where it is, may start it anew.
+    /// A write of the control register resets the PHY, or sets whether negotiation is enabled and may start negotiation
+    /// again if it is enabled.
     fn write_control(&mut self, control: Control)
         ensures { self.new ≡ after_control control.0 self.old }
     {

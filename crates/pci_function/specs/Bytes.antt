@@ -18,7 +18,7 @@ ones_of width = 2 ^ (8 * size_of width) - 1
 abbrev pub bytes_at : ℕ → PortWidth → ℕ → ℕ
 bytes_at first width word = word / 2 ^ (8 * first) % 2 ^ (8 * size_of width)
 
--- the bytes of a dword, with others from byte `first` on
+-- the bytes of a dword in which these replace those from byte `first` on
 abbrev pub replaced : ℕ → List ℕ → List ℕ → List ℕ
 replaced first bytes old = take first old ++ bytes ++ drop (first + length bytes) old
 

@@ -50,7 +50,7 @@ impl Flags for Command {
 }
 
 impl Command {
-    /// What a write of the dword at 04h leaves in the register.
+    /// The register after a write of this dword at 04h.
     pub(crate) fn kept(word: u32) -> Command
         ensures { result.0 ≡ kept_command word }
     {

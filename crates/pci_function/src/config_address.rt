@@ -15,7 +15,7 @@ const DEVICE: u32 = 4;
 pub(crate) struct ConfigAddress(pub u32);
 
 impl ConfigAddress {
-    /// What a write of this value leaves in the port.
+    /// The port's contents after a write of this value.
     pub(crate) fn kept(value: u32) -> ConfigAddress
         ensures { result.0 ≡ kept_address value }
     {

@@ -106,7 +106,7 @@ impl PciFunction {
             self.address = ConfigAddress::kept(value);
         } else if let Some(first) = self.first_byte(port, width) {
             let offset = self.address.offset();
-            // Interrupt Status can't be written, so any interrupt line will do.
+            // Interrupt Status can't be written, so the value of the interrupt line doesn't matter.
             let word = self.word(offset, false);
             self.set_word(offset, width.replaced_in(word, first, value));
         }

@@ -62,6 +62,6 @@ SubsetByPlaces = (a b : ℕ) → IsSubset a b ↔ ((place : ℕ) → HasBit a pl
 abbrev pub EmptyByPlaces : Type 0
 EmptyByPlaces = (place : ℕ) → ¬ (HasBit 0 place)
 
--- two registers with the same bits are equal
+-- Two registers with the same bits are equal.
 abbrev pub SameByPlaces : Type 0
 SameByPlaces = (a b : ℕ) → ((place : ℕ) → HasBit a place ↔ HasBit b place) → a ≡ b

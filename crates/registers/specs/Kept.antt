@@ -1,5 +1,6 @@
 -- What a write leaves in each register. The bits' places are those of chapter 13, "Register Descriptions", of Intel's
--- "PCI/PCI-X Family of Gigabit Ethernet Controllers Software Developer's Manual"; that the other bits read 0 is own.
+-- "PCI/PCI-X Family of Gigabit Ethernet Controllers Software Developer's Manual"; that the other bits read 0 is our
+-- choice.
 use Rattle.std.specs.Prelude.{ℕ, bit_and}
 
 -- CTRL (13.4.1 "Device Control Register"): FD 0, ASDE 5, SLU 6, VME 30; RST 26 resets and isn't kept

@@ -145,5 +145,5 @@ IsSubset-masked value set = same_from_bits (bit_and (bit_and value set) set) (bi
     let both = bit_at_and value set place in
     omega arith)
 
--- which sets keep to the causes
+-- rules for subsets of the causes
 pub ruleset subsets = (IsSubset-union, IsSubset-intersection, IsSubset-masked)

@@ -1,12 +1,12 @@
--- The places of the bits of registers, by the names of chapter 13, "Register Descriptions", of Intel's "PCI/PCI-X Family of Gigabit Ethernet
--- Controllers Software Developer's Manual". Of a field of several bits it is the lowest place.
+-- The places of the bits of registers, by the names of chapter 13, "Register Descriptions", of Intel's "PCI/PCI-X Family of Gigabit
+-- Ethernet Controllers Software Developer's Manual". Of a field of several bits it is the lowest place.
 use Rattle.std.specs.Prelude.{ℕ, ◌^◌}
 
 -- the word in which only the bit at this place is 1
 abbrev pub alone : ℕ → ℕ
 alone place = 2 ^ place
 
--- Auto-speed detection enable, which has no effect in the model. This and the next two are bits of CTRL (13.4.1 "Device Control Register").
+-- Auto-speed detection enable, which has no effect in the model. A bit of CTRL (13.4.1 "Device Control Register").
 abbrev pub ctrl_asde : ℕ
 ctrl_asde = 5
 
@@ -18,7 +18,7 @@ ctrl_slu = 6
 abbrev pub ctrl_rst : ℕ
 ctrl_rst = 26
 
--- Link up: the link of the PHY is up and CTRL.SLU is set. This and the next are fields of STATUS (13.4.2 "Device Status Register").
+-- Link up: the link of the PHY is up and CTRL.SLU is set. A bit of STATUS (13.4.2 "Device Status Register").
 abbrev pub status_lu : ℕ
 status_lu = 1
 
@@ -26,8 +26,8 @@ status_lu = 1
 abbrev pub status_speed : ℕ
 status_speed = 6
 
--- Receive enable: while it is 0, no frame is stored and no piece is moved. This and the next eight are fields of RCTL (13.4.22 "Receive
--- Control Register").
+-- Receive enable: while it is 0, no frame is stored and no piece is moved. A bit of RCTL (13.4.22 "Receive Control
+-- Register").
 abbrev pub rctl_en : ℕ
 rctl_en = 1
 
@@ -63,8 +63,7 @@ rctl_bsex = 25
 abbrev pub rctl_secrc : ℕ
 rctl_secrc = 26
 
--- Transmit enable: while it is 0, no frame is taken from the ring. This and the next three are fields of TCTL (13.4.33 "Transmit Control
--- Register").
+-- Transmit enable: while it is 0, no frame is taken from the ring. A bit of TCTL (13.4.33 "Transmit Control Register").
 abbrev pub tctl_en : ℕ
 tctl_en = 1
 
@@ -84,8 +83,7 @@ tctl_cold = 12
 abbrev pub rah_av : ℕ
 rah_av = 31
 
--- Transmit descriptor written back. This and the next six are causes, bits of ICR, ICS, IMS and IMC (13.4.17 "Interrupt Cause Read
--- Register").
+-- Transmit descriptor written back. A cause: a bit of ICR, ICS, IMS and IMC (13.4.17 "Interrupt Cause Read Register").
 abbrev pub txdw : ℕ
 txdw = 0
 

@@ -103,7 +103,7 @@ impl Causes {
         self.set(cause.bits());
     }
 
-    /// A read of ICR: answers all recorded causes, and clears them.
+    /// A read of ICR: answers all recorded causes, in the mask or not, and clears them.
     pub fn read(&mut self) -> u32
         ensures answer { result ≡ self.old.recorded }
         ensures cleared { self.new ≡ record self.old { recorded = 0 } }
@@ -114,7 +114,7 @@ impl Causes {
         recorded.bits()
     }
 
-    /// A write of ICR: a 1 clears that cause, a 0 leaves it.
+    /// A write of ICR: a 1 clears that cause, in the mask or not; a 0 leaves it.
     pub fn clear_written(&mut self, value: u32)
         ensures { self.new ≡ record self.old { recorded = difference self.old.recorded (causes_of value) } }
     {

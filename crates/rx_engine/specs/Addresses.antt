@@ -5,7 +5,7 @@ use Rattle.std.specs.Prelude.{◌≡◌, ◌<◌, ◌+◌, ◌*◌, ◌/◌, ◌
 abbrev pub destination : List ℕ → List ℕ
 destination frame = take 6 frame
 
--- the low bit of byte 0 tells a group address from an individual one
+-- the address is a group address: the low bit of byte 0 is 1
 abbrev pub IsGroup : List ℕ → Type 0
 IsGroup address = slice_index address 0 % 2 ≡ 1
 
@@ -22,28 +22,28 @@ broadcast = 255 ∷ 255 ∷ 255 ∷ 255 ∷ 255 ∷ 255 ∷ []
 abbrev pub group_number : ℕ → List ℕ → ℕ
 group_number shift address = (slice_index address 5 * 256 + slice_index address 4) / 2 ^ shift % 4096
 
--- an address in the two words of a receive address register pair: bytes 0 to 3 in the low one (13.5.2), bytes 4 and 5
--- in the high one (13.5.3), the earlier byte the lower one
+-- the low word of an address in a receive address register pair: bytes 0 to 3, the earlier byte the lower one (13.5.2)
 abbrev pub low_word : List ℕ → ℕ
 low_word address =
     slice_index address 0 + slice_index address 1 * 2 ^ 8 + slice_index address 2 * 2 ^ 16
     + slice_index address 3 * 2 ^ 24
 
--- The high word of an address.
+-- the high word of an address in a receive address register pair: bytes 4 and 5, the earlier byte the lower one
+-- (13.5.3)
 abbrev pub high_word : List ℕ → ℕ
 high_word address = slice_index address 4 + slice_index address 5 * 2 ^ 8
 
 -- an address is 6 bytes
 pub record IsAddress (address : List ℕ) : Type 0 where
-  -- There are six.
+  -- It has six bytes.
   pub size : length address ≡ 6
-  -- Each is below 256.
+  -- Each byte is below 256.
   pub bytes : (k : ℕ) → slice_index address k < 256
 
--- bytes 12 and 13, the higher one first
+-- The type of a frame: bytes 12 and 13, the higher one first.
 abbrev pub ether_type : List ℕ → ℕ
 ether_type frame = slice_index frame 12 * 256 + slice_index frame 13
 
--- the low 12 bits of bytes 14 and 15, the higher one first
+-- The VLAN number of a tagged frame: the low 12 bits of bytes 14 and 15, the higher one first.
 abbrev pub vlan_number : List ℕ → ℕ
 vlan_number frame = (slice_index frame 14 * 256 + slice_index frame 15) % 4096

@@ -14,7 +14,7 @@ use Rattle.rx_engine.specs.Writing.{with_number, NoAddressAtFirst, AddressIsAdde
 
 -- Filters of the same sets pass the same frames.
 
--- The VLAN numbers, if frames are asked for them, and the type of a tagged frame.
+-- Two filters treat VLANs in the same way.
 pub record SameVlans (a b : ReceiveFilter) : Type 0 where
   -- Both filters pass frames of every VLAN, or neither does.
   pub every_vlan : a.every_vlan ↔ b.every_vlan

@@ -40,10 +40,10 @@ pub record StandsApart (memory : List ℕ) (descriptor n : ℕ) : Type 0 where
   -- They don't overlap the descriptor.
   pub apart : AreApart (area_at (named_address memory descriptor) n) (descriptor_area descriptor)
 
--- the descriptor at an address is finished with a piece of a frame: it is done, tells whether the frame ends in it, had no error, and its
--- address and length name the piece
+-- the descriptor at an address is finished with a piece of a frame: it is done, shows whether the frame ends in it, has
+-- no error, and its address and length name the piece
 pub record IsFinished (memory : List ℕ) (descriptor : ℕ) (ends : Bool) (piece : List ℕ) : Type 0 where
-  -- DD and EOP (3.2.3.1)
+  -- DD is set (3.2.3.1).
   pub done : HasBit (status_bits (descriptor_at memory descriptor).status) dd
   -- EOP is set if and only if the frame ends in the piece.
   pub ended : is_set (status_bits (descriptor_at memory descriptor).status) eop ≡ ends

@@ -1,9 +1,9 @@
 -- Lists of the groups that a host has joined (our choice).
 use Rattle.std.specs.Prelude.{◌≡◌, ◌++◌, ◌∷◌, ℕ, List}
 
--- One group less.
+-- The list without one occurrence of this group.
 pub record Removes (group : List ℕ) (groups fewer : List (List ℕ)) : Type 0 where
-  -- the groups before it
+  -- the groups before this occurrence
   pub before : List (List ℕ)
   -- the groups after it
   pub after : List (List ℕ)

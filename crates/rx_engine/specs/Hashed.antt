@@ -6,7 +6,7 @@ use Rattle.rx_engine.specs.Receiver.{Receiver}
 use Rattle.rx_engine.specs.Registers.{FilterRegisters}
 use Rattle.rx_engine.specs.declared.engine.Work.{Work}
 
--- the registers of the filter, each table after the number of its words
+-- what the filter feeds: its registers, each table after the number of its words
 abbrev pub filter_writes : FilterRegisters → HashWrites
 filter_writes registers = u32 registers.rctl
     ++ u16 registers.vet
@@ -15,7 +15,7 @@ filter_writes registers = u32 registers.rctl
     ++ slice u32 registers.mta
     ++ slice u32 registers.vfta
 
--- whether a piece is in progress, and then the piece
+-- what the piece in progress feeds: whether there is one, and then the piece
 abbrev pub work_writes : Option Work → HashWrites
 work_writes None = bool false
 work_writes (Some work) = bool true ++ u64 work.descriptor ++ u16 work.length ++ bool work.ends

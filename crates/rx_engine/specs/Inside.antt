@@ -10,9 +10,9 @@ receiver_of engine = record { buffer = engine.buffer.frames; moved = engine.move
 
 -- What holds of the fields at all times.
 pub record IsConsistent (engine : Inside) : Type 0 where
-  -- The packet buffer has room for 614 frames,
+  -- The packet buffer has room for 614 frames.
   pub capacity : engine.buffer.capacity ≡ 614
-  -- and its memory is 65,536 bytes.
+  -- The memory of the packet buffer has 65,536 bytes.
   pub bytes : engine.buffer.room ≡ 65536
   -- The stored number of occupied bytes is that of the frames in the packet buffer.
   pub occupied : engine.occupied ≡ occupied_by engine.buffer.frames

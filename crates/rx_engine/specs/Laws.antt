@@ -31,19 +31,19 @@ use Rattle.rx_engine.specs.declared.arrival.Fate.TheVariants.{Off, Illegal, Filt
 use Rattle.rx_engine.specs.declared.data.Data.TheVariants.{Nothing, Part, Moved, Fault}
 use Rattle.rx_engine.specs.declared.engine.Work.{Work}
 
--- If the bytes of a descriptor stay, it stays.
+-- If the bytes of a descriptor don't change, its fields don't.
 pub descriptor_at-kept : (memory memory' : List ℕ) (at : ℕ) → bytes_at memory' at 16 ≡ bytes_at memory at 16
     → descriptor_at memory' at ≡ descriptor_at memory at
 descriptor_at-kept memory memory' at same = ap rx_desc_of same
 
--- Bytes apart from a descriptor leave it.
+-- A write apart from a descriptor doesn't change its fields.
 pub descriptor_at-apart : (memory bytes : List ℕ) (at address : ℕ) → LiesIn memory address (length bytes)
     → AreApart (area_at address (length bytes)) (descriptor_area at)
     → descriptor_at (with_bytes memory address bytes) at ≡ descriptor_at memory at
 descriptor_at-apart memory bytes at address lies apart = descriptor_at-kept memory (with_bytes memory address bytes) at
     (bytes_at-elsewhere memory bytes address at 16 lies apart)
 
--- The second half of a descriptor is apart from what the descriptor is apart from.
+-- An area that is apart from a descriptor is apart from its bytes 8 to 15.
 apart_behind : (at : ℕ) (area : Area) → AreApart area (descriptor_area at) → AreApart (area_at (at + 8) 8) area
 apart_behind at area (inl before) = inr (omega arith)
 apart_behind at area (inr after) = inl (omega arith)
@@ -109,7 +109,7 @@ slots-free memory finished work none = ap (λ (there : Option Work). finished ++
 piece-full : (size moved : ℕ) (frame : List ℕ) → size < length frame - moved → length (take size (drop moved frame)) ≡ size
 piece-full size moved frame more = omega (arith, length-take size (drop moved frame), length-drop moved frame)
 
--- A data step leaves the frames held.
+-- A data step doesn't change the frames held.
 pub held-after_data : DataKeepsHeld
 held-after_data control ring engine memory finished Nothing begun moves = record {
   frames = sym (append-nil (held memory finished engine));
@@ -162,7 +162,7 @@ same_fields : (a a' n n' c c' s s' e e' x x' : ℕ) → a ≡ a' → n ≡ n' �
     ≡ record { address = a'; length = n'; checksum = c'; status = status_of s'; errors = e'; special = x' }
 same_fields a a' n n' c c' s s' e e' x x' ea en ec es ee ex = rw (ea, en, ec, es, ee, ex) refl
 
--- The descriptor of eight bytes, which name its buffer, and those of a finished one.
+-- Eight bytes with the buffer's address, then a finished descriptor's eight.
 rx_desc_of-finished : (front : List ℕ) (n : ℕ) (ends : Bool) → length front ≡ 8 → n < 2 ^ 16
     → rx_desc_of (front ++ finished_bytes n ends)
     ≡ record {
@@ -187,7 +187,7 @@ rx_desc_of-finished front n ends eight short =
     let special : little_number 2 (drop 14 whole) ≡ 0 = ap (little_number 2) (sym (drop-drop 6 8 whole) ∙ ap (drop 6) behind) in
     same_fields _ _ _ _ _ _ _ _ _ _ _ _ address length checksum status errors special
 
--- The address that a descriptor names stands in its first eight bytes.
+-- The address that a descriptor names is in its first eight bytes.
 named_address-front : (memory : List ℕ) (at : ℕ) → named_address memory at ≡ little_number 8 (bytes_at memory at 8)
 unfolding rx_desc_of
 named_address-front memory at = little_from-take 0 8 16 (drop at memory) (omega arith)
@@ -271,7 +271,7 @@ held-after_done engine memory finished sound begun work is lies stands =
       };
     }
 
--- Bytes away from the piece in progress and its descriptor leave the piece.
+-- Bytes away from the piece in progress and its descriptor don't change the piece.
 bytes_of_work-away : (memory bytes : List ℕ) (place : ℕ) (work : Work) → LiesIn memory place (length bytes)
     → IsAwayFromWork memory (area_at place (length bytes)) work
     → bytes_of_work (with_bytes memory place bytes) work ≡ bytes_of_work memory work
@@ -292,7 +292,7 @@ in_work-away memory bytes place (Some work) lies away = ap (λ (piece : List ℕ
 pub slots-elsewhere : OtherBytesLeaveSlots
 slots-elsewhere memory engine place bytes lies away = in_work-away memory bytes place engine.work lies away
 
--- What is finished stays finished.
+-- A finished descriptor stays finished while bytes change that are apart from it and from its piece.
 pub finished-kept : FinishedStays
 finished-kept memory memory' area descriptor ends frame only apart away finished =
     let same = descriptor_at-kept memory memory' descriptor (only.others (descriptor_area descriptor) apart) in

@@ -15,7 +15,7 @@ use Rattle.rx_engine.specs.declared.data.Data.TheVariants.{Nothing, Part, Moved,
 
 -- with RCTL at this word there is a frame to move, and a descriptor for it
 pub record HasFrameToMove (control : ℕ) (ring : Ring) (engine : Receiver) : Type 0 where
-  -- RCTL.EN (13.4.22)
+  -- RCTL.EN is set (13.4.22).
   pub enabled : HasBit control rctl_en
   -- The engine is running and free, and a frame waits in the packet buffer.
   pub ready : IsReady engine
@@ -46,7 +46,7 @@ pub record CanMove (control : ℕ) (ring : Ring) (memory : List ℕ) (n : ℕ) :
   pub descriptor : LiesIn memory (address_of ring ring.head) 16
   -- The first n bytes of the buffer that the descriptor points to are inside memory.
   pub place : LiesIn memory (named_address memory (address_of ring ring.head)) n
-  -- RCTL.BSEX
+  -- RCTL.BSEX is 0.
   pub not_extended : ¬ (HasBit control rctl_bsex)
 
 -- the free descriptors, those from head to tail, are half the ring (13.4.22, RDMTS 00)
@@ -85,7 +85,7 @@ begun_with work engine = if work.ends then record engine { buffer = drop 1 engin
     else record engine { moved = engine.moved + work.length; work = Some work }
 
 -- the engine after a step with this answer: a piece of the oldest frame is in progress, and with the last one the frame leaves the packet
--- buffer; or the engine is stopped
+-- buffer; after a fault the data step is stopped
 abbrev pub engine_after_data : Data → ℕ → Ring → Receiver → Receiver
 engine_after_data Nothing control ring engine = engine
 engine_after_data (Part low) control ring engine = record engine {
@@ -99,14 +99,14 @@ engine_after_data (Moved low) control ring engine = record engine {
 }
 engine_after_data Fault control ring engine = record engine { stopped = true }
 
--- the ring: head moves on
+-- the ring after a step with this answer: if a piece was moved, head is the next slot
 abbrev pub ring_after_data : Data → Ring → Ring
 ring_after_data Nothing ring = ring
 ring_after_data (Part low) ring = record ring { head = next_of ring ring.head }
 ring_after_data (Moved low) ring = record ring { head = next_of ring ring.head }
 ring_after_data Fault ring = ring
 
--- memory: the piece is in the buffer that the descriptor at the head names
+-- the memory after a step with this answer: a piece that was moved is in the buffer that the descriptor at the head names
 abbrev pub memory_after_data : Data → ℕ → Ring → Receiver → List ℕ → List ℕ
 memory_after_data Nothing control ring engine memory = memory
 memory_after_data (Part low) control ring engine memory = with_bytes memory (named_address memory (address_of ring ring.head))

@@ -10,9 +10,9 @@ pub record ReceiveFilter : Type 1 where
   pub groups : ℕ → Type 0
   -- by how many bits the last two bytes of an address are shifted for its group number
   pub shift : ℕ
-  -- no frame is asked for its VLAN: there is no set of VLAN numbers
+  -- frames of every VLAN pass: the VLAN filter is off (RCTL.VFE 0)
   pub every_vlan : Type 0
-  -- else the VLAN numbers, each below 4,096
+  -- the VLAN numbers that pass while the VLAN filter is on, each below 4,096
   pub vlans : ℕ → Type 0
   -- bytes 12 and 13 of a tagged frame
   pub vlan_type : ℕ
@@ -23,7 +23,7 @@ pub record ReceiveFilter : Type 1 where
   -- the broadcast address is accepted
   pub broadcasts : Type 0
 
--- an address that the filter accepts. The group table is asked for group addresses alone, the broadcast address among
+-- an address that the filter accepts. The group table counts for group addresses alone, the broadcast address among
 -- them (our choice)
 unfoldable pub AcceptsAddress : ReceiveFilter → List ℕ → Type 0
 AcceptsAddress filter address =
@@ -40,7 +40,7 @@ AcceptsGroup filter address =
     ⊎ (((address ≡ broadcast) × filter.broadcasts)
     ⊎ filter.groups (group_number filter.shift address))
 
--- a frame whose VLAN is accepted: frames without a tag aren't asked
+-- a frame whose VLAN is accepted: each frame without a tag is
 unfoldable pub AcceptsVlan : ReceiveFilter → List ℕ → Type 0
 AcceptsVlan filter frame =
     filter.every_vlan

@@ -51,7 +51,7 @@ abbrev pub IsCut : ℕ → Piece → Type 0
 IsCut size (Part bytes) = length bytes ≡ size
 IsCut size (Last bytes) = IsLastSize size (length bytes)
 
--- pieces without an end
+-- these lists of bytes as pieces, none of them the last of its frame
 abbrev pub parts : List (List ℕ) → List Piece
 parts [] = []
 parts (bytes ∷ later) = Part bytes ∷ parts later

@@ -13,10 +13,10 @@ pub record Receiver : Type 0 where
   pub moved : ℕ
   -- the piece in progress: it is in memory, and its descriptor isn't written back yet
   pub work : Option Work
-  -- a fault has stopped the data step
+  -- whether a fault has stopped the data step
   pub stopped : Bool
 
--- an engine that holds no frame and runs
+-- an engine that holds no frame, and that no fault has stopped
 abbrev pub new_receiver : Receiver
 new_receiver = record { buffer = []; moved = 0; work = None; stopped = false }
 
@@ -27,7 +27,7 @@ oldest (frame ∷ frames) = frame
 
 -- the engine can begin with the next piece of its oldest frame, be it the frame's first piece or a later one
 pub record IsReady (engine : Receiver) : Type 0 where
-  -- No fault has stopped the engine.
+  -- No fault has stopped the data step.
   pub running : engine.stopped ≡ false
   -- No piece is in progress.
   pub free : engine.work ≡ None

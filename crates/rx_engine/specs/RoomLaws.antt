@@ -20,13 +20,13 @@ all-first P x xs all = all 0 x (omega arith)
 all-later : {T : Type 0} (P : T → Type 0) (x : T) (xs : List T) → All P (x ∷ xs) → All P xs
 all-later P x xs all = λ k d below. all (suc k) d (omega arith)
 
--- Frames occupy at least as many bytes as they have,
+-- Frames occupy at least as many bytes as they have.
 pub bytes-occupied : (frames : List (List ℕ)) → sum_by (λ (frame : List ℕ). length frame) frames ≤ occupied_by frames
 bytes-occupied [] = omega arith
 bytes-occupied (frame ∷ later) =
     omega (arith, bytes-cost frame, bytes-occupied later, sum_by-cons (λ (f : List ℕ). length f) frame later, sum_by-cons cost frame later)
 
--- and legal frames at least 80 bytes each.
+-- Legal frames occupy at least 80 bytes each.
 pub count-occupied : (frames : List (List ℕ)) → All IsLegal frames → 80 * length frames ≤ occupied_by frames
 count-occupied [] legal = omega arith
 count-occupied (frame ∷ later) legal =
@@ -37,17 +37,17 @@ count-occupied (frame ∷ later) legal =
       sum_by-cons cost frame later,
     )
 
--- So the packet buffer contains at most 614 frames.
+-- The packet buffer contains at most 614 frames.
 pub count-fits : (frames : List (List ℕ)) → All IsLegal frames → occupied_by frames ≤ most_room → length frames ≤ 614
 count-fits frames legal room = omega (arith, count-occupied frames legal)
 
--- One more frame occupies its own bytes more,
+-- One more frame adds the bytes that it occupies.
 pub occupied-append : (frames : List (List ℕ)) (frame : List ℕ) → occupied_by (frames ++ frame ∷ []) ≡ occupied_by frames + cost frame
 occupied-append frames frame =
     sum_by-append cost frames (frame ∷ []) ∙ ap (λ (n : ℕ). occupied_by frames + n)
     (sum_by-cons cost frame [] ∙ (let e : cost frame + 0 ≡ cost frame = omega arith in e))
 
--- and without the oldest frame its bytes are free.
+-- Without the oldest frame, the bytes that it occupied are free.
 pub occupied-first : (frames : List (List ℕ)) (frame : List ℕ) → slice_get frames 0 ≡ Some frame
     → cost frame + occupied_by (drop 1 frames) ≡ occupied_by frames
 occupied-first [] frame is = absurd (cc)

@@ -30,10 +30,10 @@ pub enum Data {
     },
     /// The last piece of the oldest frame is in memory and in progress.
     Moved {
-        /// As for `Part`.
+        /// The free descriptors have become half the ring, as for `Part`.
         low: bool,
     },
-    /// The engine moved no piece, and is stopped (our choice).
+    /// The engine moved no piece, and moves none until a reset (our choice).
     Fault,
 }
 
@@ -44,7 +44,7 @@ pub enum Data {
 /// Returns `Nothing` if RCTL.EN is 0, a fault has stopped the engine, a piece is in progress, the packet buffer is
 /// empty, or head equals tail. Otherwise returns `Fault` if head or tail isn't a slot of the ring, the descriptor or
 /// the place of the piece isn't in memory, or RCTL.BSEX is set. A fault changes neither memory nor ring nor packet
-/// buffer, and stops the engine until a reset (our choice).
+/// buffer; after it, this step does nothing until a reset (our choice).
 pub fn rx_data(
     engine: &mut RxEngine,
     ring: &mut Ring,
@@ -115,8 +115,8 @@ fn is_last_piece(left: usize, size: usize) -> bool
     left <= size
 }
 
-/// Writes a piece to the buffer that the descriptor at the head names. Returns the address of this descriptor, or `None`
-/// exactly if the step is a fault, which doesn't change memory.
+/// Writes a piece to the buffer that the descriptor at the head names. Returns the address of this descriptor, or
+/// `None` exactly if the step is a fault, which doesn't change memory.
 fn store_piece(ring: &Ring, control: Rctl, memory: &mut HostMemory, piece: &[u8]) -> Option<u64>
     ensures can { IsSome result ↔ CanMove control.0 ring.now memory.old (length piece.now) }
     ensures descriptor { IfSome result (λ descriptor. descriptor ≡ address_of ring.now ring.now.head) }

@@ -31,8 +31,8 @@ pub enum Done {
 /// Writes the descriptor of the piece in progress back ("3.2.3 Receive Descriptor Format"): the length of the piece,
 /// DD, no error, and EOP if the frame ends in it. Returns `Nothing` if no piece is in progress.
 ///
-/// `memory` must have the size that it had for [`rx_data`](crate::rx_data); then the descriptor is always in it. In a
-/// memory that ends before the descriptor's end nothing is written.
+/// If `memory` has the size that it had for [`rx_data`](crate::rx_data), the descriptor is in it. In a memory that ends
+/// before the descriptor's end nothing is written.
 pub fn rx_done(engine: &mut RxEngine, memory: &mut HostMemory) -> Done
     ensures nothing { (result ≡ Done.Nothing) ↔ (engine.old.work ≡ None) }
     ensures engine { engine.new ≡ engine_after_done engine.old }

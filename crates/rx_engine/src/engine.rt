@@ -1,7 +1,7 @@
 // What the receive engine holds.
 
-ghost use Rattle.std.specs.Prelude.{◌≡◌, ◌≢◌, ◌+◌, ◌<◌, ◌≤◌, ◌↔◌, [], ◌∷◌, ◌++◌, true, false, drop, fold, length, option_copied};
-ghost use Rattle.std.specs.Prelude.{All, IsSome, Some, slice_get};
+ghost use Rattle.std.specs.Prelude.{◌≡◌, ◌≢◌, ◌+◌, ◌<◌, ◌≤◌, ◌↔◌, [], ◌∷◌, ◌++◌, true, false, drop, fold, length};
+ghost use Rattle.std.specs.Prelude.{All, IsSome, Some, option_copied, slice_get};
 ghost use Rattle.std.specs.Prelude.{IfSome, IfOk};
 ghost use Rattle.rx_engine.specs.Hashed.{work_writes};
 ghost use Rattle.descriptors.specs.Frames.{IsLegal};
@@ -18,7 +18,7 @@ pub const MOST_FRAMES: u16 = 614;
 /// The memory for the bytes of the frames. It is larger than 48 kilobytes, so that a push seldom has to move frames.
 const QUEUE_BYTES: usize = 65_536;
 
-/// A frame occupies a multiple of so many bytes.
+/// The number of bytes that a frame occupies is a multiple of this number.
 const UNIT_BYTES: u32 = 16;
 
 /// The piece of a frame in progress: it is in memory, and its descriptor isn't written back yet.
@@ -204,7 +204,7 @@ impl RxEngine {
         self.work = None;
     }
 
-    /// A fault stops the engine.
+    /// After a fault: the engine moves no piece until a reset.
     pub(crate) fn stop(&mut self)
         ensures stopped { self.new ≡ record self.old { stopped = true } }
         ensures sound { IsReceiver self.new }

@@ -208,7 +208,7 @@ impl Filter {
             || has_table_bit(&self.mta, hash_of(self.rctl.group_offset(), address))
     }
 
-    /// Whether the VLAN of a frame is accepted.
+    /// Whether the VLAN filter accepts a frame. It accepts each frame without a tag.
     #[tactic(auto, unfolding(crate::specs::Registers::filter_of, crate::specs::Passing::AcceptsVlan))]
     fn accepts_vlan(&self, frame: &[u8]) -> bool
         requires { 16 ≤ length frame.now }

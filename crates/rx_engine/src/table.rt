@@ -12,7 +12,7 @@ pub(crate) const NUMBERS: u16 = 4096;
 /// How many numbers a word of a table has bits for.
 const WORD_NUMBERS: u16 = 32;
 
-/// Where the bit of a number stands in MTA or VFTA.
+/// Where the bit of a number is in MTA or VFTA.
 #[derive(Clone, Copy, Debug, PartialEq, Eq)]
 pub struct TableBit {
     /// The word of the table, 0 to 127.
@@ -22,7 +22,7 @@ pub struct TableBit {
 }
 
 impl TableBit {
-    /// Where the bit of a number stands (13.5.1, 13.5.4). The number is below 4,096.
+    /// Where the bit of a number is (13.5.1, 13.5.4). The number is below 4,096.
     pub fn of(number: u16) -> TableBit
         requires { number < 4096 }
         ensures word { result.word ≡ number / 32 }

@@ -31,14 +31,14 @@ pub record SoloState : Type 0 where
   -- how many accesses there were
   pub accesses : ℕ
 
--- at most so many frames are on the wire, and this number of ticks wait (our choice)
+-- the number of frames for which the wire has room (our choice)
 abbrev pub wire_frames : ℕ
 wire_frames = 64
 
 abbrev pub most_ticks : ℕ
 most_ticks = 32
 
--- the wire has room while it has less frames than that
+-- the wire has room while it has fewer than `wire_frames` frames
 abbrev pub has_room : SoloState → Bool
 has_room solo = nat_lt (length solo.wire) wire_frames
 
@@ -65,17 +65,17 @@ is_go Go = true
 is_go (Step kind) = false
 is_go (Arrive frame) = false
 
--- the tick that an event is of; an access stands where Go does
+-- the tick that an event is of; an access is that of Go
 abbrev pub solo_tick_of : Event → SoloTick
 solo_tick_of (Steps kind wire_free answer) = Step kind
 solo_tick_of (Arrives frame fate) = Arrive frame
 solo_tick_of (Accesses access) = Go
 
--- what a bus plays by itself before each access: where it is lively, a tick of the EEPROM and then one of the PHY
+-- what a bus plays by itself before each access: if it is lively, a tick of the EEPROM and then one of the PHY
 abbrev pub lively_ticks : Bool → List SoloTick
 lively_ticks lively = if lively then Step EepromTick ∷ Step PhyTick ∷ [] else []
 
--- each step found the wire free exactly if it had room, with so many frames before the first
+-- each step found the wire free exactly if it had room, if this number of frames was on it before the first
 abbrev pub AreFree : List Event → ℕ → Type 0
 AreFree [] frames = ⊤
 AreFree (Steps kind wire_free answer ∷ later) frames =
@@ -97,13 +97,13 @@ pub record Recounts (a b : SoloState) (past : Past) : Type 0 where
   pub past_is : past ≡ past_of events
   -- before each access the bus's own ticks and those of the next group, one event for each in order; nothing after the last access
   pub played : map solo_tick_of events ≡ played_in is_go Go (lively_ticks a.lively) past.accesses a.waiting
-  -- a group for each access waits no longer, and all other ticks do
+  -- one group for each access was played; all other ticks still wait
   pub waiting : b.waiting ≡ waiting_after is_go past.accesses a.waiting
   pub wire : PutOnWire a b events past.put
   pub lively : b.lively ≡ a.lively
   pub count : min b.accesses most_accesses ≡ min (a.accesses + length past.accesses) most_accesses
 
--- one for a tick of the EEPROM, and one for a tick of the PHY
+-- 1 if the tick is one of the EEPROM, else 0
 abbrev pub eeprom_tick : SoloTick → ℕ
 eeprom_tick (Step EepromTick) = 1
 eeprom_tick _ = 0
@@ -116,12 +116,14 @@ phy_tick _ = 0
 abbrev pub lively_count : Bool → List Access → ℕ
 lively_count lively accesses = if lively then length accesses else 0
 
--- A lively bus plays exactly one tick of each kind by itself for each access, and all others are of the groups that waited.
+-- A lively bus plays exactly one tick of each kind by itself for each access, and all other ticks are those of the
+-- groups that waited.
 pub record PlaysLively (a : SoloState) (past : Past) : Type 0 where
   pub eeprom : past.eeprom_ticks ≡ lively_count a.lively past.accesses + sum_by eeprom_tick (groups_of is_go past.accesses a.waiting)
   pub phy : past.phy_ticks ≡ lively_count a.lively past.accesses + sum_by phy_tick (groups_of is_go past.accesses a.waiting)
 
--- From one state to another exactly these ticks are played, one event for each and no access, and then these wait.
+-- From one state to another exactly these ticks are played, one event for each and no access, and then the ticks `left`
+-- wait.
 pub record PlaysSoloTicks (ticks left : List SoloTick) (a b : SoloState) : Type 0 where
   pub events : List Event
   pub are : All IsStep events
@@ -132,7 +134,7 @@ pub record PlaysSoloTicks (ticks left : List SoloTick) (a b : SoloState) : Type 
   pub lively : b.lively ≡ a.lively
   pub accesses : b.accesses ≡ a.accesses
 
--- What comes before an access: the bus's own ticks and the next group are played, and the access is counted.
+-- Before an access, the bus's own ticks and the next group are played, and the access is counted.
 pub record Prepared (a b : SoloState) : Type 0 where
   pub plays : PlaysSoloTicks (lively_ticks a.lively ++ group_of is_go a.waiting) (behind_group is_go a.waiting) a
       (record b { accesses = a.accesses })

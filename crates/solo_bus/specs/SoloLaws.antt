@@ -111,7 +111,7 @@ lively_phy_tick : (lively : Bool) → sum_by phy_tick (lively_ticks lively) ≡ 
 lively_phy_tick true = refl
 lively_phy_tick false = refl
 
--- What a bus tells names its own ticks.
+-- The record of a lively bus contains its own ticks.
 pub recounts_lively : (a b : SoloState) (past : Past) → Recounts a b past → PlaysLively a past
 recounts_lively a b past recounts = record {
   eeprom =

@@ -29,19 +29,19 @@ resting size words = record {
 abbrev pub ready : ℕ → List ℕ → World
 ready size words = offering (resting size words)
 
--- a frame to all
+-- a broadcast frame
 abbrev pub call : List ℕ
 call = replicate shortest_frame 255
 
--- it has arrived,
+-- the frame has arrived
 abbrev pub called : ℕ → List ℕ → World
 called size words = world_after_arrival Stored call (ready size words)
 
--- it is in work,
+-- the piece of the frame is in progress
 abbrev pub working : ℕ → List ℕ → World
 working size words = world_after_step RxData Moved (called size words)
 
--- and its slot is finished
+-- the slot of the frame is finished
 abbrev pub finished_slot : ℕ → List ℕ → World
 finished_slot size words = world_after_step RxDone Done (working size words)
 
@@ -49,14 +49,14 @@ finished_slot size words = world_after_step RxDone Done (working size words)
 abbrev pub request : List ℕ
 request = 0 ∷ 9 ∷ 0 ∷ 0 ∷ 0 ∷ 0 ∷ 0 ∷ 0 ∷ 60 ∷ 0 ∷ 0 ∷ 11 ∷ 0 ∷ 0 ∷ 0 ∷ 0 ∷ []
 
--- it stands in the first transmit slot,
+-- the transmit descriptor is stored in the first slot
 abbrev pub requested : ℕ → List ℕ → World
 requested size words = world_after_store TRANSMIT_RING request (resting size words)
 
--- the slot is offered,
+-- the transmit slot is offered
 abbrev pub sending : ℕ → List ℕ → World
 sending size words = offering_frame (requested size words)
 
--- and its frame taken
+-- the frame of the transmit slot is taken
 abbrev pub taken : ℕ → List ℕ → World
 taken size words = world_after_step TxTake Took (sending size words)

@@ -1,4 +1,4 @@
-// The law of a bus isn't empty: its conditions hold of some worlds.
+// The conditions of the law can be met.
 
 ghost use Rattle.solo_bus.specs.SoundWorlds.{HasFinished, HasFramesInBuffer, HasFramesInRing, HasRings, HasWork};
 ghost use Rattle.solo_bus.specs.SoundWorlds.{HasWrittenBack, SomeSound};

@@ -22,7 +22,7 @@ pub const WIRE_FRAMES: u8 = 64;
 /// What is played before an access.
 #[derive(Debug, Drop, PartialEq, Eq)]
 pub enum SoloTick {
-    /// The next access comes here.
+    /// The next access of the driver is made here.
     Go,
     /// The adapter takes a step.
     Step(StepKind),
@@ -96,8 +96,8 @@ impl SoloBus {
         })
     }
 
-    /// A step of the adapter. The wire has room while less than 64 frames are on it; a frame that is put
-    /// stands there after the others, and is taken off it by [`take_put`](SoloBus::take_put).
+    /// A step of the adapter. The wire has room while fewer than 64 frames are on it. A frame that is put waits there
+    /// after the others, until [`take_put`](SoloBus::take_put) takes it.
     pub fn step(&mut self, kind: StepKind) -> Outcome<()>
         ensures answer { Answers kind (has_room self.old) self.old.world.memory self.old.world.adapter
             (solo_framed result self.old) }
@@ -143,8 +143,8 @@ impl SoloBus {
         Some(frame)
     }
 
-    /// Lets ticks be played, after those that wait already, before the accesses that follow: before
-    /// each those up to the next [`Go`](SoloTick::Go). With them at most 32 wait.
+    /// Appends ticks to those that wait. Before each later access, the ticks up to the next [`Go`](SoloTick::Go) are
+    /// played. At most 32 ticks may wait.
     pub fn play(&mut self, ticks: &[SoloTick])
         requires room { length self.old.waiting + length ticks.now ≤ MOST_TICKS }
         ensures { self.new ≡ record self.old { waiting = self.old.waiting ++ ticks.now } }
@@ -179,7 +179,7 @@ impl SoloBus {
         }
     }
 
-    /// Plays the ticks up to the next [`Go`](SoloTick::Go), which waits no longer.
+    /// Plays the ticks up to the next [`Go`](SoloTick::Go), and removes them, with this `Go`.
     fn play_group(&mut self)
         ensures { PlaysSoloTicks (group_of is_go self.old.waiting) (behind_group is_go self.old.waiting) self.old
             self.new }
@@ -215,7 +215,7 @@ impl SoloBus {
         self.accesses = self.accesses.saturating_add(1);
     }
 
-    /// Plays what comes before an access, and counts the access.
+    /// Plays the ticks before an access, and counts the access.
     pub(crate) fn prepare(&mut self)
         ensures { Prepared self.old self.new }
     {
@@ -260,7 +260,7 @@ impl SoloBus {
         self.accesses
     }
 
-    /// Reads a register, with nothing before it.
+    /// Reads a register. No tick is played before it.
     pub(crate) fn read_now(&mut self, offset: u32) -> u32
         ensures answer { result ≡ answer_at offset self.old.world.adapter }
         ensures state { self.new ≡ record self.old { world = world_after_read offset self.old.world } }
@@ -269,7 +269,7 @@ impl SoloBus {
         self.machine.read(offset)
     }
 
-    /// Writes a register, with nothing before it.
+    /// Writes a register. No tick is played before it.
     pub(crate) fn write_now(&mut self, offset: u32, value: u32)
         ensures state { self.new ≡ record self.old { world = world_after_write offset value self.old.world } }
         ensures adapter { IsAdapter self.old.world.adapter }
@@ -277,7 +277,7 @@ impl SoloBus {
         self.machine.write(offset, value);
     }
 
-    /// Loads bytes that lie in memory, with nothing before it.
+    /// Loads bytes inside memory. No tick is played before it.
     pub(crate) fn load_now(&self, address: u64, into: &mut [u8])
         requires lies { LiesIn self.now.world.memory address (length into.old) }
         ensures loaded { into.new ≡ bytes_at self.now.world.memory address (length into.old) }
@@ -286,7 +286,7 @@ impl SoloBus {
         self.machine.load(address, into);
     }
 
-    /// Stores bytes that lie in memory, with nothing before it.
+    /// Stores bytes inside memory. No tick is played before it.
     pub(crate) fn store_now(&mut self, address: u64, bytes: &[u8])
         requires lies { LiesIn self.old.world.memory address (length bytes.now) }
         ensures state { self.new ≡ record self.old { world = world_after_store address bytes.now self.old.world } }
@@ -295,7 +295,7 @@ impl SoloBus {
         self.machine.store(address, bytes);
     }
 
-    /// The next tick, which waits no longer.
+    /// Removes the next tick, and returns it, if one waits.
     fn next_tick(&mut self) -> Option<SoloTick>
         ensures next { result ≡ slice_get self.old.waiting 0 }
         ensures state { self.new ≡ record self.old { waiting = drop 1 self.old.waiting } }

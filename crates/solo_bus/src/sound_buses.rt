@@ -1,4 +1,4 @@
-//! Buses on which the conditions of the law hold: none of these is empty.
+//! Buses on which the conditions of the law hold, each for a condition that must be possible.
 //!
 //! Each has a new adapter whose link is never up, and 4,096 bytes of memory: a receive buffer at 0,
 //! the receive ring of eight slots at 2,048, the transmit ring of eight at 2,176, and data to be sent at
@@ -23,7 +23,7 @@ const MEMORY_BYTES: u64 = 4096;
 /// The address of the receive ring, after the buffer at 0.
 const RECEIVE_RING: u32 = 2048;
 
-/// Where the transmit ring stands.
+/// The address of the transmit ring.
 const TRANSMIT_RING: u32 = 2176;
 
 /// The bytes of a ring of eight slots.
@@ -118,7 +118,7 @@ pub fn with_buffered_frame(alloc: Global, image: &Image) -> Result<SoloBus, Allo
     Ok(bus)
 }
 
-/// A bus on which both rings are set up, and nothing is offered.
+/// A bus on which both rings are set up, and no slot is offered.
 fn at_rest(alloc: Global, image: &Image) -> Result<SoloBus, AllocError>
     ensures { IfOk result (λ bus. bus.world ≡ resting MEMORY_BYTES image.now) }
 {

@@ -17,9 +17,9 @@ transmitter_of engine = record { buffer = side_by_side engine.frames.frames engi
 
 -- What holds of the fields at all times.
 pub record IsWhole (engine : Inside) : Type 0 where
-  -- The queue of frames has four places,
+  -- The queue of frames has four places.
   pub frames : engine.frames.capacity ≡ 4
-  -- and so has the queue of what their descriptors ask for.
+  -- The queue of what their descriptors ask for has four places.
   pub reports : engine.reports.capacity ≡ 4
   -- Both have the same number of entries.
   pub same : length engine.frames.frames ≡ length engine.reports.items

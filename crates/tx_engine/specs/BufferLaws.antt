@@ -11,7 +11,7 @@ use Rattle.tx_engine.specs.Steps.{IfFront}
 use Rattle.tx_engine.specs.declared.report.Report.{Report}
 use Rattle.tx_engine.specs.declared.engine.TxEngine.TheInside.{Inside}
 
--- As many as there are frames.
+-- There are as many pairs as frames.
 pub length-side_by_side : (frames : List (List ℕ)) (reports : List Report) → length frames ≡ length reports
     → length (side_by_side frames reports) ≡ length frames
 length-side_by_side [] reports same = refl
@@ -20,7 +20,7 @@ length-side_by_side (frame ∷ frames) (report ∷ reports) same =
     let rest = length-side_by_side frames reports (omega arith) in
     omega arith
 
--- A frame more follows the others.
+-- One more frame is in the last pair.
 pub side_by_side-push : (frames : List (List ℕ)) (reports : List Report) (frame : List ℕ) (report : Report) → length frames ≡ length reports
     → side_by_side (frames ++ frame ∷ []) (reports ++ report ∷ [])
     ≡ side_by_side frames reports ++ record { frame = frame; descriptor = report.descriptor; report = report.wanted } ∷ []
@@ -31,28 +31,28 @@ side_by_side-push (first ∷ frames) (other ∷ reports) frame report same =
     let q : Queued = record { frame = first; descriptor = other.descriptor; report = other.wanted } in
     ap (λ (rest : List Queued). q ∷ rest) (side_by_side-push frames reports frame report (omega arith))
 
--- There are none exactly if there is no frame.
+-- There is no pair if and only if there is no frame.
 pub side_by_side-none : (frames : List (List ℕ)) (reports : List Report) → length frames ≡ length reports → (frames ≡ [])
     ↔ (side_by_side frames reports ≡ [])
 side_by_side-none [] reports same = (λ none. refl, λ none. refl)
 side_by_side-none (frame ∷ frames) [] same = absurd (omega arith)
 side_by_side-none (frame ∷ frames) (report ∷ reports) same = (λ none. cc, λ none. cc)
 
--- The oldest frame.
+-- The oldest frame is in the first pair.
 pub side_by_side-front : (frames : List (List ℕ)) (reports : List Report) (frame : List ℕ) → length frames ≡ length reports
     → slice_get frames 0 ≡ Some frame → IfFront (side_by_side frames reports) (λ queued. queued.frame ≡ frame)
 side_by_side-front [] reports frame same front = tt
 side_by_side-front (first ∷ frames) [] frame same front = absurd (omega arith)
 side_by_side-front (first ∷ frames) (report ∷ reports) frame same front = cc
 
--- The frames of those that stand side by side are the frames,
+-- The frames of the pairs are the frames.
 pub side_by_side-frames : (frames : List (List ℕ)) (reports : List Report) → length frames ≡ length reports
     → map (λ (q : Queued). q.frame) (side_by_side frames reports) ≡ frames
 side_by_side-frames [] reports same = refl
 side_by_side-frames (frame ∷ frames) [] same = absurd (omega arith)
 side_by_side-frames (frame ∷ frames) (report ∷ reports) same = ap (λ fs. frame ∷ fs) (side_by_side-frames frames reports (omega arith))
 
--- and what they feed of their descriptors to a hasher is what the reports feed.
+-- Of their descriptors the pairs feed to a hasher what the reports feed.
 pub side_by_side-reports : (frames : List (List ℕ)) (reports : List Report) → length frames ≡ length reports
     → flat_map queued_writes (side_by_side frames reports) ≡ flat_map report_writes reports
 side_by_side-reports [] [] same = refl
@@ -83,7 +83,7 @@ pushed-whole engine frame report frames reports whole room pushed_frame pushed_r
           (omega (arith, whole.same, length-append engine.frames.frames (frame ∷ []), length-append engine.reports.items (report ∷ [])));
     }
 
--- and stands at the end.
+-- One more frame, in both queues, is the last one of the packet buffer.
 pub pushed-view : (engine : Inside) (frame : List ℕ) (report : Report) (frames : Frames) (reports : Buffer Report) (seen : Transmitter)
     → transmitter_of engine ≡ seen → IsWhole engine → length engine.frames.frames < 4
     → frames ≡ record engine.frames { frames = engine.frames.frames ++ frame ∷ [] }

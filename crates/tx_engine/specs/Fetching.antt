@@ -31,7 +31,7 @@ as_sent pad frame = if pad then padded frame else frame
 abbrev pub frame_at : Bool → List ℕ → ℕ → List ℕ
 frame_at pad memory address = as_sent pad (named_by memory (descriptor_at memory address))
 
--- What the engine makes of the descriptor at an address.
+-- The entry of the packet buffer that the engine makes from the descriptor at an address.
 abbrev pub fetched : Bool → List ℕ → ℕ → Queued
 fetched pad memory address = record {
   frame = frame_at pad memory address;
@@ -39,7 +39,7 @@ fetched pad memory address = record {
   report = is_set (command_bits (descriptor_at memory address).command) tx_rs;
 }
 
--- The engine has nothing to take: TCTL.EN is 0, it is stopped, its buffer holds four frames (our choice), or head equals tail.
+-- The engine has nothing to take: TCTL.EN is 0, a fault has stopped it, its buffer holds four frames (our choice), or head equals tail.
 abbrev pub IsIdle : ℕ → Transmitter → Ring → Type 0
 IsIdle control engine ring =
     (¬ (HasBit control tctl_en)) ⊎ (IsTrue engine.stopped ⊎ ((length engine.buffer ≡ 4) ⊎ (ring.head ≡ ring.tail)))
@@ -58,8 +58,8 @@ pub record IsTransmittable (memory : List ℕ) (desc : TxDesc) : Type 0 where
   -- The frame is inside memory.
   pub lies : LiesIn memory desc.address desc.length
 
--- The engine can take the descriptor at the head: the ring is sound, its descriptor lies in memory at an address that
--- doesn't wrap, and it can be transmitted.
+-- The engine can take the frame at the head: head and tail are slots of the ring, the descriptor at the head is inside memory, and it
+-- can be transmitted.
 pub record IsFetchable (memory : List ℕ) (ring : Ring) : Type 0 where
   -- TDH and TDT are indices of descriptors in the ring.
   pub sound : HasValidIndices ring

@@ -10,11 +10,12 @@ use Rattle.tx_engine.specs.declared.report.Report.{Report}
 abbrev pub report_writes : Report → HashWrites
 report_writes report = u64 report.descriptor ++ bool report.wanted
 
--- What the hasher gets for a frame in the packet buffer, besides its bytes: its descriptor's address, and RS.
+-- What a frame in the packet buffer feeds to a hasher, besides its bytes: the address of its descriptor, and RS.
 abbrev pub queued_writes : Queued → HashWrites
 queued_writes queued = u64 queued.descriptor ++ bool queued.report
 
--- the frames in the buffer, with their number first, and then what their descriptors ask for
+-- what the transmit engine feeds: the number of the frames in the buffer, the frames, what their descriptors ask for,
+-- and whether it is stopped
 abbrev pub transmitter_writes : Transmitter → HashWrites
 transmitter_writes engine = bool engine.stopped
     ++ frames_writes (map (λ queued. queued.frame) engine.buffer)

@@ -20,7 +20,7 @@ to_send-take memory ring pad buffer sound apart =
     ∙ append_assoc (map (λ (queued : Queued). queued.frame) buffer) (last.frame ∷ []) (map frames rest)
     ∙ ap (λ (behind : List (List ℕ)). map (λ (queued : Queued). queued.frame) buffer ++ behind) (sym whole)
 
--- Putting takes the front.
+-- Putting takes the first of the frames to be sent.
 pub to_send-put : PuttingTakesFront
 unfolding to_send
 to_send-put memory ring pad queued buffer = refl

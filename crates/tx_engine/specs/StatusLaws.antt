@@ -1,4 +1,4 @@
--- What bytes that are written leave: the other bytes, and the frames that are named elsewhere.
+-- What written bytes don't change: the other bytes, and the frames that are elsewhere.
 use Rattle.std.proofs.Common.{◌≡◌, ◌<◌, ◌+◌, ◌++◌, ◌∷◌, [], Bool, true, false, ◌&&◌, if◌then◌else◌, ℕ, zero, suc, List, length, map, drop}
 use Rattle.std.proofs.Common.{slice_index, refl, sym, ap, ◌∙◌, arith, lit≤}
 use Rattle.std.proofs.lemmas.Bool.{and_parts, ltb-true}
@@ -29,7 +29,7 @@ little_from-drop j (suc n) i bytes =
     let first : slice_index (drop i bytes) j ≡ slice_index bytes (i + j) = get_or-drop i bytes j 0 in
     rw (first, rest) refl
 
--- Address and length of a descriptor stand in its first ten bytes.
+-- Address and length of a descriptor are in its first ten bytes.
 address-first_ten : (memory : List ℕ) (address : ℕ)
     → little_number 8 (bytes_at memory address 16) ≡ little_number 8 (bytes_at memory address 10)
 address-first_ten memory address = little_from-take 0 8 16 (drop address memory) (lit≤ tt)
@@ -42,7 +42,7 @@ length-first_ten memory address =
     ∙ little_from-take 8 2 16 (drop address memory) (lit≤ tt)
     ∙ sym (little_from-take 8 2 10 (drop address memory) (lit≤ tt))
 
--- Where the first ten bytes stay, so do address and length.
+-- If the first ten bytes don't change, address and length don't.
 same-address : (memory changed : List ℕ) (address : ℕ) → bytes_at changed address 10 ≡ bytes_at memory address 10
     → (descriptor_at changed address).address ≡ (descriptor_at memory address).address
 unfolding tx_desc_of
@@ -55,7 +55,7 @@ unfolding tx_desc_of
 same-length memory changed address same = length-first_ten changed address ∙ ap (little_from 8 2) same
     ∙ sym (length-first_ten memory address)
 
--- Bytes away from a descriptor and its frame leave the frame.
+-- Bytes away from a descriptor and its frame don't change the frame.
 frame_at-away : (memory bytes : List ℕ) (pad : Bool) (place address : ℕ) → LiesIn memory place (length bytes)
     → IsAwayFrom memory (area_at place (length bytes)) address
     → frame_at pad (with_bytes memory place bytes) address ≡ frame_at pad memory address
@@ -83,14 +83,14 @@ frames-away memory bytes ring pad place (slot ∷ slots) lies away =
     ap (λ (frame : List ℕ). frame ∷ map (λ (slot : ℕ). frame_at pad (with_bytes memory place bytes) (address_of ring slot)) slots) first
     ∙ ap (λ (frames : List (List ℕ)). frame_at pad memory (address_of ring slot) ∷ frames) rest
 
--- Bytes away from the descriptors that the adapter owns and their frames leave the frames to be sent.
+-- Bytes away from the descriptors that the adapter owns and their frames don't change the frames to be sent.
 pub to_send-elsewhere : OtherBytesLeaveFrames
 unfolding to_send
 to_send-elsewhere memory ring pad buffer place bytes lies away =
     ap (λ (frames : List (List ℕ)). map (λ (queued : Queued). queued.frame) buffer ++ frames)
     (frames-away memory bytes ring pad place (offered_places ring) lies away)
 
--- So does one byte.
+-- One byte away from the descriptors that the adapter owns and their frames doesn't change the frames to be sent.
 pub to_send-away : (memory : List ℕ) (ring : Ring) (pad : Bool) (buffer : List Queued) (place byte : ℕ) → LiesIn memory place 1
     → All (λ slot. IsAwayFrom memory (area_at place 1) (address_of ring slot)) (offered_places ring)
     → to_send (with_bytes memory place (byte ∷ [])) ring pad buffer ≡ to_send memory ring pad buffer
@@ -103,7 +103,8 @@ to_send-either : (test : Bool) (memory changed : List ℕ) (ring : Ring) (pad : 
 to_send-either true memory changed ring pad buffer same = same refl
 to_send-either false memory changed ring pad buffer same = refl
 
--- The status byte of a frame that has gone out, away from them, leaves the frames to be sent, whether it is written or not.
+-- The status byte of a frame that has gone out, away from them, doesn't change the frames to be sent, whether it is
+-- written or not.
 pub to_send-written_back : (memory : List ℕ) (ring : Ring) (pad : Bool) (buffer : List Queued) (queued : Queued)
     → All (λ slot. IsAwayFrom memory (area_at (status_place queued) 1) (address_of ring slot)) (offered_places ring)
     → to_send (written_back memory queued) ring pad buffer ≡ to_send memory ring pad buffer
@@ -115,7 +116,7 @@ to_send-written_back memory ring pad buffer queued away =
     (and_parts queued.report lies_there written).1 in
     to_send-away memory ring pad buffer (status_place queued) 1 (omega arith) away)
 
--- Once the oldest frame of the buffer has gone out, it was the front of the frames to be sent, and the others are left.
+-- After the oldest frame of the buffer is put, the frames to be sent are those from before without their first.
 pub to_send-gone : (memory changed : List ℕ) (buffer : List Queued) → IfFront buffer (λ queued. changed ≡ written_back memory queued)
     → IfFront buffer (λ queued. (ring : Ring) (pad : Bool)
     → All (λ slot. IsAwayFrom memory (area_at (status_place queued) 1) (address_of ring slot)) (offered_places ring)

@@ -1,5 +1,5 @@
--- What the two steps of the transmit engine leave ("3.3 Packet Transmission" of Intel's manual; that the report waits until
--- the frame is on the wire is own).
+-- What the two steps of the transmit engine leave ("3.3 Packet Transmission" of Intel's manual; that the report waits
+-- until the frame is on the wire is our choice).
 use Rattle.std.specs.Prelude.{◌≡◌, ◌+◌, ◌++◌, ◌∷◌, [], ◌&&◌, if◌then◌else◌, nat_lt, Bool, ℕ, List, length, slice_index}
 use Rattle.dma_memory.specs.HostMemory.{with_bytes}
 use Rattle.descriptors.specs.declared.ring.Ring.{Ring}
@@ -13,13 +13,13 @@ use Rattle.tx_engine.specs.declared.answers.Take.TheVariants as takes
 use Rattle.tx_engine.specs.declared.answers.Put.{Put}
 use Rattle.tx_engine.specs.declared.answers.Put.TheVariants as puts
 
--- The fact holds where the answer is that a frame was taken.
+-- If the answer is that a frame was taken, the fact holds of it.
 abbrev pub IfTook : Take → (Bool → Type 0) → Type 0
 IfTook (takes.Took emptied) P = P emptied
 IfTook takes.Nothing P = Unit {0}
 IfTook takes.Fault P = Unit {0}
 
--- The fact holds where the answer is that a frame was put.
+-- If the answer is that a frame was put, the fact holds of it.
 abbrev pub IfPut : Put → (Bool → Type 0) → Type 0
 IfPut (puts.Put reported) P = P reported
 IfPut puts.Nothing P = Unit {0}
@@ -41,8 +41,8 @@ pub record Takes (control : ℕ) (memory : List ℕ) (ring moved : Ring) (engine
 abbrev pub status_place : Queued → ℕ
 status_place queued = queued.descriptor + 12
 
--- Memory once a frame has gone out: where its descriptor asks for a report, the status byte has DD alone (3.3.3.2). In a memory that
--- ends before that byte nothing is written.
+-- Memory once a frame is on the wire: if its descriptor asks for a report, the status byte has DD alone (3.3.3.2). In a
+-- memory that ends before that byte nothing is written.
 abbrev pub written_back : List ℕ → Queued → List ℕ
 written_back memory queued = if queued.report && nat_lt (status_place queued) (length memory) then with_bytes memory (status_place queued)
     (alone tx_dd ∷ []) else memory

@@ -7,8 +7,8 @@ use Rattle.descriptors.specs.Ring.{HasValidIndices, next_of, address_of, offered
 use Rattle.tx_engine.specs.Transmitter.{Queued}
 use Rattle.tx_engine.specs.Fetching.{descriptor_at, frame_at, fetched}
 
--- The frames in the transmit packet buffer, then, for each slot that the adapter owns, the bytes that its descriptor names in
--- memory, padded where the adapter pads.
+-- The frames in the transmit packet buffer, then, for each slot that the adapter owns, the bytes that its descriptor
+-- names in memory, padded if the adapter pads.
 unfoldable pub to_send : List ℕ → Ring → Bool → List Queued → List (List ℕ)
 to_send memory ring pad buffer = map (λ (queued : Queued). queued.frame) buffer
     ++ map (λ (slot : ℕ). frame_at pad memory (address_of ring slot)) (offered_places ring)
@@ -28,13 +28,14 @@ TakingMovesFrames =
     → to_send memory (record ring { head = next_of ring ring.head }) pad (buffer ++ fetched pad memory (address_of ring ring.head) ∷ [])
     ≡ to_send memory ring pad buffer
 
--- Putting takes the front.
+-- Putting takes the first of the frames to be sent.
 abbrev pub PuttingTakesFront : Type 0
 PuttingTakesFront =
     (memory : List ℕ) (ring : Ring) (pad : Bool) (queued : Queued) (buffer : List Queued)
     → to_send memory ring pad (queued ∷ buffer) ≡ queued.frame ∷ to_send memory ring pad buffer
 
--- Bytes written apart from the descriptors that the adapter owns, and from the frames that they name, leave the frames.
+-- Bytes written apart from the descriptors that the adapter owns, and from the frames that they name, don't change the
+-- frames to be sent.
 abbrev pub OtherBytesLeaveFrames : Type 0
 OtherBytesLeaveFrames =
     (memory : List ℕ) (ring : Ring) (pad : Bool) (buffer : List Queued) (place : ℕ) (bytes : List ℕ)

@@ -14,9 +14,9 @@ pub record Queued : Type 0 where
 pub record Transmitter : Type 0 where
   -- the transmit packet buffer, the oldest frame first
   pub buffer : List Queued
-  -- whether a fault has stopped the engine
+  -- whether a fault has stopped the step that takes frames
   pub stopped : Bool
 
--- An engine with nothing to put, which isn't stopped.
+-- An engine with an empty buffer, which no fault has stopped.
 abbrev pub new_transmitter : Transmitter
 new_transmitter = record { buffer = []; stopped = false }

@@ -8,7 +8,8 @@ pub enum Take {
         /// Whether head became tail, so that the adapter owns no descriptor any more.
         emptied: bool,
     },
-    /// The frame at the head couldn't be taken. The engine is stopped until a reset.
+    /// The frame at the head couldn't be taken. The engine takes no frame until a reset, but still puts those in its
+    /// buffer.
     Fault,
 }
 

@@ -105,15 +105,15 @@ impl TxEngine {
         self.len() == PACKET_BUFFER_FRAMES
     }
 
-    /// Whether a fault has stopped the engine.
+    /// Whether a fault has stopped the step that takes frames.
     pub fn is_stopped(&self) -> bool
         ensures { result ≡ self.now.stopped }
     {
         !self.running
     }
 
-    /// The oldest frame of the buffer as it goes onto the wire, where it stands; `None` exactly if the buffer is
-    /// empty. It has 1,518 bytes at most.
+    /// The oldest frame of the buffer as it goes onto the wire, without a copy; `None` exactly if the buffer is empty.
+    /// It has 1,518 bytes at most.
     pub fn front(&self) -> Option<&[u8]>
         ensures none { IsNone result ↔ (self.now.buffer ≡ []) }
         ensures oldest { IfSome result (λ frame. IfFront self.now.buffer (λ queued. queued.frame ≡ frame.now)) }
@@ -122,7 +122,7 @@ impl TxEngine {
         self.frames.front()
     }
 
-    /// The frame of the buffer with this index, where it stands. The oldest frame has index 0.
+    /// The frame of the buffer with this index, without a copy. The oldest frame has index 0.
     pub fn frame_at(&self, index: usize) -> &[u8]
         requires { index < length self.now.buffer }
         ensures frame { slice_get (map (λ queued. queued.frame) self.now.buffer) index ≡ Some result.now }
@@ -142,7 +142,7 @@ impl TxEngine {
         feed_reports(wrapped, hasher);
     }
 
-    /// Stops the engine until a reset.
+    /// After a fault: the engine takes no frame until a reset.
     pub(crate) fn stop(&mut self)
         ensures { self.new ≡ record self.old { stopped = true } }
     {
@@ -170,7 +170,7 @@ impl TxEngine {
         });
     }
 
-    /// Drops the oldest frame and answers what is to be done of it; `None` exactly if the buffer is empty.
+    /// Drops the oldest frame and returns what its descriptor asks for; `None` exactly if the buffer is empty.
     pub(crate) fn pop(&mut self) -> Option<Report>
         ensures none { IsNone result ↔ (self.old.buffer ≡ []) }
         ensures rest { self.new ≡ record self.old { buffer = drop 1 self.old.buffer } }

@@ -9,7 +9,7 @@ use bitflags::Flags;
 use descriptors::{LONGEST_SENDABLE, Ring, TX_DESC_BYTES, TxCommand, TxDesc};
 use dma_memory::HostMemory;
 
-/// A frame that a descriptor names, where it stands in the host's memory.
+/// A frame that a descriptor names, lent from the host's memory.
 #[derive(Clone, Copy)]
 pub struct Named<'a> {
     /// The bytes of the frame.

@@ -23,7 +23,7 @@ const STATUS_PLACE: u64 = 12;
 ///   that descriptor, at the address where it was read, becomes 1 (DD); in a memory that ends before that byte
 ///   nothing is written. `reported` tells whether it asks.
 ///
-/// The caller hands a memory of the same size as to [`take`](crate::take), where that byte always lies.
+/// If memory has the size that it had for [`take`](crate::take), that byte is in it.
 pub fn put(engine: &mut TxEngine, memory: &mut HostMemory, wire_free: bool) -> Put
     ensures nothing { (result ≡ Put.Nothing) ↔ (engine.old.buffer ≡ []) }
     ensures wire_full { (result ≡ Put.WireFull) ↔ ((¬ (engine.old.buffer ≡ [])) × (wire_free ≡ false)) }
@@ -37,8 +37,7 @@ pub fn put(engine: &mut TxEngine, memory: &mut HostMemory, wire_free: bool) -> P
     ensures one_byte { IfFront engine.old.buffer
         (λ queued. DiffersAtMostAt (status_place queued) memory.old memory.new) }
 
-    // The front of the frames to be sent has gone out, and the others are left, where the status byte is away from
-    // them.
+    // The first frame to be sent is on the wire, and the others are unchanged, if the status byte is apart from them.
     ensures to_send { IfPut result (λ _. IfFront engine.old.buffer (λ queued.
         (ring : Ring) (pad : Bool)
         → All (λ slot. IsAwayFrom memory.old (area_at (status_place queued) 1) (address_of ring slot))

@@ -24,7 +24,7 @@ pub fn is_idle(engine: &TxEngine, ring: &Ring, control: Tctl) -> bool
 /// - `Nothing` exactly if TCTL.EN is 0, the engine is stopped, its buffer holds four frames, or head equals tail.
 /// - Otherwise `Fault` exactly if the ring has no descriptors or head or tail isn't one of its slots, the
 ///   descriptor or the bytes that it names don't lie in memory (addresses don't wrap), EOP is clear, DEXT is set, or
-///   the length is 0 or above 1,518. It leaves ring and buffer, and stops the engine until a reset.
+///   the length is 0 or above 1,518. Ring and buffer are unchanged, and the engine takes no frame until a reset.
 /// - Otherwise `Took`: the frame is in the buffer, with TCTL.PSP followed by zeros up to 60 bytes, and head has moved
 ///   on.
 pub fn take(engine: &mut TxEngine, ring: &mut Ring, control: Tctl, memory: &HostMemory) -> Take

@@ -1,0 +1,73 @@
+-- What a data step leaves, by the answer of the receive engine.
+use Rattle.std.proofs.Common.{◌≡◌, ◌↔◌, ℕ, Bool, true, false, List, refl, ap, if◌then◌else◌}
+use Rattle.std.specs.Int.Bits.{or_zero_r}
+use Rattle.registers.specs.Bits.{union}
+use Rattle.registers.specs.Kept.{causes_of}
+use Rattle.registers.specs.Places.{alone, rxdmt0}
+use Rattle.rx_engine.specs.Moving.{IfMoved, IsMoved, IsPartMoved, engine_after_data, is_half_free, memory_after_data, ring_after_data}
+use Rattle.rx_engine.specs.declared.data.Data.{Data}
+use Rattle.rx_engine.specs.declared.data.Data.TheVariants.{Nothing, Part, Moved, Fault}
+use Rattle.adapter.specs.DataOutcomes.{causes_of_answer, outcome_of}
+use Rattle.adapter.specs.Outcomes.{framed}
+use Rattle.adapter.specs.Receiving.{CanMovePiece, DataAnswers, HasFrameAndDescriptor, after_data, is_last_piece, memory_after_data_step}
+use Rattle.adapter.specs.Rings.{ring_of}
+use Rattle.adapter.specs.State.{AdapterState}
+use Rattle.adapter.specs.Transmitting.{moved_on}
+
+-- the causes that a moved piece records are causes
+half-causes : (low free : Bool) → low ≡ free → causes_of (if low then alone rxdmt0 else 0) ≡ (if free then alone rxdmt0 else 0)
+half-causes true true same = refl
+half-causes false false same = refl
+half-causes true false same = cc
+half-causes false true same = cc
+
+-- no cause more is recorded
+none_recorded : (state : AdapterState) → record state { causes = record state.causes { recorded = union state.causes.recorded 0 } } ≡ state
+none_recorded state =
+    ap (λ (causes : ℕ). record state { causes = record state.causes { recorded = causes } }) (or_zero_r state.causes.recorded)
+
+-- the adapter with what a data step with this answer leaves and records
+abbrev pub left_by : Data → AdapterState → AdapterState
+left_by answer state = record state {
+  receiver = engine_after_data answer state.filter.rctl (ring_of state.receive_ring) state.receiver;
+  receive_ring = record state.receive_ring { head = (ring_after_data answer (ring_of state.receive_ring)).head };
+  causes = record state.causes { recorded = union state.causes.recorded (causes_of (causes_of_answer answer)) };
+}
+
+pub left_by-state : (F : Type 0) (answer : Data) (state : AdapterState)
+    → IfMoved answer (λ low. low ≡ is_half_free (ring_after_data answer (ring_of state.receive_ring)))
+    → left_by answer state ≡ after_data (framed {F = F} (outcome_of {F = F} answer) state) state
+left_by-state F Nothing state half = none_recorded state
+left_by-state F (Part low) state half =
+    ap (λ (causes : ℕ). record state {
+      receiver = engine_after_data (Part low) state.filter.rctl (ring_of state.receive_ring) state.receiver;
+      receive_ring = moved_on state.receive_ring;
+      causes = record state.causes { recorded = union state.causes.recorded causes };
+    }) (half-causes low (is_half_free (ring_of (moved_on state.receive_ring))) half)
+left_by-state F (Moved low) state half =
+    ap (λ (causes : ℕ). record state {
+      receiver = engine_after_data (Moved low) state.filter.rctl (ring_of state.receive_ring) state.receiver;
+      receive_ring = moved_on state.receive_ring;
+      causes = record state.causes { recorded = union state.causes.recorded causes };
+    }) (half-causes low (is_half_free (ring_of (moved_on state.receive_ring))) half)
+left_by-state F Fault state half =
+    none_recorded (record state { receiver = engine_after_data Fault state.filter.rctl (ring_of state.receive_ring) state.receiver })
+
+pub answered-data : (F : Type 0) (answer : Data) (memory : List ℕ) (state : AdapterState)
+    → (answer ≡ Nothing) ↔ (¬ (HasFrameAndDescriptor state))
+    → (answer ≡ Fault) ↔ (HasFrameAndDescriptor state × (¬ (CanMovePiece memory state)))
+    → IsPartMoved answer ↔ (HasFrameAndDescriptor state × CanMovePiece memory state × (is_last_piece state ≡ false))
+    → IsMoved answer ↔ (HasFrameAndDescriptor state × CanMovePiece memory state × (is_last_piece state ≡ true))
+    → DataAnswers memory state (framed {F = F} (outcome_of {F = F} answer) state)
+answered-data F Nothing memory state nothing fault part moved = nothing.0 refl
+answered-data F (Part low) memory state nothing fault part moved = part.0 tt
+answered-data F (Moved low) memory state nothing fault part moved = moved.0 tt
+answered-data F Fault memory state nothing fault part moved = fault.0 refl
+
+pub memory_by-data : (F : Type 0) (answer : Data) (memory : List ℕ) (state : AdapterState)
+    → memory_after_data answer state.filter.rctl (ring_of state.receive_ring) state.receiver memory
+    ≡ memory_after_data_step (framed {F = F} (outcome_of {F = F} answer) state) memory state
+memory_by-data F Nothing memory state = refl
+memory_by-data F (Part low) memory state = refl
+memory_by-data F (Moved low) memory state = refl
+memory_by-data F Fault memory state = refl

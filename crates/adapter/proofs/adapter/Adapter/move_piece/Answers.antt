@@ -1,0 +1,33 @@
+use Rattle.std.proofs.Common.{sym}
+use Rattle.adapter.specs.View.{state_of}
+use Rattle.adapter.proofs.DataSteps.{answered-data, left_by-state, memory_by-data}
+use Rattle.adapter.proofs.adapter.Adapter.move_piece.Goals as goal
+
+pub returns-clause-answer : goal.returns-clause-answer
+returns-clause-answer c =
+    rw (c.outcome_of.ensures, sym c.self.view_is)
+    (answered-data _ c.rx_data-answer.result c.args.memory.now (state_of c.self.inside)
+    (rw (c.rctl.ensures, c.ring-ring.ensures) at c.rx_data-answer.ensures.nothing)
+    (rw (c.rctl.ensures, c.ring-ring.ensures) at c.rx_data-answer.ensures.fault)
+    (rw (c.rctl.ensures, c.ring-ring.ensures) at c.rx_data-answer.ensures.part)
+    (rw (c.rctl.ensures, c.ring-ring.ensures) at c.rx_data-answer.ensures.moved))
+
+pub returns-clause-state : goal.returns-clause-state
+returns-clause-state c =
+    rw (
+      c.outcome_of.ensures,
+      c.raise.ensures,
+      c.causes_of_answer.ensures,
+      c.rx_data-answer.ensures.engine,
+      c.rx_data-answer.ensures.ring,
+      c.rctl.ensures,
+      c.ring-ring.ensures,
+      sym c.self.view_is,
+    )
+    (left_by-state _ c.rx_data-answer.result (state_of c.self.inside)
+    (rw (c.rx_data-answer.ensures.ring, c.ring-ring.ensures) at c.rx_data-answer.ensures.low))
+
+pub returns-clause-memory : goal.returns-clause-memory
+returns-clause-memory c =
+    rw (c.outcome_of.ensures, c.rx_data-answer.ensures.memory, c.rctl.ensures, c.ring-ring.ensures, sym c.self.view_is)
+    (memory_by-data _ c.rx_data-answer.result c.args.memory.now (state_of c.self.inside))
