@@ -25,7 +25,7 @@ use Rattle.bring_up.specs.declared.config.Config.{Config}
 use Rattle.bring_up.specs.declared.config.TheConstants.{MOST_VLANS}
 use Rattle.rx_engine.specs.declared.filter.TheConstants.{EXACT_ADDRESSES, TABLE_WORDS, VLAN_TYPE}
 
--- whether VLANs are named, an empty list among them
+-- whether the configuration names VLANs, even by an empty list
 abbrev pub names_vlans : Option (ArrayVec ℕ MOST_VLANS (Unit {0})) → Bool
 names_vlans None = false
 names_vlans (Some vlans) = true
@@ -40,7 +40,7 @@ setup_of config address = record {
   address = address;
 }
 
--- each is a word of 32 bits
+-- each number has at most 32 bits
 abbrev pub AreWords : List ℕ → Type 0
 AreWords words = All (λ word. word < register_limit) words
 
@@ -74,34 +74,34 @@ all_writes config address groups vlans = writes_before_rings config address grou
 
 -- RCTL, VFTA and the exact addresses of the receive filter, which don't change after initialization
 pub record FilterHasSetup (setup : DriverSetup) (filter : FilterRegisters) : Type 0 where
-  -- RCTL
+  -- RCTL has the value of the setup
   pub receive_control_is : filter.rctl ≡ receive_control setup.promiscuous setup.by_vlan
   -- VFTA has the VLANs.
   pub vlans : HasNumbers filter.vfta setup.vlans
   -- each word of VFTA has 32 bits
   pub words : AreWords filter.vfta
-  -- The first exact address is this one, and valid; the other 15 entries are 0.
+  -- RAL: bytes 0 to 3 of the address in the first entry; the other 15 are 0
   pub address_low : filter.ral ≡ low_word setup.address ∷ replicate (EXACT_ADDRESSES - 1) 0
-  -- RAH: bytes 4 and 5 of the address, and AV, in the first entry
+  -- RAH: bytes 4 and 5 of the address, and AV, in the first entry; the other 15 are 0
   pub address_high : filter.rah ≡ (high_word setup.address + alone rah_av) ∷ replicate (EXACT_ADDRESSES - 1) 0
-  -- VET
+  -- VET is the type of IEEE 802.1Q
   pub vlan_type : filter.vet ≡ VLAN_TYPE
 
 -- An adapter has what its driver keeps of a configuration. Of the filter, this leaves MTA alone open.
 pub record HasSetup (setup : DriverSetup) (adapter : AdapterState) : Type 0 where
   -- the receive filter, apart from MTA
   pub filter : FilterHasSetup setup adapter.filter
-  -- PBA.RXA
+  -- PBA.RXA is that of the setup
   pub allocation : adapter.receive_kilobytes ≡ setup.rxa
 
--- the receive filter
+-- The receive filter is as configured.
 pub record FilterIsConfigured (config : Config) (address : List ℕ) (filter : FilterRegisters) : Type 0 where
   pub setup : FilterHasSetup (setup_of config address) filter
   -- MTA has the configured groups.
   pub groups : HasNumbers filter.mta (numbers_of_groups config.groups.items)
   pub group_words : AreWords filter.mta
 
--- the registers of a ring
+-- The registers of a ring are as configured.
 pub record RingIsConfigured (base count tail : ℕ) (registers : RingRegisters) : Type 0 where
   pub base_is : (ring_of registers).base ≡ base
   -- the number of its slots
@@ -110,14 +110,14 @@ pub record RingIsConfigured (base count tail : ℕ) (registers : RingRegisters) 
 
 -- All that the configuration determines.
 pub record IsConfigured (config : Config) (address : List ℕ) (settings : Settings) : Type 0 where
-  -- CTRL: SLU and ASDE
+  -- CTRL has SLU and ASDE
   pub device_control : settings.device_control ≡ link_control
   pub filter : FilterIsConfigured config address settings.filter
-  -- TCTL
+  -- TCTL has the value of initialization
   pub transmit_control : settings.transmit_control ≡ transmit_control
-  -- PBA.RXA
+  -- PBA.RXA is that of the configuration
   pub allocation : settings.receive_kilobytes ≡ config.rxa
-  -- IMS: TXDW, RXDMT0, RXO and RXT0
+  -- IMS has TXDW, RXDMT0, RXO and RXT0
   pub mask : settings.mask ≡ handled_causes
   -- All receive slots but one are offered, and no transmit slot.
   pub receive_ring : RingIsConfigured 0 config.rx (config.rx - 1) settings.receive_ring

@@ -50,7 +50,7 @@ IsErrorOfLively NoLink before = HasRightSum before.adapter.image × NeedsMoreTha
 IsErrorOfLively Memory before = ⊤
 IsErrorOfLively errors.Config before = ⊤
 
--- A device is looked for.
+-- The result of looking for a device.
 pub record FindsDevice {B : Type 0} (bus : Ghosts B) (kilobytes : ℕ) (result : Result (List ℕ) InitError) (old new : B) : Type 0 where
   pub past : Past
   pub reports : bus.happened old new past

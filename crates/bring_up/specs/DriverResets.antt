@@ -1,4 +1,4 @@
--- What a reset of the adapter leaves of what a driver knows (our choice).
+-- What a driver knows after a reset of its adapter (our choice).
 use Rattle.std.specs.Prelude.{◌≡◌, ℕ, Bool, List, [], ◌∷◌}
 use Rattle.registers.specs.Places.{alone, ctrl_rst}
 use Rattle.adapter.specs.World.{World}

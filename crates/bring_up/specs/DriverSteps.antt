@@ -1,4 +1,4 @@
--- What the steps after the receive ring is set up leave of what a driver knows (our choice).
+-- What a driver knows after each step of initialization that follows the setup of the receive ring (our choice).
 use Rattle.std.specs.Prelude.{◌≡◌, ◌⊎◌, ◌*◌, ◌++◌, ℕ, Bool, true, false, List, [], ◌∷◌, map}
 use Rattle.registers.specs.Bits.{HasBit}
 use Rattle.registers.specs.Places.{rxt0}
@@ -19,7 +19,7 @@ use Rattle.driver_law.specs.Calls.{FollowsWrites, Goes, HasNoForgottenWork, Ran,
 use Rattle.driver_law.specs.DriverState.{DriverState}
 use Rattle.driver_law.specs.ReadyDrivers.{Ready}
 
--- these writes, and no other access
+-- these writes of registers, as accesses
 abbrev pub accesses_of : List Write → List Access
 accesses_of writes = map (λ (write : Write). Writes write.offset write.value) writes
 
@@ -28,8 +28,8 @@ accesses_of writes = map (λ (write : Write). Writes write.offset write.value) w
 abbrev pub LeavesDriver : {B : Type 0} → Ghosts B → List Write → (up : Bool) → DriverState → (old new : B) → Type 0
 LeavesDriver bus writes up d old new = Ran bus up (only (accesses_of writes)) (at old d) (at new d)
 
--- These writes enable the receiver of a driver that holds no frame. None is held after them, no slot is finished, and no frame arrived
--- meanwhile.
+-- These writes enable the receiver of a driver that holds no frame. After them no frame is held and no slot is finished, and no frame
+-- arrived meanwhile.
 pub record LetsFramesIn {B : Type 0} (bus : Ghosts B) (writes : List Write) (d : DriverState) (old new : B) : Type 0 where
   pub ran : LeavesDriver bus writes false d old new
   pub none_held : frames_held d.oldest_receive (bus.world new) ≡ []

@@ -11,20 +11,20 @@ use Rattle.bring_up.specs.declared.init_error.InitError.{InitError}
 abbrev pub most_reads : ℕ
 most_reads = 1000
 
--- The word at an address is asked for through EERD.
+-- The word at an address is read through EERD.
 pub record ReadsWord {B : Type 0} (bus : Ghosts B) (address : ℕ) (result : Result ℕ InitError) (old new : B) : Type 0 where
   pub asks : Asks bus EERD old new
-  -- Ok has the adapter's word.
+  -- If the result is Ok, it is the adapter's word.
   pub word : IfOk result (λ word. word ≡ word_at (bus.world old).adapter.image address)
   -- Before an error there were at least 1,000 accesses.
   pub in_vain : OnErr result (most_reads ≤ length asks.past.accesses)
   -- The adapter's EEPROM has 64 words.
   pub size : length (bus.world old).adapter.image ≡ WORDS
 
--- All words are asked for through EERD.
+-- All words are read through EERD.
 pub record ReadsImage {B : Type 0} (bus : Ghosts B) (result : Result (List ℕ) InitError) (old new : B) : Type 0 where
   pub asks : Asks bus EERD old new
-  -- Ok has the adapter's image.
+  -- If the result is Ok, it is the adapter's image.
   pub image : IfOk result (λ image. image ≡ (bus.world old).adapter.image)
   -- Before an error there were at least 1,000 accesses.
   pub in_vain : OnErr result (most_reads ≤ length asks.past.accesses)

@@ -1,4 +1,4 @@
--- What initialization asks of the PHY, and the state of the link then.
+-- The commands of initialization to the PHY, and the state of the link then.
 use Rattle.std.specs.Prelude.{⊤, ◌≡◌, ◌≢◌, ◌≤◌, ◌<◌, ◌+◌, ◌*◌, ◌⊎◌, ℕ, true, Err, None, Result, IfErr, IfOk, IsOk, length}
 use Rattle.std.specs.Fn.{iterate}
 use Rattle.adapter.specs.declared.offsets.TheConstants.{MDIC}
@@ -38,11 +38,12 @@ NeedsMoreThan ticks Never = ⊤
 abbrev pub command_word : (operation register word : ℕ) → ℕ
 command_word operation register word = operation * alone mdic_op + alone mdic_phyadd + register * alone mdic_regadd + word
 
--- The two commands of initialization (IEEE 802.3, 22.2.4): a write (01b) of the control register, which enables negotiation and restarts
--- it, and a read (10b) of the status register.
+-- The first command of initialization (IEEE 802.3, 22.2.4): a write (01b) of the control register, which enables
+-- negotiation and restarts it.
 abbrev pub restart_word : ℕ
 restart_word = command_word 1 0 (alone control_enable + alone control_restart)
 
+-- The second command of initialization: a read (10b) of the status register.
 abbrev pub status_word : ℕ
 status_word = command_word 2 1 0
 
@@ -71,7 +72,7 @@ pub record Commands {B : Type 0} (bus : Ghosts B) (word : ℕ) (result : Result 
   pub asks : Asks bus MDIC old new
   pub accesses : 2 ≤ length asks.past.accesses
   pub link : (bus.world new).adapter.phy.link ≡ (bus.world old).adapter.phy.link
-  -- Ok has the answer of the command, which has ended.
+  -- If the result is Ok, the command has ended, and the result is its answer.
   pub ends : IfOk result (Ends (bus.lively old) word asks.past.phy_ticks (management_of (bus.world old).adapter)
       (management_of (bus.world new).adapter))
   pub late : IfErr result (λ error. most_reads ≤ length asks.past.accesses)
@@ -81,7 +82,7 @@ pub record Commands {B : Type 0} (bus : Ghosts B) (word : ℕ) (result : Result 
 pub record Negotiates {B : Type 0} (bus : Ghosts B) (result : Result (Unit {0}) InitError) (old new : B) : Type 0 where
   pub asks : Asks bus MDIC old new
   pub link : (bus.world new).adapter.phy.link ≡ (bus.world old).adapter.phy.link
-  -- Ok: it was started in this call, since more ticks came in the call than since its start.
+  -- If the result is Ok, negotiation was started in this call, since more ticks came in the call than since its start.
   pub started : IfOk result (λ done. (begun : IsNegotiating (bus.world new).adapter) × (begun.ticks < asks.past.phy_ticks))
   pub late : IfErr result (λ error. most_reads ≤ length asks.past.accesses)
   pub in_time : bus.lively old → IsOk result
@@ -90,10 +91,10 @@ pub record Negotiates {B : Type 0} (bus : Ghosts B) (result : Result (Unit {0}) 
 pub record AwaitsLink {B : Type 0} (bus : Ghosts B) (result : Result (Unit {0}) InitError) (old new : B) : Type 0 where
   pub asks : Asks bus MDIC old new
   pub link : (bus.world new).adapter.phy.link ≡ (bus.world old).adapter.phy.link
-  -- Ok: MDIC shows bits 5 and 2 of the PHY's status, so negotiation is complete and the link is up.
+  -- If the result is Ok, MDIC shows bits 5 and 2 of the PHY's status, so negotiation is complete and the link is up.
   pub seen : IfOk result
       (λ done. HasBit (bus.world new).adapter.mdic.value status_complete × HasBit (bus.world new).adapter.mdic.value status_link)
-  -- Ok: the link is up, and stays so by the law of links.
+  -- If the result is Ok, the link is up, and stays up by the law of links.
   pub up : IfOk result (λ done. HasLink (bus.world new))
   pub late : IfErr result (λ error. most_reads ≤ length asks.past.accesses)
   pub no_link : result ≡ Err NoLink → 2 * most_reads ≤ length asks.past.accesses

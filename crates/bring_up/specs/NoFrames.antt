@@ -19,7 +19,8 @@ pub record HasNoFrames (d : DriverState) (world : World) : Type 0 where
   pub none_held : frames_held d.oldest_receive world ≡ []
   pub none_to_send : frames_to_send world ≡ []
 
--- This stays over an interval in which RCTL isn't written and no frame is accepted to be sent, and no frame arrives or leaves.
+-- `HasNoFrames` still holds after an interval in which RCTL isn't written and no frame is accepted for sending. No
+-- frame arrives or leaves in it.
 abbrev pub NoFramesStay : Type 0
 NoFramesStay =
     (d d' : DriverState) (a b : World) (past : Past) → GoesTo false (driver_in d a) (driver_in d' b) (driver_did [] []) past

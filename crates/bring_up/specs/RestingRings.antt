@@ -44,7 +44,8 @@ pub record BeginsAtRest (counts : Counts) (setup : DriverSetup) (groups : List (
   pub ready : ReadyWith false (new_driver counts setup groups pool) world
   pub quiet : HasNoFrames (new_driver counts setup groups pool) world
 
--- This holds if the receive ring is set up at rest, the counts are valid, and each buffer has one owner.
+-- A driver begins in this way if the receive ring is set up at rest, the counts are valid, and each buffer has one
+-- owner.
 abbrev pub DriversBeginAtRest : Type 0
 DriversBeginAtRest =
     (counts : Counts) (setup : DriverSetup) (groups : List (List ℕ)) (pool : List ℕ) (world : World)

@@ -8,7 +8,8 @@ use Rattle.bring_up.specs.WrittenRegisters.{register_limit, write_at}
 use Rattle.registers.specs.Places.{alone, rctl_bam, rctl_bsize, rctl_en, rctl_mpe, rctl_secrc, rctl_upe, rctl_vfe}
 use Rattle.registers.specs.Places.{tctl_cold, tctl_ct, tctl_en, tctl_psp}
 
--- a ring's base, its length in bytes, and head and tail 0; the first offset is that of the base's low word
+-- the writes that set up a ring: its base, its length in bytes, and 0 as head and tail; `offset` is that of the base's
+-- low word
 abbrev pub ring_writes : (offset base bytes : ℕ) → List Write
 ring_writes offset base bytes =
     write_at offset (base % register_limit)
@@ -28,7 +29,7 @@ receive_control promiscuous by_vlan =
 abbrev pub receive_writes : (promiscuous by_vlan : Bool) → List Write
 receive_writes promiscuous by_vlan = write_at RCTL (receive_control promiscuous by_vlan) ∷ []
 
--- RCTL is 0, so EN is 0
+-- the write that disables the receiver: RCTL is 0
 abbrev pub disable_writes : List Write
 disable_writes = write_at RCTL 0 ∷ []
 
@@ -36,6 +37,6 @@ disable_writes = write_at RCTL 0 ∷ []
 abbrev pub transmit_control : ℕ
 transmit_control = alone tctl_en + alone tctl_psp + 0x0F * alone tctl_ct + 0x40 * alone tctl_cold
 
--- TCTL is written
+-- the write of TCTL
 abbrev pub transmit_writes : List Write
 transmit_writes = write_at TCTL transmit_control ∷ []

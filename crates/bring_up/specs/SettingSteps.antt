@@ -20,7 +20,7 @@ IsNotOfCauses (Some Icr) = ⊥
 IsNotOfCauses (Some Ics) = ⊥
 IsNotOfCauses _ = ⊤
 
--- the write is of neither, so it records no interrupt cause
+-- the write is neither of ICR nor of ICS, so it records no interrupt cause
 abbrev pub RecordsNone : Write → Type 0
 RecordsNone write = IsNotOfCauses (register_at write.offset)
 
@@ -45,7 +45,7 @@ pub record SetsOnly {B : Type 0} (bus : Ghosts B) (writes : List Write) (old new
   pub sets : Sets bus writes old new
   pub only : sets.past.accesses ≡ accesses_of writes
 
--- The step only asks: it writes no register but the one at this offset, and the settings stay as they were.
+-- The step writes no register but the one at this offset, and the settings don't change.
 pub record Asks {B : Type 0} (bus : Ghosts B) (offset : ℕ) (old new : B) : Type 0 where
   pub past : Past
   pub reports : bus.happened old new past

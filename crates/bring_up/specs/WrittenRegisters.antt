@@ -13,19 +13,19 @@ register_limit = 2 ^ 32
 abbrev pub write_at : ℕ → ℕ → Write
 write_at offset value = record { offset = offset; value = value }
 
--- CTRL.RST; all causes are removed from the mask
+-- the writes of a reset: CTRL.RST, and IMC, which removes all causes from the mask
 abbrev pub reset_writes : List Write
 reset_writes = write_at CTRL (alone ctrl_rst) ∷ write_at IMC 0xFFFFFFFF ∷ []
 
--- PBA.RXA
+-- PBA is written, with this RXA
 abbrev pub allocation_writes : ℕ → List Write
 allocation_writes kilobytes = write_at PBA kilobytes ∷ []
 
--- CTRL: SLU and ASDE
+-- the value of CTRL with SLU and ASDE
 abbrev pub link_control : ℕ
 link_control = alone ctrl_slu + alone ctrl_asde
 
--- CTRL is written
+-- the write of CTRL
 abbrev pub link_writes : List Write
 link_writes = write_at CTRL link_control ∷ []
 
@@ -33,6 +33,6 @@ link_writes = write_at CTRL link_control ∷ []
 abbrev pub handled_causes : ℕ
 handled_causes = alone txdw + alone rxdmt0 + alone rxo + alone rxt0
 
--- IMS is written
+-- the write of IMS
 abbrev pub mask_writes : List Write
 mask_writes = write_at IMS handled_causes ∷ []

@@ -20,7 +20,7 @@ pub fn drivers_begin_again()
     ensures { DriversBeginAgain }
 {}
 
-/// What stays while a driver sets up its receive ring.
+/// What doesn't change while a driver sets up its receive ring.
 /// - `quiet`: no frame arrives, leaves or is held while RCTL.EN is 0 and RCTL isn't written.
 /// - `transmit_ring`: the transmit ring stays as a reset leaves it, until one of its registers is written.
 /// - `staged`, `cleared`: stores of descriptors write no register.

@@ -73,7 +73,7 @@ pub fn set_transmit_ring<B: Bus>(bus: &mut B, ring: RingPlace)
     bus.write(TDT, 0);
 }
 
-/// Disables the receiver: RCTL is 0. A driver that is ready stays so, whatever its slots contain.
+/// Disables the receiver: RCTL is 0. A ready driver remains ready, even if frames end in its slots.
 pub fn disable_receiver<B: Bus>(bus: &mut B)
     ensures keeps { Keeps B.Bus bus.old bus.new }
     ensures sets { B.honest bus.old → SetsOnly B.Bus disable_writes bus.old bus.new }

@@ -84,21 +84,21 @@ TailsOfferSlots =
     (ring : RingCounts) (places : ℕ) → HasSlots ring → offered_in ring + places < ring.slots
     → offered_in (record ring { tail = (ring.tail + places) % ring.slots }) ≡ offered_in ring + places
 
--- A write of RDT moves the tail of the receive ring to this slot.
+-- A write of the number of a slot to RDT moves the tail of the receive ring to this slot.
 abbrev pub ReceiveTailWritesAreCounted : Type 0
 ReceiveTailWritesAreCounted =
     (value : ℕ) (counts : HostCounts) → value < counts.receive.ring.slots → counts.receive.ring.slots ≤ 65536
     → after_access (Writes RDT value) counts
     ≡ record counts { receive = record counts.receive { ring = record counts.receive.ring { tail = value } } }
 
--- A write of TDT moves the tail of the transmit ring to this slot.
+-- A write of the number of a slot to TDT moves the tail of the transmit ring to this slot.
 abbrev pub TransmitTailWritesAreCounted : Type 0
 TransmitTailWritesAreCounted =
     (value : ℕ) (counts : HostCounts) → value < counts.transmit.ring.slots → counts.transmit.ring.slots ≤ 65536
     → after_access (Writes TDT value) counts
     ≡ record counts { transmit = record counts.transmit { ring = record counts.transmit.ring { tail = value } } }
 
--- Both sides stay enabled or disabled, as they are, where CTRL, RCTL and TCTL aren't written.
+-- If CTRL, RCTL and TCTL aren't written, each side stays enabled or disabled.
 abbrev pub SidesStayEnabled : Type 0
 SidesStayEnabled =
     (events : List Event) (counts : HostCounts) → All LeavesEnabled (past_of events).accesses

@@ -19,14 +19,14 @@ abbrev pub IsNotMdic : Register → Type 0
 IsNotMdic Mdic = ⊥
 IsNotMdic register = ⊤
 
--- What each access leaves is counted exactly, but for a write of MDIC.
+-- The effect of the access is counted exactly: it isn't a write of MDIC.
 abbrev pub IsCounted : Access → Type 0
 IsCounted (Reads offset value) = ⊤
 IsCounted (Writes offset value) = IfSome (register_at offset) IsNotMdic
 IsCounted (Loads address size) = ⊤
 IsCounted (Stores address bytes) = ⊤
 
--- A write of such a register leaves both sides enabled or disabled, as they are.
+-- The register isn't CTRL, RCTL or TCTL, so a write of it leaves both sides enabled or disabled, as they are.
 abbrev pub IsNotControl : Register → Type 0
 IsNotControl Ctrl = ⊥
 IsNotControl Rctl = ⊥
@@ -53,6 +53,6 @@ pub record AreEnabled (receive_control transmit_control : ℕ) (receive_ring tra
   -- TDH and TDT are indices of descriptors in the ring.
   pub transmit : HasValidIndices transmit_ring
 
--- What initialisation leaves, and each call keeps.
+-- Both sides of the adapter are enabled, as after initialization and after each call.
 abbrev pub CanAnswer : AdapterState → Type 0
 CanAnswer state = AreEnabled state.filter.rctl state.transmit_control (ring_of state.receive_ring) (ring_of state.transmit_ring)

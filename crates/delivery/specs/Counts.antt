@@ -1,4 +1,5 @@
--- What is counted of a host's adapter, exactly, and what outcomes and accesses leave of it: a reset, too (our choice).
+-- What is counted of a host's adapter, exactly, and how outcomes and accesses, a reset among them, change it (our
+-- choice).
 use Rattle.std.specs.Prelude.{◌<◌, ◌+◌, ◌-◌, ◌/◌, ◌%◌, ◌++◌, ℕ, Bool, true, false, Option, Some, None, List, [], ◌∷◌, bit_and, drop}
 use Rattle.std.specs.Prelude.{is_some, length, map, max, min, if◌then◌else◌}
 use Rattle.registers.specs.Bits.{is_set}
@@ -31,20 +32,20 @@ use Rattle.adapter.specs.declared.outcome.Outcome.TheVariants.{Done, Moved, Part
 
 -- The numbers.
 
--- of a ring
+-- The numbers of a ring.
 pub record RingCounts : Type 0 where
-  -- how many descriptors it has
+  -- the number of its descriptors
   pub slots : ℕ
-  -- which of them stands at its head, RDH or TDH
+  -- the index of its head, RDH or TDH
   pub head : ℕ
-  -- which of them stands at its tail, RDT or TDT
+  -- the index of its tail, RDT or TDT
   pub tail : ℕ
 
--- of the side that receives
+-- The numbers of the receive side.
 pub record ReceiveCounts : Type 0 where
   -- the numbers of the receive ring
   pub ring : RingCounts
-  -- whether it is enabled, by RCTL.EN
+  -- whether the receive side is enabled, by RCTL.EN
   pub is_enabled : Bool
   -- the size of a receive buffer in bytes, by RCTL.BSIZE
   pub buffer_size : ℕ
@@ -53,18 +54,18 @@ pub record ReceiveCounts : Type 0 where
   -- whether a piece is in progress
   pub is_working : Bool
 
--- of the side that transmits
+-- The numbers of the transmit side.
 pub record TransmitCounts : Type 0 where
   -- the numbers of the transmit ring
   pub ring : RingCounts
-  -- whether it is enabled, by TCTL.EN
+  -- whether the transmit side is enabled, by TCTL.EN
   pub is_enabled : Bool
-  -- the frames in the packet buffer
+  -- the number of frames in the transmit packet buffer
   pub buffered : ℕ
 
--- of the PHY
+-- The numbers of the PHY.
 pub record PhyCounts : Type 0 where
-  -- for how many ticks on the countdown of a negotiation runs
+  -- the number of ticks that are left of a negotiation; 0 if none runs
   pub countdown : ℕ
   -- if a command of MDIC is pending, the countdown that its end leaves
   pub command : Option ℕ
@@ -84,12 +85,12 @@ pub record HostCounts : Type 0 where
 abbrev pub ring_counts : Ring → RingCounts
 ring_counts ring = record { slots = count_of ring; head = ring.head; tail = ring.tail }
 
--- its head and its tail are slots
+-- Head and tail of the ring are slots of it.
 pub record HasSlots (ring : RingCounts) : Type 0 where
   pub head : ring.head < ring.slots
   pub tail : ring.tail < ring.slots
 
--- how many descriptors are the adapter's: those from the head up to the tail, round the ring
+-- the number of descriptors that the adapter owns: from the head up to the tail, wrapping
 abbrev pub offered_in : RingCounts → ℕ
 offered_in ring = (ring.tail + ring.slots - ring.head) % ring.slots
 
@@ -99,14 +100,14 @@ negotiation_ticks NotStarted = 0
 negotiation_ticks (Running left) = max left 1
 negotiation_ticks Complete = 0
 
--- a pending command ends at the next tick, and may start a negotiation
+-- The numbers of the PHY. A pending command ends at the next tick, and may start a negotiation.
 abbrev pub phy_counts : MdicState → PhyState → PhyCounts
 phy_counts mdic phy = record {
   countdown = negotiation_ticks phy.negotiation;
   command = if is_some mdic.pending then Some (negotiation_ticks (phy_after_tick mdic phy).negotiation) else None;
 }
 
--- The number of bytes to be moved of each frame, if so many of the oldest frame's bytes have been moved.
+-- The number of bytes to be moved of each frame, if `moved` bytes of the oldest frame have been moved.
 abbrev pub bytes_left : (moved : ℕ) → List (List ℕ) → List ℕ
 bytes_left moved [] = []
 bytes_left moved (frame ∷ later) = (length frame - moved) ∷ map length later
@@ -132,20 +133,20 @@ counts_of state = record {
 
 -- What a tick leaves of them.
 
--- the adapter took the slot at the head
+-- the numbers of a ring after the adapter took the slot at the head
 abbrev pub one_taken : RingCounts → RingCounts
 one_taken ring = record ring { head = (ring.head + 1) % ring.slots }
 
--- of the oldest frame so many bytes were moved
+-- the bytes to be moved of each frame after a piece of the oldest one was moved
 abbrev pub after_piece : (size : ℕ) → List ℕ → List ℕ
 after_piece size [] = []
 after_piece size (oldest ∷ later) = (oldest - size) ∷ later
 
--- the adapter took a receive slot for a piece, and these bytes are left
+-- the receive side after the adapter took a slot for a piece, with these bytes to be moved
 abbrev pub with_piece : (left : List ℕ) → ReceiveCounts → ReceiveCounts
 with_piece left counts = record counts { ring = one_taken counts.ring; left = left; is_working = true }
 
--- the countdown that the end of a pending command leaves, or else a tick of the one that runs
+-- the countdown after a tick: the one that a pending command leaves, else the running one less one
 abbrev pub countdown_after : (command : Option ℕ) → (countdown : ℕ) → ℕ
 countdown_after None countdown = countdown - 1
 countdown_after (Some left) countdown = left
@@ -157,7 +158,7 @@ after_tick PhyTick counts =
     record counts { phy = record { countdown = countdown_after counts.phy.command counts.phy.countdown; command = None } }
 after_tick _ counts = counts
 
--- what the outcome of a step of this kind leaves
+-- the numbers after a step of this kind with this outcome
 abbrev pub after_outcome : StepKind → FrameOutcome → HostCounts → HostCounts
 after_outcome kind Took counts =
     record counts { transmit = record counts.transmit { ring = one_taken counts.transmit.ring; buffered = counts.transmit.buffered + 1 } }
@@ -172,7 +173,7 @@ after_outcome kind _ counts = counts
 
 -- What a write leaves of them.
 
--- of a ring: the number in its register
+-- the numbers of a ring with this number in a register
 abbrev pub with_ring : RingRegister → ℕ → RingCounts → RingCounts
 with_ring BaseLow number ring = ring
 with_ring BaseHigh number ring = ring
@@ -180,11 +181,11 @@ with_ring Length number ring = record ring { slots = min (number / 16) 65536 }
 with_ring Head number ring = record ring { head = number }
 with_ring Tail number ring = record ring { tail = number }
 
--- a register of a ring was written: the bits that it keeps are the value's
+-- the numbers of a ring after a write of one of its registers, which keeps its bits of the value
 abbrev pub ring_written : RingRegister → (value : ℕ) → RingCounts → RingCounts
 ring_written part value ring = with_ring part (bit_and value (ring_kept part)) ring
 
--- a ring without slots
+-- the numbers of a ring without slots
 abbrev pub no_ring : RingCounts
 no_ring = record { slots = 0; head = 0; tail = 0 }
 
@@ -197,11 +198,12 @@ emptied counts = record {
   phy = record { countdown = counts.phy.countdown; command = None };
 }
 
--- RCTL has this number
+-- the receive side while RCTL has this value
 abbrev pub with_receive_control : ℕ → ReceiveCounts → ReceiveCounts
 with_receive_control number counts = record counts { is_enabled = is_set number rctl_en; buffer_size = buffer_bytes number }
 
--- What a write of a word leaves. For MDIC the numbers don't tell it, so its writes aren't counted (`IsCounted` of CountedHosts).
+-- The numbers after a write of a word to a register. Writes of MDIC aren't counted (`IsCounted`), because the numbers
+-- don't determine their effect.
 abbrev pub after_write : Option Register → ℕ → HostCounts → HostCounts
 after_write (Some Ctrl) value counts = if is_set value ctrl_rst then emptied counts else counts
 after_write (Some Rctl) value counts =
@@ -222,14 +224,14 @@ after_access (Writes offset value) counts = after_write (register_at offset) val
 after_access (Loads address size) counts = counts
 after_access (Stores address bytes) counts = counts
 
--- what an event leaves; a frame that is stored is one more in the receive packet buffer
+-- the numbers after an event; a frame that is stored is one more in the receive packet buffer
 abbrev pub counts_after : Event → HostCounts → HostCounts
 counts_after (Steps kind wire_free answer) counts = after_outcome kind answer counts
 counts_after (Arrives frame fate) counts =
     record counts { receive = record counts.receive { left = counts.receive.left ++ map length (kept fate frame) } }
 counts_after (Accesses access) counts = after_access access counts
 
--- what events leave, one after the other
+-- the numbers after these events, one after the other
 abbrev pub counts_behind : List Event → HostCounts → HostCounts
 counts_behind [] counts = counts
 counts_behind (event ∷ later) counts = counts_behind later (counts_after event counts)

@@ -1,4 +1,4 @@
--- What outcomes tell, what atomic steps do to frames, and how happenings join.
+-- What outcomes determine, what atomic steps do to frames, and how happenings join.
 use Rattle.std.specs.Prelude.{◌≡◌, ◌⊎◌, ◌<◌, ◌+◌, ◌*◌, ◌++◌, ◌∷◌, [], ℕ, Bool, false, Option, List, All, length, map}
 use Rattle.std.specs.Prelude.{if◌then◌else◌}
 use Rattle.registers.specs.Bits.{HasBit}
@@ -40,11 +40,12 @@ pub record CallWithSteps : Type 0 where
   -- the ticks that wait before it
   pub ticks : List Tick
   pub accesses : List Access
-  -- the steps up to its last access, and those behind it
+  -- the steps up to its last access, and those after it
   pub first : List AtomicStep
   pub last : List AtomicStep
 
--- A call has played these ticks: with its accesses the first steps, and behind the last access all that waited.
+-- A call has played these ticks: with its accesses the first steps, and, after the last access, all ticks that were
+-- left.
 pub record PlaysCall (call : CallWithSteps) (a m b : List StationState) : Type 0 where
   pub leads : LeadsTo call.caller call.first a m
   pub are_ticks : All IsTick call.last
@@ -52,7 +53,8 @@ pub record PlaysCall (call : CallWithSteps) (a m b : List StationState) : Type 0
   pub played : map tick_of call.first ≡ played_in is_go Go [] call.accesses call.ticks
   pub waited : map tick_of call.last ≡ without_go is_go (waiting_after is_go call.accesses call.ticks)
 
--- The outcomes noted of a call tell what its steps did, and have the numbers of its ticks. Its count is the number of its accesses.
+-- The outcomes noted of a call determine what its steps did, and have the numbers of its ticks. Its count is the number
+-- of its accesses.
 pub record IsToldByOutcomes (ticks : List Tick) (first last : List AtomicStep) : Type 0 where
   -- the steps that aren't accesses are the ticks that aren't Go, in order
   pub played : without_go is_go (map tick_of (first ++ last)) ≡ without_go is_go ticks
@@ -64,7 +66,8 @@ abbrev pub OutcomesTellSteps : Type 0
 OutcomesTellSteps =
     (call : CallWithSteps) (a m b : List StationState) → PlaysCall call a m b → IsToldByOutcomes call.ticks call.first call.last
 
--- A call over a lent bus whose ticks are played to the end is a `PlaysCall`, and its observer was told what came of each tick.
+-- A call over a lent bus whose ticks are played to the end is a `PlaysCall`, and its observer was told the outcome of
+-- each tick.
 pub record IsToldCall {O : Type 0} {g : OfObserver O} (a m b : LentBus O g) (past : Past) (first last : List AtomicStep) : Type 0 where
   pub plays : PlaysCall
       (record { caller = a.host; ticks = a.ticks.now; accesses = past.accesses; first = first; last = last })
@@ -77,7 +80,7 @@ LentCallsAreTold {O} g =
     (a m b : LentBus O g) (past : Past) (told : Retells a m past) (finished : Finished m b) → a.accesses ≡ 0
     → IsToldCall a m b past told.steps finished.plays.steps
 
--- What a call itself did (`middle`) is between the first of what its ticks did and the rest.
+-- The happenings of a call's ticks in two parts, with what the call itself did (`middle`) between them.
 pub record IsBetween (middle ticked said : List Happening) : Type 0 where
   pub before : List Happening
   pub behind : List Happening
@@ -89,7 +92,7 @@ CallsAreToldBetweenTicks =
     (middle : List Happening) (ticks : List Tick) (outcomes : List Numbered)
     → IsBetween middle (told ticks outcomes) (told_around middle ticks outcomes)
 
--- If a call itself did nothing, only its ticks are told.
+-- If a call itself did nothing, the happenings are those of its ticks.
 abbrev pub OnlyTicksAreTold : Type 0
 OnlyTicksAreTold = (ticks : List Tick) (outcomes : List Numbered) → told_around [] ticks outcomes ≡ told ticks outcomes
 
@@ -109,20 +112,20 @@ NoAccessIsToldAtTheEnd =
     → without_go is_go (map tick_of steps) ≡ without_go is_go ticks
     → told_around middle ticks (noted_of 0 steps) ≡ happened_in steps ++ middle
 
--- What happened in those steps alone before which the number of accesses is such. There were n before the first step.
+-- What happened in the steps before which the number of accesses passes the test. There were n before the first step.
 abbrev pub happened_where : (is_such : ℕ → Bool) → (n : ℕ) → List AtomicStep → List Happening
 happened_where is_such n [] = []
 happened_where is_such n (step ∷ later) =
     (if is_such n then happened_by step else []) ++ happened_where is_such (counted_by n step) later
 
--- The outcomes with such numbers tell what happened in these steps.
+-- The outcomes whose numbers pass the test determine what happened in the steps of these numbers.
 abbrev pub OutcomesTellByNumber : Type 0
 OutcomesTellByNumber =
     (is_such : ℕ → Bool) (caller : ℕ) (ticks : List Tick) (steps : List AtomicStep) (a b : List StationState) → LeadsTo caller steps a b
     → without_go is_go (map tick_of steps) ≡ without_go is_go ticks
     → told_where is_such ticks (noted_of 0 steps) ≡ happened_where is_such 0 steps
 
--- The outcome of a tick outside a call tells what its step did.
+-- The outcome of a tick outside a call determines what its step did.
 abbrev pub OneOutcomeTellsItsStep : Type 0
 OneOutcomeTellsItsStep =
     (old new : List StationState) (tick : Tick) (outcome : FrameOutcome) (plays : Plays old tick outcome new)
@@ -140,16 +143,17 @@ OneTickLeads =
 
 -- Frames.
 
--- What these happenings say of the frames of a host, where these atomic steps led from one state to another.
+-- What these happenings are for the frames of a host, if these atomic steps led from one state to another.
 pub record MovesFrames (k : ℕ) (steps : List AtomicStep) (a b : List StationState) : Type 0 where
   pub put : put k (happened_in steps) ≡ (past_at k steps).put
   pub stored : stored k (happened_in steps) ≡ (past_at k steps).stored
   pub missed : missed k (happened_in steps) ≡ (past_at k steps).missed
-  -- the frames that waited at its end, and then those that others put toward it, have reached it in this order or wait there
+  -- the frames that waited at the host's end, and then those that other hosts put on its wire, have reached it in this
+  -- order or wait there
   pub waits : reached k (happened_in steps) ++ backlog_at b k ≡ backlog_at a k ++ toward (wire_at a) k (happened_in steps)
   pub wires : wire_at b k ≡ wire_at a k
   pub hosts : length b ≡ length a
-  -- only a call of its host accepts or gives a frame
+  -- no frame is accepted: only a call accepts one
   pub none_accepted : accepted k (happened_in steps) ≡ []
   pub none_given : (socket : ℕ) → given k socket (happened_in steps) ≡ []
 
@@ -157,7 +161,8 @@ abbrev pub StepsMoveFrames : Type 0
 StepsMoveFrames =
     (caller k : ℕ) (steps : List AtomicStep) (a b : List StationState) → LeadsTo caller steps a b → MovesFrames k steps a b
 
--- The fates of what reaches a host are right, while it has joined these groups. At the end MTA has exactly the bits of their numbers.
+-- The fates of the frames that reach a host are right, while it has joined these groups. At the end MTA has exactly the
+-- bits of their numbers.
 pub record KeepsReceiving (groups : List (List ℕ)) (a : AdapterState) (all : List Mark) (b : AdapterState) : Type 0 where
   pub right : ReceivesRightly groups a all groups b
   pub has : HasNumbers b.filter.mta (numbers_of_groups groups)
@@ -170,8 +175,8 @@ FatesAreRight =
     → HasNumbers (world_at a k).adapter.filter.mta (numbers_of_groups groups)
     → KeepsReceiving groups (world_at a k).adapter (marks k (happened_in steps)) (world_at b k).adapter
 
--- What the marks of a host are while its receive side is disabled: each frame that reaches it is dropped, and none leaves its packet
--- buffer. The receive side stays disabled.
+-- The marks of a host while its receive side is disabled: each frame that reaches it is dropped, and none leaves its
+-- packet buffer. The receive side stays disabled.
 pub record StaysTurnedOff (a : World) (all : List Mark) (b : World) : Type 0 where
   pub fates : (registers : FilterRegisters) (room : ℕ) (groups buffered : List (List ℕ))
       → (let off : Reception = record { groups = groups; buffered = buffered; enabled = false } in AreRightFates registers room off all off)
@@ -216,7 +221,7 @@ TailWritesLeaveReception = (offset value : ℕ) → (offset ≡ RDT) ⊎ (offset
 
 -- Happenings join.
 
--- Of some happenings and later ones each host's lists are those of the first, and then those of the later.
+-- Each list of a host, of two consecutive lists of happenings, is that of the first and then that of the second.
 pub record ListsJoin (k : ℕ) (first later : List Happening) : Type 0 where
   pub accepted : accepted k (first ++ later) ≡ accepted k first ++ accepted k later
   pub put : put k (first ++ later) ≡ put k first ++ put k later
@@ -236,7 +241,7 @@ WiresDecideToward =
     (wires others : ℕ → Option ℕ) (k : ℕ) (happened : List Happening) → ((host : ℕ) → wires host ≡ others host)
     → toward wires k happened ≡ toward others k happened
 
--- What waits at a host's end at first, in between and at last, over two stretches in which wires stay.
+-- What waits at a host's end, over two consecutive intervals in which wires don't change.
 abbrev pub WaitsJoin : Type 0
 WaitsJoin =
     (k : ℕ) (wires others : ℕ → Option ℕ) (first later : List Happening) (old mid new : List (List ℕ))

@@ -41,12 +41,12 @@ mark_by k (Enabled host) = of_host k host (SwitchedOn ∷ [])
 mark_by k (GivenUp host sending holding) = of_host k host (Emptied ∷ [])
 mark_by k other = []
 
--- those of a host, in order
+-- The marks of host k, in order.
 abbrev pub marks : ℕ → List Happening → List Mark
 marks k happened = flat_map (mark_by k) happened
 
--- What a host's fates depend on, beside registers: the groups that it has joined, the frames in its receive packet buffer, and whether
--- its receive side is enabled (RCTL.EN).
+-- What a host's fates depend on, besides registers: the groups that it has joined, the frames in its receive packet
+-- buffer, and whether its receive side is enabled (RCTL.EN).
 pub record Reception : Type 0 where
   -- the groups joined
   pub groups : List (List ℕ)
@@ -55,11 +55,12 @@ pub record Reception : Type 0 where
   -- whether RCTL.EN is set
   pub enabled : Bool
 
--- the receive side is enabled
+-- These groups and these frames in the receive packet buffer, with the receive side enabled.
 abbrev pub reception : (groups buffered : List (List ℕ)) → Reception
 reception groups buffered = record { groups = groups; buffered = buffered; enabled = true }
 
--- The filter in force: that of the registers, but its group numbers are those of the groups joined.
+-- The filter in force: that of the registers, but its group numbers are those of the groups joined, computed for RCTL.MO 00, which each
+-- host has.
 abbrev pub in_force : FilterRegisters → (groups : List (List ℕ)) → ReceiveFilter
 in_force registers groups = record (filter_of registers) { groups = λ number. Contains (numbers_of_groups groups) number }
 
@@ -100,7 +101,8 @@ buffered_after buffered (Went ∷ later) = buffered_after (drop 1 buffered) late
 buffered_after buffered (Emptied ∷ later) = buffered_after [] later
 buffered_after buffered (other ∷ later) = buffered_after buffered later
 
--- Whether the receive side is enabled after these marks: as the last of them says that switched it, or as at the start.
+-- Whether the receive side is enabled after these marks: as the last mark that switched it states, or as at the start
+-- if none did.
 abbrev pub enabled_after : (enabled : Bool) → List Mark → Bool
 enabled_after enabled [] = enabled
 enabled_after enabled (SwitchedOff ∷ later) = enabled_after false later

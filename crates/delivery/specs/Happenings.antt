@@ -1,4 +1,4 @@
--- What happens to frames in a run: happenings, in order, as events and their replies tell them (our choice).
+-- What happens to frames in a run: happenings, in order, as events and their replies determine them (our choice).
 use Rattle.std.specs.Prelude.{◌==◌, ◌&&◌, not, ◌++◌, ℕ, Bool, false, Option, Some, None, List, [], ◌∷◌, sum_by, if◌then◌else◌}
 use Rattle.std.specs.List.{flat_map}
 use Rattle.rx_engine.specs.Arriving.{kept}
@@ -15,28 +15,29 @@ use Rattle.stations.specs.declared.tick.Tick.TheVariants.{Deliver, Go, Step}
 pub data Happening : Type 0 where
   -- a host was given a frame to send, and accepted it
   Accepted : (host : ℕ) (frame : List ℕ) → Happening
-  -- its adapter put a frame onto the wire
+  -- the host's adapter put a frame onto the wire
   Put : (host : ℕ) (frame : List ℕ) → Happening
-  -- a frame reached its adapter, and met this fate
+  -- a frame reached the host's adapter, and met this fate
   Reached : (host : ℕ) (frame : List ℕ) (fate : Fate) → Happening
-  -- the oldest frame left its adapter's receive packet buffer for memory
+  -- the oldest frame left the receive packet buffer of the host's adapter for memory
   Moved : (host : ℕ) → Happening
-  -- a socket of it gave a frame to who asked
+  -- a socket of the host returned a frame
   Given : (host socket : ℕ) (frame : List ℕ) → Happening
-  -- it joined a multicast group, given by its address
+  -- a host joined a multicast group, given by its address
   Joined : (host : ℕ) (group : List ℕ) → Happening
-  -- it left a multicast group
+  -- a host left a multicast group
   Left : (host : ℕ) (group : List ℕ) → Happening
-  -- a reset of it wrote 0 to RCTL, so its adapter's receive side is disabled
+  -- a reset of the host wrote 0 to RCTL, so the adapter's receive side is disabled
   Disabled : (host : ℕ) → Happening
   -- the reset wrote RCTL again, so the receive side is enabled
   Enabled : (host : ℕ) → Happening
-  -- in between, the reset wrote CTRL.RST: it gave up these frames, which were still to be sent, and these, which were held
+  -- The reset wrote CTRL.RST, between these two writes. It gave up the frames `sending`, which were to be sent, and
+  -- `holding`, which were held.
   GivenUp : (host : ℕ) (sending holding : List (List ℕ)) → Happening
 
--- What ticks and their outcomes tell.
+-- The happenings of ticks, by their outcomes.
 
--- the host that a tick names
+-- the host of a tick
 abbrev pub tick_host : Tick → ℕ
 tick_host Go = 0
 tick_host (Step host kind) = host
@@ -58,7 +59,7 @@ told (Step host kind ∷ ticks) (one ∷ outcomes) = told_of host one.outcome ++
 told (Deliver host ∷ ticks) [] = []
 told (Deliver host ∷ ticks) (one ∷ outcomes) = told_of host one.outcome ++ told ticks outcomes
 
--- What ticks and those of their outcomes tell that have such numbers.
+-- The happenings of ticks whose outcomes have numbers that pass the test.
 abbrev pub told_where : (is_such : ℕ → Bool) → List Tick → List Numbered → List Happening
 told_where is_such [] outcomes = []
 told_where is_such (Go ∷ ticks) outcomes = told_where is_such ticks outcomes
@@ -69,8 +70,8 @@ told_where is_such (Deliver host ∷ ticks) [] = []
 told_where is_such (Deliver host ∷ ticks) (one ∷ outcomes) =
     (if is_such one.accesses then told_of host one.outcome else []) ++ told_where is_such ticks outcomes
 
--- What ticks and outcomes tell, with what the call itself did (`middle`) after the outcomes with number 0 and before the first other
--- outcome.
+-- The happenings of ticks and outcomes, with what the call itself did (`middle`) after the outcomes with number 0 and
+-- before the first other outcome.
 abbrev pub told_around : (middle : List Happening) → List Tick → List Numbered → List Happening
 told_around middle [] outcomes = middle
 told_around middle (Go ∷ ticks) outcomes = told_around middle ticks outcomes
@@ -83,7 +84,7 @@ told_around middle (Deliver host ∷ ticks) (one ∷ outcomes) =
     if one.accesses == 0 then told_of host one.outcome ++ told_around middle ticks outcomes
     else middle ++ told (Deliver host ∷ ticks) (one ∷ outcomes)
 
--- what the one outcome of a tick outside a call tells
+-- the happenings of a tick outside a call, by its one outcome
 abbrev pub told_alone : Tick → List Numbered → List Happening
 told_alone tick [] = []
 told_alone tick (one ∷ outcomes) = told_of (tick_host tick) one.outcome
@@ -101,7 +102,7 @@ happened_in steps = flat_map happened_by steps
 
 -- The lists of one host, in order.
 
--- one, where it is this host's
+-- the list if both hosts are the same, else none
 abbrev pub of_host : {T : Type 0} → (k host : ℕ) → List T → List T
 of_host k host some = if k == host then some else []
 
@@ -120,7 +121,7 @@ abbrev pub reached_by : ℕ → Happening → List (List ℕ)
 reached_by k (Reached host frame fate) = of_host k host (frame ∷ [])
 reached_by k other = []
 
--- the frame, where it was stored
+-- The frame that host k's adapter stored in this happening, if any, as a list.
 abbrev pub stored_by : ℕ → Happening → List (List ℕ)
 stored_by k (Reached host frame fate) = of_host k host (kept fate frame)
 stored_by k other = []
@@ -130,18 +131,18 @@ abbrev pub given_in_one : (k socket : ℕ) → Happening → List (List ℕ)
 given_in_one k s (Given host socket frame) = if (k == host) && (s == socket) then frame ∷ [] else []
 given_in_one k s other = []
 
--- 1 where a frame was missed
+-- 1 if host k's adapter missed a frame in this happening, else 0.
 abbrev pub missed_of : ℕ → Happening → ℕ
 missed_of k (Reached host frame fate) = if k == host then missed_by fate else 0
 missed_of k other = 0
 
--- both are there, and on one wire
+-- Both hosts have a wire, and it is the same one.
 abbrev pub share_wire : Option ℕ → Option ℕ → Bool
 share_wire None other = false
 share_wire (Some wire) None = false
 share_wire (Some wire) (Some other) = wire == other
 
--- a frame that another host put on this host's wire
+-- The frame that another host put on host k's wire in this happening, if any, as a list.
 abbrev pub toward_by : (wires : ℕ → Option ℕ) → (k : ℕ) → Happening → List (List ℕ)
 toward_by wires k (Put host frame) = if not (k == host) && share_wire (wires k) (wires host) then frame ∷ [] else []
 toward_by wires k other = []

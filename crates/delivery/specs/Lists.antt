@@ -35,19 +35,19 @@ HaveCome k = Goes (stored_by k) (holding_in_one k)
 
 -- Laws.
 
--- Over happenings and later ones, a list goes to its middle, and from there to its end.
+-- Two consecutive changes of such a list are one change.
 abbrev pub GoesJoin : Type 0
 GoesJoin =
     (adds drops : Happening → List (List ℕ)) (begin middle end : List (List ℕ)) (first later : List Happening)
     → Goes adds drops begin first middle → Goes adds drops middle later end → Goes adds drops begin (first ++ later) end
 
--- What stands before the beginning stands before the end: a reset takes off only what is behind it.
+-- What is put before the list at the beginning is before it at the end: a reset takes off only what is after it.
 abbrev pub GoesBehind : Type 0
 GoesBehind =
     (adds drops : Happening → List (List ℕ)) (front begin end : List (List ℕ)) (happened : List Happening)
     → Goes adds drops begin happened end → Goes adds drops (front ++ begin) happened (front ++ end)
 
--- There is at most one end.
+-- The beginning and the happenings determine the end.
 abbrev pub GoesToOneEnd : Type 0
 GoesToOneEnd =
     (adds drops : Happening → List (List ℕ)) (begin end other : List (List ℕ)) (happened : List Happening)

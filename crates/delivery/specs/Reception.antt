@@ -11,7 +11,7 @@ use Rattle.bus.specs.declared.event.Access.{Access}
 use Rattle.bus.specs.declared.event.Access.TheVariants.{Loads, Reads, Stores, Writes}
 use Rattle.delivery.specs.Fates.{AreRightFates, KeepsGroups, Mark, reception}
 
--- RDT, a register of the transmit ring, TCTL or IMS
+-- The register is RDT, one of the transmit ring, TCTL or IMS.
 abbrev pub IsNotOfReception : Register → Type 0
 IsNotOfReception (Receive Tail) = ⊤
 IsNotOfReception (Transmit part) = ⊤
@@ -19,8 +19,8 @@ IsNotOfReception Tctl = ⊤
 IsNotOfReception Ims = ⊤
 IsNotOfReception register = ⊥
 
--- a load, a store, a read of any register, and of the writes those of such a register and those where no register is: none changes the
--- filter, or the receive packet buffer and its room
+-- A load, a store, a read, a write of one of these registers (`IsNotOfReception`), or a write where no register is.
+-- None of these changes the filter, or the receive packet buffer and its size.
 abbrev pub LeavesReception : Access → Type 0
 LeavesReception (Reads offset value) = ⊤
 LeavesReception (Writes offset value) = IfSome (register_at offset) IsNotOfReception

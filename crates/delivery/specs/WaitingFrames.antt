@@ -1,4 +1,4 @@
--- The frames that wait at the ends of wires, and what atomic steps leave of them (our choice).
+-- The frames that wait at the ends of wires, and how atomic steps change them (our choice).
 use Rattle.std.specs.Prelude.{◌≡◌, ◌≢◌, ◌≤◌, ◌==◌, ◌++◌, ℕ, Bool, true, false, Option, Some, None, List, [], ◌∷◌, length}
 use Rattle.std.specs.Prelude.{if◌then◌else◌}
 use Rattle.bus.specs.Trails.{past_of_event}
@@ -6,18 +6,18 @@ use Rattle.stations.specs.AtomicSteps.{At, AtomicStep, Idles}
 use Rattle.stations.specs.Ends.{end_frames}
 use Rattle.stations.specs.Stations.{StationState, backlog_after, backlog_at, wire_at}
 
--- two hosts that are there are on one wire
+-- both hosts exist, and are on one wire
 abbrev pub is_same_wire : Option ℕ → Option ℕ → Bool
 is_same_wire None other = false
 is_same_wire (Some wire) None = false
 is_same_wire (Some wire) (Some other) = wire == other
 
--- the frames that come to an end of a wire, where a host puts these
+-- the frames that come to an end of a wire, when a host puts these
 abbrev pub come_to : (is_same : Bool) → List (List ℕ) → List (List ℕ)
 come_to is_same frames = if is_same then frames else []
 
--- What a step leaves of the frames that wait at a host's end: a delivery takes the oldest, and a frame that another host puts onto the
--- wire is behind the others.
+-- The frames that wait at a host's end after a step: a delivery takes the oldest, and a frame that another host puts
+-- onto the wire is the last.
 abbrev pub waiting_after_step : (start : List StationState) (host : ℕ) → AtomicStep → List (List ℕ) → List (List ℕ)
 waiting_after_step start host (At other event) waiting =
     if host == other then backlog_after event waiting
@@ -29,15 +29,15 @@ abbrev pub waiting_behind : (start : List StationState) (host : ℕ) → List At
 waiting_behind start host [] waiting = waiting
 waiting_behind start host (step ∷ later) waiting = waiting_behind start host later (waiting_after_step start host step waiting)
 
--- the frames that wait at a host's end behind these steps
+-- the frames that wait at a host's end after these steps
 abbrev pub waiting_at : (start : List StationState) → List AtomicStep → (host : ℕ) → List (List ℕ)
 waiting_at start steps host = waiting_behind start host steps (backlog_at start host)
 
--- At another end of the host's wire as many frames wait as may.
+-- Another end of the host's wire has no room for one more frame.
 pub record WireIsFull (start : List StationState) (steps : List AtomicStep) (host : ℕ) : Type 0 where
   -- the number of the host at the other end
   pub other : ℕ
-  -- It isn't the same host.
+  -- The other host isn't this one.
   pub is_another : other ≢ host
   -- Both hosts are on the same wire.
   pub on_wire : is_same_wire (wire_at start other) (wire_at start host) ≡ true

@@ -1,4 +1,4 @@
-//! Laws of what ticks answer.
+//! Laws of the outcomes of ticks.
 
 ghost use Rattle.delivery.specs.AnswersLaws.{AbsentHostsAnswerNothing, CountsGoByOutcomes, FaultNeverComes};
 ghost use Rattle.delivery.specs.AnswersLaws.{FaultNeverComesAroundReset, GoAnswersNothing, NoneIsOffered, OneIsTaken};
@@ -35,7 +35,7 @@ pub fn idle_ticks_answer_nothing()
 /// What a driver offers by its accesses: of a ring, the slots from its head up to its tail.
 /// - `none`: none is offered exactly where head equals tail.
 /// - `taken`: a step that takes a slot takes one of those offered.
-/// - `places`: a tail that moves on by so many places offers so many slots more.
+/// - `places`: a tail that moves on by N places offers N more slots.
 /// - `receive`: a write of RDT of a slot of its ring moves the tail there.
 /// - `transmit`: a write of TDT of a slot of its ring moves the tail there.
 /// - `enabled`: without a write of CTRL, RCTL and TCTL both sides stay enabled or disabled.

@@ -51,10 +51,10 @@ pub fn steps_move_frames()
 {}
 
 /// Which fates are right.
-/// - `fates`: while RCTL.EN is 1 and a host loads, stores, reads registers, and writes none but RDT, TCTL, IMS and those
-///   of the transmit ring, each frame that reaches it meets the first fate that applies, by the filter and by the frames
-///   in the packet buffer, if MTA has exactly the bits of the numbers of the groups in force. The filter, these groups
-///   and the buffer's room don't change.
+/// - `fates`: while RCTL.EN is 1 and a host loads, stores, reads registers, and writes none but RDT, TCTL, IMS and
+///   those of the transmit ring, each frame that reaches it meets the first fate that applies, by the filter and by the
+///   frames in the packet buffer, if MTA has exactly the bits of the numbers of the groups in force. The filter, these
+///   groups and the buffer's room don't change.
 /// - `tails`: writes of RDT and TDT are among these accesses.
 /// - `off`: while RCTL.EN is 0 and RCTL isn't written, each frame that reaches a host is dropped, and none leaves
 ///   its packet buffer.
@@ -74,11 +74,11 @@ pub fn groups_change()
     ensures alone { GroupsChangeAlone }
 {}
 
-/// What happens first and what happens then are one.
+/// Two consecutive lists of happenings join to one.
 /// - `lists`: each host's lists are those of the first happenings, and then those of the later.
 /// - `toward`: what is put toward a host depends on each host's wire alone.
-/// - `waits`: what waited at a host's end and was put toward it has reached it or waits, over both, where it
-///   is so over each and wires stay.
+/// - `waits`: what waited at a host's end and was put toward it has reached it or waits, over both, if this holds over
+///   each, and wires don't change.
 /// - `fates`: right fates, and then right fates from where the first ended, are right.
 /// - `receptions`: what an adapter receives in two consecutive intervals joins. Its filter, groups and room are kept.
 pub fn deliveries_join()
@@ -90,16 +90,16 @@ pub fn deliveries_join()
 {}
 
 /// Fates that are right are right one by one, by the groups in force, the frames in the packet buffer, and whether the
-/// receive side is enabled, when a frame comes. The groups are those of the start, with each joined since added and each
-/// left since removed. The frames are those of the start, then the frames stored since, without those that left or were
-/// given up since.
+/// receive side is enabled, when a frame comes. The groups are those of the start, with each joined since added and
+/// each left since removed. The frames are those of the start, then the frames stored since, without those that left or
+/// were given up since.
 pub fn fates_are_judged_by_the_buffer()
     ensures { FatesAreJudgedByTheBuffer }
 {}
 
 /// Lists of frames that grow at their end, and from whose end a reset takes what it gives up.
-/// - `join`: over happenings and later ones, such a list goes to its middle, and from there to its end.
-/// - `behind`: what stands before the beginning stands before the end.
+/// - `join`: two consecutive changes of a list are one change.
+/// - `behind`: what is put before the list at the beginning is before it at the end.
 /// - `one_end`: there is at most one end.
 /// - `without`: if nothing is given up, the end is the beginning, then all that was added.
 /// - `padded`: what is added to the frames that are due is the accepted frames, padded.

@@ -1,5 +1,6 @@
 -- A driver without slots offers as many as its pool and the ring allow.
-use Rattle.std.proofs.Common.{false, ◌≡◌, ◌<◌, ◌+◌, ◌-◌, ◌++◌, ◌∷◌, [], ℕ, List, length, ◌⊎◌, ⊎_elim, inl, inr, refl, sym, ap, subst, ◌∙◌, arith}
+use Rattle.std.proofs.Common.{false, ◌≡◌, ◌<◌, ◌+◌, ◌-◌, ◌++◌, ◌∷◌, [], ℕ, List, length, ◌⊎◌, ⊎_elim, inl, inr}
+use Rattle.std.proofs.Common.{refl, sym, ap, subst, ◌∙◌, arith}
 use Rattle.dma_memory.specs.Owners.{copies}
 use Rattle.descriptors.specs.RingLaws.{distance-forward, place, place-distance}
 use Rattle.bus.specs.Keeping.{Keeps}

@@ -329,8 +329,8 @@ pub initialises : {B : Type 0} (bus : Ghosts B) → StretchesJoin bus
     → LetsFramesIn bus (receive_writes config.promiscuous (names_vlans config.vlans)) d b2 b3
     → Ran bus true (only (transmit_accesses (configured_counts config))) (at b3 d) (at b4 d) → EnablesCauses bus 0xD1 d b4 b5
     → Initialises bus config b0 b5 d
-initialises bus joins b0 b1 b2 b3 b4 b5 config size address groups pool numbers d past had told found no_cause count is named first quiet no_frame
-    lets sends masks =
+initialises bus joins b0 b1 b2 b3 b4 b5 config size address groups pool numbers d past had told found no_cause count is named first quiet
+    no_frame lets sends masks =
     let counts = configured_counts config in
     let device = bus.world b0 in
     let words = address_bytes device.adapter.image in

@@ -1,6 +1,6 @@
 -- An adapter is reset in a run, step by step.
-use Rattle.std.proofs.Common.{Bool, true, false, ◌≡◌, ◌≤◌, ◌<◌, ◌-◌, ◌*◌, ◌++◌, ◌∷◌, [], ℕ, List, length, map, inl, refl, sym, ap, subst, ◌∙◌}
-use Rattle.std.proofs.Common.{append_assoc, arith}
+use Rattle.std.proofs.Common.{Bool, true, false, ◌≡◌, ◌≤◌, ◌<◌, ◌-◌, ◌*◌, ◌++◌, ◌∷◌, [], ℕ, List, length, map, inl}
+use Rattle.std.proofs.Common.{append_assoc, arith, refl, sym, ap, subst, ◌∙◌}
 use Rattle.std.specs.List.{All}
 use Rattle.std.proofs.lemmas.List.{append-nil}
 use Rattle.std.proofs.lemmas.List.Elements.{All-cons}
@@ -20,7 +20,8 @@ use Rattle.adapter.specs.declared.register.RingRegister.TheVariants.{Tail}
 use Rattle.bus.specs.AdaptersAtRest.{IsAtRest, NoFrame}
 use Rattle.bus.specs.Link.{HasLink, IsNotOfPhy, LeavesPhy}
 use Rattle.bus.specs.PastOfStretch.{Past, joined, nothing}
-use Rattle.bus.specs.Settings.{AreSet, IsNotReceiveControl, IsOff, LeavesReceiver, Settings, Write, settings_after_all, settings_of, writes_in}
+use Rattle.bus.specs.Settings.{AreSet, IsNotReceiveControl, IsOff, LeavesReceiver, Settings, Write}
+use Rattle.bus.specs.Settings.{settings_after_all, settings_of, writes_in}
 use Rattle.bus.specs.declared.bus.Bus.{Ghosts}
 use Rattle.bus.specs.declared.event.Access.{Access}
 use Rattle.bus.specs.declared.event.Access.TheVariants.{Writes}
@@ -134,8 +135,8 @@ set-of : {B : Type 0} (bus : Ghosts B) (old new : B) (writes : List Write) (sets
 set-of bus old new writes sets =
     sets.settings ∙ ap (λ (list : List Write). settings_after_all list (settings_of (bus.world old).adapter)) (sym sets.writes_are)
 
-again-at-rest : {B : Type 0} (bus : Ghosts B) → StretchesJoin bus → (old b3 b4 b5 b6 b7 : B) (config : Config) (named : List (List ℕ)) (address : List ℕ)
-    (size : ℕ) (again : DriverState) → CanBeHad config size → 16 * config.rx ≤ length (bus.world b3).memory
+again-at-rest : {B : Type 0} (bus : Ghosts B) → StretchesJoin bus → (old b3 b4 b5 b6 b7 : B) (config : Config) (named : List (List ℕ))
+    (address : List ℕ) (size : ℕ) (again : DriverState) → CanBeHad config size → 16 * config.rx ≤ length (bus.world b3).memory
     → settings_of (bus.world b3).adapter ≡ settings_after_all reset_writes (settings_of (bus.world old).adapter)
     → RestsWith again (bus.world b3)
     → (s4 : SetsOnly bus (allocation_writes config.rxa) b3 b4) → (s5 : SetsOnly bus link_writes b4 b5)
@@ -166,7 +167,8 @@ again-at-rest bus joins old b3 b4 b5 b6 b7 config named address size again had r
     let f6 = (s6.sets.rests aside r5.rest).1 in
     let memory6 : (world b6).memory ≡ (world b3).memory =
     s6.sets.memory aside r5.rest ∙ s5.sets.memory link-aside r4.rest ∙ s4.sets.memory (allocation-aside config.rxa) rests.rest in
-    let set6 : settings_of (world b6).adapter ≡ after tables (after link_writes (after (allocation_writes config.rxa) (after reset_writes start))) =
+    let set6 : settings_of (world b6).adapter
+    ≡ after tables (after link_writes (after (allocation_writes config.rxa) (after reset_writes start))) =
     s6.sets.settings ∙ ap (after tables) (s5.sets.settings ∙ ap (after link_writes)
     (s4.sets.settings ∙ ap (after (allocation_writes config.rxa)) set3)) in
     let whole6 : settings_of (world b6).adapter ≡ after (writes_before_rings config address groups vlans) start =
@@ -180,7 +182,8 @@ again-at-rest bus joins old b3 b4 b5 b6 b7 config named address size again had r
     let rings : HasNewRings config.rx (world b6) = record {
       rest = rest6;
       receives = new-whole (world b6).adapter.receive_ring (ap (λ (settings : Settings). settings.receive_ring) whole) rest6.rings.receive;
-      transmits = new-whole (world b6).adapter.transmit_ring (ap (λ (settings : Settings). settings.transmit_ring) whole) rest6.rings.transmit;
+      transmits =
+          new-whole (world b6).adapter.transmit_ring (ap (λ (settings : Settings). settings.transmit_ring) whole) rest6.rings.transmit;
       room = omega (arith, room, ap length memory6);
     } in
     let ring = s7.after_is rings in
@@ -220,7 +223,8 @@ pub resets-all : {B : Type 0} (bus : Ghosts B) → StretchesJoin bus → (up : B
     → (let e2 = with_missed v e0 in
     let again = reset_driver pool e2 in
     let e8 = with_owners again numbers [] left e0.handed_out in
-    e0.layout ≡ configured_counts config → e0.setup ≡ setup_of config address → CanBeHad config size → 16 * config.rx ≤ length (bus.world b3).memory
+    e0.layout ≡ configured_counts config → e0.setup ≡ setup_of config address → CanBeHad config size
+    → 16 * config.rx ≤ length (bus.world b3).memory
     → (stop : Ran bus up (only (stop_accesses v)) (at b0 e0) (at b2 e2))
     → IsOff (bus.world b2) → (bus.world b2).adapter.missed_packets ≡ 0
     → (resets : ResetsDriver bus up pool e2 b2 b3)
@@ -230,7 +234,8 @@ pub resets-all : {B : Type 0} (bus : Ghosts B) → StretchesJoin bus → (up : B
     → SetsFilter bus e0.groups (vlans_of config.vlans) address b5 b6
     → SetsAtRest bus (ring_writes 0x2800 0 (16 * config.rx)) (HasNewRings config.rx) (HasReceiveRing config.rx) b6 b7
     → HaveSameNumbers pool (numbers ++ left) → IsRefilled e8
-    → (ReadyWith false again (bus.world b7) → Ran bus false (only (free_accesses (configured_counts config) numbers)) (at b7 again) (at b8 e8))
+    → (ReadyWith false again (bus.world b7)
+    → Ran bus false (only (free_accesses (configured_counts config) numbers)) (at b7 again) (at b8 e8))
     → (ReadyWith false e8 (bus.world b8) → frames_held e8.oldest_receive (bus.world b8) ≡ [] → IsOff (bus.world b8)
     → LetsFramesIn bus (receive_writes config.promiscuous (names_vlans config.vlans)) e8 b8 b9)
     → (ReadyWith false e8 (bus.world b9) → (bus.world b9).adapter.transmit_ring ≡ new_ring
@@ -245,7 +250,8 @@ resets-all bus joins up b0 b2 b3 b4 b5 b6 b7 b8 b9 b10 b11 config address size v
     let again = reset_driver pool e2 in
     let e8 = with_owners again numbers [] left e0.handed_out in
     let k = length numbers in
-    let ready = again-at-rest bus joins b2 b3 b4 b5 b6 b7 config e0.groups address size again had room set3 resets.rests s4 s5 link5 s6 s7 in
+    let ready =
+    again-at-rest bus joins b2 b3 b4 b5 b6 b7 config e0.groups address size again had room set3 resets.rests s4 s5 link5 s6 s7 in
     let begin7 = drivers_begin_again e2 pool (world b7) (subst IsAllowed (sym layout) had.counts) ready.rests
     (subst (λ (c : Counts). HasReceiveRing c.rx (world b7)) (sym layout) ready.ring) in
     let first = offers begin7.0 in
@@ -277,7 +283,8 @@ resets-all bus joins up b0 b2 b3 b4 b5 b6 b7 b8 b9 b10 b11 config address size v
     let held11 : frames_held e8.oldest_receive (world b11) ≡ later.stored =
     masks.enabled.frames.held ∙ masks.goes.flows.holds
     ∙ ap (λ (frames : List (List ℕ)). frames ++ masks.accessed.past.stored) held10 in
-    let first_off = resets.first.follows.off off (subst (All LeavesReceiver) (sym (ap writes_in resets.first.only)) reset-leaves_receiver) in
+    let first_off =
+    resets.first.follows.off off (subst (All LeavesReceiver) (sym (ap writes_in resets.first.only)) reset-leaves_receiver) in
     let zero_last : resets.last.adapter.missed_packets ≡ 0 =
     omega (arith, resets.goes.flows.misses.at_most, first_off.none_missed, zero) in
     let sum2 = misses-stay e2 again resets.last (world b7) refl refl (ready.ring.rest.none_missed ∙ sym zero_last) in
@@ -325,7 +332,8 @@ resets-all bus joins up b0 b2 b3 b4 b5 b6 b7 b8 b9 b10 b11 config address size v
     let from4 = subst (All LeavesPhy) (sym (append_assoc ring_last transmit_writes mask_writes))
     (all-right LeavesPhy receives (ring_last ++ masked) from3) in
     let link9 : HasLink (world b3) → HasLink (world b9) = λ up_first.
-    lets.ran.follows.link (subst (All LeavesPhy) (sym (ap writes_in lets.ran.only)) (all-left LeavesPhy receives (ring_last ++ masked) from3))
+    lets.ran.follows.link
+    (subst (All LeavesPhy) (sym (ap writes_in lets.ran.only)) (all-left LeavesPhy receives (ring_last ++ masked) from3))
     (first.follows.link (subst (All LeavesPhy) (sym writes8) (tail-leaves_phy k)) (ready.link up_first)) in
     record {
       stopped = at b2 e2;

@@ -4,7 +4,8 @@ use Rattle.std.proofs.lemmas.Bool.{cases_lt}
 use Rattle.bus.specs.PastOfStretch.{Past, joined}
 use Rattle.driver_law.specs.Calls.{DriverInWorld, SumsMisses}
 
-pub sums-join : (a b c : DriverInWorld) (first later : Past) → SumsMisses a b first → SumsMisses b c later → SumsMisses a c (joined first later)
+pub sums-join : (a b c : DriverInWorld) (first later : Past) → SumsMisses a b first → SumsMisses b c later
+    → SumsMisses a c (joined first later)
 sums-join a b c first later one two = record {
   sum = omega (arith, one.sum, two.sum);
   counted = λ fits low.

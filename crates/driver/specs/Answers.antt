@@ -3,7 +3,7 @@ use Rattle.std.specs.Prelude.{◌≡◌, ◌⊎◌, ◌∷◌, [], List}
 use Rattle.driver.specs.declared.parts.Part.{Part}
 use Rattle.driver.specs.declared.receiver.Received.{Received}
 
--- It kept the frame, and no buffer comes back; or it didn't, and all do.
+-- The receiver kept the frame, and returned no buffer; or it didn't keep it, and returned all its buffers.
 abbrev pub Answers : {R : Type 0} → (R → R → List Received → List Received → Type 0) → (before after : R) → Received → (answer : List Part)
     → Type 0
 Answers took before after received answer =

@@ -52,11 +52,11 @@ count_limit = 2 ^ 64
 
 -- A count grew by `more`, but saturates at the greatest u64.
 pub record GrowsBy (before after more : ℕ) : Type 0 where
-  -- it didn't fall
+  -- the count didn't fall
   pub least : before ≤ after
-  -- it grew by `more` at most
+  -- the count grew by at most `more`
   pub most : after ≤ before + more
-  -- it grew by exactly `more`, unless it is at its greatest value
+  -- the count grew by exactly `more`, unless it is at its greatest value
   pub exactly : after < count_limit - 1 → after ≡ before + more
 
 -- A receiver was shown this frame, and kept it, or returned its buffers, which are in the pool then.
@@ -78,7 +78,7 @@ pub record RunOfSlots : Type 0 where
 abbrev pub run_of : List Part → (whole : Bool) → RunOfSlots
 run_of parts whole = record { parts = parts; whole = whole }
 
--- It has one to six slots. If it is whole, each slot before the last is full, and the last isn't empty.
+-- The run has one to six slots. If it is whole, each slot before the last is full, and the last isn't empty.
 pub record IsRun (run : RunOfSlots) : Type 0 where
   -- at least one slot
   pub least : 1 ≤ length run.parts
@@ -120,7 +120,8 @@ pub record ShowsRuns {R : Type 0} (took : R → R → List Received → List Rec
   -- those kept are among those shown, in the same order
   pub part : IsPart kept received
 
--- They were shown so. The buffers of the frames that the receiver didn't keep, and those of the bad runs, went to the pool.
+-- The receiver was shown the whole frames of these runs, and kept some. The buffers of the other frames, and those of the bad runs, went
+-- to the pool.
 pub record ShowsAll {R : Type 0} (took : R → R → List Received → List Received → Type 0) (before after : R) (runs : List RunOfSlots)
     (pool pool' : List ℕ) : Type 0 where
   pub receiver : ShowsRuns took before after runs
@@ -138,7 +139,7 @@ pub record LeavesRing (run : Run) (parts : List Part) (d d' : DriverState) : Typ
   pub lengths : lengths_in parts ≡ take run.count run.lengths
   pub others : d' ≡ after_slots d run.count d'.buffers d.handed_out
 
--- These parts are those of a run. If it is whole, it has the size of a frame, and each part fits into its buffer.
+-- These parts are those of a run. A whole run has the size of a frame, and each of its parts fits into its buffer.
 pub record HasParts (run : Run) (parts : List Part) : Type 0 where
   pub lengths : lengths_in parts ≡ take run.count run.lengths
   pub length_is : run.length ≡ sum (lengths_in parts)
@@ -164,7 +165,7 @@ scene bus driver receiver = record { bus = bus; driver = driver; receiver = rece
 abbrev pub moment : {B R : Type 0} → Scene B R → Moment B
 moment now = record { bus = now.bus; driver = now.driver }
 
--- the same, while others hold these frames
+-- this scene, with these pieces of frames handed out to others
 abbrev pub held_in : {B R : Type 0} → List HandedOut → Scene B R → Scene B R
 held_in held now = record now { driver = holding held now.driver }
 
@@ -192,7 +193,7 @@ WhereTaken bus parts whole old new Holds =
     → IsReady bus up (held_at (held ++ pieces) (moment old))
     → Holds pieces up (held_in (held ++ pieces) old) (held_in (held ++ pieces) new)
 
--- Its frame was shown, after one load of its bytes 12 and 13.
+-- The frame of a run was shown, after one load of its bytes 12 and 13.
 pub record HandsOver {B R : Type 0} (bus : Ghosts B) (receivers : OfReceiver R) (pieces : List HandedOut) (up : Bool)
     (old new : Scene B R) : Type 0 where
   pub shows : Shows receivers.took old.receiver new.receiver (received_of pieces) old.driver.pool new.driver.pool
@@ -256,7 +257,7 @@ pub record TakesSlots {R : Type 0} (receivers : OfReceiver R) (n : ℕ) (before 
   pub bad : GrowsBy d.bad d'.bad (bad_runs runs)
   pub shows : ShowsAll receivers.took before after runs d.pool d'.pool
 
--- Over one that obeys the law: they were all the frames that ended in finished slots. Then, after the last of them, the descriptors of the
+-- Over a bus that obeys the law: the frames taken were all that ended in finished slots. After the last of them, the descriptors of the
 -- finished slots that remain, and of the next outstanding one if there is one, were loaded.
 pub record TakesAll {B R : Type 0} (bus : Ghosts B) (receivers : OfReceiver R) (n : ℕ) (up : Bool) (old new : Scene B R) : Type 0 where
   -- the bus after the last frame
@@ -284,12 +285,12 @@ ReadsHeld bus received now bytes =
 
 -- Handling an interrupt.
 
--- what holds if the handler did its work, by the number of frames that it took
+-- what holds if the answer is Handled, by the number of frames that the handler took
 abbrev pub IfHandled : Handled → (ℕ → Type 0) → Type 0
 IfHandled NotMine P = ⊤
 IfHandled (answers.Handled taken) P = P taken
 
--- what holds if it did nothing
+-- what holds if the answer is NotMine
 abbrev pub IfNotMine : Handled → Type 0 → Type 0
 IfNotMine NotMine P = P
 IfNotMine (answers.Handled taken) P = ⊤
@@ -302,7 +303,7 @@ taking_accesses d misses taken loads =
     (takes_from d.layout d.oldest_receive taken
     ++ receive_loads d.layout (place d.layout.rx d.oldest_receive (length (concat taken))) loads)
 
--- Then slots are offered with the buffers `offered`, after those that are staged, by a write of `tail` to RDT.
+-- The last accesses of the handler: slots are offered with the buffers `offered`, after those that are staged, by a write of `tail` to RDT.
 abbrev pub offering_accesses : DriverState → (offered : List ℕ) → (tail : ℕ) → List Access
 offering_accesses d offered tail = stores_from d.layout (next_receive d) offered ++ tail_write tail (d.staged ++ offered)
 
@@ -312,7 +313,8 @@ offering_accesses d offered tail = stores_from d.layout (next_receive d) offered
 pub record IsLook (oldest : ℕ) (rest : List ℕ) (world : World) (loads : ℕ) : Type 0 where
   -- no frame ends in finished slots
   pub none_left : frames_of (finished_pieces oldest world) ≡ []
-  -- Their pieces are full, and no longer together than the longest frame. So with buffers of 256 bytes they are at most five.
+  -- The pieces in the finished slots are full, and no longer together than the longest frame. So with buffers of 256
+  -- bytes they are at most five.
   pub short : receive_buffer_bytes * length (finished_pieces oldest world) ≤ longest_frame
   -- the descriptors of the finished slots were loaded, and the next one, if it is outstanding
   pub loads_are : loads ≡ min (suc (length (finished_pieces oldest world))) (length rest)
@@ -391,29 +393,29 @@ pub record Asked {B : Type 0} (bus : Ghosts B) (up : Bool) (old : Moment B) : Ty
   -- the only access was this read
   pub reads : ReadsCauses bus up causes old after_read
 
--- It does nothing: ICR had none of its causes.
+-- The answer is NotMine: ICR had no cause that the driver handles. After the read of ICR, which clears all causes, the driver did nothing.
 pub record DoesNothing {B : Type 0} (bus : Ghosts B) {up : Bool} (old new : Moment B) (asked : Asked bus up old) : Type 0 where
   -- no cause that the driver handles was read
   pub none : ¬ Meet asked.causes handled_causes
-  -- there was no other access
+  -- there was no other access, as it holds for each type of bus, those that count accesses among them
   pub still : new.bus ≡ asked.after_read
   -- no work is forgotten
   pub work : HasNoForgottenWork old.driver (bus.world old.bus) → HasNoForgottenWork new.driver (bus.world new.bus)
   -- no frame was taken or accepted
   pub flows : FlowsTo up (in_world_of bus old) (in_world_of bus new) (driver_did [] []) asked.reads.past
 
--- It does its work: n frames are taken, in these pieces, whoever holds them at the end.
+-- The answer is Handled: after the read of ICR, n frames are taken, in these pieces, whoever holds them at the end.
 pub record HandlesCauses {B : Type 0} (bus : Ghosts B) (taken : List (List HandedOut)) (n : ℕ) {up : Bool} (old new : Moment B)
     (asked : Asked bus up old) : Type 0 where
   -- a cause that the driver handles was read
   pub some : Meet asked.causes handled_causes
   -- frames were taken, and slots offered
   pub works : Works bus taken up (at asked.after_read old.driver) new
-  -- It takes at least the frames that ended in finished slots at the beginning.
+  -- at least the frames that ended in finished slots at the beginning are taken
   pub least : length (frames_ended (in_world_of bus old)) ≤ n
   -- If RXT0 is in the mask at the beginning, no work is forgotten at the end.
   pub work : HasBit (bus.world old.bus).adapter.causes.mask rxt0 → HasNoForgottenWork new.driver (bus.world new.bus)
-  -- the read of ICR and the work together
+  -- what the read of ICR and the work change together
   pub flows :
       FlowsTo up (in_world_of bus old) (in_world_of bus new) (driver_did (joined_frames taken) []) (joined asked.reads.past works.ran.past)
 
@@ -426,19 +428,19 @@ pub record HandlesIt {B R : Type 0} (bus : Ghosts B) (receivers : OfReceiver R) 
   pub driver :
       HandlesCauses bus frames.taken n (moment old) (held_at (old.driver.handed_out ++ pieces_of frames.kept) (moment new)) asked
 
--- What the handler did after its read of ICR (`asked`): nothing, if its answer is `NotMine`. If its answer is `Handled`, it did its work, and
--- `taken` is the number of frames that it took.
+-- What the handler did after its read of ICR (`asked`): nothing, if its answer is `NotMine`. If its answer is `Handled`, it did its work,
+-- and `taken` is the number of frames that it took.
 abbrev pub HandlesBy : {B R : Type 0} (bus : Ghosts B) → OfReceiver R → Handled → {up : Bool} → (old new : Scene B R)
     → Asked bus up (moment old) → Type 0
 HandlesBy bus receivers NotMine old new asked = DoesNothing bus (moment old) (moment new) asked
 HandlesBy bus receivers (answers.Handled taken) old new asked = HandlesIt bus receivers taken old new asked
 
--- It reads ICR first. What it does next depends on the causes read.
+-- The handler reads ICR first. What it does next depends on the causes read.
 pub record Handles {B R : Type 0} (bus : Ghosts B) (receivers : OfReceiver R) (result : Handled) (up : Bool) (old new : Scene B R) : Type 0
   where
     -- the read of ICR
     pub asked : Asked bus up (moment old)
-    -- what it did then
+    -- what it did after the read
     pub then_does : HandlesBy bus receivers result old new asked
 
 -- Over any bus.
@@ -473,9 +475,11 @@ pub record LeaveRing (d d' : DriverState) (runs : List RunOfSlots) : Type 0 wher
   pub next : d'.oldest_receive ≡ place d.layout.rx d.oldest_receive (length (run_buffers runs))
 
 -- A value was added to the driver's sum of missed frames, these runs of slots left the ring, of which n were shown as whole frames, and
--- then slots were offered. Which runs are bad, and where a bad run ends, is open here, as in `TakesSlots`.
+-- then slots were offered. Which runs are bad, and where a bad run ends, is open here: what a load returns is known only over a bus that
+-- obeys the law.
 pub record ServesRing (d d' : DriverState) (runs : List RunOfSlots) (n : ℕ) : Type 0 where
-  -- This record says nothing else of this value. Over a bus that obeys the law, `Handles` says that it was read from MPC.
+  -- The value added to the sum. This record states nothing else of it. Over a bus that obeys the law, `Handles` states
+  -- that it was read from MPC.
   pub misses : ReadsMisses d d'
   -- n runs were shown as whole frames
   pub count : length (whole_frames runs) ≡ n
@@ -485,7 +489,7 @@ pub record ServesRing (d d' : DriverState) (runs : List RunOfSlots) (n : ℕ) : 
   pub bad : GrowsBy d.bad d'.bad (bad_runs runs)
   -- No buffer is free, or all slots but one are outstanding.
   pub refilled : IsRefilled d'
-  -- no piece was handed out at the beginning
+  -- the driver's own state lists no pieces that are handed out; `held_in` adds them
   pub none_out : d.handed_out ≡ []
   -- no buffer has two owners
   pub one_owner : HasNoSecondOwner d'.layout.buffers (owners d')

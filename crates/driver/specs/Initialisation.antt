@@ -88,7 +88,7 @@ pub record FindsRing {B : Type 0} (bus : Ghosts B) (config : Config) (result : R
   pub why : IfErr result (λ error. IsErrorOf error (bus.world old).adapter.image (length past.accesses))
   pub why_lively : bus.lively old → IfErr result (λ error. IsErrorOfLively error (bus.world old))
 
--- The receive slots are stored, the last one cleared, and then all but that one offered.
+-- The accesses by which the receive slots are stored, the last one cleared, and then all but that one offered.
 abbrev pub first_accesses : Counts → List ℕ → List Access
 first_accesses counts numbers =
     stores_from counts 0 numbers ++ (clears (receive_slot (counts.rx - 1)) ∷ Writes RDT (counts.rx - 1) ∷ [])
@@ -101,7 +101,7 @@ pub record OffersFirst {B : Type 0} (bus : Ghosts B) (old new : Moment B) : Type
   -- If the driver is ready with its transmit side off, over a bus that obeys the law, the accesses are exactly these.
   pub ran : IsReady bus false old → Ran bus false (only (first_accesses old.driver.layout numbers)) old new
 
--- The transmit descriptors are cleared, the ring set up, and TCTL written.
+-- The accesses by which the transmit descriptors are cleared, the ring is set up, and TCTL is written.
 abbrev pub transmit_accesses : Counts → List Access
 transmit_accesses counts =
     clears_from (descriptor_bytes * counts.rx) counts.tx
@@ -109,7 +109,7 @@ transmit_accesses counts =
 
 -- The whole.
 
--- Some accesses, and then these.
+-- The accesses end with these.
 pub record EndsWith (accesses last : List Access) : Type 0 where
   pub earlier : List Access
   pub whole : accesses ≡ earlier ++ last
@@ -130,7 +130,7 @@ pub record FramesSinceStart (d : DriverState) (world : World) (later : Past) : T
   -- If no frame was stored, no slot is finished, and RDH is 0.
   pub none_finished : later.stored ≡ [] → finished d.oldest_receive world ≡ []
   pub head : later.stored ≡ [] → world.adapter.receive_ring.head ≡ 0
-  -- MPC counts those missed, exactly while it doesn't saturate.
+  -- MPC counts at most the frames missed since the write of RCTL, and exactly these while it doesn't saturate.
   pub missed_most : world.adapter.missed_packets ≤ later.missed
   pub missed : world.adapter.missed_packets < greatest_count → world.adapter.missed_packets ≡ later.missed
 
@@ -150,7 +150,7 @@ pub record IsSetUp (config : Config) (old new : World) : Type 0 where
 
 -- An adapter is initialized. Frames count from the write of RCTL on.
 pub record Initialises {B : Type 0} (bus : Ghosts B) (config : Config) (old new : B) (d : DriverState) : Type 0 where
-  -- up to the write of RCTL, and after it
+  -- the bus right after the write of RCTL
   pub middle : B
   pub first : Past
   pub later : Past
@@ -172,7 +172,7 @@ pub record IsFresh (config : Config) (driver : DriverState) : Type 0 where
   pub layout : driver.layout ≡ configured_counts config
   pub new : driver ≡ with_owners (new_driver (configured_counts config) driver.setup driver.groups []) driver.buffers [] driver.pool []
   pub setup : driver.setup ≡ setup_of config driver.setup.address
-  -- It has joined the groups of the configuration.
+  -- the driver has joined the groups of the configuration
   pub joined : AreNamedOnce config.groups.items driver.groups
   pub one_owner : HasOneOwner driver.layout.buffers (owners driver)
   pub none_out : driver.handed_out ≡ []

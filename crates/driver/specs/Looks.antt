@@ -21,7 +21,7 @@ use Rattle.driver.specs.declared.parts.TheConstants.{MOST_PARTS}
 abbrev pub greatest_length : ℕ
 greatest_length = 65535
 
--- no slots
+-- a run without slots
 abbrev pub new_run : Run
 new_run = record { lengths = replicate MOST_PARTS 0; count = 0; length = 0; whole = true }
 
@@ -34,13 +34,13 @@ IsPartSize false n = n ≡ receive_buffer_bytes
 abbrev pub ends : RxDesc → Bool
 ends descriptor = is_set (status_bits descriptor.status) eop
 
--- A descriptor may be that of such a piece.
+-- A descriptor may be that of a piece of a whole frame.
 pub record IsSoundPart (descriptor : RxDesc) : Type 0 where
   pub no_errors : descriptor.errors ≡ 0
   pub size : IsPartSize (ends descriptor) descriptor.length
 
--- A run of so many outstanding slots, or fewer: one to six. If it is whole, it has the size of a frame, each slot before the last is full,
--- and the last isn't empty.
+-- A run of at most `outstanding` slots: one to six. If it is whole, it has the size of a frame, each slot before the
+-- last is full, and the last isn't empty.
 pub record IsLookedRun (outstanding : ℕ) (run : Run) : Type 0 where
   pub room : length run.lengths ≡ MOST_PARTS
   pub least : 1 ≤ run.count

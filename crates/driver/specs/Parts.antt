@@ -14,13 +14,13 @@ use Rattle.driver.specs.declared.receiver.Received.{Received}
 
 -- How `Parts` keeps them.
 
--- those that are in an array
+-- the parts in an array, in order, without its empty places
 abbrev pub parts_in : List (Option Part) → List Part
 parts_in [] = []
 parts_in (Some part ∷ later) = part ∷ parts_in later
 parts_in (None ∷ later) = parts_in later
 
--- these pieces first, and then empty places
+-- an array of these parts, followed by empty places
 abbrev pub filled : List Part → (empty : ℕ) → List (Option Part)
 filled parts empty = map (λ (part : Part). Some part) parts ++ replicate empty None
 
@@ -31,11 +31,11 @@ pub record IsFilled (inside : Inside) : Type 0 where
 
 -- Buffers and sizes.
 
--- the numbers of their buffers
+-- the numbers of the buffers of these pieces
 abbrev pub buffers_in : List Part → List ℕ
 buffers_in parts = map (λ (part : Part). part.buffer) parts
 
--- their sizes in bytes
+-- the sizes of these pieces in bytes
 abbrev pub lengths_in : List Part → List ℕ
 lengths_in parts = map (λ (part : Part). part.length) parts
 
@@ -58,7 +58,7 @@ pub record IsFrameSize (size : ℕ) : Type 0 where
 abbrev pub FitIntoBuffers : List ℕ → Type 0
 FitIntoBuffers sizes = All (λ size. size ≤ receive_buffer_bytes) sizes
 
--- They are those of full receive buffers.
+-- Each of these sizes is that of a full receive buffer.
 abbrev pub AreFull : List ℕ → Type 0
 AreFull sizes = All (λ size. size ≡ receive_buffer_bytes) sizes
 
@@ -68,14 +68,14 @@ pub record FillBuffers (sizes : List ℕ) : Type 0 where
   pub full : List ℕ
   -- the last size
   pub last : ℕ
-  -- these are all sizes
+  -- both together are all sizes
   pub sizes_are : sizes ≡ full ++ last ∷ []
   -- each buffer before the last is full
   pub are_full : AreFull full
   -- the last has 1 to 256 bytes
   pub last_is : IsLastSize receive_buffer_bytes last
 
--- It is as large as its pieces together, and may have this size. Each piece fits into its buffer.
+-- A frame that was received is as long as its pieces together, and has a legal size. Each piece fits into its buffer.
 pub record IsWholeFrame (received : Received) : Type 0 where
   -- it has a legal size
   pub size : IsFrameSize received.length
@@ -84,7 +84,7 @@ pub record IsWholeFrame (received : Received) : Type 0 where
   -- each piece fits into its buffer
   pub fits : FitIntoBuffers (lengths_in received.parts)
 
--- Each is a frame of legal size, in pieces that fit into their buffers.
+-- Each of these is a frame of legal size, in pieces that fit into their buffers.
 abbrev pub AreFrames : List Received → Type 0
 AreFrames list = All IsWholeFrame list
 

@@ -20,8 +20,8 @@ pub record StagesSome {B : Type 0} (bus : Ghosts B) (old new : Moment B) : Type 
   pub numbers : List ℕ
   pub stages : Stages bus numbers old new
 
--- The next slots are offered with these buffers, after those that were staged before: their descriptors are stored, and then RDT is written
--- once, if any slot was staged.
+-- The next slots get these buffers: their descriptors are stored. Then RDT is written once, if there are such slots or if slots were staged
+-- before. So the staged slots and then these are offered.
 pub record Refills {B : Type 0} (bus : Ghosts B) (up : Bool) (old new : Moment B) : Type 0 where
   pub numbers : List ℕ
   pub offered : new.driver.buffers ≡ old.driver.buffers ++ (old.driver.staged ++ numbers)

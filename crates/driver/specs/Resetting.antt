@@ -28,11 +28,12 @@ use Rattle.driver.specs.Initialisation.{AreFilterTables, transmit_accesses}
 
 -- The accesses, in order.
 
--- The receiver is disabled, and then MPC is read.
+-- the accesses that disable the receiver and then read MPC
 abbrev pub stop_accesses : (misses : ℕ) → List Access
 stop_accesses misses = accesses_of disable_writes ++ Reads MPC misses ∷ []
 
--- Receive slots are stored with these buffers, and the others cleared. Then the former are offered: RDT is their number, even if it is 0.
+-- The accesses by which receive slots are stored with these buffers, and the others cleared. Then the former are
+-- offered: RDT is their number, even if it is 0.
 abbrev pub free_accesses : Counts → (numbers : List ℕ) → List Access
 free_accesses counts numbers =
     stores_from counts 0 numbers
@@ -46,14 +47,14 @@ quiet_writes setup counts groups vlans =
     ++ (accesses_of (table_writes MTA groups ++ (table_writes VFTA vlans ++ address_writes setup.address))
     ++ accesses_of (ring_writes RDBAL 0 (descriptor_bytes * counts.rx))))
 
--- From the reset on to the write of RCTL. No frame comes or leaves meanwhile.
+-- The accesses from the write of CTRL.RST to that of RCTL. No frame comes or leaves meanwhile.
 abbrev pub quiet_accesses : DriverSetup → Counts → (groups vlans numbers : List ℕ) → List Access
 quiet_accesses setup counts groups vlans numbers =
     quiet_writes setup counts groups vlans
     ++ (free_accesses counts numbers
     ++ accesses_of (receive_writes setup.promiscuous setup.by_vlan))
 
--- The transmit side is set up, and the mask is written.
+-- The accesses that set up the transmit side and write the mask.
 abbrev pub later_accesses : Counts → List Access
 later_accesses counts = transmit_accesses counts ++ accesses_of mask_writes
 
@@ -94,11 +95,11 @@ pub record IsRestarted (d : DriverState) (world : World) (later : Past) : Type 0
 pub record Resets {B : Type 0} (bus : Ghosts B) (up : Bool) (old new : Moment B) : Type 0 where
   pub stopped : Moment B
   pub stops : Stops bus up old stopped
-  -- the reset: what `resets.last` holds is given up
+  -- The bus after the reset. The frames held and to be sent in `resets.last` are given up.
   pub middle : B
   pub pool : List ℕ
   pub resets : ResetsDriver bus up pool stopped.driver stopped.bus middle
-  -- from then on to the write of RCTL, with these words in the filter's tables, and these buffers offered
+  -- the words of MTA that are written up to the write of RCTL
   pub groups : List ℕ
   pub vlans : List ℕ
   pub tables : AreFilterTables old.driver.groups old.driver.setup.vlans groups vlans
@@ -106,7 +107,7 @@ pub record Resets {B : Type 0} (bus : Ghosts B) (up : Bool) (old new : Moment B)
   pub enabled : B
   pub quiet : Accessed bus (quiet_accesses old.driver.setup old.driver.layout groups vlans numbers) middle enabled
   pub no_frame : NoFrame quiet.past
-  -- and after it
+  -- after the write of RCTL
   pub later : Accessed bus (later_accesses old.driver.layout) enabled new.bus
   pub restarted : IsRestarted new.driver (bus.world new.bus) later.past
   pub again : BeginsAgain stopped.driver old.driver.handed_out pool numbers new.driver

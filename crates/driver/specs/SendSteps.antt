@@ -15,11 +15,11 @@ use Rattle.driver.specs.declared.transmit.SendError.TheVariants.{TooShort, TooLo
 abbrev pub sent_status_offset : ℕ
 sent_status_offset = 12
 
--- the same driver with other outstanding transmit slots
+-- the driver with other outstanding transmit slots: the place of the oldest, and their number
 abbrev pub with_transmit_slots : DriverState → (oldest sending : ℕ) → DriverState
 with_transmit_slots d oldest sending = record d { oldest_transmit = oldest; sending = sending }
 
--- the descriptors of k of its slots are loaded, from the oldest on
+-- the loads of the descriptors of k transmit slots, from the oldest on
 abbrev pub oldest_loads : DriverState → ℕ → List Access
 oldest_loads d k = transmit_loads d.layout d.oldest_transmit k
 
@@ -81,7 +81,7 @@ pub record StaysFull {B : Type 0} (bus : Ghosts B) (old new : Moment B) : Type 0
   pub at_return : IsFull bus new
   pub same : new.driver ≡ old.driver
 
--- What an answer says of the ring.
+-- What an answer states about the ring.
 abbrev pub IsTransmitAnswer : {B : Type 0} → Ghosts B → SendAnswer → (old new : Moment B) → Type 0
 IsTransmitAnswer bus (Ok u) old new = IsAccepted bus old new
 IsTransmitAnswer bus (Err TooShort) old new = ⊤
@@ -98,7 +98,7 @@ HasWrongLength answer = ⊥
 abbrev pub sent_now : DriverState → List ℕ → Did
 sent_now d frame = call_did (send_accesses d frame) [] (padded frame ∷ [])
 
--- What it does, by the answer.
+-- What `transmit` does, by its answer.
 abbrev pub sent_by : SendAnswer → (d d' : DriverState) → List ℕ → Did
 sent_by result d d' frame = call_did (accesses_by result d d' frame) [] (accepted_by result frame)
 
@@ -128,6 +128,6 @@ pub record Sends {B : Type 0} (bus : Ghosts B) (frame : List ℕ) (result : Send
   pub answer : IsTransmitAnswer bus result old new
   pub frees_first : FreesFirst bus frame result old new
 
--- This holds if the driver is ready, with its transmit side set up.
+-- `Sends` holds if the driver is ready, with its transmit side set up.
 abbrev pub Transmits : {B : Type 0} → Ghosts B → List ℕ → SendAnswer → (old new : Moment B) → Type 0
 Transmits bus frame result old new = WhereUp bus old new (Sends bus frame result)

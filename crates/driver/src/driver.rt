@@ -29,7 +29,7 @@ pub struct Driver {
     pub(crate) pool: Pool,
     /// The place of the oldest outstanding transmit slot.
     pub(crate) oldest_transmit: u16,
-    /// The place after the newest.
+    /// The place after the newest outstanding transmit slot.
     pub(crate) next_transmit: u16,
     /// The number of outstanding transmit slots.
     pub(crate) sending: u16,

@@ -38,7 +38,7 @@ impl Driver {
         ensures room { OnOk result (length self.old.groups < MOST_GROUPS) }
         ensures quiet { HasNumber self.old.groups group → bus.new ≡ bus.old }
 
-        // And over one that obeys the law.
+        // What it does over a bus that obeys the law.
         ensures joins { WhereReady B.Bus (at bus.old self.old) (at bus.new self.new)
             (λ up old new. OnOk result (ChangesJoined B.Bus up self.old.groups group old new)) }
     {
@@ -64,7 +64,7 @@ impl Driver {
         ensures left { OnOk result (Removes group self.old.groups self.new.groups) }
         ensures quiet { HasNumber self.new.groups group → bus.new ≡ bus.old }
 
-        // And over one that obeys the law.
+        // What it does over a bus that obeys the law.
         ensures leaves { WhereReady B.Bus (at bus.old self.old) (at bus.new self.new)
             (λ up old new. OnOk result (ChangesJoined B.Bus up self.new.groups group old new)) }
     {

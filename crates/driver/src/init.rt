@@ -148,7 +148,7 @@ impl Driver {
         ensures unasked { IfErr result (λ error. IsBeforeAccess error → bus.new ≡ bus.old) }
         ensures fresh { IfOk result (IsFresh config.now) }
 
-        // And over one that obeys the law.
+        // What it does over a bus that obeys the law.
         ensures initialises { B.honest bus.old
             → IfOk result (Initialises B.Bus config.now bus.old bus.new) }
         ensures refuses { B.honest bus.old → IfErr result (Refuses B.Bus bus.old bus.new) }

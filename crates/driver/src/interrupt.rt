@@ -22,7 +22,7 @@ use registers::Cause;
 pub enum Handled {
     /// ICR had none of TXDW, RXDMT0, RXO and RXT0.
     NotMine,
-    /// ICR had at least one of them.
+    /// ICR had at least one of TXDW, RXDMT0, RXO and RXT0.
     Handled {
         /// The number of frames that the receiver was shown. Runs of slots without a whole frame aren't counted here.
         taken: u64,
@@ -49,7 +49,8 @@ impl Driver {
         ensures keeps { Keeps B.Bus bus.old bus.new }
         ensures others { self.new ≡ with_missed result self.old }
         ensures cleared { B.honest bus.old → (B.world bus.new).adapter.missed_packets ≡ 0 }
-        ensures settings { B.honest bus.old → (B.world bus.new).adapter.filter.rctl ≡ (B.world bus.old).adapter.filter.rctl }
+        ensures settings { B.honest bus.old
+            → (B.world bus.new).adapter.filter.rctl ≡ (B.world bus.old).adapter.filter.rctl }
         ensures ran { Runs B.Bus (only (Reads MPC result ∷ [])) (at bus.old self.old) (at bus.new self.new) }
     {
         let value = bus.read(MPC);
@@ -58,9 +59,15 @@ impl Driver {
         value
     }
 
-    /// Handles an interrupt. If the bus obeys the law and the driver is ready, it reads ICR first. If ICR has none of
-    /// TXDW, RXDMT0, RXO and RXT0, it makes no other access. Otherwise it reads MPC, takes frames off finished receive
-    /// slots, and refills the ring. The frames that it takes include all that ended in finished slots at the beginning.
+    /// Handles an interrupt, and returns the number of frames taken, or `NotMine`.
+    ///
+    /// The rest of this paragraph holds if the bus obeys the law and the driver is ready. The call reads ICR first. If
+    /// ICR has none of TXDW, RXDMT0, RXO and RXT0, it makes no other access, and the result is `NotMine`. Otherwise it
+    /// reads MPC, takes frames off finished receive slots, and refills the ring. The frames that it takes include all
+    /// that ended in finished slots at the beginning. Before it refills the ring, it looks until no frame ends in
+    /// finished slots. It reads ICR before it looks, so a frame that ends later records RXT0 again: if RXT0 is in IMS
+    /// and the result is `Handled`, no frame is forgotten. `NotMine` forgets no frame either, if none was forgotten
+    /// before.
     ///
     /// Over any other bus, the contract states no accesses, but only what becomes of the driver, its buffers and the
     /// receiver. `bus` must have at least `layout().size()` bytes.
@@ -73,7 +80,7 @@ impl Driver {
         ensures only_receives { OnlyReceives self.old self.new }
         ensures serves { IfHandled result (Serves R.Receiver receiver.old receiver.new self.old self.new) }
 
-        // And over one that obeys the law.
+        // What it does over a bus that obeys the law.
         ensures handles { WhereReadyIn B.Bus (scene bus.old self.old receiver.old) (scene bus.new self.new receiver.new)
             (Handles B.Bus R.Receiver result) }
     {

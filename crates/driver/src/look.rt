@@ -89,7 +89,7 @@ impl Run {
         self.count += 1;
     }
 
-    /// Whether it contains a whole frame, if EOP is in its last descriptor.
+    /// Whether the run contains a whole frame, if EOP is in its last descriptor.
     fn is_frame(&self) -> bool
         ensures { IsTrue result ↔ (IsTrue self.now.whole × IsFrameSize self.now.length) }
     {

@@ -85,7 +85,7 @@ impl Driver {
     }
 
     /// Passes on a run that was taken, and returns whether it contains a whole frame. Then the receiver takes the
-    /// frame. Otherwise the run's buffers go back to the pool, and it counts as bad, once.
+    /// frame. Otherwise the run's buffers go back to the pool, and it is counted as bad.
     fn hand_on<B: Bus, R: Receiver>(
         &mut self,
         bus: &mut B,

@@ -93,8 +93,7 @@ impl Driver {
 
     /// Resets the adapter and sets it up again as [`init`](Driver::init) did, with the groups joined now; the link
     /// stays up. Frames that are to be sent, and frames that the driver hasn't taken, are given up, and their buffers
-    /// are offered again. Frames that a receiver kept are still in their buffers. It takes no memory, and always ends
-    /// well.
+    /// are offered again. Frames that a receiver kept are still in their buffers. It takes no memory, and has no error.
     pub fn reset<B: Bus>(&mut self, bus: &mut B)
         requires memory { size_of self.old.layout ≤ B.extent bus.old }
         ensures keeps { Keeps B.Bus bus.old bus.new }

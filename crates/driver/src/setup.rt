@@ -18,7 +18,7 @@ pub(crate) struct Setup {
 }
 
 impl Setup {
-    /// That of a configuration, before the address is known.
+    /// The setup of a configuration, before the address is known.
     pub(crate) fn of(config: &Config) -> Setup
         requires { HasRightNumbers config.now }
         ensures is { setup_in result ≡ setup_of config.now (replicate 6 0) }
@@ -33,7 +33,7 @@ impl Setup {
     }
 }
 
-/// The same list, if there is one.
+/// A copy of a list of VLANs, if there is one.
 fn copied(vlans: &Option<ArrayVec<u16, MOST_VLANS>>) -> Option<ArrayVec<u16, MOST_VLANS>>
     ensures { result ≡ vlans.now }
 {
@@ -43,7 +43,7 @@ fn copied(vlans: &Option<ArrayVec<u16, MOST_VLANS>>) -> Option<ArrayVec<u16, MOS
     }
 }
 
-/// The same list.
+/// A copy of a list of VLANs.
 fn copy_of(list: &ArrayVec<u16, MOST_VLANS>) -> ArrayVec<u16, MOST_VLANS>
     ensures { result ≡ list.now }
 {

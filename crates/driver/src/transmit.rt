@@ -25,10 +25,10 @@ use thiserror::Error;
 /// Why a frame isn't sent.
 #[derive(Clone, Copy, Debug, PartialEq, Eq, Error)]
 pub enum SendError {
-    /// It has fewer than 14 bytes.
+    /// The frame has fewer than 14 bytes.
     #[error("E20 TooShort")]
     TooShort,
-    /// It has more than 1,518 bytes.
+    /// The frame has more than 1,518 bytes.
     #[error("E21 TooLong")]
     TooLong,
     /// All slots but one are outstanding after the call has freed those whose descriptors have DD. If the bus obeys the
@@ -132,8 +132,8 @@ impl Driver {
     /// Sends a frame of 14 to 1,518 bytes.
     ///
     /// First it frees the oldest transmit slots whose descriptors have DD, by one load each; if slots are left, the
-    /// oldest one's descriptor is loaded, too. `bus` must have at least `layout().size()` bytes.
-    /// Over a bus that doesn't obey the law, the contract states only what `others`, `nothing` and the errors say.
+    /// oldest one's descriptor is loaded, too. `bus` must have at least `layout().size()` bytes. Over a bus that
+    /// doesn't obey the law, only `others`, `nothing` and the clauses of the errors hold.
     ///
     /// # Errors
     ///
@@ -153,7 +153,7 @@ impl Driver {
         ensures nothing { HasWrongLength result → (bus.new ≡ bus.old) × (self.new ≡ self.old) }
         ensures full { result ≡ Err SendError.RingFull → self.new.sending + 1 ≡ self.new.layout.tx }
 
-        // And over one that obeys the law.
+        // What it does over a bus that obeys the law.
         ensures transmits { Transmits B.Bus frame.now result (at bus.old self.old) (at bus.new self.new) }
     {
         if frame.len() < SHORTEST_SENDABLE {

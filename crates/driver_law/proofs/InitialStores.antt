@@ -66,7 +66,8 @@ last_slot_is_stored up driver bytes world ready long =
     let first : length driver.staged + 0 ≡ length driver.staged = omega arith in
     subst
     (λ (n : ℕ). GoesTo up (driver_in driver world)
-    (driver_in driver (world_after_store (receive_slot (place driver.layout.rx driver.oldest_receive (length driver.buffers + n))) bytes world))
+    (driver_in driver
+    (world_after_store (receive_slot (place driver.layout.rx driver.oldest_receive (length driver.buffers + n))) bytes world))
     (driver_did [] []) nothing) first
     (spare_slot_is_stored up driver 0 bytes world ready long (omega (arith, ready.driver_is.room)))
 

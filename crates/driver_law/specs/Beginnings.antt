@@ -1,4 +1,4 @@
--- The state in which a driver begins, and what it writes into registers up to the end of its initialization (our choice).
+-- The state in which a driver begins, and which registers it writes up to the end of its initialization (our choice).
 use Rattle.std.specs.Prelude.{◌≡◌, ◌≤◌, ◌<◌, ◌⊎◌, ◌+◌, ◌*◌, ℕ, Bool, true, false, List, [], None, length}
 use Rattle.adapter.specs.declared.offsets.TheConstants.{IMS}
 use Rattle.registers.specs.Bits.{HasBit, union}
@@ -55,7 +55,7 @@ pub record HasBegun (up : Bool) (counts : Counts) (setup : DriverSetup) (groups 
     pub receive : KnowsRing (receive_ring world) 0 counts.rx 0
     pub transmit : TransmitIs up counts 0 0 (transmit_side world)
 
--- A driver that begins in such a world is ready.
+-- A driver in the state in which it begins (`HasBegun`) is ready.
 abbrev pub DriversBegin : Type 0
 DriversBegin =
     (up : Bool) (counts : Counts) (setup : DriverSetup) (groups : List (List ℕ)) (pool : List ℕ) (world : World)
@@ -101,7 +101,7 @@ pub record FramesStay (driver : DriverState) (a b : World) : Type 0 where
 pub record Enabled (up : Bool) (driver : DriverState) (causes : ℕ) (a b : World) : Type 0 where
   pub ready : ReadyWith up driver b
   pub frames : FramesStay driver a b
-  -- MPC and ICR are the same, and IMS has these causes, too.
+  -- MPC doesn't change.
   pub missed : b.adapter.missed_packets ≡ a.adapter.missed_packets
   pub recorded : b.adapter.causes.recorded ≡ a.adapter.causes.recorded
   pub mask : b.adapter.causes.mask ≡ union a.adapter.causes.mask (causes_of causes)
@@ -131,7 +131,7 @@ LastSlotIsStored =
     → GoesTo up (driver_in driver world) (driver_in driver (world_after_store (receive_slot (next_receive driver)) bytes world))
     (driver_did [] []) nothing
 
--- So is the descriptor of any slot that is neither outstanding nor staged, counted from those.
+-- The descriptor of a slot that is neither outstanding nor staged is stored. The slot stays the driver's.
 abbrev pub SpareSlotIsStored : Type 0
 SpareSlotIsStored =
     (up : Bool) (driver : DriverState) (i : ℕ) (bytes : List ℕ) (world : World) → ReadyWith up driver world
@@ -153,13 +153,13 @@ pub record IsWaiting (driver : DriverState) (world : World) : Type 0 where
   pub disabled : ¬ (HasBit world.adapter.filter.rctl rctl_en)
   pub none : frames_held driver.oldest_receive world ≡ []
 
--- Then no frame arrives, whatever happens.
+-- While RCTL.EN is 0 and no frame is held, no frame arrives, whatever happens.
 abbrev pub NoFrameComes : Type 0
 NoFrameComes =
     (up : Bool) (driver : DriverState) (a b : World) (past : Past) → ReadyWith up driver a → Happens a b past
     → IsWaiting driver a → IsWaiting driver b
 
--- Then no receive slot is finished or in progress.
+-- If RCTL.EN is 0 and no frame is held, no receive slot is finished or in progress.
 abbrev pub NothingIsHeld : Type 0
 NothingIsHeld =
     (up : Bool) (driver : DriverState) (world : World) → ReadyWith up driver world → IsWaiting driver world

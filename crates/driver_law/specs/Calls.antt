@@ -1,5 +1,5 @@
--- A driver's calls: a driver in its world, what it did in an interval, and what changed (`Ran`). `WhereReady` states it for a bus that
--- obeys the law. The order of the accesses is our choice.
+-- A driver's calls: a driver in its world, what it did in an interval, and what changed (`Ran`). `WhereReady` states
+-- this for a bus that obeys the law. The order of the accesses is our choice.
 use Rattle.std.specs.Prelude.{◌≡◌, ◌≤◌, ◌<◌, ◌⊎◌, ◌^◌, ◌+◌, ◌-◌, ◌%◌, ◌++◌, ◌∷◌, ◌&&◌, []}
 use Rattle.std.specs.Prelude.{ℕ, Bool, true, List, IsTrue, length, map}
 use Rattle.std.specs.Prelude.{min, nat_lt}
@@ -73,22 +73,22 @@ pub record DriverDid : Type 0 where
   -- the frames accepted for sending, in order
   pub accepted : List (List ℕ)
 
--- these frames were taken, and these accepted
+-- a driver took these frames, and accepted those, in order
 abbrev pub driver_did : (taken accepted : List (List ℕ)) → DriverDid
 driver_did taken accepted = record { taken = taken; accepted = accepted }
 
--- the accesses in order, and the frames
+-- the accesses of a call in order, and the frames that it took and accepted
 pub record Did : Type 0 where
   -- the accesses, in order
   pub accesses : List Access
   -- the frames taken and accepted
   pub frames : DriverDid
 
--- these accesses, and these frames
+-- a call made these accesses, and took and accepted these frames
 abbrev pub call_did : List Access → (taken accepted : List (List ℕ)) → Did
 call_did accesses taken accepted = record { accesses = accesses; frames = driver_did taken accepted }
 
--- these accesses, and no frame taken or accepted
+-- a call made these accesses, and took and accepted no frame
 abbrev pub only : List Access → Did
 only accesses = call_did accesses [] []
 
@@ -123,7 +123,7 @@ pub record SumsMisses (old new : DriverInWorld) (past : Past) : Type 0 where
   pub sticks :
       old.world.adapter.missed_packets + past.missed ≤ greatest_count → sum_limit - 1 ≤ misses_known old + past.missed
       → sum_limit - 1 ≤ misses_known new
-  -- It never counts too many.
+  -- The sum plus MPC grows by at most the number of frames missed.
   pub at_most : misses_known new ≤ misses_known old + past.missed
   -- If the sum is exact and MPC is below its greatest value at the end, this was so at the beginning, and each frame missed was counted.
   pub exactly : IsTrue new.driver.exact → new.world.adapter.missed_packets < greatest_count → IsExactSum old new past
@@ -131,7 +131,7 @@ pub record SumsMisses (old new : DriverInWorld) (past : Past) : Type 0 where
   pub stays_exact :
       IsTrue old.driver.exact → old.world.adapter.missed_packets + past.missed < greatest_count
       → misses_known old + past.missed < sum_limit → IsTrue new.driver.exact
-  -- A sum below MPC's greatest value is exact at the end, if that was so at the beginning.
+  -- A sum below MPC's greatest value is exact at the end, if such a sum was exact at the beginning.
   pub small :
       (old.driver.missed < greatest_count → IsTrue old.driver.exact) → new.driver.missed < greatest_count → IsTrue new.driver.exact
 
@@ -168,7 +168,7 @@ pub record FlowsTo (up : Bool) (old new : DriverInWorld) (did : DriverDid) (past
   -- Missed frames are counted.
   pub misses : SumsMisses old new past
 
--- The same, and ICR wasn't read.
+-- `FlowsTo`, in an interval in which no recorded cause is cleared.
 pub record GoesTo (up : Bool) (old new : DriverInWorld) (did : DriverDid) (past : Past) : Type 0 where
   -- Frames flow in order, and the driver is ready again.
   pub flows : FlowsTo up old new did past
@@ -178,7 +178,7 @@ pub record GoesTo (up : Bool) (old new : DriverInWorld) (did : DriverDid) (past 
   pub recorded :
       (length (frames_ended old) ≡ length did.taken + length (frames_ended new)) ⊎ HasBit new.world.adapter.causes.recorded rxt0
 
--- The same, with the transmit side set up.
+-- `GoesTo` with the transmit side set up.
 abbrev pub Goes : (old new : DriverInWorld) → DriverDid → Past → Type 0
 Goes = GoesTo true
 
@@ -224,15 +224,15 @@ takes_from counts slot (numbers ∷ later) =
 
 -- The accesses of the transmit side.
 
--- the buffer of a transmit slot
+-- the address of the buffer of a transmit slot
 abbrev pub transmit_buffer : Counts → ℕ → ℕ
 transmit_buffer counts slot = start_of counts (TransmitBuffer slot)
 
--- the descriptor and the buffer of the slot at the tail
+-- the address of the transmit descriptor at the tail
 abbrev pub tail_slot : DriverState → ℕ
 tail_slot driver = transmit_slot driver.layout (transmit_tail driver)
 
--- the buffer of the slot at the tail
+-- the address of the buffer of the transmit slot at the tail
 abbrev pub tail_buffer : DriverState → ℕ
 tail_buffer driver = transmit_buffer driver.layout (transmit_tail driver)
 
@@ -276,7 +276,7 @@ pub record Moment (B : Type 0) : Type 0 where
 abbrev pub at : {B : Type 0} → B → DriverState → Moment B
 at bus driver = record { bus = bus; driver = driver }
 
--- the same, while others hold these pieces of frames
+-- this moment, with these pieces of frames handed out to others
 abbrev pub held_at : {B : Type 0} → List HandedOut → Moment B → Moment B
 held_at held now = record now { driver = holding held now.driver }
 
@@ -330,7 +330,7 @@ abbrev pub WhereReady : {B : Type 0} → Ghosts B → (old new : Moment B) → (
 WhereReady bus old new Holds =
     (up : Bool) (held : List HandedOut) → IsReady bus up (held_at held old) → Holds up (held_at held old) (held_at held new)
 
--- The same, only with the transmit side set up.
+-- `WhereReady`, only with the transmit side set up.
 abbrev pub WhereUp : {B : Type 0} → Ghosts B → (old new : Moment B) → (Moment B → Moment B → Type 0) → Type 0
 WhereUp bus old new Holds = (held : List HandedOut) → IsReady bus true (held_at held old) → Holds (held_at held old) (held_at held new)
 

@@ -4,7 +4,7 @@ use Rattle.dma_memory.specs.Layout.{Counts, ReceiveBuffer, descriptor_bytes, sta
 use Rattle.descriptors.specs.RingLaws.{place}
 use Rattle.std.specs.List.{concat}
 
--- a piece of a frame that others hold, and the number of its buffer
+-- A piece of a frame that others hold, and the number of its buffer.
 pub record HandedOut : Type 0 where
   -- the number of its buffer
   pub number : ℕ
@@ -15,7 +15,7 @@ pub record HandedOut : Type 0 where
 abbrev pub frame_of : List HandedOut → List ℕ
 frame_of pieces = concat (map (λ (one : HandedOut). one.bytes) pieces)
 
--- the numbers of their buffers
+-- the numbers of the buffers of these pieces
 abbrev pub numbers_of : List HandedOut → List ℕ
 numbers_of handed_out = map (λ (one : HandedOut). one.number) handed_out
 
@@ -36,17 +36,17 @@ pub record DriverSetup : Type 0 where
 pub record DriverState : Type 0 where
   -- the sizes of the rings, and the number of receive buffers
   pub layout : Counts
-  -- the place of the oldest outstanding receive slot, and the numbers of the buffers of all that are outstanding, the oldest first
+  -- the place of the oldest outstanding receive slot
   pub oldest_receive : ℕ
   -- the numbers of the buffers of the outstanding receive slots, the oldest first
   pub buffers : List ℕ
-  -- the buffers of the slots after these, whose descriptors are stored and which aren't offered yet
+  -- the numbers of the buffers of the slots after the outstanding ones, whose descriptors are stored and that aren't offered yet
   pub staged : List ℕ
-  -- the free buffers
+  -- the numbers of the free buffers
   pub pool : List ℕ
   -- the pieces of frames that others hold, and may still read
   pub handed_out : List HandedOut
-  -- the place of the oldest outstanding transmit slot, and how many are outstanding
+  -- the place of the oldest outstanding transmit slot
   pub oldest_transmit : ℕ
   -- the number of outstanding transmit slots
   pub sending : ℕ
@@ -58,7 +58,7 @@ pub record DriverState : Type 0 where
   pub bad : ℕ
   -- the multicast groups that it has joined
   pub groups : List (List ℕ)
-  -- what a reset needs
+  -- the setup that a reset needs
   pub setup : DriverSetup
 
 -- the same driver with other owners of buffers
@@ -70,7 +70,7 @@ with_owners driver buffers staged pool handed_out = record driver
 abbrev pub holding : List HandedOut → DriverState → DriverState
 holding handed_out driver = record driver { handed_out = handed_out }
 
--- The buffers of all owners, one after the other: of the pool, of the slots of the ring, and of those who hold frames.
+-- The numbers of the buffers of all owners, one after the other: of the pool, of the slots of the ring, and of those who hold frames.
 abbrev pub owners : DriverState → List ℕ
 owners driver = driver.pool ++ (driver.buffers ++ (driver.staged ++ numbers_of driver.handed_out))
 
@@ -81,15 +81,15 @@ owners driver = driver.pool ++ (driver.buffers ++ (driver.staged ++ numbers_of d
 abbrev pub address_limit : ℕ
 address_limit = 2 ^ 64
 
--- the receive buffer of a number
+-- the address of the receive buffer with this number
 abbrev pub buffer_at : Counts → ℕ → ℕ
 buffer_at counts number = start_of counts (ReceiveBuffer number)
 
--- the descriptor of a receive slot, by its place
+-- the address of the descriptor of a receive slot, by the slot's place
 abbrev pub receive_slot : ℕ → ℕ
 receive_slot slot = descriptor_bytes * slot
 
--- the descriptor of a transmit slot
+-- the address of the descriptor of a transmit slot, by the slot's place
 abbrev pub transmit_slot : Counts → ℕ → ℕ
 transmit_slot counts slot = descriptor_bytes * counts.rx + descriptor_bytes * slot
 

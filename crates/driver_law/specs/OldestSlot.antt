@@ -17,8 +17,8 @@ use Rattle.driver_law.specs.DriverState.{DriverState, receive_slot}
 abbrev pub slot_after_oldest : DriverState → ℕ → ℕ
 slot_after_oldest d k = place d.layout.rx d.oldest_receive k
 
--- It is finished: these are the pieces in the slots before it, the bytes in its buffer, and the pieces in the finished slots after it. Its
--- descriptor, without errors, has the number of these bytes.
+-- The k-th slot after the oldest is finished: these are the pieces in the slots before it, the bytes in its buffer, and the pieces in the
+-- finished slots after it. Its descriptor, without errors, has the number of these bytes.
 pub record IsSeen (k : ℕ) (pieces : List Piece) (descriptor : RxDesc) : Type 0 where
   pub before : List Piece
   pub count : length before ≡ k
@@ -28,7 +28,7 @@ pub record IsSeen (k : ℕ) (pieces : List Piece) (descriptor : RxDesc) : Type 0
   pub size : descriptor.length ≡ length bytes
   pub has_no_errors : descriptor.errors ≡ 0
 
--- what its descriptor shows, by DD
+-- what the descriptor of the k-th slot after the oldest shows, by DD
 abbrev pub ShowsSlot : (done : Bool) → (k : ℕ) → (pieces : List Piece) → RxDesc → Type 0
 ShowsSlot true k pieces descriptor = IsSeen k pieces descriptor
 ShowsSlot false k pieces descriptor = length pieces ≤ k

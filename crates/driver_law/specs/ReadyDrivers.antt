@@ -40,7 +40,7 @@ abbrev pub empty_descriptor : ℕ → List ℕ
 empty_descriptor buffer = rx_desc_bytes
     (record { address = buffer; length = 0; checksum = 0; status = status_of 0; errors = 0; special = 0 })
 
--- The slots from a place on have such descriptors, of these buffers.
+-- The slots from a place on have empty descriptors with these buffers.
 abbrev pub AreStored : List ℕ → Counts → ℕ → List ℕ → Type 0
 AreStored memory counts slot [] = ⊤
 AreStored memory counts slot (number ∷ later) =
@@ -60,7 +60,7 @@ pub record TransmitIsUp (counts : Counts) (oldest sending : ℕ) (memory : List 
   pub oldest_slot : oldest < counts.tx
   -- at least one transmit slot isn't outstanding
   pub room : sending < counts.tx
-  -- TCTL.PSP
+  -- TCTL.PSP is set
   pub pads : HasBit control tctl_psp
   -- the registers of the ring have its base and its size, and TDT is after the last outstanding slot
   pub knows : KnowsRing ring (descriptor_bytes * counts.rx) counts.tx (place counts.tx oldest sending)
@@ -88,7 +88,7 @@ pub record TransmitSide : Type 0 where
   pub memory : List ℕ
   -- the registers of the transmit ring
   pub ring : Ring
-  -- TCTL
+  -- the value of TCTL
   pub control : ℕ
   -- the packet buffer
   pub buffer : List Queued
@@ -107,7 +107,7 @@ abbrev pub TransmitIs : Bool → Counts → (oldest sending : ℕ) → TransmitS
 TransmitIs true counts oldest sending side = TransmitIsUp counts oldest sending side.memory side.ring side.control
 TransmitIs false counts oldest sending side = TransmitIsOff counts oldest sending side.ring side.buffer
 
--- What the bus law asks of the adapter and its memory, and engines that can run.
+-- The conditions of the bus law hold of the adapter and its memory, and both engines can run.
 pub record MeetsLaw (oldest_receive oldest_transmit : ℕ) (world : World) : Type 0 where
   -- the driver's oldest slots and the adapter's registers agree
   pub sound : Sound oldest_receive oldest_transmit world
@@ -130,7 +130,7 @@ pub record SlotsAreStored (driver : DriverState) (world : World) : Type 0 where
 pub record ReadyWith (up : Bool) (driver : DriverState) (world : World) : Type 0 where
   -- what always holds of the driver's own state
   pub driver_is : IsDriver driver
-  -- what the bus law asks
+  -- what the bus law requires
   pub law : MeetsLaw driver.oldest_receive driver.oldest_transmit world
   -- Memory contains the whole layout.
   pub lies : size_of driver.layout ≤ length world.memory

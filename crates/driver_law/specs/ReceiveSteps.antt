@@ -56,7 +56,7 @@ pub record ContainFrame (d : DriverState) (world : World) (numbers run : List �
   pub count : length numbers ≡ length run
   pub pieces : map (piece_in world.memory) run ≡ parts seen ++ Last last ∷ []
 
--- Then they are taken. Others hold the pieces of the frame then.
+-- If the oldest finished slots contain one whole frame, they can be taken. Others hold the pieces of the frame then.
 abbrev pub RunCanBeTaken : Type 0
 RunCanBeTaken =
     (up : Bool) (d : DriverState) (numbers run : List ℕ) (seen : List (List ℕ)) (last : List ℕ) (world : World) → ReadyWith up d world

@@ -69,7 +69,7 @@ ResetKeepsSum =
 abbrev pub RestKeepsMemory : Type 0
 RestKeepsMemory = (a b : World) (past : Past) → Happens a b past → IsAtRest a → b.memory ≡ a.memory
 
--- So a driver without slots stays as it is, and no frame comes or leaves.
+-- A driver without slots, whose adapter is at rest, stays so, and no frame comes or leaves.
 abbrev pub DriversRest : Type 0
 DriversRest =
     (driver : DriverState) (a b : World) (past : Past) → Happens a b past → IsAdapter b.adapter → RestsWith driver a

@@ -23,17 +23,17 @@ use Rattle.driver_law.specs.ReadyDrivers.{Ready}
 abbrev pub oldest_slot : DriverState → ℕ
 oldest_slot driver = transmit_slot driver.layout driver.oldest_transmit
 
--- A slot that isn't outstanding.
+-- The transmit slot isn't outstanding.
 
 abbrev pub IsDriversTransmitSlot : DriverState → ℕ → World → Type 0
 IsDriversTransmitSlot driver slot world = IsDriversSlot (transmit_ring world) driver.oldest_transmit slot
 
--- The slot at the tail is one.
+-- The transmit slot at the tail isn't outstanding.
 abbrev pub NextSlotBelongsToDriver : Type 0
 NextSlotBelongsToDriver =
     (driver : DriverState) (world : World) → Ready driver world → IsDriversTransmitSlot driver (transmit_tail driver) world
 
--- Data is stored into its buffer.
+-- Data is stored into the buffer of a slot that isn't outstanding.
 abbrev pub DataIsStored : Type 0
 DataIsStored =
     (driver : DriverState) (slot : ℕ) (bytes : List ℕ) (world : World) → Ready driver world → IsDriversTransmitSlot driver slot world
@@ -41,7 +41,7 @@ DataIsStored =
     → Goes (driver_in driver world) (driver_in driver (world_after_store (transmit_buffer driver.layout slot) bytes world))
     (driver_did [] []) nothing
 
--- Its descriptor is stored.
+-- The descriptor of a slot that isn't outstanding is stored.
 abbrev pub DescriptorIsStored : Type 0
 DescriptorIsStored =
     (driver : DriverState) (slot : ℕ) (bytes : List ℕ) (world : World) → Ready driver world → IsDriversTransmitSlot driver slot world
@@ -49,13 +49,13 @@ DescriptorIsStored =
     → Goes (driver_in driver world) (driver_in driver (world_after_store (transmit_slot driver.layout slot) bytes world))
     (driver_did [] []) nothing
 
--- Its buffer and its descriptor have the same bytes in both worlds.
+-- The buffer and the descriptor of a transmit slot have the same bytes in both worlds.
 pub record SameSlot (counts : Counts) (slot : ℕ) (a b : World) : Type 0 where
   pub data_same : bytes_in b.memory (area_of counts (TransmitBuffer slot)) ≡ bytes_in a.memory (area_of counts (TransmitBuffer slot))
   pub descriptor_same : bytes_at b.memory (transmit_slot counts slot) descriptor_bytes
       ≡ bytes_at a.memory (transmit_slot counts slot) descriptor_bytes
 
--- They stay the same whatever happens.
+-- The buffer and the descriptor of a transmit slot that is the driver's keep their bytes, whatever happens.
 abbrev pub SlotsKeepBytes : Type 0
 SlotsKeepBytes =
     (driver : DriverState) (slot : ℕ) (a b : World) (past : Past) → Ready driver a → IsDriversTransmitSlot driver slot a → Happens a b past
@@ -74,7 +74,7 @@ TailIsMoved =
     (driver : DriverState) (world : World) → Ready driver world
     → world_after_write TDT ((transmit_tail driver + 1) % driver.layout.tx) world ≡ offering_frame world
 
--- Then the frame, padded, is the last that is to be sent.
+-- If the slot at the tail has a frame, and the tail advances by one, the frame, padded, is the last that is to be sent.
 abbrev pub FrameIsOffered : Type 0
 FrameIsOffered =
     (driver : DriverState) (frame : List ℕ) (world : World) → Ready driver world → driver.sending + 1 < driver.layout.tx
@@ -88,13 +88,13 @@ FrameIsOffered =
 abbrev pub with_freed : DriverState → DriverState
 with_freed driver = record driver { oldest_transmit = (driver.oldest_transmit + 1) % driver.layout.tx; sending = driver.sending - 1 }
 
--- The oldest one is freed if it is done.
+-- The oldest outstanding slot is freed if its descriptor is done.
 abbrev pub SlotIsFreed : Type 0
 SlotIsFreed =
     (driver : DriverState) (world : World) → Ready driver world → 0 < driver.sending → is_done world.memory (oldest_slot driver) ≡ true
     → Goes (driver_in driver world) (driver_in (with_freed driver) world) (driver_did [] []) nothing
 
--- If it isn't done, or none is outstanding, none is written back.
+-- If the oldest outstanding slot isn't done, or no slot is outstanding, no slot is written back.
 abbrev pub NoneIsWrittenBack : Type 0
 NoneIsWrittenBack =
     (driver : DriverState) (world : World) → Ready driver world
@@ -117,13 +117,13 @@ IsLoadOrStore (Loads address size) = ⊤
 IsLoadOrStore (Stores address bytes) = ⊤
 IsLoadOrStore access = ⊥
 
--- These accesses are loads and stores, and then a write of TDT.
+-- The accesses are loads and stores, and then a write of TDT.
 pub record EndsWithTail (accesses : List Access) (slot : ℕ) : Type 0 where
   pub quiet : List Access
   pub all : All IsLoadOrStore quiet
   pub whole : accesses ≡ quiet ++ Writes TDT slot ∷ []
 
--- The accesses that free slots and then send a frame end with it.
+-- The accesses that free slots and then send a frame end with the write of TDT.
 abbrev pub SendsEndWithTail : Type 0
 SendsEndWithTail =
     (driver : DriverState) (frame : List ℕ) (k : ℕ)

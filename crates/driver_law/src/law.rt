@@ -10,8 +10,8 @@ ghost use Rattle.driver_law.specs.ReadyDrivers.{ReadyWith, Stands};
 ghost use Rattle.driver_law.specs.ReceiveSteps.{BuffersCanComeBack, PartsAreFew, RunCanBeTaken, RunIsOfFrame};
 ghost use Rattle.driver_law.specs.ReceiveSteps.{SlotsCanBeStaged, StagedCanBeOffered};
 
-/// Two intervals of a driver's run join to one. The frames taken, accepted, put and stored in it are those of both,
-/// in order, and its misses are those of both. The transmit side may be set up in between.
+/// Two consecutive intervals of a driver's run are one. The frames taken, accepted, put and stored in it are those of
+/// both, in order, and its misses are those of both. The transmit side may be set up in between.
 /// - `flows`: whichever registers are read.
 /// - `goes`: if ICR isn't read.
 pub fn stretches_join()
@@ -27,7 +27,7 @@ pub fn stretches_join()
         → GoesTo up (driver_in d1 a) (driver_in d3 c) (driver_did (t1 ++ t2) (g1 ++ g2)) (joined s1 s2) }
 {}
 
-/// What a driver may rely on between two of its calls, whatever happens.
+/// What holds between two calls of a driver, whatever happens.
 /// - `goes`: what it knows stays true, and what happens is an interval of its run in which no frame is taken or
 ///   accepted.
 /// - `work`: no work is forgotten, in any interval in which ICR isn't read.

@@ -1,5 +1,5 @@
-//! Calls of a host, its driver and its bus that take no memory, as what they need was made before. They succeed, even if
-//! every allocation after that fails.
+//! Calls of a host, its driver and its bus that take no memory, as what they need was made before. They succeed, even
+//! if every allocation after that fails.
 
 use crate::buses::{good_bus, new_host};
 use adapter::StepKind;

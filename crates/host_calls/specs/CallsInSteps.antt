@@ -60,8 +60,9 @@ pub record InSteps (k : ℕ) (given : List Given) (steps : List AtomicStep) (old
   -- The taken frames that go to a socket are appended to its queue, in order. The frames that a socket returned were at its queue's front.
   pub queues : (socket : ℕ) → given_for socket given ++ waiting_frames new.host socket (world_at new.stations k)
       ≡ waiting_frames old.host socket (world_at old.stations k) ++ socket_frames old.host.kinds socket act.taken
-  -- If the first access reads ICR: what it implies of the adapter when the call began, and of the ticks before this read, that the value
-  -- has a cause which a driver handles, and what, that it has none. (The value itself is that of the register, by `LeadsTo`.)
+  -- If the first access reads ICR: what a value with a cause that a driver handles implies of the adapter when the call
+  -- began and of the ticks before this read, and what a value without such a cause implies. (The value itself is that
+  -- of the register, by `LeadsTo`.)
   pub icr : (causes : ℕ) (more : List Access) → accesses_in act.stages ≡ Reads ICR causes ∷ more
       → TellsCauses k steps causes (world_at old.stations k).adapter
 

@@ -31,7 +31,7 @@ pub record StepsOfCall (call : PlayedCall) (steps : List AtomicStep) (old new : 
   pub numbered : noted_numbers (noted_of 0 steps) ≡ numbers call.ticks 0 call.accesses
   pub counted : call.accesses ≡ counted_of 0 steps
 
--- What a host does meanwhile. It is the host with number k.
+-- What the host with number k does during a call.
 pub record HostRuns (k : ℕ) (steps : List AtomicStep) (done : HostDid) (old new : ConnectedHost) : Type 0 where
   -- the host's frames are sent, held and given in order
   pub flows : HostFlowsTo true (in_world old.host (world_at old.stations k)) (in_world new.host (world_at new.stations k)) done

@@ -23,8 +23,8 @@ use Rattle.host_calls.specs.CallsInSteps.{InSteps}
 use Rattle.host_calls.specs.ConnectedHosts.{ConnectedHost}
 use Rattle.host_calls.specs.InterruptCauses.{AnswersCauses, ReadsIcrFirst, TellsCauses}
 
--- A host that is ready is called over a lent bus, and its first access reads ICR. The causes that it shows follow from its adapter when it
--- was called, and from the ticks played before.
+-- A host that is ready is called over a lent bus, and its first access reads ICR. The causes that this read returns
+-- follow from the host's adapter when it was called, and from the ticks played before.
 abbrev pub CallsTellCauses : {O : Type 0} → OfObserver O → Type 0
 CallsTellCauses {O} g =
     (a b : LentBus O g) (h : HostState) (causes : ℕ) (past : Past) (more : List Access) → HostReady h (world_here a)
@@ -40,14 +40,14 @@ pub record AnswerTells (result : Handled) (caller : ℕ) (steps : List AtomicSte
   pub not_mine : (result ≡ NotMine) ↔ (¬ (Meet causes handled_causes))
   pub answer : AnswersCauses result caller adapter tells.early
 
--- This holds of each result of an interrupt: it follows from the effect.
+-- `AnswerTells` holds of each result of an interrupt: it follows from the effect.
 abbrev pub AnswersTellCauses : Type 0
 AnswersTellCauses =
     (caller : ℕ) (given : List Given) (steps : List AtomicStep) (result : Handled) (old new : ConnectedHost)
     → InterruptEffect result old.host new.host (InSteps caller given steps old new) (world_at old.stations caller)
     → AnswerTells result caller steps (world_at old.stations caller).adapter
 
--- The first access is the first, whatever follows.
+-- The first read of ICR in some steps is also the first in these steps and later ones.
 abbrev pub FirstReadsStay : Type 0
 FirstReadsStay =
     (caller : ℕ) (steps early more : List AtomicStep) (causes : ℕ) → ReadsIcrFirst caller steps early causes

@@ -27,8 +27,8 @@ abbrev pub count_pending : Option Work → (line : ℕ) → ℕ
 count_pending None line = line
 count_pending (Some work) line = 3
 
--- The greatest number of steps that are left: four for each piece that is still to be moved, those above, and one for each frame that ends
--- in finished slots or is queued.
+-- The greatest number of steps that are left: four for each piece that is still to be moved, those of `count_pending`,
+-- and one for each frame that ends in finished slots or is queued.
 abbrev pub count_steps : HostState → World → ℕ
 count_steps host world =
     4 * count_left world + count_pending world.adapter.receiver.work (count_line world.adapter.causes)
@@ -65,7 +65,7 @@ pub record StepsOn (steps number : ℕ) (given : List Given) (old new : Connecte
   pub moves : DrainMovesFrames number played old.stations new.stations
   pub counts : CountsSteps steps number (length given) old new
 
--- An outlet: the frames that it has, and for how many more it has room.
+-- A sink of a drain: the frames that it has taken, and the number of further frames for which it has room.
 pub record OutletState : Type 0 where
   pub frames : List Given
   pub room : ℕ
@@ -73,7 +73,7 @@ pub record OutletState : Type 0 where
 abbrev pub outlet : List Given → ℕ → OutletState
 outlet frames room = record { frames = frames; room = room }
 
--- The frames that were given were appended to an outlet, and it still has at least the room that they didn't need.
+-- The frames that were returned were appended to a sink, which still has at least the room that they didn't need.
 pub record StepsInto (steps number : ℕ) (before after : OutletState) (old new : ConnectedHost) : Type 0 where
   pub given : List Given
   pub appended : after.frames ≡ before.frames ++ given

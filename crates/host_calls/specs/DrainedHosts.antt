@@ -38,7 +38,7 @@ pub record CanBeDrained (host : HostState) (world : World) : Type 0 where
 abbrev pub count_frames : HostState → World → ℕ
 count_frames host world = length (frames_held host.driver.oldest_receive world) + length (all_of host.queues)
 
--- how many receive buffers a frame of this size needs: so many pieces it has
+-- the number of receive buffers that a frame of this size needs, which is the number of its pieces
 abbrev pub buffers_for : (size : ℕ) → ℕ
 buffers_for size = (size + (receive_buffer_bytes - 1)) / receive_buffer_bytes
 
@@ -90,8 +90,8 @@ pub record KeepsMisses (h : HostState) (a : World) (h' : HostState) (b : World) 
       → h'.driver.missed + b.adapter.missed_packets ≡ h.driver.missed + a.adapter.missed_packets
   -- a count of at least the greatest u64 stays so
   pub sticks : sum_limit - 1 ≤ h.driver.missed + a.adapter.missed_packets → sum_limit - 1 ≤ h'.driver.missed + b.adapter.missed_packets
-  -- The count is exact if the driver's sum is, MPC is below its greatest value, and the two together fit into a u64. No more is said of a
-  -- count that isn't exact.
+  -- The count is exact if the driver's sum is, MPC is below its greatest value, and the two together fit into a u64.
+  -- For a count that isn't exact, nothing more is stated.
   pub exact :
       IsTrue h.driver.exact → a.adapter.missed_packets < greatest_count → h.driver.missed + a.adapter.missed_packets < sum_limit
       → IsTrue h'.driver.exact × (b.adapter.missed_packets < greatest_count)
@@ -117,7 +117,7 @@ pub record KeepsOthers (number : ℕ) (old new : List StationState) : Type 0 whe
 pub record GoesBy (number : ℕ) (given : List Given) (old new : ConnectedHost) : Type 0 where
   -- the atomic steps
   pub played : List AtomicStep
-  -- they lead from the stations before to those afterwards
+  -- the steps lead from the stations before to those afterwards
   pub leads : LeadsTo number played old.stations new.stations
   -- each is an access of the host, or an RxData or RxDone step of its adapter; steps that did nothing are among them
   pub only : All (IsDrainStep number) played
@@ -148,7 +148,7 @@ pub record Drains (steps number : ℕ) (given : List Given) (old new : Connected
   -- the atomic steps of the drain
   pub by : GoesBy number given old new
 
--- The frames that the drain gave were appended to those that the outlet had.
+-- The frames that the drain gave were appended to those that the sink had.
 pub record DrainsInto (steps number : ℕ) (before after : List Given) (old new : ConnectedHost) : Type 0 where
   pub given : List Given
   pub appended : after ≡ before ++ given

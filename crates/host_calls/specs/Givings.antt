@@ -4,12 +4,12 @@ use Rattle.stations.specs.ToldTicks.{TickTold}
 use Rattle.host_calls.specs.Notes.{NotesTicks}
 use Rattle.host_calls.specs.declared.giving.Giving.{Giving}
 
--- It still lends the same observer and the same notes.
+-- The bus still lends the same observer and the same notes.
 pub record KeepsReferences {O : Type 0} (old new : Giving O) : Type 0 where
   pub observer : new.observer.ghost_name ≡ old.observer.ghost_name
   pub noted : new.noted.ghost_name ≡ old.noted.ghost_name
 
--- The same observer was told this, and it was noted.
+-- The observer that is lent was told these ticks, and they were noted.
 pub record TellsAndNotes {O : Type 0} (heard : O → O → List TickTold → Type 0) (old new : Giving O) (told : List TickTold) : Type 0 where
   pub keeps : KeepsReferences old new
   pub tells : heard old.observer.now new.observer.now told

@@ -1,4 +1,4 @@
--- What was told in two intervals was told in both.
+-- What was told in two consecutive intervals was told in both together.
 use Rattle.std.proofs.Common.{List, refl, ◌∙◌}
 use Rattle.stations.specs.ToldTicks.{ComposesTold, TickTold}
 use Rattle.host_calls.specs.Givings.{TellsAndNotes}

@@ -1,4 +1,4 @@
--- What the answer of an interrupt handler says of the adapter whose handler it is (13.4.17 "Interrupt Cause Read Register"; that a
+-- What the answer of an interrupt handler implies of its adapter (13.4.17 "Interrupt Cause Read Register"; that a
 -- handler is called over a lent bus is our choice).
 use Rattle.std.specs.Prelude.{⊤, ◌≡◌, ◌≢◌, ◌⊎◌, ◌++◌, ◌∷◌, [], ℕ, Bool, true, false, List, All}
 use Rattle.registers.specs.Bits.{Meet}
@@ -43,7 +43,7 @@ IsQuietOutcome ends Done = ends ≡ false
 IsQuietOutcome ends (Delivered frame Missed) = ⊥
 IsQuietOutcome ends outcome = ⊤
 
--- The outcomes of events at an adapter are such, one after the other.
+-- The outcomes of these events are quiet (`IsQuietOutcome`), one after the other.
 abbrev pub AreQuietEvents : (ends : Bool) → List Event → Type 0
 AreQuietEvents ends [] = ⊤
 AreQuietEvents ends (event ∷ later) =
@@ -53,13 +53,13 @@ AreQuietEvents ends (event ∷ later) =
 pub record DidSomething (caller : ℕ) (early : List AtomicStep) : Type 0 where
   -- the steps before it
   pub before : List AtomicStep
-  -- what it was
+  -- what happened
   pub event : Event
   -- the steps after it
   pub behind : List AtomicStep
-  -- it is one of the early steps
+  -- this event is one of the early steps
   pub split : early ≡ before ++ At caller event ∷ behind
-  -- its outcome isn't Nothing
+  -- the outcome of the event isn't Nothing
   pub something : outcome_of_event event ≢ Nothing
 
 -- When the call began no cause was recorded that a driver handles, and no early step at the caller put a frame, missed one, or wrote back
@@ -68,23 +68,23 @@ abbrev pub WasQuiet : (caller : ℕ) → AdapterState → (early : List AtomicSt
 WasQuiet caller adapter early =
     (¬ (Meet adapter.causes.recorded handled_causes)) × AreQuietEvents (is_ending adapter.receiver.work) (events_at caller early)
 
--- Such a cause was recorded then, or an early step at the caller did something.
+-- When the call began a cause was recorded that a driver handles, or an early step at the caller did something.
 abbrev pub HadCause : (caller : ℕ) → AdapterState → (early : List AtomicStep) → Type 0
 HadCause caller adapter early = Meet adapter.causes.recorded handled_causes ⊎ DidSomething caller early
 
--- The first access reads ICR, with the value `causes`. What it implies of the caller's adapter when the call began, and of the steps before
--- the read (`early`), that this value has a cause which a driver handles, and what, that it has none.
+-- The first access reads ICR, with the value `causes`. `mine` and `quiet` state what this implies of the caller's
+-- adapter when the call began, and of the steps before the read (`early`).
 pub record TellsCauses (caller : ℕ) (steps : List AtomicStep) (causes : ℕ) (adapter : AdapterState) : Type 0 where
   -- the steps before the read
   pub early : List AtomicStep
   -- ICR is read after them
   pub first : ReadsIcrFirst caller steps early causes
-  -- no such cause was read
+  -- if the value has no cause that a driver handles, `WasQuiet` holds
   pub quiet : ¬ (Meet causes handled_causes) → WasQuiet caller adapter early
-  -- such a cause was read
+  -- if the value has a cause that a driver handles, `HadCause` holds
   pub mine : Meet causes handled_causes → HadCause caller adapter early
 
--- what the result of an interrupt says of the adapter and of the steps before the read of ICR
+-- what the result of an interrupt implies of the adapter and of the steps before the read of ICR
 abbrev pub AnswersCauses : Handled → (caller : ℕ) → AdapterState → (early : List AtomicStep) → Type 0
 AnswersCauses NotMine = WasQuiet
 AnswersCauses (answers.Handled taken) = HadCause

@@ -5,7 +5,7 @@ use Rattle.stations.specs.Retelling.{Retells, SameLent, bytes_here, world_here}
 use Rattle.stations.specs.declared.lent_bus.LentBus.{LentBus}
 use Rattle.stations.specs.declared.observer.Observer.{Ghosts as OfObserver}
 
--- what a lent bus shows of itself
+-- the ghost members of a lent bus
 abbrev pub lent : {O : Type 0} {g : OfObserver O} → Ghosts (LentBus O g)
 lent = record {
   extent = bytes_here;

@@ -16,7 +16,7 @@ pub record NetworkState : Type 0 where
 abbrev pub IsHost : NetworkState → (k : ℕ) → HostState → Type 0
 IsHost network k host = slice_get network.hosts k ≡ Some host
 
--- What is known of a host, also of one that isn't there: that one has no slots, no buffers, no sockets and no groups.
+-- The driver of a host that isn't there: it has no slots, no buffers and no groups.
 
 abbrev pub no_driver : DriverState
 no_driver = record {
@@ -46,6 +46,6 @@ nth_host network k = host_or_empty (slice_get network.hosts k)
 abbrev pub connected_at : NetworkState → (k : ℕ) → ConnectedHost
 connected_at network k = connected (nth_host network k) network.stations
 
--- Of all hosts only the k-th changes: its driver and sockets. What stations do, the other clauses of a call say.
+-- Of all hosts only the k-th changes: its driver and sockets. The other clauses of a call state what stations do.
 abbrev pub OnlyHostChanges : (k : ℕ) → (old new : NetworkState) → Type 0
 OnlyHostChanges k old new = new.hosts ≡ slice_set old.hosts k (nth_host new k)

@@ -10,7 +10,7 @@ use Rattle.stations.specs.declared.tick.Tick.{Tick}
 use Rattle.stations.specs.declared.tick.Tick.TheVariants.{Deliver, Go, Step}
 use Rattle.stations.specs.ToldTicks.{TickTold}
 
--- it is a tick of this host
+-- whether the tick is one of this host
 abbrev pub is_of : (host : ℕ) → Tick → Bool
 is_of host Go = false
 is_of host (Step other kind) = other == host
@@ -26,11 +26,11 @@ abbrev pub frames_stored : FrameOutcome → List (List ℕ)
 frames_stored (Delivered frame Stored) = frame ∷ []
 frames_stored outcome = []
 
--- what a host put by an outcome numbered up to 2
+-- the frame that a host put, if the outcome has a number up to 2
 abbrev pub early_put : (host : ℕ) → TickTold → List (List ℕ)
 early_put host told = if is_of host told.tick && nat_le told.accesses 2 then frames_put told.outcome else []
 
--- what it stored by an outcome numbered 0
+-- the frame that the host stored, if the outcome has number 0
 abbrev pub first_stored : (host : ℕ) → TickTold → List (List ℕ)
 first_stored host told = if is_of host told.tick && told.accesses == 0 then frames_stored told.outcome else []
 
@@ -58,6 +58,6 @@ pub record Noting (before after : Notes) (told : List TickTold) : Type 0 where
   pub notes : after ≡ noted_after told before
   pub within : AreWithin after
 
--- These ticks were noted.
+-- The ticks that were told were noted.
 abbrev pub NotesTicks : Notes → Notes → List TickTold → Type 0
 NotesTicks before after told = AreWithin before → Noting before after told

@@ -1,4 +1,4 @@
--- Notes of two intervals are notes of both.
+-- Notes of two consecutive intervals are notes of both together.
 use Rattle.std.proofs.Common.{◌≡◌, ◌≤◌, ◌++◌, [], ◌∷◌, ℕ, List, length, take, refl, sym, ap, ◌∙◌, arith, append_assoc, suc, zero}
 use Rattle.std.specs.List.{flat_map}
 use Rattle.std.proofs.lemmas.List.{append-nil, length-append}

@@ -51,8 +51,8 @@ at_rest k setup parts = reset_of k ∷ (parts.resting ++ enable_of k setup ∷ [
 abbrev pub whole_reset : (k : ℕ) → DriverSetup → ResetParts → List AtomicStep
 whole_reset k setup parts = before_reset k parts ++ (at_rest k setup parts ++ parts.later)
 
--- what a driver reads and stores in a reset, beside what its setup determines: the values of MPC and ICR, the words of the group table and
--- of the VLAN table, and the numbers of the buffers that it offers
+-- what a driver reads and stores in a reset, besides what its setup determines: the values of MPC and ICR, the words of
+-- the group table and of the VLAN table, and the numbers of the buffers that it offers
 pub record ResetValues : Type 0 where
   -- the value read from MPC
   pub misses : ℕ

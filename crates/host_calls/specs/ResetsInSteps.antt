@@ -24,7 +24,8 @@ use Rattle.host_calls.specs.ResetSteps.{PartsAccess, ResetParts, ResetValues, at
 abbrev pub stopped_host : (misses : ℕ) → HostState → HostState
 stopped_host misses host = record host { driver = with_missed misses host.driver }
 
--- Until CTRL.RST is written: the host takes no frame and accepts none. None is stored or missed after RCTL is 0.
+-- The steps until CTRL.RST is written: the host takes no frame and accepts none. Once RCTL is 0, no frame is stored or
+-- missed.
 pub record StopsInSteps (k misses : ℕ) (parts : ResetParts) (old : ConnectedHost) (last : List StationState) : Type 0 where
   -- the steps lead from the stations before to those at the write of CTRL.RST
   pub leads : LeadsTo k (before_reset k parts) old.stations last
@@ -36,8 +37,8 @@ pub record StopsInSteps (k misses : ℕ) (parts : ResetParts) (old : ConnectedHo
   -- no frame is missed after RCTL is 0
   pub none_missed : (past_at k parts.stopping).missed ≡ 0
 
--- From this write to that of RCTL: first the adapter is as after a reset, with RNBC, GPRC and GPTC at 0; then no frame is put, stored or
--- missed.
+-- The steps from the write of CTRL.RST to that of RCTL: first the adapter is as after a reset, with RNBC, GPRC and GPTC
+-- at 0; then no frame is put, stored or missed.
 pub record RestsInSteps (k : ℕ) (setup : DriverSetup) (parts : ResetParts) (last enabled : List StationState) : Type 0 where
   -- the steps lead from CTRL.RST to the write of RCTL
   pub leads : LeadsTo k (at_rest k setup parts) last enabled
@@ -56,7 +57,7 @@ pub record HostBeginsAgain (misses : ℕ) (numbers : List ℕ) (old new : HostSt
   -- no buffer is free, or all slots but one are offered
   pub refilled : IsRefilled new.driver
 
--- After the write of RCTL: the host is ready again, and what it holds was stored since.
+-- The steps after the write of RCTL: the host is ready again, and what it holds was stored since.
 pub record RestartsInSteps (k : ℕ) (parts : ResetParts) (enabled : List StationState) (new : ConnectedHost) : Type 0 where
   -- the steps lead from the write of RCTL to the stations afterwards
   pub leads : LeadsTo k parts.later enabled new.stations
@@ -71,8 +72,8 @@ pub record RestartsInSteps (k : ℕ) (parts : ResetParts) (enabled : List Statio
   -- no frame is to be sent
   pub none_to_send : frames_to_send (world_at new.stations k) ≡ []
 
--- What is after the reset as it was before: what the driver set up, the numbers in the group table, the frames in the sockets' queues, and
--- a link that is up. The count of misses loses none.
+-- What a reset doesn't change: what the driver set up, the numbers in the group table, the frames in the sockets'
+-- queues, and a link that is up. The count of misses loses none.
 pub record KeepsInReset (k : ℕ) (steps : List AtomicStep) (old new : ConnectedHost) : Type 0 where
   -- the adapter has the driver's setup
   pub set_up : HasSetup old.host.driver.setup (world_at new.stations k).adapter
@@ -101,21 +102,22 @@ pub record ResetsInSteps (k : ℕ) (steps : List AtomicStep) (old new : Connecte
   pub accesses : PartsAccess k old.host.driver.layout old.host.driver.setup values parts
   -- all stations when CTRL.RST is written, and right after RCTL is written
   pub last : List StationState
-  -- all stations right after RCTL is written
+  -- all stations right the steps after the write of RCTL is written
   pub enabled : List StationState
-  -- until CTRL.RST
+  -- the steps up to the write of CTRL.RST
   pub stops : StopsInSteps k values.misses parts old last
-  -- from CTRL.RST to RCTL
+  -- the steps from the write of CTRL.RST to the write of RCTL
   pub rests : RestsInSteps k old.host.driver.setup parts last enabled
-  -- after RCTL
+  -- the steps after the write of RCTL
   pub restarts : RestartsInSteps k parts enabled new
-  -- the host afterwards
+  -- the host after the reset
   pub again : HostBeginsAgain values.misses values.numbers old.host new.host
-  -- what is as before
+  -- what the reset doesn't change
   pub keeps : KeepsInReset k steps old new
 
--- What is given up: what is to be sent, and what is held, when CTRL.RST is written. By the outcomes: what was to be sent at the beginning,
--- without what was put since; and what was held at the beginning, then what was stored before RCTL was written.
+-- The frames that a reset gives up: those to be sent, and those held, when CTRL.RST is written. By the outcomes these
+-- are the frames to be sent at the beginning, without those put since, and the frames held at the beginning, then those
+-- stored before RCTL was written.
 pub record GivesUp (sending holding : List (List ℕ)) (k oldest : ℕ) (parts : ResetParts) (old last : World) : Type 0 where
   pub sending_then : sending ≡ frames_to_send last
   pub holding_then : holding ≡ frames_held oldest last
@@ -128,7 +130,7 @@ pub record RunsReset (call : PlayedCall) (old new : ConnectedHost) : Type 0 wher
   pub of_call : StepsOfCall call steps old.stations new.stations
   pub resets : ResetsInSteps call.caller steps old new
 
--- It gave up these frames, and so many accesses were made when RCTL was written again.
+-- A reset gave up these frames. The write of RCTL that enables the receiver again was the access with the number `on_after`.
 pub record MakesReset (call : PlayedCall) (sending holding : List (List ℕ)) (on_after : ℕ) (old new : ConnectedHost) : Type 0 where
   pub runs : RunsReset call old new
   pub gives_up : GivesUp sending holding call.caller old.host.driver.oldest_receive runs.resets.parts (world_at old.stations call.caller)

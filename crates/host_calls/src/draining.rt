@@ -32,7 +32,7 @@ fn first_waiting(host: &Host) -> Option<usize>
 }
 
 impl Network {
-    /// Drains a host: gives each frame that it holds for its sockets to `sink`, and returns the number of steps. No
+    /// Drains a host: passes each frame that it holds for its sockets to `sink`, and returns the number of steps. No
     /// tick is played in its calls. `sink` keeps the room that it doesn't need.
     ///
     /// Each step is the first of these that applies. If a piece of a frame is in progress, the host's adapter writes
@@ -58,8 +58,7 @@ impl Network {
     }
 
     /// The next step of a drain, if one applies: else nothing is held. A frame that a socket returns is first copied to
-    /// `bytes`. The room may rest on what holds of every adapter. Of hosts and stations only this one changes, and no
-    /// end of a wire.
+    /// `bytes`. Only this host and its station change, and no end of a wire.
     fn step<S: Outlet>(&mut self, number: usize, bytes: &mut [u8; 1518], sink: &mut S) -> bool
         requires there { number < length self.old.hosts }
         requires stands { CanBeDrained (nth_host self.old number) (world_at self.old.stations number) }
@@ -99,8 +98,8 @@ impl Network {
         matches!(self.stations.step(number, StepKind::RxDone), Outcome::Done)
     }
 
-    /// The second kind of step: the host handles an interrupt, without ticks. Of hosts and stations only this one
-    /// changes, and no end of a wire.
+    /// The second kind of step: the host handles an interrupt, without ticks. Only this host and its station change,
+    /// and no end of a wire.
     fn handle(&mut self, number: usize, bytes: &mut [u8; 1518])
         requires there { number < length self.old.hosts }
         requires stands { CanBeDrained (nth_host self.old number) (world_at self.old.stations number) }
@@ -113,8 +112,8 @@ impl Network {
         self.call(number, HostCall::Interrupt, &[], &mut Nobody, bytes);
     }
 
-    /// The third kind of step: the host gives the oldest frame that waits for a socket, to the sink, without ticks. It
-    /// is first copied to `bytes`.
+    /// The third kind of step: the host passes the oldest frame that waits for a socket to the sink, without ticks. The
+    /// frame is first copied to `bytes`.
     fn give<S: Outlet>(
         &mut self,
         number: usize,

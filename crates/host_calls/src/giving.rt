@@ -40,7 +40,7 @@ impl Model for Noted {
 }
 
 impl Noted {
-    /// No tick yet. Frames are appended to `holding`, up to `most` in all.
+    /// No tick is noted yet. Frames are appended to `holding`, up to `most` in all.
     pub(crate) fn new(host: usize, most: usize, holding: Vec<Frame>) -> Noted
         requires room { most ≤ vec_capacity holding }
         requires fits { length holding.items ≤ most }
@@ -97,7 +97,7 @@ fn is_of(host: usize, tick: Tick) -> bool
     }
 }
 
-/// An observer of the ticks of a reset. Of what it is told, it also takes notes.
+/// An observer of the ticks of a reset. It passes on what it is told, and also takes notes.
 #[derive(Drop)]
 pub(crate) struct Giving<'a, O: Observer> {
     pub(crate) observer: &'a mut O,

@@ -36,7 +36,7 @@ impl Model for Network {
 }
 
 impl Network {
-    /// No hosts.
+    /// A network without hosts.
     pub fn new(alloc: Global) -> Network
         ensures { result ≡ record {
           hosts = [];

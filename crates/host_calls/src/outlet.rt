@@ -7,13 +7,13 @@ use descriptors::Frame;
 
 /// Takes the frames of a host that is drained, each with the number of the socket that it waited for.
 pub trait Outlet {
-    /// What it has, in order.
+    /// The frames that it has taken, in order.
     ghost frames: { Self → List Given };
 
-    /// How many frames more it has room for.
+    /// The number of further frames for which it has room.
     ghost room_left: { Self → ℕ };
 
-    /// How many frames more it has room for.
+    /// The number of further frames for which it has room.
     fn room(&self) -> usize
         ensures { result ≡ room_left self.now };
 

@@ -25,16 +25,16 @@ const OTHER_ACCESSES: u64 = 302;
 /// The frames that a reset of a host gives up.
 #[derive(Debug, Drop)]
 pub struct GivenUp {
-    /// Those that were to be sent, oldest first.
+    /// The frames that were to be sent, oldest first.
     pub sending: Vec<Frame>,
-    /// Those that were held, oldest first.
+    /// The frames that were held, oldest first.
     pub holding: Vec<Frame>,
 }
 
-/// What came of a reset.
+/// The result of a reset.
 #[derive(Debug, Drop)]
 pub struct WasReset {
-    /// The frames that it gave up.
+    /// The frames that the reset gave up.
     pub given_up: GivenUp,
     /// The number of accesses when RCTL was written again.
     pub on_after: u64,
@@ -42,7 +42,7 @@ pub struct WasReset {
     pub accesses: u64,
 }
 
-/// Removes so many frames from the front of a list, or all if it has fewer.
+/// Removes `count` frames from the front of a list, or all if it has fewer.
 fn drop_first(frames: &mut Vec<Frame>, count: u64)
     ensures { frames.new.items ≡ drop (min (length frames.old.items) count) frames.old.items }
 {

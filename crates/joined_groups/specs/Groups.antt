@@ -18,7 +18,7 @@ use Rattle.bus.specs.declared.event.Access.TheVariants.{Writes}
 use Rattle.driver_law.specs.Calls.{Moment, Ran, at, only}
 use Rattle.driver_law.specs.DriverState.{DriverState}
 
--- No group stands twice.
+-- No group is in the list twice.
 abbrev pub EachOnce : List (List ℕ) → Type 0
 EachOnce [] = ⊤
 EachOnce (group ∷ later) = (¬ (Contains later group)) × EachOnce later
@@ -29,9 +29,9 @@ pub record AreJoined (groups : List (List ℕ)) : Type 0 where
   pub groups_all : All IsGroup groups
   pub once : EachOnce groups
 
--- These are the named groups, each once.
+-- `groups` has the named groups, each once.
 pub record AreNamedOnce (named groups : List (List ℕ)) : Type 0 where
-  -- no group stands twice
+  -- no group is in the list twice
   pub once : EachOnce groups
   -- a group is in the list if and only if it is named
   pub same : (group : List ℕ) → Contains groups group ↔ Contains named group
@@ -42,7 +42,7 @@ pub record AreNamedOnce (named groups : List (List ℕ)) : Type 0 where
 abbrev pub number_of : List ℕ → ℕ
 number_of group = group_number (shift_of Bits47To36) group
 
--- A group in the list has the number of this one.
+-- A group in the list has the same number as this group.
 abbrev pub HasNumber : List (List ℕ) → List ℕ → Type 0
 HasNumber groups group = Contains (numbers_of_groups groups) (number_of group)
 
@@ -53,7 +53,7 @@ pub record HasTable (groups : List (List ℕ)) (world : World) : Type 0 where
   -- each word of MTA has 32 bits
   pub words : AreWords world.adapter.filter.mta
 
--- So the groups determine the table.
+-- The groups joined determine the words of MTA.
 abbrev pub TablesAgree : Type 0
 TablesAgree =
     (groups : List (List ℕ)) (a b : World) → HasTable groups a → HasTable groups b → b.adapter.filter.mta ≡ a.adapter.filter.mta
@@ -83,7 +83,7 @@ SetsTable kept group groups accesses =
 
 -- A driver joins or leaves a group.
 
--- the same driver, with these groups joined
+-- the driver with these groups joined
 abbrev pub with_groups : List (List ℕ) → DriverState → DriverState
 with_groups groups driver = record driver { groups = groups }
 
@@ -96,7 +96,8 @@ pub record ChangesJoined {B : Type 0} (bus : Ghosts B) (up : Bool) (kept : List 
     pub ran : Ran bus up (only accesses) old new
     pub table : HasTable old.driver.groups (bus.world old.bus) → HasTable new.driver.groups (bus.world new.bus)
 
--- That word of the table was written: in the adapter it alone changed, and no frame came or went.
+-- The word of the table with this group's bit was written. In the adapter only this word changed, and no frame came or
+-- went.
 pub record RewritesWord {B : Type 0} (bus : Ghosts B) (up : Bool) (group : List ℕ) (groups : List (List ℕ)) (d : DriverState) (old new : B)
     : Type 0 where
   pub value : ℕ

@@ -26,7 +26,7 @@ use thiserror::Error;
 /// Why a group isn't joined or left.
 #[derive(Clone, Copy, Debug, PartialEq, Eq, Error)]
 pub enum GroupError {
-    /// The low bit of the address's first byte is clear: it isn't a group's.
+    /// The low bit of the address's first byte is clear: the address isn't one of a group.
     #[error("E23 NotGroup")]
     NotGroup,
     /// 32 groups are joined.
@@ -93,7 +93,7 @@ impl Groups {
         self.place_of(group).is_some()
     }
 
-    /// Where a group stands.
+    /// The place of a group in the list.
     fn place_of(&self, group: &[u8; 6]) -> Option<usize>
         ensures some { IfSome result (λ place. slice_get self.now place ≡ Some group.now) }
         ensures none { IfNone result (¬ (Contains self.now group.now)) }
@@ -141,7 +141,7 @@ impl Groups {
         ensures room { OnOk result (length self.old < MOST_GROUPS) }
         ensures quiet { HasNumber self.old group → bus.new ≡ bus.old }
 
-        // And over one that obeys the law.
+        // What it does over a bus that obeys the law.
         ensures changes { (up : Bool) (d : DriverState) → IsReady B.Bus up (at bus.old d)
             → OnOk result (ChangesJoined B.Bus up self.old group (at bus.old (with_groups self.old d))
             (at bus.new (with_groups self.new d))) }
@@ -181,7 +181,7 @@ impl Groups {
         ensures list { OnOk result (Removes group self.old self.new) }
         ensures quiet { HasNumber self.new group → bus.new ≡ bus.old }
 
-        // And over one that obeys the law.
+        // What it does over a bus that obeys the law.
         ensures changes { (up : Bool) (d : DriverState) → IsReady B.Bus up (at bus.old d)
             → OnOk result (ChangesJoined B.Bus up self.new group (at bus.old (with_groups self.old d))
             (at bus.new (with_groups self.new d))) }

@@ -1,4 +1,4 @@
--- Events and answers of calls, with the frame that a socket gave (our choice).
+-- Events and answers of calls, with the frame that a socket returned (our choice).
 use Rattle.std.specs.Prelude.{◌∷◌, [], Err, List, Ok, ℕ}
 use Rattle.stations.specs.declared.tick.Tick.{Tick}
 use Rattle.packet_socket.specs.declared.call.HostAnswer.{HostAnswer}
@@ -13,7 +13,7 @@ use Rattle.network_plan.specs.declared.reply.Answer.TheVariants.{Interrupted, Jo
 abbrev pub FrameAnswer : Type 0
 FrameAnswer = Answer (List ℕ)
 
--- the same answer, with this frame if it has one
+-- this answer, with `frame` in place of its frame, if it has one
 abbrev pub answer_with : {F G : Type 0} → G → Answer F → Answer G
 answer_with frame (Sent sent) = Sent sent
 answer_with frame (Received (Ok old)) = Received (Ok frame)

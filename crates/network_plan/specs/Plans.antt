@@ -11,15 +11,15 @@ use Rattle.network_plan.specs.declared.plan.HostPlan.{HostPlan}
 use Rattle.network_plan.specs.declared.plan_error.PlanError.{PlanError}
 use Rattle.network_plan.specs.declared.plan_error.PlanError.TheVariants as refused
 
--- how many bytes a name has at most, how many ends a wire, and how many hosts a network
+-- the greatest number of bytes of a name
 abbrev pub most_name_bytes : ℕ
 most_name_bytes = 16
 
--- a wire has at most so many ends
+-- the greatest number of ends of a wire
 abbrev pub most_ends : ℕ
 most_ends = 8
 
--- a network has at most so many hosts
+-- the greatest number of hosts of a network
 abbrev pub most_hosts : ℕ
 most_hosts = 16
 
@@ -33,10 +33,10 @@ pub record IsName (bytes : List ℕ) : Type 0 where
   pub least : 1 ≤ length bytes
   -- not too many bytes
   pub most : length bytes ≤ most_name_bytes
-  -- each is a byte of a name
+  -- each byte may be in a name
   pub all : All (λ byte. is_of_name byte ≡ true) bytes
 
--- how many hosts have this name, and are on the wire of this name
+-- the number of hosts with this name
 abbrev pub hosts_named : List HostPlan → String Global → ℕ
 hosts_named hosts name = count_by (λ (host : HostPlan). string_eq host.name name) hosts
 
@@ -44,7 +44,7 @@ hosts_named hosts name = count_by (λ (host : HostPlan). string_eq host.name nam
 abbrev pub hosts_on : List HostPlan → String Global → ℕ
 hosts_on hosts wire = count_by (λ (host : HostPlan). string_eq host.wire wire) hosts
 
--- Both names are right, and no other host has its name.
+-- The names of the host and of its wire are right, and no other host has its name.
 pub record HasName (hosts : List HostPlan) (host : HostPlan) : Type 0 where
   -- the host's name
   pub name : IsName (string_bytes host.name)
@@ -55,19 +55,19 @@ pub record HasName (hosts : List HostPlan) (host : HostPlan) : Type 0 where
 
 -- Each host has its own right name, and its wire has a right name.
 pub record HasNames (hosts : List HostPlan) : Type 0 where
-  -- each of them
+  -- each host has its own right name
   pub all : All (HasName hosts) hosts
 
--- a wire may have so many ends
+-- A wire may have this number of ends.
 pub record IsEndCount (ends : ℕ) : Type 0 where
   -- at least two
   pub least : 2 ≤ ends
   -- at most eight
   pub most : ends ≤ most_ends
 
--- Its wire has 2 to 8 ends.
+-- The host's wire has 2 to 8 ends.
 pub record HasWire (hosts : List HostPlan) (host : HostPlan) : Type 0 where
-  -- so many hosts are on its wire
+  -- the number of hosts on its wire is allowed
   pub ends : IsEndCount (hosts_on hosts host.wire)
 
 -- Each wire has 2 to 8 ends.
@@ -82,11 +82,11 @@ pub record HasHosts (hosts : List HostPlan) : Type 0 where
   -- at most 16
   pub most : length hosts ≤ most_hosts
 
--- A host that has the address of another is that one, by its name.
+-- If both hosts have one address, they have one name.
 abbrev pub IsSameIfAddressed : (host other : HostPlan) → Type 0
 IsSameIfAddressed host other = address_bytes other.image ≡ address_bytes host.image → string_eq other.name host.name ≡ true
 
--- Its address is an individual one, and no other host has it.
+-- The host's address is an individual one, and no other host has it.
 pub record HasAddress (hosts : List HostPlan) (host : HostPlan) : Type 0 where
   -- its address isn't one of a group
   pub individual : IsIndividual (address_bytes host.image)
@@ -95,10 +95,11 @@ pub record HasAddress (hosts : List HostPlan) (host : HostPlan) : Type 0 where
 
 -- Each host has its own individual address.
 pub record HasAddresses (hosts : List HostPlan) : Type 0 where
-  -- each of them
+  -- each host has its own individual address
   pub all : All (HasAddress hosts) hosts
 
--- Its configuration can be had in a memory that is large enough, and its link comes up after a tick at least, or never.
+-- The host's configuration is valid in a memory that is large enough, and its link needs at least one tick, or is never
+-- up.
 pub record HasConfig (host : HostPlan) : Type 0 where
   -- its rings, buffers, packet buffer, groups and VLANs are valid
   pub config : CanBeHad host.config (2 ^ 64 - 1)
@@ -107,10 +108,10 @@ pub record HasConfig (host : HostPlan) : Type 0 where
 
 -- Each host has a valid configuration.
 pub record HasConfigs (hosts : List HostPlan) : Type 0 where
-  -- each of them
+  -- each host has a valid configuration
   pub all : All HasConfig hosts
 
--- Which answer a plan gets: the first reason to refuse it, and Ok exactly where there is none.
+-- Which answer a plan gets: the first reason to refuse it, and Ok exactly if there is none.
 abbrev pub IsPlanAnswer : List HostPlan → Result (Unit {0}) PlanError → Type 0
 IsPlanAnswer hosts (Err refused.Name) = ¬ (HasNames hosts)
 IsPlanAnswer hosts (Err refused.Ends) = HasNames hosts × (¬ (HasEnds hosts))

@@ -3,8 +3,8 @@
 use stations::Tick;
 
 /// An event of a run. The ticks of a call, or of a reset, up to the next [`Go`](Tick::Go) are played just before its
-/// next access; what is left behind its last access is played then, with each `Go` skipped. Hosts are numbered from 0
-/// in the order of the plan.
+/// next access; the ticks that are left after its last access are played then, with each `Go` skipped. Hosts are
+/// numbered from 0 in the order of the plan.
 #[derive(Debug, Drop)]
 pub enum Event {
     /// A host sends a frame of any length. The answer is E20 if the frame has fewer than 14 bytes, and E21 if it has
@@ -66,7 +66,7 @@ impl Event {
     ghost use Rattle.std.specs.Prelude.{◌≡◌, length};
     ghost use Rattle.network_plan.specs.Answers.{ticks_of};
 
-    /// The number of its ticks, each `Go` among them.
+    /// The number of the event's ticks, each `Go` included.
     pub fn tick_count(&self) -> usize
         ensures { result ≡ length (ticks_of self.now) }
     {

@@ -26,17 +26,17 @@ pub const MOST_SOCKETS: usize = 8;
 /// A host, as it is to be.
 #[derive(Debug, Drop, PartialEq, Eq)]
 pub struct HostPlan {
-    /// Its name: 1 to 16 bytes of `a-z 0-9 _ -`, and no other host's.
+    /// The name of the host: 1 to 16 bytes of `a-z 0-9 _ -`. No other host has it.
     pub name: String,
     /// The name of the wire that it is on, spelled the same way.
     pub wire: String,
-    /// The EEPROM of its adapter; its address is an individual one, and no other host's.
+    /// The EEPROM of its adapter; its address is an individual one, which no other host has.
     pub image: Image,
     /// When its link comes up.
     pub link: Link,
-    /// What its adapter is brought up with.
+    /// The configuration with which its adapter is initialized.
     pub config: Config,
-    /// Its sockets, in the order in which a frame asks them.
+    /// Its sockets, in the order in which a frame looks for its socket.
     pub sockets: ArrayVec<SocketKind, MOST_SOCKETS>,
 }
 
@@ -48,7 +48,8 @@ pub struct Plan {
 }
 
 impl Plan {
-    /// Looks whether a network can be made by this plan, as far as the plan alone says it.
+    /// Checks whether this plan is valid: whether a network can be made by it, if memory isn't refused and each host
+    /// can be initialized.
     ///
     /// # Errors
     ///
@@ -77,7 +78,7 @@ impl Plan {
     }
 }
 
-/// Whether a byte may stand in a name.
+/// Whether a byte may be in a name.
 fn is_of_name(byte: u8) -> bool
     ensures { result ≡ Rattle.network_plan.specs.Plans.is_of_name byte }
 {
@@ -101,14 +102,14 @@ fn count_named(hosts: &[HostPlan], name: &String) -> usize
     hosts.iter().filter(|host| host.name == *name).count()
 }
 
-/// How many hosts are on the wire of this name: as many ends it has.
+/// The number of hosts on the wire of this name, which is the number of its ends.
 fn count_ends(hosts: &[HostPlan], wire: &String) -> usize
     ensures { result ≡ hosts_on hosts.now wire.now }
 {
     hosts.iter().filter(|host| host.wire == *wire).count()
 }
 
-/// Whether a host's names are right, and its own name no other's.
+/// Whether a host's names are right, and no other host has its name.
 fn has_name(hosts: &[HostPlan], host: &HostPlan) -> bool
     ensures { IsTrue result ↔ HasName hosts.now host.now }
 {
@@ -117,7 +118,7 @@ fn has_name(hosts: &[HostPlan], host: &HostPlan) -> bool
         && count_named(hosts, &host.name) == 1
 }
 
-/// Whether all names are right, and each host's its own.
+/// Whether all names are right, and each host has a name of its own.
 fn have_names(hosts: &[HostPlan]) -> bool
     ensures { IsTrue result ↔ HasNames hosts.now }
 {
@@ -151,21 +152,21 @@ fn is_same_if_addressed(host: &HostPlan, other: &HostPlan) -> bool
     other.image.address() != host.image.address() || other.name == host.name
 }
 
-/// Whether a host's address is an individual one, and no other's.
+/// Whether a host's address is an individual one, and no other host has it.
 fn has_address(hosts: &[HostPlan], host: &HostPlan) -> bool
     ensures { IsTrue result ↔ HasAddress hosts.now host.now }
 {
     host.image.address()[0] % 2 == 0 && hosts.iter().all(|other| is_same_if_addressed(host, other))
 }
 
-/// Whether each address is an individual one, and no other host's.
+/// Whether each address is an individual one, and no other host has it.
 fn have_addresses(hosts: &[HostPlan]) -> bool
     ensures { IsTrue result ↔ HasAddresses hosts.now }
 {
     hosts.iter().all(|host| has_address(hosts, host))
 }
 
-/// Whether each host's configuration can be had, and its link comes up after a tick at least, or never.
+/// Whether each host's configuration is valid, and its link needs at least one tick, or is never up.
 fn have_configs(hosts: &[HostPlan]) -> bool
     ensures { IsTrue result ↔ HasConfigs hosts.now }
 {

@@ -3,7 +3,7 @@
 use bring_up::InitError;
 use thiserror::Error;
 
-/// Why no network was made by a plan. Of several reasons the first in this order is told.
+/// Why no network was made by a plan. If there are several reasons, the first in this order is returned.
 #[derive(Clone, Copy, Debug, PartialEq, Eq, Error)]
 pub enum PlanError {
     /// The name of a host or a wire is empty, has more than 16 bytes, or bytes other than those of `a-z 0-9 _ -`; or
@@ -16,16 +16,16 @@ pub enum PlanError {
     /// There are less than 2 hosts, or more than 16.
     #[error("E42 Hosts")]
     Hosts,
-    /// The address of a host's image is a group address, or another host's.
+    /// The address of a host's image is a group address, or another host has it, too.
     #[error("E43 Address")]
     Address,
-    /// A host's configuration can't be had, or its link comes up after no tick.
+    /// A host's configuration is invalid, or its link is to be up after 0 ticks.
     #[error("E44 Config")]
     Config,
     /// Memory was refused.
     #[error("E45 Memory")]
     Memory,
-    /// This host's adapter could not be brought up.
+    /// This host's adapter could not be initialized.
     #[error("E46 Init: {1}")]
     Init(usize, InitError),
 }

@@ -15,7 +15,7 @@ use thiserror::Error;
 pub enum Answer<F> {
     /// A send was accepted, or refused.
     Sent(Result<(), SendError>),
-    /// A socket gave its oldest frame, or none.
+    /// A socket returned its oldest frame, or none.
     Received(Result<F, RecvError>),
     /// An interrupt was handled.
     Interrupted(Handled),
@@ -72,7 +72,7 @@ impl<F> Answer<F> {
     }
 }
 
-/// What came of an event: the answer of the call, how many accesses it made, and the outcome of each tick that isn't a
+/// The reply to an event: the answer of the call, how many accesses it made, and the outcome of each tick that isn't a
 /// `Go`, in order, with the number of accesses that the call had made before it.
 #[derive(Debug, Drop)]
 pub struct Reply {
@@ -80,12 +80,12 @@ pub struct Reply {
     pub answer: Answer<HeapFrame>,
     /// How many accesses it made, up to the greatest `u64`.
     pub accesses: u64,
-    /// What came of its ticks.
+    /// The outcomes of its ticks.
     pub outcomes: Outcomes,
 }
 
-/// A run ended before an event, because there was no memory for what comes of it: its observer had none, or none was
-/// left for the frames that a reset gives up. The first `done` events were run and reported, and nothing else changed.
+/// A run ended before an event, because memory was refused: by its observer, or for the frames that a reset gives up.
+/// The first `done` events were run and reported, and nothing else changed.
 #[derive(Clone, Copy, Debug, PartialEq, Eq, Error)]
 #[error("E47 Memory")]
 pub struct Stopped {

@@ -38,7 +38,7 @@ pub record HostAct : Type 1 where
   pub stages : CallStages
   -- what its accesses may be
   pub kind : ActKind
-  -- the frames that it takes off the receive ring
+  -- the frames that the call takes off the receive ring
   pub taken : List (List ℕ)
 
 -- a call without accesses
@@ -65,18 +65,18 @@ pub record IsGroupWord (offset : ℕ) : Type 0 where
   -- the offset is that word's
   pub is : offset ≡ MTA + REGISTER_BYTES * word
 
--- An access of a call that changes the groups joined: a write of a word of the group table.
+-- The access is a write of a word of the group table, as a call that changes the groups joined makes it.
 abbrev pub IsGroupWrite : Access → Type 0
 IsGroupWrite (Writes offset value) = IsGroupWord offset
 IsGroupWrite _ = ⊥
 
--- An access of a call of this kind.
+-- The access may be one of a call of this kind.
 abbrev pub IsAccessOf : ActKind → Counts → Access → Type 0
 IsAccessOf HandlesInterrupt = IsOfDriver
 IsAccessOf MovesFrames = IsOfDriver
 IsAccessOf SetsGroups = λ counts. IsGroupWrite
 
--- An access of any call of a host.
+-- The access may be one of any call of a host.
 abbrev pub IsOfHost : Counts → Access → Type 0
 IsOfHost counts access = IsOfDriver counts access ⊎ IsGroupWrite access
 
@@ -156,7 +156,7 @@ abbrev pub CallsUp : {B : Type 0} → Ghosts B → List Given → (accepted : Li
 CallsUp bus given accepted old new Does =
     IsReadyHost bus true old → Does old.host new.host (OverBus bus true given accepted old new) (bus.world old.bus)
 
--- The same of a call that doesn't need the transmit side.
+-- `CallsUp` of a call that doesn't need the transmit side.
 abbrev pub CallsOver : {B : Type 0} → Ghosts B → List Given → (accepted : List (List ℕ)) → (old new : HostMoment B) → Effect → Type 0
 CallsOver bus given accepted old new Does =
     (up : Bool) → IsReadyHost bus up old → Does old.host new.host (OverBus bus up given accepted old new) (bus.world old.bus)

@@ -100,7 +100,7 @@ pub record Accounts (h : HostState) (a : World) (h' : HostState) (b : World) (gi
       ++ socket_frames h.kinds socket stored
   -- the count of unclaimed frames doesn't fall
   pub least : h.unclaimed ≤ h'.unclaimed
-  -- no frame is counted as unclaimed that has a socket
+  -- only frames without a socket are counted as unclaimed
   pub most : unclaimed_in h' b ≤ unclaimed_in h a + without_socket h.kinds stored
   -- each frame without a socket is counted, unless the count is at its greatest value
   pub exactly : h'.unclaimed < count_limit - 1 → unclaimed_in h' b ≡ unclaimed_in h a + without_socket h.kinds stored
@@ -116,7 +116,7 @@ pub record HostInWorld : Type 0 where
 abbrev pub in_world : HostState → World → HostInWorld
 in_world host world = record { host = host; world = world }
 
--- its driver in the same world; the frames of its queues are those that others hold
+-- the host's driver in this world; the queued frames are those that others hold
 abbrev pub host_driver_in : HostInWorld → DriverInWorld
 host_driver_in now = driver_in (driver_of now.host now.world) now.world
 
@@ -127,7 +127,7 @@ pub record HostDid : Type 0 where
   -- the frames that its sockets returned, in order
   pub given : List Given
 
--- these frames were taken, returned and accepted
+-- a host took, returned and accepted these frames
 abbrev pub did : (taken : List (List ℕ)) → (given : List Given) → (accepted : List (List ℕ)) → HostDid
 did taken given accepted = record { driver = driver_did taken accepted; given = given }
 
@@ -135,7 +135,7 @@ did taken given accepted = record { driver = driver_did taken accepted; given = 
 abbrev pub did_nothing : HostDid
 did_nothing = did [] [] []
 
--- one interval after the other
+-- what a host did in two consecutive intervals
 abbrev pub did_both : (first later : HostDid) → HostDid
 did_both first later =
     did (first.driver.taken ++ later.driver.taken) (first.given ++ later.given) (first.driver.accepted ++ later.driver.accepted)
@@ -151,11 +151,11 @@ pub record HostInterval (Holds : DriverInWorld → DriverInWorld → DriverDid �
   -- the account of frames
   pub accounts : Accounts old.host old.world new.host new.world done.given past.stored
 
--- Any register may have been read.
+-- An interval of a host's run in which any register may have been read.
 abbrev pub HostFlowsTo : Bool → (old new : HostInWorld) → HostDid → Past → Type 0
 HostFlowsTo up = HostInterval (FlowsTo up)
 
--- ICR wasn't read.
+-- A host's interval in which frames flow in order, and no recorded cause is cleared.
 abbrev pub HostGoesTo : Bool → (old new : HostInWorld) → HostDid → Past → Type 0
 HostGoesTo up = HostInterval (GoesTo up)
 
@@ -169,7 +169,7 @@ pub record HostMoment (B : Type 0) : Type 0 where
 abbrev pub host_at : {B : Type 0} → B → HostState → HostMoment B
 host_at bus host = record { bus = bus; host = host }
 
--- the same moment of its driver; the frames of its queues are those that others hold
+-- this moment of the host's driver; the queued frames are those that others hold
 abbrev pub driver_at : {B : Type 0} → Ghosts B → HostMoment B → Moment B
 driver_at bus now = record { bus = now.bus; driver = driver_of now.host (bus.world now.bus) }
 
@@ -239,7 +239,7 @@ pub record SortsFrames (h h' : HostState) (shown : List Received) : Type 0 where
   pub kinds : h'.kinds ≡ h.kinds
   -- the frames that have a socket were queued
   pub queues : Queues h.kinds h.queues h'.queues (claimed_of h.kinds shown)
-  -- the others were counted
+  -- the frames without a socket were counted
   pub unclaimed : GrowsBy h.unclaimed h'.unclaimed (unclaimed_of h.kinds shown)
 
 -- Over any bus: the driver's ring was served, and the whole frames of the runs that left it were sorted.

@@ -50,7 +50,7 @@ pub record MakesNoAccess (h h' : HostState) (Runs : HostAct → Type 0) : Type 0
 pub record AreLeft (oldest left : ℕ) (world : World) : Type 0 where
   -- no outstanding slot is written back
   pub none : written_back oldest world ≡ []
-  -- so many frames are still to be sent
+  -- the number of frames that are still to be sent
   pub frames : length (frames_to_send world) ≡ left
 
 -- The frame has 14 to 1,518 bytes.
@@ -87,7 +87,7 @@ pub record FindsRingFull (frame : List ℕ) (h h' : HostState) (Runs : HostAct �
   pub sendable : IsSendable frame
   -- when the call begins, all slots but one have frames to be sent
   pub full : length (frames_to_send world) + 1 ≡ h.driver.layout.tx
-  -- when its stage ends, too
+  -- when its stage ends, all slots but one have frames to be sent, too
   pub still_full : h'.driver.sending + 1 ≡ h.driver.layout.tx
   -- the host doesn't change
   pub stays : h' ≡ h
@@ -123,7 +123,7 @@ pub record ReturnsFrame (socket : ℕ) (frame : List ℕ) (h h' : HostState) (Ru
   pub known : socket < length h.kinds
   -- the entry of the queue
   pub received : Received
-  -- it was the oldest, and leaves the queue
+  -- the frame was the oldest, and leaves the queue
   pub leaves : LeavesQueue h h' socket (length frame) received
   -- In the driver, only the owners of buffers change, and no slot is staged. So its transmit slots and its counts don't change.
   pub others : h' ≡ record h { driver = with_owners h.driver h'.driver.buffers [] h'.driver.pool []; queues = h'.queues }
@@ -159,7 +159,7 @@ pub record ClearsCauses (causes : ℕ) (old : World) (past : Past) (new : World)
 pub record FindsNoCause (h h' : HostState) (Runs : HostAct → Type 0) : Type 0 where
   -- the value read from ICR
   pub causes : ℕ
-  -- it has no cause that the driver handles
+  -- this value has no cause that the driver handles
   pub none : ¬ Meet causes handled_causes
   -- the host doesn't change
   pub stays : h' ≡ h
@@ -172,7 +172,7 @@ pub record FindsNoCause (h h' : HostState) (Runs : HostAct → Type 0) : Type 0 
 pub record HandlesFrames (n : ℕ) (h h' : HostState) (Runs : HostAct → Type 0) (world : World) : Type 0 where
   -- the value read from ICR
   pub causes : ℕ
-  -- it has a cause that the driver handles
+  -- this value has a cause that the driver handles
   pub some : Meet causes handled_causes
   -- the value read from MPC, which is added to the driver's sum
   pub missed : ReadsMisses h.driver h'.driver
@@ -226,32 +226,32 @@ groups_act h h' accesses = record {
 
 -- Ok of a join: the group is joined, and nothing else changes.
 pub record JoinsGroup (group : List ℕ) (h h' : HostState) (Runs : HostAct → Type 0) : Type 0 where
-  -- it is the address of a group
+  -- this is the address of a group
   pub group_is : IsGroup group
-  -- it isn't joined yet
+  -- the group isn't joined yet
   pub not_yet : ¬ Contains h.driver.groups group
   -- fewer than 32 groups are joined
   pub room : length h.driver.groups < MOST_GROUPS
-  -- it is the last of the groups joined
+  -- the group is the last of the groups joined
   pub joined : h' ≡ with_joined (h.driver.groups ++ group ∷ []) h
   -- There is no access if a joined group has the same number. Otherwise one word of the group table is written.
   pub accesses : List Access
-  -- they write the group's bit, if it isn't set
+  -- the accesses write the group's bit, if it isn't set
   pub sets : SetsTable h.driver.groups group h'.driver.groups accesses
   -- there is no other access
   pub runs : Runs (groups_act h h' accesses)
 
 -- Ok of a leave: the group isn't joined any more, and nothing else changes.
 pub record LeavesGroup (group : List ℕ) (h h' : HostState) (Runs : HostAct → Type 0) : Type 0 where
-  -- it is the address of a group
+  -- this is the address of a group
   pub group_is : IsGroup group
-  -- it was joined, and isn't any more
+  -- the group was joined, and isn't any more
   pub left : Removes group h.driver.groups h'.driver.groups
   -- nothing else of the host changes
   pub others : h' ≡ with_joined h'.driver.groups h
   -- There is no access if a group that stays joined has the same number. Otherwise one word of the group table is written.
   pub accesses : List Access
-  -- they clear the group's bit, if no other group needs it
+  -- the accesses clear the group's bit, if no other group needs it
   pub sets : SetsTable h'.driver.groups group h'.driver.groups accesses
   -- there is no other access
   pub runs : Runs (groups_act h h' accesses)

@@ -8,12 +8,12 @@ abbrev pub is_of : ℕ → SocketKind → Bool
 is_of ether_type (Ether own) = own == ether_type
 is_of ether_type All = false
 
--- whether it takes the frames of all EtherTypes
+-- whether a socket takes the frames of all EtherTypes
 abbrev pub takes_all : SocketKind → Bool
 takes_all (Ether own) = false
 takes_all All = true
 
--- the first if there is one, else the second
+-- the first socket number if there is one, else the second
 abbrev pub or_else : Option ℕ → Option ℕ → Option ℕ
 or_else (Some first) second = Some first
 or_else None second = second
@@ -31,7 +31,7 @@ is_at socket (Some place) = place == socket
 abbrev pub goes_to : List SocketKind → (socket ether_type : ℕ) → Bool
 goes_to kinds socket ether_type = is_at socket (socket_of kinds ether_type)
 
--- whether frames of an EtherType have a socket, and whether they have none
+-- whether a socket takes frames of this EtherType
 abbrev pub has_socket : List SocketKind → ℕ → Bool
 has_socket kinds ether_type = is_some (socket_of kinds ether_type)
 

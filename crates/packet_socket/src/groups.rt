@@ -41,7 +41,7 @@ impl Host {
         ensures room { OnOk result (length self.old.driver.groups < MOST_GROUPS) }
         ensures quiet { HasNumber self.old.driver.groups group → bus.new ≡ bus.old }
 
-        // And over one that obeys the law.
+        // What it does over a bus that obeys the law.
         ensures joins { CallsOver B.Bus [] [] (host_at bus.old self.old) (host_at bus.new self.new)
             (JoinEffect group result) }
     {
@@ -67,7 +67,7 @@ impl Host {
         ensures left { OnOk result (Removes group self.old.driver.groups self.new.driver.groups) }
         ensures quiet { HasNumber self.new.driver.groups group → bus.new ≡ bus.old }
 
-        // And over one that obeys the law.
+        // What it does over a bus that obeys the law.
         ensures leaves { CallsOver B.Bus [] [] (host_at bus.old self.old) (host_at bus.new self.new)
             (LeaveEffect group result) }
     {

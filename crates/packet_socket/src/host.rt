@@ -70,7 +70,7 @@ impl Host {
         ensures ok { IfOk result (IsNewHost config.now kinds.items) }
         ensures had { IfOk result (λ host. CanBeHad config.now (B.extent bus.old)) }
 
-        // And over one that obeys the law.
+        // What it does over a bus that obeys the law.
         ensures initialises { B.honest bus.old
             → IfOk result (λ host. Initialises B.Bus config.now bus.old bus.new host.driver) }
         ensures ready { B.honest bus.old → IfOk result (λ host. HostReady host (B.world bus.new)) }
@@ -146,7 +146,7 @@ impl Host {
         ensures nothing { HasWrongLength result → (bus.new ≡ bus.old) × (self.new ≡ self.old) }
         ensures full { result ≡ Err SendError.RingFull → self.new.driver.sending + 1 ≡ self.new.driver.layout.tx }
 
-        // And over one that obeys the law.
+        // What it does over a bus that obeys the law.
         ensures sends { CallsUp B.Bus [] (accepted_by result frame.now) (host_at bus.old self.old)
             (host_at bus.new self.new) (SendEffect frame.now result) }
     {

@@ -25,7 +25,7 @@ impl Host {
         ensures only_receives { OnlyReceives self.old.driver self.new.driver }
         ensures serves { IfHandled result (HostServes self.old self.new) }
 
-        // And over one that obeys the law.
+        // What it does over a bus that obeys the law.
         ensures handles { CallsOver B.Bus [] [] (host_at bus.old self.old) (host_at bus.new self.new)
             (InterruptEffect result) }
     {

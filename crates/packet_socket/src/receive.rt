@@ -50,7 +50,7 @@ impl Host {
         ensures err { IfErr result (λ error. (bus.new ≡ bus.old) × (self.new ≡ self.old) × (into.new ≡ into.old)) }
         ensures ok { IfOk result (Returns self.old self.new socket into.old into.new) }
 
-        // And over one that obeys the law.
+        // What it does over a bus that obeys the law.
         ensures receives { CallsOver B.Bus (given_by socket (frame_answer into.new result)) []
             (host_at bus.old self.old) (host_at bus.new self.new) (RecvEffect socket (frame_answer into.new result)) }
     {

@@ -14,7 +14,7 @@ pub enum SocketKind {
 }
 
 impl SocketKind {
-    /// Whether it takes the frames of this EtherType, and no others.
+    /// Whether the socket takes the frames of this EtherType, and no others.
     fn is_of(self, ether_type: u16) -> bool
         ensures { result ≡ kinds.is_of ether_type self }
     {
@@ -24,7 +24,7 @@ impl SocketKind {
         }
     }
 
-    /// Whether it takes the frames of all EtherTypes.
+    /// Whether the socket takes the frames of all EtherTypes.
     fn takes_all(self) -> bool
         ensures { result ≡ kinds.takes_all self }
     {

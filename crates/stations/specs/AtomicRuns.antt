@@ -20,7 +20,7 @@ is_go Go = true
 is_go (Step host kind) = false
 is_go (Deliver host) = false
 
--- it may stand in a call of this host: an access is that host's, and a Go isn't played by itself
+-- This atomic step can be part of a call of host `caller`: an access is that host's, and a Go isn't played by itself.
 abbrev pub IsOfCall : (caller : ℕ) → AtomicStep → Type 0
 IsOfCall caller (At host (Steps kind wire_free answer)) = ⊤
 IsOfCall caller (At host (Arrives frame fate)) = ⊤
@@ -32,7 +32,7 @@ abbrev pub LeadsTo : (caller : ℕ) → List AtomicStep → (old new : List Stat
 LeadsTo caller [] old new = new ≡ old
 LeadsTo caller (step ∷ later) old new = CanHappen step old × IsOfCall caller step × LeadsTo caller later (after step old) new
 
--- it is a tick, and no access
+-- the atomic step is a tick other than Go, and no access
 abbrev pub IsTick : AtomicStep → Type 0
 IsTick (At host (Steps kind wire_free answer)) = ⊤
 IsTick (At host (Arrives frame fate)) = ⊤
@@ -60,7 +60,7 @@ past_at k steps = past_of (events_at k steps)
 abbrev pub numbered : ℕ → AtomicStep → List Numbered
 numbered n step = record { accesses = n; outcome = outcome_of step } ∷ []
 
--- what is noted of an atomic step after this number of accesses, and how many there are then
+-- the outcome to note for an atomic step after this number of accesses: none for an access
 abbrev pub noted_by : ℕ → AtomicStep → List Numbered
 noted_by n (At host (Steps kind wire_free answer)) = numbered n (At host (Steps kind wire_free answer))
 noted_by n (At host (Arrives frame fate)) = numbered n (At host (Arrives frame fate))

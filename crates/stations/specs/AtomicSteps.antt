@@ -22,7 +22,7 @@ pub data AtomicStep : Type 0 where
   -- a tick that does nothing, because its host isn't there or no frame waits
   Idles : (tick : Tick) → AtomicStep
 
--- the tick that an event answers; an access stands where Go does
+-- the tick of an event; an access counts as Go
 abbrev pub tick_of_event : (host : ℕ) → Event → Tick
 tick_of_event host (Steps kind wire_free answer) = Step host kind
 tick_of_event host (Arrives frame fate) = Deliver host
@@ -44,7 +44,8 @@ abbrev pub outcome_of : AtomicStep → FrameOutcome
 outcome_of (At host event) = outcome_of_event event
 outcome_of (Idles tick) = Nothing
 
--- what an event asks of the wire: TxPut finds it free exactly if each other end has room, and a delivery is of the oldest frame
+-- An event agrees with the wire: TxPut finds it free exactly if each other end has room, and a delivery is of the
+-- oldest frame that waits.
 abbrev pub SuitsWire : (host wire : ℕ) → Event → List StationState → Type 0
 SuitsWire host wire (Steps kind wire_free answer) stations = kind ≡ TxPut → IsTrue wire_free ↔ WireHasRoom stations host wire
 SuitsWire host wire (Arrives frame fate) stations = slice_get (backlog_at stations host) 0 ≡ Some frame
@@ -68,7 +69,7 @@ pub record IsDelivered (old : StationState) (frame : List ℕ) (fate : Fate) (ne
   pub fated : IsFate old.world.adapter frame fate
   pub leaves : new ≡ station_after (Arrives frame fate) old
 
--- The tick finds nothing: Go, a host that isn't there, or no frame that waits.
+-- The tick has nothing to do: it is Go, or its host isn't there, or it is a delivery and no frame waits.
 abbrev pub FindsNothing : Tick → List StationState → Type 0
 FindsNothing Go stations = ⊤
 FindsNothing (Step host kind) stations = slice_get stations host ≡ None
@@ -79,7 +80,7 @@ abbrev pub CanHappen : AtomicStep → List StationState → Type 0
 CanHappen (At host event) stations = OccursAt host event stations
 CanHappen (Idles tick) stations = FindsNothing tick stations
 
--- it is no access: none is played by itself
+-- the atomic step isn't an access, because no access is played by itself
 abbrev pub IsNoAccess : AtomicStep → Type 0
 IsNoAccess (At host (Steps kind wire_free answer)) = ⊤
 IsNoAccess (At host (Arrives frame fate)) = ⊤
@@ -91,7 +92,7 @@ abbrev pub after : AtomicStep → List StationState → List StationState
 after (At host event) stations = stations_after host event stations
 after (Idles tick) stations = stations
 
--- A tick is played, and this comes of it.
+-- A tick is played, with this outcome.
 pub record Plays (old : List StationState) (tick : Tick) (outcome : FrameOutcome) (new : List StationState) : Type 0 where
   pub step : AtomicStep
   pub tick_is : tick_of step ≡ tick

@@ -4,18 +4,18 @@ use Rattle.std.specs.Prelude.{◌≡◌, ◌≢◌, ◌<◌, ◌==◌, ◌&&◌,
 pub record EndState : Type 0 where
   -- the wire that it is an end of
   pub wire : ℕ
-  -- the frames that wait there to be delivered, the oldest first
+  -- the frames that wait at this end to be delivered, the oldest first
   pub line : List (List ℕ)
 
--- at most so many frames wait at an end (our choice)
+-- the greatest number of frames that wait at an end (our choice)
 abbrev pub end_frames : ℕ
 end_frames = 64
 
--- this end has room for a frame more, unless it is the sender's or of another wire
+-- this end has room for one more frame, unless it is the sender's or of another wire
 abbrev pub EndHasRoomFor : (sender wire k : ℕ) → EndState → Type 0
 EndHasRoomFor sender wire k end = k ≢ sender → end.wire ≡ wire → length end.line < end_frames
 
--- Each other end of the wire has.
+-- Each other end of the wire has room for one more frame.
 abbrev pub HaveRoom : List EndState → (sender wire : ℕ) → Type 0
 HaveRoom ends sender wire = (k : ℕ) (end : EndState) → slice_get ends k ≡ Some end → EndHasRoomFor sender wire k end
 

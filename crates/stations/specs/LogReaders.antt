@@ -10,18 +10,18 @@ use Rattle.stations.specs.declared.wires.End.{End}
 abbrev pub end_at : List End → (k : ℕ) → End
 end_at ends k = slice_index_or ends k (record { wire = 0; log = 0; cursor = 0; waiting = 0 })
 
--- the end at this place is there, and reads in this log
+-- an end has this number, and reads in this log
 pub record IsReader (log : ℕ) (ends : List End) (k : ℕ) : Type 0 where
   pub there : k < length ends
   pub reads : (end_at ends k).log ≡ log
 
--- an end of this wire, which reads in this log
+-- An end of this wire reads in this log.
 pub record IsReaderOn (wire log : ℕ) (ends : List End) : Type 0 where
   pub k : ℕ
   pub is : IsReader log ends k
   pub on : (end_at ends k).wire ≡ wire
 
--- each end before this place that is of the wire, but the sender's, has room for a frame more
+-- each end before this place that is of the wire, but the sender's, has room for one more frame
 abbrev pub OthersHaveRoom : (number sender wire : ℕ) → List End → Type 0
 OthersHaveRoom number sender wire ends =
     (k : ℕ) → k < number → k ≢ sender → (end_at ends k).wire ≡ wire → (end_at ends k).waiting < end_frames
@@ -31,30 +31,31 @@ pub record IsLogFor (wire : ℕ) (ends : List End) (logs : List (List LogEntry))
   pub there : log < length logs
   pub one : (k : ℕ) → k < length ends → (end_at ends k).wire ≡ wire ↔ ((end_at ends k).log ≡ log)
 
--- Each log stays. There may be more.
+-- Each log is unchanged. There may be more logs.
 pub record KeepsLogs (old new : List (List LogEntry)) : Type 0 where
   pub more : List (List LogEntry)
   pub is : new ≡ old ++ more
 
--- of the ends before this place that read in the log, it has read least
+-- of the ends before this place that read in the log, this end has read least
 pub record IsSlowest (number log : ℕ) (ends : List End) (reader : ℕ) : Type 0 where
   pub is : IsReader log ends reader
   pub least : (k : ℕ) → k < number → (end_at ends k).log ≡ log → (end_at ends reader).cursor ≤ (end_at ends k).cursor
 
--- an end but this one that reads in the log, with this cursor
+-- Another end than this one reads in the log, with this cursor.
 pub record HasCursor (log but cursor : ℕ) (ends : List End) : Type 0 where
   pub k : ℕ
   pub is : IsReader log ends k
   pub other : k ≢ but
   pub at : (end_at ends k).cursor ≡ cursor
 
--- the least cursor of the ends before this place that read in the log, but of one, at most this number
+-- The least cursor of the ends before this place that read in the log, without one end; `limit` if it is less.
 pub record IsLeastCursor (number log but limit : ℕ) (ends : List End) (cursor : ℕ) : Type 0 where
   pub most : cursor ≤ limit
   pub least : (k : ℕ) → k < number → k ≢ but → (end_at ends k).log ≡ log → cursor ≤ (end_at ends k).cursor
   pub found : (cursor ≡ limit) ⊎ HasCursor log but cursor ends
 
--- A cursor in a log from which so many entries were dropped. If the end had fewer before its cursor, it then reads from the front.
+-- A cursor in a log from which this number of entries were dropped. If fewer were before its cursor, it then reads from
+-- the front.
 abbrev pub moved_cursor : (log dropped : ℕ) → End → End
 moved_cursor log dropped end = if end.log == log then record end { cursor = end.cursor - dropped } else end
 
@@ -62,7 +63,7 @@ abbrev pub with_waiting : (log sender k : ℕ) → End → End
 with_waiting log sender k end =
     if not (k == sender) && (end.log == log) then record end { waiting = end.waiting + 1 } else end
 
--- each end that reads in the log counts what waits there
+-- each end that reads in the log counts the frames that wait there
 abbrev pub ReadIn : (log : ℕ) → List LogEntry → List End → Type 0
 ReadIn log entries ends = (k : ℕ) (end : End) → slice_get ends k ≡ Some end → end.log ≡ log → ReadsLog entries k end
 

@@ -1,10 +1,10 @@
--- What came of ticks, as plain data.
+-- The outcomes of ticks, as plain data.
 use Rattle.std.specs.Prelude.{◌≡◌, ◌≤◌, ◌+◌, ◌++◌, ℕ, List, length, map, vec_capacity}
 use Rattle.stations.specs.ToldTicks.{TickTold}
 use Rattle.stations.specs.declared.outcomes.Numbered.{Numbered}
 use Rattle.stations.specs.declared.outcomes.Outcomes.TheInside.{Inside}
 
--- the outcomes of a call, the first first, and for how many more there is room
+-- The outcomes of a call, in order, and the number of further outcomes for which there is room.
 pub record OutcomeList : Type 0 where
   pub list : List Numbered
   pub room : ℕ

@@ -1,11 +1,11 @@
--- Ticks are played on all stations, and an observer is told what comes of them.
+-- Ticks are played on all stations, and an observer is told their outcomes.
 use Rattle.std.specs.Prelude.{◌≡◌, ◌≤◌, ◌+◌, ℕ, List, All, length, map}
 use Rattle.stations.specs.AtomicSteps.{AtomicStep, Watched, tick_of}
 use Rattle.stations.specs.declared.observer.Observer.{Ghosts as OfObserver}
 use Rattle.stations.specs.declared.tick.Tick.{Tick}
 use Rattle.stations.specs.AtomicRuns.{IsTick, LeadsTo, steps_told}
 
--- These ticks were played, one atomic step for each in order, and the observer was told each outcome, with so many accesses before it.
+-- These ticks were played, one atomic step for each, in order. The observer was told each outcome, with the number of accesses before it.
 pub record PlaysTicks {O : Type 0} (observers : OfObserver O) (ticks : List Tick) (accesses : ℕ) (old new : Watched O) : Type 0 where
   pub steps : List AtomicStep
   pub are : All IsTick steps

@@ -23,7 +23,7 @@ bytes_here bus = length (world_here bus).memory
 abbrev pub watched_by : {O : Type 0} {g : OfObserver O} → LentBus O g → Watched O
 watched_by bus = watched bus.stations.now bus.observer.now
 
--- The same network and the same observer are lent, to the call of the same host.
+-- Both lent buses have the same network and the same observer, for a call of the same host.
 pub record SameLent {O : Type 0} {g : OfObserver O} (a b : LentBus O g) : Type 0 where
   pub stations : b.stations.ghost_name ≡ a.stations.ghost_name
   pub observer : b.observer.ghost_name ≡ a.observer.ghost_name
@@ -31,9 +31,9 @@ pub record SameLent {O : Type 0} {g : OfObserver O} (a b : LentBus O g) : Type 0
 
 -- the count of the calling host's accesses
 pub record CountsAccesses {O : Type 0} {g : OfObserver O} (a b : LentBus O g) (steps : List AtomicStep) (past : Past) : Type 0 where
-  -- Each access among the steps counts.
+  -- Each access among the steps is counted.
   pub number : b.accesses ≡ counted_of a.accesses steps
-  -- So the count grows by the driver's accesses, up to the greatest count.
+  -- The count grows by the driver's accesses, up to the greatest count.
   pub count : min b.accesses most_accesses ≡ min (a.accesses + length past.accesses) most_accesses
 
 -- What happened from one state to another: these atomic steps, exactly those of the groups of ticks that belong to these accesses, each

@@ -1,4 +1,4 @@
--- The hosts of a network as plain data, and what an event at one of them leaves of it and of the others.
+-- The hosts of a network as plain data, and what an event at one host changes of all hosts.
 use Rattle.std.specs.Prelude.{◌≡◌, ◌≢◌, ◌<◌, ◌==◌, ◌&&◌, not, ℕ, suc, Option, Some, None, List, [], ◌∷◌, ◌++◌, drop, length, slice_get}
 use Rattle.std.specs.Prelude.{if◌then◌else◌}
 use Rattle.mdic_phy.specs.declared.phy.Link.TheVariants.{Never}
@@ -49,41 +49,41 @@ backlog_at stations host = backlog_of (slice_get stations host)
 
 -- Room.
 
--- this station has room for a frame more at its end, unless it is the sender or on another wire
+-- this station has room for one more frame at its end, unless it is the sender or on another wire
 abbrev pub HasRoomFrom : (sender wire host : ℕ) → StationState → Type 0
 HasRoomFrom sender wire host station = host ≢ sender → station.wire ≡ wire → length station.backlog < end_frames
 
--- each other end of the wire has
+-- each other end of the wire has room for one more frame
 abbrev pub WireHasRoom : List StationState → (sender wire : ℕ) → Type 0
 WireHasRoom stations sender wire =
     (host : ℕ) (station : StationState) → slice_get stations host ≡ Some station → HasRoomFrom sender wire host station
 
 -- What an event leaves.
 
--- an arrival takes the oldest frame from those that wait
+-- the frames that wait after an event: an arrival takes the oldest
 abbrev pub backlog_after : Event → List (List ℕ) → List (List ℕ)
 backlog_after (Steps kind wire_free answer) backlog = backlog
 backlog_after (Arrives frame fate) backlog = drop 1 backlog
 backlog_after (Accesses access) backlog = backlog
 
--- what it leaves of its own host
+-- the station of the host after an event at it
 abbrev pub station_after : Event → StationState → StationState
 station_after event station = record station {
   world = world_after event station.world;
   backlog = backlog_after event station.backlog;
 }
 
--- frames that a sender put onto a wire wait at this host's end, where it is another end of that wire
+-- the station after a sender put frames onto a wire: they wait at this host's end, if it is another end of that wire
 abbrev pub with_frames : (sender wire : ℕ) → List (List ℕ) → (host : ℕ) → StationState → StationState
 with_frames sender wire frames host station =
     if not (host == sender) && (station.wire == wire) then record station { backlog = station.backlog ++ frames } else station
 
--- what an event at one host leaves of each
+-- the k-th station after an event at `host`, which is on this wire
 abbrev pub each_after : (host wire : ℕ) → Event → (k : ℕ) → StationState → StationState
 each_after host wire event k station =
     if k == host then station_after event station else with_frames host wire (past_of_event event).put k station
 
--- a function of place and station, at each place from one on
+-- each station changed by `change k`: k is the first station's number here, and grows by 1 from each to the next
 abbrev pub at_each : (ℕ → StationState → StationState) → ℕ → List StationState → List StationState
 at_each change k [] = []
 at_each change k (station ∷ later) = change k station ∷ at_each change (suc k) later

@@ -1,4 +1,4 @@
--- How `Stations` keeps them (our choice): the machines of all hosts, and beside them their ends of wires.
+-- How `Stations` keeps them (our choice): the machines of all hosts in one list, and their ends of wires in another.
 use Rattle.std.specs.Prelude.{◌≡◌, List, [], ◌∷◌, length}
 use Rattle.bus.specs.Machines.{MachineState}
 use Rattle.stations.specs.Ends.{EndState}
@@ -16,6 +16,6 @@ stations_of (machine ∷ machines) (end ∷ ends) = station_of machine end ∷ s
 abbrev pub stations_in : Inside → List StationState
 stations_in inside = stations_of inside.machines.items inside.wires
 
--- each host has its end
+-- Each host has an end of a wire.
 pub record HasEndsOfWires (inside : Inside) : Type 0 where
   pub ends : length inside.wires ≡ length inside.machines.items

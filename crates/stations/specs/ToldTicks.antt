@@ -9,7 +9,7 @@ pub record TickTold : Type 0 where
   pub tick : Tick
   -- the accesses that the call had made before it
   pub accesses : ℕ
-  -- its outcome
+  -- the outcome of the tick
   pub outcome : FrameOutcome
 
 -- this tick, after this number of accesses, with this outcome

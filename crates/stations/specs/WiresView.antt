@@ -5,7 +5,7 @@ use Rattle.stations.specs.WireLogs.{LogEntry, frames_of_others, log_entries}
 use Rattle.stations.specs.declared.wire_log.WireLog.TheInside.{Inside as InsideLog}
 use Rattle.stations.specs.declared.wires.End.{End}
 
--- a log has room for all its entries from the start
+-- The memory of a log has room for all its entries from the start.
 pub record HasLogRoom (inside : InsideLog) : Type 0 where
   pub fits : length inside.entries.items ≤ log_entries
   pub room : log_entries ≤ vec_capacity inside.entries

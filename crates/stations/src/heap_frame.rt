@@ -1,4 +1,4 @@
-// Frames whose bytes lie on the heap.
+// Frames whose bytes are on the heap.
 
 ghost use Rattle.std.specs.Cmp.{partial_equiv_from_equiv};
 ghost use Rattle.std.specs.Cmp.Lexicographic.{nat_list_eq_equiv, pointwise};
@@ -8,8 +8,8 @@ use descriptors::LONGEST_LEGAL;
 use std::alloc::{AllocError, Global};
 use std::marker::Model;
 
-/// An Ethernet frame of at most 1,518 bytes, without its check sequence, whose bytes lie on the heap: what may hold one
-/// is small, and needs no room for the frame where there is none.
+/// An Ethernet frame of at most 1,518 bytes, without its check sequence, whose bytes are on the heap, so a value that
+/// may have a frame is small.
 ///
 /// Its memory is taken when it is made, so that to fill it takes none. In contracts it is the list of its bytes.
 #[derive(Debug, Drop)]
@@ -32,7 +32,7 @@ impl Model for HeapFrame {
 impl HeapFrame {
     ghost use Rattle.std.specs.Prelude.{◌≡◌, ◌≤◌, [], length, IfOk};
 
-    /// The frame without a byte, with room for as many as a frame may have.
+    /// An empty frame, with room for the bytes of any frame.
     ///
     /// # Errors
     ///
@@ -45,7 +45,7 @@ impl HeapFrame {
         })
     }
 
-    /// Takes these bytes, of which there are at most 1,518, in place of its own.
+    /// Replaces the bytes of the frame by these, at most 1,518.
     pub fn fill(&mut self, bytes: &[u8])
         requires fits { length bytes.now ≤ LONGEST_LEGAL }
         ensures { self.new ≡ bytes.now }

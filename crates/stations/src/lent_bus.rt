@@ -19,7 +19,7 @@ pub struct LentBus<'a, 't, O: Observer> {
     pub host: usize,
     /// How many accesses the call has made, up to the greatest `u64`.
     pub accesses: u64,
-    /// It is told what comes of each tick, with the number of accesses before it.
+    /// The observer. It is told the outcome of each tick, with the number of accesses before it.
     pub observer: &'a mut O,
     ghost there: { host < length stations.now },
     ghost room: { length ticks.now ≤ O.room_left observer.now },

@@ -1,4 +1,4 @@
-// Who is told what comes of ticks.
+// The observer, which is told the outcomes of ticks.
 
 ghost use Rattle.std.specs.Prelude.{◌≤◌, ◌<◌, ◌+◌, ◌∷◌, [], ℕ, List, length};
 ghost use Rattle.descriptors.specs.Frames.{longest_frame};

@@ -12,13 +12,13 @@ use std::marker::Model;
 pub struct Numbered {
     /// How many accesses the call had made.
     pub accesses: u64,
-    /// What came of the tick.
+    /// The outcome of the tick.
     pub outcome: Outcome<HeapFrame>,
 }
 
 /// An observer that collects the outcomes of a call's ticks, in order. Room for an outcome includes room for its frame.
 ///
-/// In contracts it is the list of them and the room that is left, an `OutcomeList`.
+/// In contracts it is the list of these outcomes and the room that is left, an `OutcomeList`.
 #[derive(Debug, Drop)]
 pub struct Outcomes {
     list: Vec<Numbered>,
@@ -41,7 +41,7 @@ impl Model for Outcomes {
 impl Outcomes {
     ghost use Rattle.std.specs.Prelude.{◌≡◌, ◌≤◌, [], IfOk};
 
-    /// No outcome, and no room for any. It takes no memory.
+    /// An empty list, with no room for outcomes. It takes no memory.
     pub fn new(alloc: Global) -> Outcomes
         ensures none { result.list ≡ [] }
     {
@@ -51,7 +51,7 @@ impl Outcomes {
         }
     }
 
-    /// No outcome, with room for this many.
+    /// An empty list, with room for this many outcomes.
     ///
     /// # Errors
     ///

@@ -1,5 +1,7 @@
 // The stations of a network.
 
+ghost use Rattle.std.specs.Prelude.{◌≡◌, ◌<◌, ◌∷◌, ◌++◌, [], IfOk, OnErr, length, vec_capacity};
+
 use crate::wire_log::LOG_ENTRIES;
 use crate::wires::Wires;
 use adapter::{FrameCounts, Outcome, StepKind};
@@ -31,6 +33,34 @@ impl Model for Stations {
     ghost invariant = { HasEndsOfWires };
 }
 
+/// Makes room for a machine more, and an end of this wire.
+///
+/// # Errors
+///
+/// Only if memory is refused. Then nothing has changed.
+fn make_place(
+    machines: &mut Vec<Machine>,
+    wires: &mut Wires,
+    alloc: Global,
+    wire: usize,
+) -> Result<(), AllocError>
+    ensures room { IfOk result (λ done. length machines.new.items < vec_capacity machines.new) }
+    ensures machines { machines.new.items ≡ machines.old.items }
+    ensures connected { IfOk result (λ done. wires.new ≡ wires.old ++ record { wire = wire; line = [] } ∷ []) }
+    ensures err { OnErr result (wires.new ≡ wires.old) }
+{
+    machines.reserve(1)?;
+    wires.connect(alloc, wire)
+}
+
+/// Appends a machine to those for which there is room.
+fn append(machines: &mut Vec<Machine>, machine: Machine)
+    requires room { length machines.old.items < vec_capacity machines.old }
+    ensures { machines.new.items ≡ machines.old.items ++ machine ∷ [] }
+{
+    let _ = machines.push(machine);
+}
+
 impl Stations {
     ghost use Rattle.std.specs.Prelude.{◌≡◌, ◌≢◌, ◌<◌, ◌↔◌, ◌∷◌, ◌++◌, ◌+◌, ◌≤◌, [], length, true};
     ghost use Rattle.std.specs.Prelude.{IfOk, IsTrue, OnErr, vec_capacity};
@@ -48,7 +78,7 @@ impl Stations {
     ghost use Rattle.stations.specs.Stations.{backlog_at, stations_after, world_at};
     ghost use Rattle.stations.specs.WireLogs.{last_of_others};
 
-    /// No stations.
+    /// A network without stations.
     pub fn new(alloc: Global) -> Stations
         ensures { result ≡ [] }
     {
@@ -76,9 +106,8 @@ impl Stations {
         } ∷ []) }
         ensures err { OnErr result (self.new ≡ self.old) }
     {
-        self.machines.reserve(1)?;
-        self.wires.connect(alloc, wire)?;
-        let _ = self.machines.push(machine);
+        make_place(&mut self.machines, &mut self.wires, alloc, wire)?;
+        append(&mut self.machines, machine);
         Ok(())
     }
 

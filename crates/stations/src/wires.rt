@@ -92,7 +92,7 @@ fn log_for(
     Ok(log)
 }
 
-/// Whether each other end of a wire has room for a frame more.
+/// Whether each other end of a wire has room for one more frame.
 fn others_have_room(ends: &[End], sender: usize, wire: usize) -> bool
     ensures { IsTrue result ↔ OthersHaveRoom (length ends.now) sender wire ends.now }
 {
@@ -118,7 +118,7 @@ fn slowest(ends: &[End], log: usize, sender: usize) -> usize
     reader
 }
 
-/// The least cursor in a log, of all ends but one. If there are no others, `most`.
+/// The least cursor in a log, of all ends but one; `most` if there is no other end.
 fn least_cursor(ends: &[End], log: usize, but: usize, most: usize) -> usize
     ensures { IsLeastCursor (length ends.now) log but most ends.now result }
 {
@@ -159,7 +159,7 @@ fn make_room(ends: &mut [End], wire_log: &mut WireLog, log: usize, sender: usize
     move_cursors(ends, log, entries - wire_log.len());
 }
 
-/// A frame more waits at each end of a log but the sender's.
+/// Counts one more waiting frame at each end of a log but the sender's.
 fn count_waiting(ends: &mut [End], log: usize, sender: usize)
     requires room { (k : ℕ) (end : End) → slice_get ends.old k ≡ Some end → k ≢ sender → end.log ≡ log
         → end.waiting < END_FRAMES }
@@ -187,7 +187,7 @@ fn put_frame(ends: &mut [End], wire_log: &mut WireLog, log: usize, sender: usize
 }
 
 impl Wires {
-    /// No wire.
+    /// A network without wires.
     pub(crate) fn new(alloc: Global) -> Wires
         ensures { result ≡ [] }
     {
@@ -226,14 +226,14 @@ impl Wires {
         self.ends[host].wire
     }
 
-    /// Whether each other end of the wire has room for a frame more.
+    /// Whether each other end of the wire has room for one more frame.
     pub(crate) fn have_room(&self, sender: usize, wire: usize) -> bool
         ensures { IsTrue result ↔ HaveRoom self.now sender wire }
     {
         others_have_room(self.ends.as_slice(), sender, wire)
     }
 
-    /// A sender puts a frame onto its wire: it waits at each other end, where there is room.
+    /// Puts a frame onto its sender's wire: it waits at each other end of this wire. Each of these ends must have room.
     pub(crate) fn put(&mut self, sender: usize, wire: usize, frame: &[u8])
         requires there { sender < length self.old }
         requires on { (end : EndState) → slice_get self.old sender ≡ Some end → wire ≡ end.wire }
@@ -264,7 +264,7 @@ impl Wires {
         self.logs[end.log].front(host, end.cursor)
     }
 
-    /// The oldest frame that waits at a host's end is there no more.
+    /// Removes the oldest frame that waits at a host's end, if there is one.
     pub(crate) fn pop(&mut self, host: usize)
         requires there { host < length self.old }
         ensures { (end : EndState) → slice_get self.old host ≡ Some end

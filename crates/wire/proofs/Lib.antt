@@ -23,3 +23,4 @@ pub mod CausesOfPhy
 pub mod PlansFilters
 pub mod HostsUp
 pub mod AllHosts
+pub mod LegalFrames

@@ -1,4 +1,4 @@
--- What a collector of replies makes of what it is told (our choice).
+-- What a collector of replies stores (our choice).
 use Rattle.std.proofs.Common.{◌≡◌, ◌<◌, ◌++◌, [], ℕ, List, is_some, length, true, vec_capacity, refl, sym, ap, ◌∙◌, append_assoc}
 use Rattle.std.proofs.lemmas.List.{append-nil}
 use Rattle.stations.specs.Outcomes.{Collects, room_of}

@@ -10,7 +10,7 @@ use Rattle.wire.specs.declared.counts.Counts.{Counts}
 pub record AreCounts (host : HostState) (world : World) (counts : Counts) : Type 0 where
   pub missed : counts.missed ≡ counted host world
   pub exact : IsTrue counts.exact ↔ IsExact host world
-  -- exact if less than MPC's greatest value was counted
+  -- the count is exact if it is below MPC's greatest value
   pub small : counts.missed < greatest_count → IsTrue counts.exact
   pub without_descriptor : counts.without_descriptor ≡ world.adapter.no_receive_buffers
   pub received : counts.received ≡ world.adapter.received_packets

@@ -10,7 +10,8 @@ use Rattle.host_calls.specs.DrainedHosts.{Drains}
 use Rattle.wire.specs.Equations.{Delivers, IsExact, NetworkStands, counted}
 use Rattle.host_calls.specs.Networks.{IsHost, NetworkState}
 
--- What a drain says of frames: each frame of the host's packet buffer was moved to its ring, then each frame was given.
+-- What happens to frames in a drain: each frame of the host's packet buffer was moved to its ring, then each frame was
+-- given.
 abbrev pub said_of_drain : (host moves : ℕ) → List GivenFrame → List Happening
 said_of_drain host moves given = replicate moves (Moved host) ++ map (λ (one : GivenFrame). Given host one.socket one.frame) given
 
@@ -18,7 +19,7 @@ said_of_drain host moves given = replicate moves (Moved host) ++ map (λ (one : 
 pub record KeepsCount (h : HostState) (a : World) (h' : HostState) (b : World) : Type 0 where
   -- the count is the same
   pub counted : counted h' b ≡ counted h a
-  -- it is exact if and only if it was
+  -- the count is exact if and only if it was
   pub exact : IsExact h' b ↔ IsExact h a
 
 -- There are as many hosts as before, and every host but this one has the same driver and queues.
@@ -28,11 +29,12 @@ pub record OthersStay (host : ℕ) (old new : List HostState) : Type 0 where
   -- every other host is the same
   pub same : (k : ℕ) → k ≢ host → slice_get new k ≡ slice_get old k
 
--- This number of steps drained a host, if it is there. The frames that it gave were appended to those that the outlet had.
+-- This number of steps drained a host, if it is there. The frames that it gave were appended to those that the sink
+-- had.
 pub record NetworkDrains (old : NetworkState) (host steps : ℕ) (before after : List GivenFrame) (new : NetworkState) : Type 0 where
-  -- the frames that the host's sockets gave
+  -- the frames that the host's sockets returned
   pub given : List GivenFrame
-  -- the outlet has them after those that it had
+  -- the sink has these frames after those that it had
   pub appended : after ≡ before ++ given
   -- the drain of the host, if it is there
   pub drains : (h h' : HostState) → IsHost old host h → IsHost new host h'

@@ -34,7 +34,7 @@ use Rattle.host_calls.specs.Networks.{IsHost, NetworkState}
 abbrev pub most_counted : ℕ
 most_counted = 2 ^ 64 - 1
 
--- the sum of what the driver read from MPC, plus what MPC holds now
+-- the sum of what the driver read from MPC, plus MPC's value now
 abbrev pub sum_of : HostState → World → ℕ
 sum_of host world = host.driver.missed + world.adapter.missed_packets
 
@@ -54,14 +54,16 @@ pub record IsExact (host : HostState) (world : World) : Type 0 where
 
 -- 2. The equations with more than one field.
 
--- No more is counted than was missed. If the count is exact at the end, it was exact at the beginning, and grew by exactly the misses.
+-- At most the missed frames are counted. If the count is exact at the end, it was exact at the beginning, and grew by
+-- exactly the number of missed frames.
 pub record CountsMisses (h : HostState) (a : World) (misses : ℕ) (h' : HostState) (b : World) : Type 0 where
-  -- it never counts too many
+  -- no more is counted than was missed
   pub at_most : counted h' b ≤ counted h a + misses
   -- an exact count grew by exactly the misses
   pub exactly : IsExact h' b → IsExact h a × (counted h' b ≡ counted h a + misses)
-  -- It remains exact if MPC would be below its greatest value even without a read of MPC, and the sum wouldn't saturate. MPC is read in
-  -- an interrupt that is handled, once. So over several events `stays` of each event says more than that of all together.
+  -- It remains exact if MPC would be below its greatest value even without a read of MPC, and the sum wouldn't
+  -- saturate. MPC is read in an interrupt that is handled, once. So over several events, `stays` of each event is
+  -- stronger than `stays` of all together.
   pub stays : IsExact h a → a.adapter.missed_packets + misses < greatest_count → sum_of h a + misses ≤ most_counted → IsExact h' b
   -- The sum of what the driver read never decreases.
   pub grows : h.driver.missed ≤ h'.driver.missed
@@ -84,7 +86,7 @@ pub record CountsUnclaimed (h : HostState) (frames : ℕ) (h' : HostState) (b : 
   pub least : h.unclaimed ≤ h'.unclaimed
   -- no more are counted and held than were counted and have come
   pub most : unclaimed_in h' b ≤ h.unclaimed + frames
-  -- as many, if the count isn't saturated
+  -- exactly that many, if the count isn't saturated
   pub exactly : h'.unclaimed < most_counted → unclaimed_in h' b ≡ h.unclaimed + frames
 
 -- The frames that have come were given by their sockets, were counted, or are still held.

@@ -34,7 +34,7 @@ use Rattle.wire.specs.Filters.{HasPlansFilter}
 pub record CountsNothing (host : HostState) (world : World) : Type 0 where
   -- the driver's sum of misses is 0
   pub missed : host.driver.missed ≡ 0
-  -- it is exact
+  -- this sum is exact
   pub exact : host.driver.exact ≡ true
   -- MPC is 0
   pub missed_packets : world.adapter.missed_packets ≡ 0
@@ -60,7 +60,7 @@ pub record HostHasNoFrames (host : HostState) (station : StationState) : Type 0 
   -- nothing was counted
   pub counts : CountsNothing host station.world
 
--- Its driver is ready, no work is forgotten, the ring is refilled, and both sides of its adapter are enabled.
+-- The host's driver is ready, no work is forgotten, the ring is refilled, and both sides of its adapter are enabled.
 pub record IsReadyToRun (host : HostState) (world : World) : Type 0 where
   -- the host is ready
   pub ready : HostReady host world
@@ -73,7 +73,8 @@ pub record IsReadyToRun (host : HostState) (world : World) : Type 0 where
   -- both sides of its adapter are enabled
   pub can : CanAnswer world.adapter
 
--- Its rings, buffers, sockets, packet buffer, filter and groups are the plan's, and its memory ends with its last buffer.
+-- The host's rings, buffers, sockets, packet buffer, filter and groups are the plan's, and its memory ends with its
+-- last buffer.
 pub record HasPlansSizes (plan : HostPlan) (host : HostState) (world : World) : Type 0 where
   -- its rings and buffers have the plan's sizes
   pub layout : host.driver.layout ≡ configured_counts plan.config
@@ -83,7 +84,7 @@ pub record HasPlansSizes (plan : HostPlan) (host : HostState) (world : World) : 
   pub kinds : host.kinds ≡ plan.sockets.items
   -- PBA.RXA is the plan's
   pub allocation : world.adapter.receive_kilobytes ≡ plan.config.rxa
-  -- its receive filter is as the plan says
+  -- its receive filter is the plan's
   pub filter : HasPlansFilter plan world.adapter.filter
   -- its adapter has the setup that its driver keeps
   pub set_up : HasSetup host.driver.setup world.adapter
@@ -92,15 +93,15 @@ pub record HasPlansSizes (plan : HostPlan) (host : HostState) (world : World) : 
   -- MTA has exactly the bits of their numbers
   pub table : HasTable host.driver.groups world
 
--- Its EEPROM is the plan's, with a right checksum. Its link comes up as the plan says, and is up now.
+-- The host's EEPROM is the plan's, with a right checksum. Its link has the plan's setting, and is up now.
 pub record HasPlansDevices (plan : HostPlan) (world : World) : Type 0 where
   -- its EEPROM has the plan's words
   pub image : world.adapter.image ≡ plan.image
   -- their checksum is right
   pub sum : HasRightSum plan.image
-  -- its link comes up when the plan says
+  -- its link has the plan's setting
   pub link_is : world.adapter.phy.link ≡ plan.link
-  -- it comes up after some number of ticks
+  -- its link comes up after some number of ticks
   pub comes : plan.link ≢ Never
   -- its link is up
   pub link : HasLink world
@@ -116,9 +117,9 @@ pub record HasNoInterrupt (world : World) : Type 0 where
   -- the interrupt line isn't asserted
   pub line : is_asserted world.adapter ≡ false
 
--- A host and its station are as its plan says. What holds of every adapter holds of its adapter.
+-- A host and its station after initialization by its plan. What holds of every adapter holds of its adapter.
 pub record ComesUp (plan : HostPlan) (host : HostState) (station : StationState) : Type 0 where
-  -- it is ready, and nothing waits for it
+  -- the host is ready, and nothing waits for it
   pub ready : IsReadyToRun host station.world
   -- its sizes, its filter and its groups are the plan's
   pub sizes : HasPlansSizes plan host station.world
@@ -126,7 +127,7 @@ pub record ComesUp (plan : HostPlan) (host : HostState) (station : StationState)
   pub devices : HasPlansDevices plan station.world
   -- no frame is anywhere
   pub no_frames : HostHasNoFrames host station
-  -- it has no interrupt
+  -- the host has no interrupt
   pub no_interrupt : HasNoInterrupt station.world
   -- what holds of every adapter holds of its adapter
   pub adapter : IsAdapter station.world.adapter
@@ -155,27 +156,28 @@ wire_number plans wire = position_or_len (λ (plan : HostPlan). string_eq plan.w
 
 -- The first `count` hosts of a plan are initialized, each on its wire.
 pub record AreUp (plans : List HostPlan) (count : ℕ) (hosts : List HostState) (stations : List StationState) : Type 0 where
-  -- there are so many hosts
+  -- the number of hosts is `count`
   pub host_count : length hosts ≡ count
-  -- there are so many stations
+  -- the number of stations is `count`
   pub station_count : length stations ≡ count
-  -- each comes up as its plan says
+  -- each host is initialized by its plan
   pub each :
       (k : ℕ) (plan : HostPlan) (host : HostState) (station : StationState) → slice_get plans k ≡ Some plan → slice_get hosts k ≡ Some host
       → slice_get stations k ≡ Some station → ComesUp plan host station
-  -- each is on the plan's wire
+  -- each host is on the plan's wire
   pub wires :
       (k : ℕ) (plan : HostPlan) (station : StationState) → slice_get plans k ≡ Some plan → slice_get stations k ≡ Some station
       → station.wire ≡ wire_number plans plan.wire
 
--- Two hosts are on one wire exactly if their plans name the same.
+-- Two hosts are on one wire exactly if their plans name the same wire.
 abbrev pub ShareWires : List HostPlan → List StationState → Type 0
 ShareWires plans stations =
     (j k : ℕ) (one other : HostPlan) (a b : StationState) → slice_get plans j ≡ Some one → slice_get plans k ≡ Some other
     → slice_get stations j ≡ Some a → slice_get stations k ≡ Some b
     → (a.wire ≡ b.wire) ↔ IsTrue (string_eq one.wire other.wire)
 
--- Each of the first `count` hosts has a right checksum, and a link that comes up some time. It doesn't say after how many ticks.
+-- Each of the first `count` hosts has a right checksum, and a link that comes up after some number of ticks, which
+-- isn't stated here.
 abbrev pub CanComeUp : List HostPlan → ℕ → Type 0
 CanComeUp plans count =
     (k : ℕ) (plan : HostPlan) → k < count → slice_get plans k ≡ Some plan → HasRightSum plan.image × (plan.link ≢ Never)

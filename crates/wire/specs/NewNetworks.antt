@@ -7,12 +7,12 @@ use Rattle.network_plan.specs.declared.plan_error.PlanError.{PlanError}
 use Rattle.network_plan.specs.declared.plan_error.PlanError.TheVariants as refused
 use Rattle.host_calls.specs.Networks.{NetworkState}
 
--- Each host is initialized as its plan says, with its sockets, rings, filter and link. No frame is anywhere, and none is counted. Two hosts
--- are on one wire exactly if their plans name the same.
+-- Each host is initialized by its plan, with its sockets, rings, filter and link. No frame is anywhere, and none is
+-- counted. Two hosts are on one wire exactly if their plans name the same wire.
 pub record IsMade (plans : List HostPlan) (network : NetworkState) : Type 0 where
   -- each host is initialized
   pub up : AreUp plans (length plans) network.hosts network.stations
-  -- two hosts share a wire if and only if their plans name the same
+  -- two hosts share a wire if and only if their plans name the same wire
   pub wires : ShareWires plans network.stations
 
 -- The plan is valid.

@@ -1,5 +1,5 @@
--- What the private functions that play one event state: a call or a reset with its ticks, or a tick outside a call (our choice). None of
--- this is part of the contract of `Lan::run`: an `EventRuns` (specs/Runs) is built from it.
+-- The contracts of the private functions that play one event: a call or a reset with its ticks, or a tick outside a
+-- call (our choice). None of this is part of the contract of `Lan::run`: an `EventRuns` (specs/Runs) is built from it.
 use Rattle.std.specs.Prelude.{◌≡◌, ℕ, All, List}
 use Rattle.bus.specs.TickGroups.{without_go}
 use Rattle.packet_socket.specs.CallEffects.{request_of}
@@ -32,7 +32,7 @@ part_in (parts.Call call) = ByCall (call_in call)
 part_in (parts.Reset reset) = ByReset reset.host reset.ticks.now
 part_in (parts.Tick tick) = Alone tick
 
--- A call was made, and this replies to it.
+-- A call was made, and `reply` is its reply.
 pub record CallPlayed (call : EventCall) (reply : Reply) (old new : NetworkState) : Type 0 where
   pub steps : List AtomicStep
   pub go : HostsGo call.host (said_by call reply) steps old new
@@ -40,7 +40,7 @@ pub record CallPlayed (call : EventCall) (reply : Reply) (old new : NetworkState
   pub answer : (h h' : HostState) → IsHost old call.host h → IsHost new call.host h'
       → AnswersCall call reply.answer steps (connected h old.stations) (connected h' new.stations)
 
--- A reset was made, and this replies to it.
+-- A reset was made, and `reply` is its reply.
 pub record ResetPlayed (host : ℕ) (ticks : List Tick) (reply : Reply) (old new : NetworkState) : Type 0 where
   pub steps : List AtomicStep
   pub go : HostsGo host (said_in_reset host (reset_answer reply.answer) ticks reply.outcomes.list) steps old new

@@ -1,4 +1,4 @@
--- What is told of the ticks of a call is what happens in them.
+-- What an observer is told of the ticks of a call determines what happens in them.
 use Rattle.std.proofs.Common.{◌≡◌, ◌++◌, ◌∷◌, [], List, map, refl, sym, ap, ◌∙◌}
 use Rattle.std.specs.List.{flat_map}
 use Rattle.bus.specs.TickGroups.{without_go}

@@ -11,7 +11,7 @@ use Rattle.stations.specs.declared.tick.Tick.{Tick}
 use Rattle.network_plan.specs.declared.event.Event.{Event}
 use Rattle.network_plan.specs.declared.reply.Reply.{Reply}
 
--- It has room for the answer of this event, and for as many outcomes as the event has ticks, each Go counted.
+-- The observer has room for the answer of this event, and for as many outcomes as the event has ticks, each Go counted.
 pub record HasRoomForEvent {O : Type 0} (ready : O → Event → Type 0) (room_left : O → ℕ) (event : Event) (now : O) : Type 0 where
   pub answer : ready now event
   pub ticks : length (ticks_of event) ≤ room_left now
@@ -34,7 +34,7 @@ tick_in told = told.tick
 abbrev pub happened_of : TickTold → List Happening
 happened_of told = told_of (tick_host told.tick) told.outcome
 
--- It was told an outcome of each tick of this event that is played, in order.
+-- These are an outcome of each tick of this event that is played, in order.
 abbrev pub AreOfTicks : Event → List TickTold → Type 0
 AreOfTicks event ticks = map tick_in ticks ≡ played_ticks event
 
@@ -47,20 +47,20 @@ pub record Ending : Type 0 where
 abbrev pub ending : (accesses : ℕ) → FrameAnswer → List TickTold → Ending
 ending accesses answer ticks = record { accesses = accesses; answer = answer; ticks = ticks }
 
--- A reply that says how an event ended.
+-- The reply states how the event ended.
 pub record Replies (ending : Ending) (reply : Reply) : Type 0 where
   pub answer : reply.answer ≡ ending.answer
   pub accesses : reply.accesses ≡ ending.accesses
   pub outcomes : reply.outcomes.list ≡ map note_of ending.ticks
 
--- An event ended so, and the observer was told a reply that says so.
+-- An event ended in this way, and the observer was told a reply that states it.
 pub record TellsReply {O : Type 0} (ran : O → O → List Event → List Reply → Type 0) (event : Event) (ending : Ending) (old new : O)
     : Type 0 where
   pub reply : Reply
   pub replies : Replies ending reply
   pub told : ran old new (event ∷ []) (reply ∷ [])
 
--- The observer was told a reply of this event, of which something holds.
+-- The observer was told a reply of this event, that has this property.
 pub record EventTold {O : Type 0} (ran : O → O → List Event → List Reply → Type 0) (event : Event) (old new : O) (Holds : Reply → Type 0)
     : Type 0 where
   pub reply : Reply

@@ -64,10 +64,11 @@ abbrev pub left_of : (host : ℕ) (group : List ℕ) → FrameAnswer → List Ha
 left_of host group (Left (Ok u)) = HasLeft host group ∷ []
 left_of host group _ = []
 
--- Of a call: a frame that was accepted, what the outcomes of its ticks tell, and a frame that was given. `told`: of each tick that isn't Go
--- with its outcome, a frame that was put on the wire, reached a host with its fate, or left the receive packet buffer for memory. The
--- outcomes have the numbers of accesses before them. A group that was joined or left is after the outcomes with number 0 and before those
--- with number 1 (`told_around`): so it is at the call's only access, or after all outcomes if the call makes none.
+-- Of a call: a frame that was accepted, the happenings of its ticks, and a frame that was returned. `told`: of each
+-- tick that isn't Go with its outcome, a frame that was put on the wire, reached a host with its fate, or left the
+-- receive packet buffer for memory. The outcomes have the numbers of accesses before them. A group that was joined or
+-- left is after the outcomes with number 0 and before those with number 1 (`told_around`): so it is at the call's only
+-- access, or after all outcomes if the call makes none.
 abbrev pub said_in_call : (host : ℕ) → Request → FrameAnswer → (ticks : List Tick) → (outcomes : List Numbered) → List Happening
 said_in_call host (Sending frame) answer ticks outcomes = accepted_of host frame answer ++ told ticks outcomes
 said_in_call host (Receiving socket) answer ticks outcomes = told ticks outcomes ++ given_of host socket answer
@@ -79,8 +80,8 @@ said_in_call host (Leaving group) answer ticks outcomes = told_around (left_of h
 abbrev pub said_by : EventCall → Reply → List Happening
 said_by call reply = said_in_call call.host call.request reply.answer call.ticks reply.outcomes.list
 
--- What a reset answered: the frames that it gave up of those to be sent, and of those held, and the number of accesses that it had made
--- once RCTL was written again.
+-- The answer of a reset: the frames to be sent that it gave up, the frames held that it gave up, and the number of
+-- accesses that it had made once RCTL was written again.
 pub record ResetAnswer : Type 0 where
   -- the frames to be sent that were given up, the oldest first
   pub sending : List (List ℕ)
@@ -94,8 +95,9 @@ abbrev pub reset_answer : FrameAnswer → Option ResetAnswer
 reset_answer (Reset sending holding on_after) = Some (record { sending = sending.items; holding = holding.items; on_after = on_after })
 reset_answer answer = None
 
--- Of a reset: what the outcomes with number 0 tell; the receive side is disabled; what those with numbers 1 and 2 tell; frames are given
--- up; what those with numbers from 3 up to, but not including, `on_after` tell; the receive side is enabled; and what the others tell.
+-- Of a reset: the happenings of outcomes with number 0; the receive side is disabled; those of outcomes with numbers 1
+-- and 2; frames are given up; those with numbers from 3 up to, but not including, `on_after`; the receive side is
+-- enabled; and the others.
 abbrev pub said_in_reset : (host : ℕ) → Option ResetAnswer → (ticks : List Tick) → (outcomes : List Numbered) → List Happening
 said_in_reset host None ticks outcomes = told ticks outcomes
 said_in_reset host (Some answer) ticks outcomes =
@@ -104,7 +106,7 @@ said_in_reset host (Some answer) ticks outcomes =
     ++ GivenUp host answer.sending answer.holding ∷ (told_where (λ number. nat_le 3 number && nat_lt number answer.on_after) ticks outcomes
     ++ Enabled host ∷ told_where (λ number. nat_le answer.on_after number) ticks outcomes))
 
--- What happened in an event of this kind, by its reply. `told_alone`: what the outcome of a tick outside a call tells.
+-- What happened in an event of this kind, by its reply. `told_alone`: the happenings of a tick outside a call.
 abbrev pub said_of : EventKind → Reply → List Happening
 said_of (ByCall call) reply = said_by call reply
 said_of (ByReset host ticks) reply = said_in_reset host (reset_answer reply.answer) ticks reply.outcomes.list
@@ -129,8 +131,8 @@ happenings (event ∷ events) (reply ∷ replies) = said event reply ++ happenin
 -- those of the k-th host after the steps, computed from the state at the start: each outcome is applied, and each write of a register. A
 -- write of TDT or RDT offers slots; a reset empties rings, packet buffers and work.
 pub record TicksAnswered (steps : List AtomicStep) (old new : NetworkState) : Type 0 where
-  -- a tick's outcome follows from what is counted at the start, with the outcomes and the writes of registers before it applied
-  -- (`AreAnswered`, whose table is in docs/DELIVERY, "Answers")
+  -- a tick's outcome follows from what is counted at the start, with the outcomes and the writes of registers before
+  -- the tick applied (`AreAnswered`, whose table is in docs/DELIVERY, "Answers")
   pub there : (k : ℕ) (h : HostState) → IsHost old k h → AreAnswered k old.stations steps
   -- a host that isn't there has nothing to do (`OfEachTick`: for each tick that names the k-th host)
   pub absent : (k : ℕ) → length old.hosts ≤ k → OfEachTick k steps (λ before tick outcome. outcome ≡ Nothing)
@@ -184,7 +186,7 @@ pub record AnswersCall (call : EventCall) (answer : FrameAnswer) (steps : List A
 -- The adapter was reset, and begins again.
 pub record AnswersReset (host : ℕ) (ticks : List Tick) (answer : FrameAnswer) (steps : List AtomicStep) (old new : ConnectedHost) : Type 0
   where
-    -- what the reset answered
+    -- the answer of the reset
     pub given_up : ResetAnswer
     -- the event's answer is this one
     pub is : reset_answer answer ≡ Some given_up
@@ -268,7 +270,7 @@ IsReply (ByCall call) = IsCallReply call.host call.ticks
 IsReply (ByReset host ticks) = IsCallReply host ticks
 IsReply (Alone tick) = IsTickReply tick
 
--- what a host that is there answers
+-- the answer of a host that is there
 abbrev pub IsAnswer : EventKind → FrameAnswer → List AtomicStep → (old new : ConnectedHost) → Type 0
 IsAnswer (ByCall call) = AnswersCall call
 IsAnswer (ByReset host ticks) = AnswersReset host ticks
@@ -314,21 +316,21 @@ pub record RunsTo (old : NetworkState) (events : List Event) (before behind : Li
 
 -- 7. For `Lan::play`, which has an observer in place of a list of replies.
 
--- These events were run, and the observer was told a reply to each. The run alone is described, so `runs` has no earlier replies.
+-- These events were run, and the observer was told a reply to each. Only the run is described, so `runs` has no earlier replies.
 pub record RunTold {O : Type 0} (ran : O → O → List Event → List Reply → Type 0) (events : List Event) (old new : NetworkState)
     (from to : O) : Type 0 where
   pub replies : List Reply
   pub told : ran from to events replies
   pub runs : RunsTo old events [] replies new
 
--- the event is a reset of one of so many hosts
+-- If the event is a reset, its host is one of this number of hosts.
 abbrev pub IsResetOf : (hosts : ℕ) → EventKind → Type 0
 IsResetOf hosts (ByReset host ticks) = host < hosts
 IsResetOf hosts kind = ⊥
 
--- A run stopped before this event. In its state `asked`, in which it was told of all before it, the observer may refuse to make room for it
--- (`refuses`). Or it is a reset of one of so many hosts: memory for the frames that it gives up may be refused. No clause can say that it
--- was.
+-- A run stopped before this event. In its state `asked`, in which it was told all events before this one, the observer
+-- may refuse to make room for it (`refuses`). Or it is a reset of one of the hosts: memory for the frames that it gives
+-- up may be refused. No clause states whether it was.
 pub record StopsAt {O : Type 0} (refuses : O → Event → Type 0) (hosts : ℕ) (next : Option Event) (Told : O → Type 0) : Type 0 where
   pub event : Event
   pub is : next ≡ Some event

@@ -15,7 +15,7 @@ pub(crate) struct Collector {
     pub(crate) replies: Vec<Reply>,
     /// The outcomes of the event's ticks.
     pub(crate) outcomes: Outcomes,
-    /// Room for a frame that a socket gives.
+    /// Room for a frame that a socket returns.
     pub(crate) frame: Option<HeapFrame>,
 }
 

@@ -104,7 +104,7 @@ fn ending_of(answer: HostAnswer<usize>) -> (Answer<()>, usize)
     }
 }
 
-/// A call for a host that isn't there: its ticks are played.
+/// Answers a call for a host that isn't there: only its ticks are played.
 #[inline(never)]
 fn no_host<O: RunObserver>(network: &mut Network, event: &Event, ticks: &[Tick], observer: &mut O)
     requires answer { O.ready observer.old event.now }

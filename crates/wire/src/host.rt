@@ -19,8 +19,9 @@ use network_plan::{HostPlan, MOST_SOCKETS};
 use packet_socket::{Host, SocketKind};
 use std::alloc::Global;
 
-/// Makes a host's adapter, and its memory of the layout's size, and initializes the adapter. Before each access of this
-/// its EEPROM and its PHY take a step, and no frame arrives. Then the host can be connected to any wire.
+/// Makes a host's adapter, and its memory of the layout's size, and initializes the adapter. Before each access of the
+/// initialization, the EEPROM and the PHY take a step, and no frame arrives. Then the host can be connected to any
+/// wire.
 ///
 /// # Errors
 ///
@@ -37,8 +38,8 @@ pub fn bring_up_host(alloc: Global, plan: &HostPlan) -> Result<(Host, Machine), 
     Ok((host, machine))
 }
 
-/// Initializes the adapter of a new machine. Before each access of this its EEPROM and its PHY take a step, and no
-/// frame arrives. After an error the machine may be in any state, and [`bring_up_host`] drops it.
+/// Initializes the adapter of a new machine. Before each access of the initialization, the EEPROM and the PHY take a
+/// step, and no frame arrives. After an error the machine may be in any state, and [`bring_up_host`] drops it.
 ///
 /// # Errors
 ///

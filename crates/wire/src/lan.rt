@@ -16,7 +16,7 @@ pub struct Lan {
     /// Lists of the frames that a reset gives up are allocated by it.
     pub(crate) alloc: Global,
     pub(crate) network: Network,
-    /// The bytes of the last frame that a socket gave, which are lent to the observer.
+    /// The bytes of the last frame that a socket returned, which are lent to the observer.
     pub(crate) given: [u8; 1518],
 }
 
@@ -98,10 +98,12 @@ impl Lan {
     }
 
     /// Runs events in order, and appends a reply for each. Whatever the events are, each socket returns the frames for
-    /// it in order, each at most once, and no buffer has two owners. A frame is lost only if its size is illegal (fewer
-    /// than 60 or more than 1,518 bytes), the filter rejects it, the receive packet buffer has no room for it, no
-    /// socket takes it, or a reset gives it up or disables the receiver. In a network that [`new`](Lan::new) made, no
-    /// frame is illegal. Missed frames and frames without a socket are counted; replies report the other losses.
+    /// it in order, each at most once: `delivers` of `RunsTo` states it of the whole run, and
+    /// [`runs_join`](crate::runs_join) of several. Before and after each event, each buffer has one owner. A frame is
+    /// lost only if its size is illegal (fewer than 60 or more than 1,518 bytes), the filter rejects it, the receive
+    /// packet buffer has no room for it, no socket takes it, or a reset gives it up or disables the receiver. In a
+    /// network that [`new`](Lan::new) made, no frame is illegal ([`frames_are_legal`](crate::frames_are_legal)).
+    /// Missed frames and frames without a socket are counted, until a count saturates; replies report the other losses.
     ///
     /// # Errors
     ///

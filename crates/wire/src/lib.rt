@@ -19,6 +19,6 @@ pub use host::bring_up_host;
 pub use host_calls::Outlet;
 pub use hosts::bring_up;
 pub use lan::Lan;
-pub use law::runs_join;
+pub use law::{frames_are_legal, runs_join};
 pub use network_plan::{Answer, Event, Reply, Stopped};
 pub use run_observer::RunObserver;

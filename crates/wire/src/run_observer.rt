@@ -14,28 +14,28 @@ use stations::Observer;
 
 /// Is told what comes of a run: the outcome of each tick, as any [`Observer`], and the answer that ends an event.
 ///
-/// A run promises what `ran` says. It stops only if `refuses` says so, or before a reset of a host that is there, if
-/// memory for the frames that it gives up is refused.
+/// The contract of a run states `ran` of its observer. A run ends early only before an event for which the observer
+/// may refuse room (`refuses`), or before a reset, if memory for the frames that the reset gives up is refused.
 pub trait RunObserver: Observer {
     /// Between these two of its states, it was told what is in these replies, one reply for each event, in order.
     ghost ran: { Self → Self → List Event → List Reply → Type 0 };
 
-    /// It has room for the answer of an event.
+    /// This state of the observer has room for the answer of this event.
     ghost ready: { Self → Event → Type 0 };
 
-    /// It may refuse to make room for an event.
+    /// This state of the observer may refuse to make room for this event.
     ghost refuses: { Self → Event → Type 0 };
 
-    /// Makes room for all that comes of an event with this many ticks, before its first tick. Returns whether there is
-    /// room.
+    /// Makes room for the outcomes and the answer of an event with this many ticks, before its first tick. Returns
+    /// whether there is room.
     fn make_room(&mut self, event: &Event, ticks: usize) -> bool
         requires count { ticks ≡ length (ticks_of event.now) }
         ensures nothing { Self.heard self.old self.new [] }
         ensures room { OnTrue result (HasRoomForEvent ready Self.room_left event.now self.new) }
         ensures refused { OnFalse result (refuses self.old event.now) };
 
-    /// The answer that ends an event, and how many accesses its call made. The frame is the one that a socket gave, at
-    /// most 1,518 bytes. If the answer has no frame, these may be any bytes.
+    /// The answer that ends an event, and how many accesses its call made. `frame` is the one that a socket returned,
+    /// at most 1,518 bytes. If the answer has no frame, `frame` may be any bytes.
     fn answer(&mut self, event: &Event, accesses: u64, answer: Answer<()>, frame: &[u8])
         requires room { ready self.old event.now }
         requires fits { length frame.now ≤ longest_frame }

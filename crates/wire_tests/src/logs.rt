@@ -23,8 +23,8 @@ tick txput:a
 tick deliver:b
 ";
 
-/// While a frame of b waits at a, a puts 2,000 frames. The log has 1,024 entries when the 1,024th of them is put. Then it
-/// keeps the frame that waits, and drops the others. So it has 978 entries at last.
+/// While a frame of b waits at a, a puts 2,000 frames. The log has 1,024 entries when the 1,024th of them is put. Then
+/// it keeps the frame that waits, and drops the others. So it has 978 entries at last.
 #[test]
 fn a_full_log_keeps_what_waits(rt: HostRuntime) -> Result<(), Fail> {
     let alloc = rt.alloc();

@@ -85,7 +85,8 @@ returns-clause-fresh g c =
           same ∙ ap (λ (s : DriverSetup). setup_of c.args.config.now s.address) (sym same);
       joined = subst (AreNamedOnce c.args.config.now.groups.items) (sym (ap (λ (s : DriverState). s.groups) o.others)) (named g c);
       one_owner = subst (λ (d : DriverState). HasOneOwner d.layout.buffers (owners d)) (sym o.others)
-          (owners-offered counts.buffers counts (kept g c) c.of-groups.result c.in_ok-driver.driver.pool o.numbers d.pool (owner g c) o.pool);
+          (owners-offered counts.buffers counts (kept g c) c.of-groups.result c.in_ok-driver.driver.pool o.numbers d.pool (owner g c)
+          o.pool);
       none_out = ap (λ (s : DriverState). s.handed_out) o.others;
       refilled = let size = ap (λ (s : DriverState). length s.buffers) o.others in
           let rx = ap (λ (s : DriverState). s.layout.rx) o.others in
@@ -124,8 +125,8 @@ returns-clause-initialises g c honest =
     (arith, had.room, g.met.B.Bus.sized b1 h1, c.in_ok-address.ensures.keeps.extent) in
     let begins = drivers_begin_at_rest counts (kept g c) c.of-groups.result pool (world b1) had.counts (owner g c) lies finds.found.ring in
     let first = o.ran (record { honest = h1; ready = begins.ready }) in
-    let still = stays-quiet counts o.numbers (new_driver counts (kept g c) c.of-groups.result pool) d (world b1) (world b2) first.past first.only first.goes
-    first.follows.set first.follows.off begins.quiet finds.found.ring.transmits in
+    let still = stays-quiet counts o.numbers (new_driver counts (kept g c) c.of-groups.result pool) d (world b1) (world b2) first.past
+    first.only first.goes first.follows.set first.follows.off begins.quiet finds.found.ring.transmits in
     let tagged : c.is_some.result ≡ names_vlans config.vlans = c.is_some.ensures ∙ vlans-named config.vlans in
     let lets : LetsFramesIn g.B.Bus (receive_writes config.promiscuous (names_vlans config.vlans)) d b2 b3 =
     subst (λ (by_vlan : Bool). LetsFramesIn g.B.Bus (receive_writes config.promiscuous by_vlan) d b2 b3) tagged

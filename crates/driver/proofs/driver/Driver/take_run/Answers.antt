@@ -33,7 +33,12 @@ first : (c : goal.After-self-1) → buffers_in c.take_parts-parts.result ≡ tak
 first c = c.take_parts-parts.ensures.buffers ∙ ap (λ (k : ℕ). take k c.self.inside.buffers.items) (count c)
 
 pub invariant_of-self : goal.invariant_of-self
-invariant_of-self c = record { receives = (taken c).receives; sends = c.self.invariant.sends; resets = c.self.invariant.resets; sums = c.self.invariant.sums }
+invariant_of-self c = record {
+  receives = (taken c).receives;
+  sends = c.self.invariant.sends;
+  resets = c.self.invariant.resets;
+  sums = c.self.invariant.sums;
+}
 
 pub returns-clause-leaves : goal.returns-clause-leaves
 returns-clause-leaves c = rw (← c.self.view_is) (record {

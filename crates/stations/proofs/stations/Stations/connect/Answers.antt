@@ -11,9 +11,9 @@ returns-clause-connected c =
     let ms = c.self.inside.machines.items in
     let es = c.self.inside.wires in
     let end : EndState = record { wire = c.args.wire; line = [] } in
-    let machines : c.push.new.self.items ≡ ms ++ c.args.machine ∷ [] = (search rules) in
-    let wires : c.connect.new.self ≡ es ++ end ∷ [] = (search rules) in
-    ap (λ (list : List MachineState). stations_of list c.connect.new.self) machines
+    let machines : c.append.new.machines.items ≡ ms ++ c.args.machine ∷ [] = (search rules) in
+    let wires : c.make_place.new.wires ≡ es ++ end ∷ [] = (search rules) in
+    ap (λ (list : List MachineState). stations_of list c.make_place.new.wires) machines
     ∙ ap (stations_of (ms ++ c.args.machine ∷ [])) wires
     ∙ append-both ms es c.args.machine end c.self.invariant.ends
     ∙ ap (λ (list : List StationState). list ++ station_of c.args.machine end ∷ []) c.self.view_is
