@@ -1,9 +1,9 @@
-pub mod Accesses
-pub mod Clocks
+pub mod FromNew
+pub mod Offering
+pub mod Places
 pub mod Printing
 pub mod ReadRequests
 pub mod Requests
 pub mod ServedLines
 pub mod ServedParts
 pub mod Slices
-pub mod Stopping

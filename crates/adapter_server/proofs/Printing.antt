@@ -1,88 +1,163 @@
--- What is printed for a request.
-use Rattle.std.proofs.Common.{◌≡◌, ◌++◌, ℕ, List, [], Option, ap, inr, refl, subst, sym}
-use Rattle.std.specs.Prelude.{Err, Ok, OnOk, Result}
-use Rattle.adapter_server.specs.Answers.{Answered, Changes, OnSession, Reaches, Replies, TellsAnswer}
-use Rattle.server_output.specs.Order.{Joins, Says, Tells}
+-- Answers in parts, and what was written where the server stopped.
+use Rattle.std.proofs.Common.{◌≡◌, ◌++◌, ◌∙◌, ℕ, List, [], Option, None, Some, append_assoc, ap, inl, inr, refl, subst, sym}
+use Rattle.std.specs.Prelude.{Err, IsErr, Ok, OnOk, Result}
+use Rattle.played_adapter.specs.Told.{Told}
+use Rattle.played_adapter.specs.declared.choices.Move.{Move}
+use Rattle.played_adapter.specs.declared.player.PlayedAdapter.{PlayedAdapter}
+use Rattle.server_output.specs.Order.{Says, TellsPart}
+use Rattle.server_output.specs.Telling.{WroteText, kept_after, text_of}
 use Rattle.server_output.specs.Texts.{Text, ok_line}
-use Rattle.served_device.specs.declared.device.Device.{Device}
-use Rattle.served_session.specs.declared.session.Session.{Session}
-use Rattle.adapter_server.specs.declared.snapshot.Server.{Server}
+use Rattle.server_output.specs.declared.answer_error.AnswerError.{AnswerError}
+use Rattle.server_output.specs.declared.kept.Kept.{Kept}
 use Rattle.server_output.proofs.PartsWritten.{part_so, part_then}
-use Rattle.adapter_server.proofs.Stopping.{answer_so}
-use Rattle.server_output.proofs.Writing.{appends_then}
+use Rattle.server_output.proofs.Writing.{appends_none, appends_then, tells_so}
+use Rattle.adapter_server.specs.Answers.{Changes, OnSession, Played, Reaches, Replies, TellsAnswer}
+use Rattle.adapter_server.specs.declared.session.Session.{Session}
+use Rattle.adapter_server.specs.declared.snapshot.Server.{Server}
 
--- Something was told, and then the line of an answer.
-pub answers_then : {T E S : Type 0} (answer : Result T E) (a : Device) (Answers : S → Text → Type 0) (b : S) (P : Text → Type 0)
-    (line : Text) (before now after : Option (List ℕ)) → ((first : Text) → P first → Answers b (first ++ line)) → Tells before now P
-    → Says answer now after line → TellsAnswer answer before after a Answers b
-answers_then (Ok value) a Answers b P line before now after so tells said = record {
-  text = tells.text ++ line;
-  holds = so tells.text tells.holds;
-  written = appends_then before now after tells.text line tells.written said;
-}
-answers_then (Err error) a Answers b P line before now after so tells said =
-    part_then P (λ (text : Text). text ≡ line) (Reaches Answers a) before now after
-    (λ first later holds same. inr (b, subst (λ (t : Text). Answers b (first ++ t)) (sym same) (so first holds))) tells said
+-- A call stopped in its answer, and so its caller stops.
+pub answer_again : {T E S : Type 0} (result : Result T E) (Answers : S → Text → Type 0) (b : S) (before after : Option (List ℕ))
+    → IsErr result → TellsPart before after (Reaches Answers) → TellsAnswer result before after Answers b
+answer_again (Ok value) Answers b before after is part = absurd (cc)
+answer_again (Err error) Answers b before after is part = part
 
--- One thing happened, and then another.
-pub joined : {S : Type 0} (First Later : S → Text → Type 0) (middle : S) (before now after : Option (List ℕ))
-    → Tells before now (First middle) → Tells now after (Later middle) → Tells before after (Joins First Later)
-joined First Later middle before now after first later = record {
-  text = first.text ++ later.text;
-  holds = record {
-    middle = middle;
-    first = first.text;
-    rest = later.text;
-    happens = first.holds;
-    goes_on = later.holds;
-    text_is = refl;
-  };
-  written = appends_then before now after first.text later.text first.written later.written;
+-- Nothing was written.
+pub nothing_written : {S : Type 0} (Answers : S → Text → Type 0) (before : Option (List ℕ)) → TellsPart before before (Reaches Answers)
+nothing_written Answers before = record {
+  text = [];
+  holds = record { text = []; rest = []; holds = inl refl; text_is = refl };
+  written = appends_none before;
 }
 
--- Something happened that has a result, and the answer tells it.
-pub answered : {R T E : Type 0} (answer : Result T E) (a : Device) (Happens : R → Session → Text → Type 0) (line : R → Text) (result : R)
-    (b : Session) (before now after : Option (List ℕ)) → Tells before now (Happens result b) → Says answer now after (line result)
-    → TellsAnswer answer before after a (λ b text. (r : R) × Answered (Happens r b) (line r) text) b
-answered {R} answer a Happens line result b before now after tells said =
-    answers_then answer a (λ b text. (r : R) × Answered (Happens r b) (line r) text) b (Happens result b) (line result) before now after
-    (λ first happens. (result, record { told = first; happens = happens; text_is = refl })) tells said
+-- It stopped before anything was written.
+pub answer_none : {T E S : Type 0} (result : Result T E) (Answers : S → Text → Type 0) (b : S) (before : Option (List ℕ)) → IsErr result
+    → TellsAnswer result before before Answers b
+answer_none result Answers b before is =
+    answer_again result Answers b before before is (nothing_written Answers before)
+
+reaches_so : {S U : Type 0} (P : S → Text → Type 0) (Q : U → Text → Type 0) (f : S → U)
+    → ((b : S) (text : Text) → P b text → Q (f b) text) → (text : Text) → Reaches P text → Reaches Q text
+reaches_so P Q f so text (inl none) = inl none
+reaches_so P Q f so text (inr answered) = inr (f answered.0, so answered.0 text answered.1)
+
+pub part_reached : {S U : Type 0} (P : S → Text → Type 0) (Q : U → Text → Type 0) (f : S → U) (before after : Option (List ℕ))
+    → ((b : S) (text : Text) → P b text → Q (f b) text) → TellsPart before after (Reaches P) → TellsPart before after (Reaches Q)
+part_reached P Q f before after so part = part_so (Reaches P) (Reaches Q) before after (reaches_so P Q f so) part
+
+-- The same answer, of which more is known.
+pub answer_so : {T E S U : Type 0} (result : Result T E) (P : S → Text → Type 0) (Q : U → Text → Type 0) (f : S → U) (b : S)
+    (before after : Option (List ℕ)) → ((b : S) (text : Text) → P b text → Q (f b) text) → TellsAnswer result before after P b
+    → TellsAnswer result before after Q (f b)
+answer_so (Ok value) P Q f b before after so tells = tells_so (P b) (Q (f b)) before after (so b) tells
+answer_so (Err error) P Q f b before after so part = part_reached P Q f before after so part
 
 -- An answer that is a line and nothing else.
-pub replied : {T E S : Type 0} (answer : Result T E) (a : Device) (line : Text) (b : S) (before after : Option (List ℕ))
-    → Says answer before after line → TellsAnswer answer before after a (Replies line b) b
-replied (Ok value) a line b before after said = record {
+pub replied : {T E S : Type 0} (answer : Result T E) (line : Text) (b : S) (before after : Option (List ℕ)) → Says answer before after line
+    → TellsAnswer answer before after (Replies line b) b
+replied (Ok value) line b before after said = record {
   text = line;
   holds = record { after = refl; text_is = refl };
   written = said;
 }
-replied (Err error) a line b before after said =
-    part_so (λ (text : Text). text ≡ line) (Reaches (Replies line b) a) before after
+replied (Err error) line b before after said =
+    part_so (λ (text : Text). text ≡ line) (Reaches (Replies line b)) before after
     (λ text same. inr (b, record { after = refl; text_is = same })) said
 
 -- The state changed, and nothing was told.
 pub changed : {T E : Type 0} (answer : Result T E) (change : Session → Session) (a b : Session) (before after : Option (List ℕ))
-    → b ≡ change a → Says answer before after ok_line → TellsAnswer answer before after a.device (Changes change a) b
+    → b ≡ change a → Says answer before after ok_line → TellsAnswer answer before after (Changes change a) b
 changed answer change a b before after same said =
-    subst (λ (s : Session). TellsAnswer answer before after a.device (Changes change a) s) (sym same)
-    (replied answer a.device ok_line (change a) before after said)
+    subst (λ (s : Session). TellsAnswer answer before after (Changes change a) s) (sym same)
+    (replied answer ok_line (change a) before after said)
 
 -- What waited was the answer, and if it was written nothing is left.
-pub fetched : {X T E : Type 0} (answer : Result T E) (a : Session) (with : List X → Session) (left : List X) (line : Text)
+pub fetched : {X T E : Type 0} (answer : Result T E) (with : List X → Session) (left : List X) (line : Text)
     (before after : Option (List ℕ)) → OnOk answer (left ≡ []) → Says answer before after line
-    → TellsAnswer answer before after a.device (Replies line (with [])) (with left)
-fetched (Ok value) a with left line before after none said = record {
+    → TellsAnswer answer before after (Replies line (with [])) (with left)
+fetched (Ok value) with left line before after none said = record {
   text = line;
   holds = record { after = ap with none; text_is = refl };
   written = said;
 }
-fetched {X} (Err error) a with left line before after none said =
-    replied {T = X} (Err error) a.device line (with []) before after said
+fetched {X} (Err error) with left line before after none said = replied {T = X} (Err error) line (with []) before after said
 
 -- The answer of a session is that of its server.
 pub lifted : {T E : Type 0} (answer : Result T E) (Answers : Session → Session → Text → Type 0) (a : Server) (b : Session)
-    (before after : Option (List ℕ)) → TellsAnswer answer before after a.session.device (Answers a.session) b
-    → TellsAnswer answer before after a.session.device (OnSession Answers a) (record a { session = b })
+    (before after : Option (List ℕ)) → TellsAnswer answer before after (Answers a.session) b
+    → TellsAnswer answer before after (OnSession Answers a) (record a { session = b })
 lifted answer Answers a b before after tells =
-    answer_so answer (Answers a.session) (OnSession Answers a) (λ (s : Session). record a { session = s }) a.session.device b before after
+    answer_so answer (Answers a.session) (OnSession Answers a) (λ (s : Session). record a { session = s }) b before after
     (λ s text answers. record { answers = answers; after = refl }) tells
+
+-- The same was played, from a session and with moves that are known.
+pub begun : (Happens : List Move → PlayedAdapter → PlayedAdapter → List Told → Type 0) (moves known : List Move) (said : Text)
+    (a met b : Session) (text : Text) → moves ≡ known → a ≡ met → Played (Happens moves) said a b text
+    → Played (Happens known) said met b text
+begun Happens moves known said a met b text same at played =
+    subst (λ (m : Session). Played (Happens known) said m b text) at
+    (subst (λ (ms : List Move). Played (Happens ms) said a b text) same played)
+
+-- Something was played and told, and then comes the line of the answer.
+module _ (Happens : PlayedAdapter → PlayedAdapter → List Told → Type 0) (said : Text) (a : Session) (device : PlayedAdapter) (kept : Kept)
+    (told : List Told) (happens : Happens a.device device told) (line : Text) (Answers : Session → Text → Type 0) (f : Session → Session)
+    (so : (b : Session) (text : Text) → Played Happens said a b text → Answers (f b) (text ++ line)) where
+  -- the session after all that was told
+  abbrev last : Session
+  last = record a { device = device; kept = kept_after told a.kept }
+
+  abbrev written_text : Text
+  written_text = text_of a.kept said told
+
+  whole : Answers (f last) (written_text ++ line)
+  whole = so last written_text (record { told = told; happens = happens; after = refl; text_is = refl })
+
+  -- Writing stopped before the line.
+  pub stopped : (error : AnswerError) (stop : Option AnswerError) (before now : Option (List ℕ)) → stop ≡ Some error
+      → WroteText None stop before now written_text → TellsPart before now (Reaches Answers)
+  stopped error None before now is wrote = absurd (cc)
+  stopped error (Some e) before now is wrote = record {
+    text = wrote.text;
+    holds = record {
+      text = written_text ++ line;
+      rest = wrote.holds.rest ++ line;
+      holds = inr (f last, whole);
+      text_is = ap (λ (t : Text). t ++ line) (sym wrote.holds.holds ∙ wrote.holds.text_is)
+          ∙ append_assoc wrote.text wrote.holds.rest line;
+    };
+    written = wrote.written;
+  }
+
+  -- All was written, but not the line.
+  pub unsaid : {T E : Type 0} (result : Result T E) (b : Session) (stop : Option AnswerError) (before now : Option (List ℕ)) → IsErr result
+      → stop ≡ None → WroteText None stop before now written_text → TellsAnswer result before now Answers b
+  unsaid result b (Some e) before now is running wrote = absurd (cc)
+  unsaid result b None before now is running wrote =
+      answer_again result Answers b before now is (record {
+        text = written_text;
+        holds = record { text = written_text ++ line; rest = line; holds = inr (f last, whole); text_is = refl };
+        written = wrote;
+      })
+
+  -- All was written, and then the line.
+  pub answered : {T E : Type 0} (result : Result T E) (stop : Option AnswerError) (before now after : Option (List ℕ)) → stop ≡ None
+      → WroteText None stop before now written_text → (stop ≡ None → kept ≡ kept_after told a.kept) → Says result now after line
+      → TellsAnswer result before after Answers (f (record a { device = device; kept = kept }))
+  answered result (Some e) before now after running wrote kept_is said = absurd (cc)
+  answered (Ok value) None before now after running wrote kept_is says = record {
+    text = written_text ++ line;
+    holds = so (record a { device = device; kept = kept }) written_text (record {
+      told = told;
+      happens = happens;
+      after = ap (λ (k : Kept). record a { device = device; kept = k }) (kept_is refl);
+      text_is = refl;
+    });
+    written = appends_then before now after written_text line wrote says;
+  }
+  answered (Err error) None before now after running wrote kept_is says =
+      part_then (λ (t : Text). t ≡ written_text) (λ (t : Text). t ≡ line) (Reaches Answers) before now after
+      (λ t l same other. inr (
+        f last,
+        subst (λ (one : Text). Answers (f last) (one ++ l)) (sym same)
+            (subst (λ (one : Text). Answers (f last) (written_text ++ one)) (sym other) whole),
+      ))
+      (record { text = written_text; holds = refl; written = wrote }) says

@@ -1,6 +1,6 @@
 -- A line that was read, and its answer.
 use Rattle.std.proofs.Common.{◌≡◌, Ok, Err, Result, subst, sym}
-use Rattle.adapter_server.specs.Answers.{AnswersLine, AnswersTo, Obeys, Refuses}
+use Rattle.adapter_server.specs.Answers.{AnswersLine, AnswersTo, Does, Refuses}
 use Rattle.server_requests.specs.Reading.{IsRead}
 use Rattle.server_output.specs.Texts.{Text}
 use Rattle.server_requests.specs.declared.refusal.Refusal.{Refusal}
@@ -18,7 +18,7 @@ not_both request refusal e = cc
 same_refusal : (one two : Refusal) → refused one ≡ refused two → one ≡ two
 same_refusal one two e = cc
 
-pub answers_read : (line : Text) (request : Request) (a b : Server) (text : Text) → IsRead line (Ok request) → Obeys request line a b text
+pub answers_read : (line : Text) (request : Request) (a b : Server) (text : Text) → IsRead line (Ok request) → Does request line a b text
     → AnswersLine line a b text
 answers_read line request a b text read obeys = record {
   asked = λ is. subst (λ (asked : Result Request Refusal). AnswersTo asked line a b text) (sym (read.text is)) obeys;

@@ -5,7 +5,7 @@ use Rattle.server_output.specs.Texts.{Text}
 use Rattle.server_requests.specs.declared.request.Request.{Request}
 use Rattle.server_requests.specs.declared.request.Request.TheVariants as requests
 use Rattle.adapter_server.specs.declared.snapshot.Server.{Server}
-use Rattle.served_session.specs.declared.session.Session.{Session}
+use Rattle.adapter_server.specs.declared.session.Session.{Session}
 
 -- What the session does at a request other than `save` and `restore`, the server does.
 pub does_on : (request : Request) (said : Text) (a : Server) → request ≢ requests.Save → request ≢ requests.Restore

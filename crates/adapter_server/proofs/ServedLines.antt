@@ -20,7 +20,8 @@ use Rattle.server_requests.specs.declared.refusal.Refusal.TheVariants as refusal
 use Rattle.adapter_server.specs.declared.serve_error.ServeError.TheVariants as errors
 use Rattle.adapter_server.specs.declared.snapshot.Server.{Server}
 use Rattle.server_requests.proofs.ReadingLines.{known_same, known_then, lines_some}
-use Rattle.server_output.proofs.Writing.{appends_kept, appends_none, appends_then, in_order_more, tells_so}
+use Rattle.server_output.proofs.Writing.{appends_kept, appends_none, appends_then, tells_so}
+use Rattle.played_adapter.proofs.Telling.{in_order_more}
 
 -- The lines that were read up to here are served by this text.
 pub record Served (begin now : Server) (text : Text) (old new : List ℕ) : Type 0 where
@@ -142,10 +143,10 @@ serves_lines (Some old) (Some new) (Some later) begin now before after on ends =
 -- The player at the end is that of the last server.
 pub serves_to : (bytes : Option (List ℕ)) (begin last : Server) (before after : Option (List ℕ))
     → IfSome bytes (λ all. Tells before after (ServesWhole all begin last))
-    → IfSome bytes (λ all. Tells before after (ServesTo all begin last.session.player))
+    → IfSome bytes (λ all. Tells before after (ServesTo all begin last.session.kept.player))
 serves_to None begin last before after serves = tt
 serves_to (Some all) begin last before after serves =
-    tells_so (ServesWhole all begin last) (ServesTo all begin last.session.player) before after
+    tells_so (ServesWhole all begin last) (ServesTo all begin last.session.kept.player) before after
     (λ text lines. record { last = last; serves = lines; player = refl }) serves
 
 pub serves_front : (old new : Option (List ℕ)) (begin now : Server) (before after : Option (List ℕ))

@@ -10,7 +10,6 @@ use Rattle.server_requests.specs.LinesRead.{BothKnown, IsLong, IsNextLine, IsWho
 use Rattle.adapter_server.specs.Serving.{AnswersNext, BeginsNext, ServesBegun, Turns}
 use Rattle.adapter_server.specs.Statuses.{ended_by}
 use Rattle.server_output.specs.Texts.{Text}
-use Rattle.served_device.specs.declared.device.Device.{Device}
 use Rattle.server_output.specs.declared.answer_error.AnswerError.{AnswerError}
 use Rattle.server_requests.specs.declared.line_reader.NextLine.{NextLine}
 use Rattle.server_requests.specs.declared.line_reader.NextLine.TheVariants.{End, Whole, Long}
@@ -21,8 +20,7 @@ use Rattle.adapter_server.specs.declared.snapshot.Server.{Server}
 use Rattle.server_output.proofs.PartsWritten.{part_whole}
 use Rattle.server_requests.proofs.ReadingLines.{lines_some}
 use Rattle.adapter_server.proofs.ServedLines.{Served, ServesOn, long_turn, never_read, short_turn, tells_sent}
-use Rattle.served_device.proofs.Stopping.{events_none}
-use Rattle.adapter_server.proofs.Stopping.{part_reached}
+use Rattle.adapter_server.proofs.Printing.{part_reached}
 use Rattle.server_output.proofs.Writing.{appends_then, tells_so}
 
 begins_nothing : (lines : List Text) (a : Server) → BeginsNext lines a []
@@ -30,7 +28,7 @@ begins_nothing [] a = refl
 begins_nothing (line ∷ later) a = record {
   text = [];
   rest = [];
-  holds = inl (a.session.device, events_none a.session.device);
+  holds = inl refl;
   text_is = refl;
 }
 
@@ -56,7 +54,7 @@ serves_stopped (Some old) (Some new) begin now before after on = record {
 }
 
 in_line : (begin now : Server) (text part : Text) (old new : List ℕ) → Served begin now text old new → new ≢ []
-    → Begins (Reaches (Turns (first_line new) now) now.session.device) part → ServesBegun old begin (text ++ part)
+    → Begins (Reaches (Turns (first_line new) now)) part → ServesBegun old begin (text ++ part)
 in_line begin now text part old new on some begins = record {
   answered = on.front;
   left = first_line new ∷ lines_of (behind_line new);
@@ -73,13 +71,13 @@ module _ (Is : List ℕ → List ℕ → Type 0) (now : Server) (Answers : Serve
     (some : (new later : List ℕ) → Is new later → new ≢ [])
     (turn : (new later : List ℕ) → Is new later → (b : Server) (text : Text) → Answers b text → Turns (first_line new) now b text) where
   serves_in : (old new later : Option (List ℕ)) (begin : Server) (before middle after : Option (List ℕ))
-      → ServesOn old new begin now before middle → BothKnown new later Is → TellsPart middle after (Reaches Answers now.session.device)
+      → ServesOn old new begin now before middle → BothKnown new later Is → TellsPart middle after (Reaches Answers)
       → IfSome old (λ bytes. Tells before after (ServesBegun bytes begin))
   serves_in None new later begin before middle after on is part = tt
   serves_in (Some old) None later begin before middle after on is part = absurd on.goes
   serves_in (Some old) (Some new) None begin before middle after on is part = absurd is
   serves_in (Some old) (Some new) (Some later) begin before middle after on is part =
-      let all = part_reached Answers (Turns (first_line new) now) (λ (s : Server). s) now.session.device middle after
+      let all = part_reached Answers (Turns (first_line new) now) (λ (s : Server). s) middle after
       (turn new later is) part in
       record {
         text = on.text ++ all.text;
@@ -90,7 +88,7 @@ module _ (Is : List ℕ → List ℕ → Type 0) (now : Server) (Answers : Serve
 -- The answer to the next line stops.
 pub serves_part : (what : NextLine) (old new later : Option (List ℕ)) (begin now : Server) (line : Text)
     (before middle after : Option (List ℕ)) → ServesOn old new begin now before middle → IsNextLine what line new later → what ≢ End
-    → TellsPart middle after (Reaches (AnswersNext what line now) now.session.device)
+    → TellsPart middle after (Reaches (AnswersNext what line now))
     → IfSome old (λ bytes. Tells before after (ServesBegun bytes begin))
 serves_part End old new later begin now line before middle after on read more part = absurd (more refl)
 serves_part Whole old new later begin now line before middle after on read more part =
@@ -110,10 +108,10 @@ answering_stopped (Ok value) cause Done Front stopped = absurd stopped
 answering_stopped (Err error) cause Done Front stopped = (tt, λ read. absurd (never_read cause (sym stopped ∙ read)))
 
 -- The answer is written, and flushed or not.
-pub answer_sent : {T E S : Type 0} (result : Result T E) (a : Device) (Answers : S → Text → Type 0) (b : S)
-    (before after sent : Option (List ℕ)) → Tells before after (Answers b) → Keeps after sent → TellsAnswer result before sent a Answers b
-answer_sent (Ok value) a Answers b before after sent told kept = tells_sent before after sent (Answers b) told kept
-answer_sent (Err error) a Answers b before after sent told kept =
-    part_whole (Reaches Answers a) before sent
-    (tells_so (Answers b) (Reaches Answers a) before sent (λ text answers. inr (b, answers))
+pub answer_sent : {T E S : Type 0} (result : Result T E) (Answers : S → Text → Type 0) (b : S)
+    (before after sent : Option (List ℕ)) → Tells before after (Answers b) → Keeps after sent → TellsAnswer result before sent Answers b
+answer_sent (Ok value) Answers b before after sent told kept = tells_sent before after sent (Answers b) told kept
+answer_sent (Err error) Answers b before after sent told kept =
+    part_whole (Reaches Answers) before sent
+    (tells_so (Answers b) (Reaches Answers) before sent (λ text answers. inr (b, answers))
     (tells_sent before after sent (Answers b) told kept))

@@ -1,5 +1,7 @@
 pub mod Statuses
 pub mod Defaults
+pub mod Moves
+pub mod Sessions
 pub mod NewSessions
 pub mod Answers
 pub mod Serving

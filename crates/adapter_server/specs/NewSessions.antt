@@ -1,15 +1,15 @@
 -- The state before the first request (our choice).
+use denote.RawPtr.{Ptr}
 use Rattle.std.specs.Prelude.{[]}
 use Rattle.pci_function.specs.ConfigSpace.{new_function}
-use Rattle.std.specs.Prelude.{ℕ, Option, true, false}
+use Rattle.std.specs.Prelude.{ℕ, Option, false}
 use Rattle.std.specs.Prelude.{replicate}
-use Rattle.schedule_player.specs.Players.{PlayerState}
-use Rattle.rand_core.specs.Pcg32Seed.{pcg32_seed}
-use Rattle.rand_pcg.specs.Pcg.{pcg32_of_seed}
+use Rattle.step_schedules.specs.Players.{PlayerState}
 use Rattle.adapter.specs.Registers.{after_write, new_adapter}
 use Rattle.adapter.specs.State.{AdapterState}
+use Rattle.played_adapter.specs.Playing.{new_watched}
 use Rattle.adapter_server.specs.declared.options.ServeOptions.{ServeOptions}
-use Rattle.served_session.specs.declared.session.Session.{Session}
+use Rattle.adapter_server.specs.declared.session.Session.{Session}
 
 -- PBA's offset (13.4.16 "Packet Buffer Allocation")
 abbrev pub pba : ℕ
@@ -23,28 +23,11 @@ with_missed count adapter = record adapter { missed_packets = count }
 abbrev pub first_adapter : ServeOptions → AdapterState
 first_adapter options = with_missed options.missed (after_write pba options.receive_kilobytes (new_adapter options.image options.link))
 
--- the state before the first request: memory of zeros, a new adapter, no offered frame, and this player
-unfoldable pub new_session : ServeOptions → Option PlayerState → Session
-new_session options player = record {
-  device = record {
-    machine = record {
-      world = record {
-        memory = replicate options.memory 0;
-        adapter = first_adapter options;
-      };
-      reported = false;
-    };
-    log = false;
-    events = false;
-    wire_free = true;
-    put = [];
-    faults = [];
-  };
+-- the state before the first request: memory of zeros, at some address, a new adapter, no offered frame, and this player
+abbrev pub new_session : ServeOptions → Option PlayerState → (address : Option Ptr) → Session
+new_session options player address = record {
+  device = new_watched (replicate options.memory 0) (first_adapter options) options.seed address;
   function = new_function options.registers;
-  generator = pcg32_of_seed (pcg32_seed 16 options.seed);
-  most_steps = 0;
-  pace = 0;
   clock = 0;
-  offered = [];
-  player = player;
+  kept = record { log = false; events = false; put = []; faults = []; player = player };
 }

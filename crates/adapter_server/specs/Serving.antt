@@ -1,20 +1,26 @@
 -- What a server answers to all of its input (our choice).
+use denote.RawPtr.{Ptr}
 use Rattle.std.specs.Prelude.{◌≡◌, ◌++◌, ℕ, List, [], ◌∷◌, MatchBool, None, Option, length, nat_lt}
 use Rattle.adapter_server.specs.Answers.{AnswersLine, Reaches, Refuses}
 use Rattle.server_requests.specs.Lines.{lines_of, most_line_bytes}
-use Rattle.server_output.specs.Order.{Begins, InOrder, Tells}
+use Rattle.server_output.specs.Order.{Begins, Tells}
+use Rattle.played_adapter.specs.Order.{InOrder}
 use Rattle.adapter_server.specs.NewSessions.{new_session}
 use Rattle.server_output.specs.Texts.{Text}
 use Rattle.server_requests.specs.declared.line_reader.NextLine.{NextLine}
 use Rattle.server_requests.specs.declared.line_reader.NextLine.TheVariants.{End, Whole, Long}
-use Rattle.schedule_player.specs.Players.{PlayerState}
+use Rattle.step_schedules.specs.Players.{PlayerState}
 use Rattle.adapter_server.specs.declared.options.ServeOptions.{ServeOptions}
 use Rattle.server_requests.specs.declared.refusal.Refusal.TheVariants as refusals
 use Rattle.adapter_server.specs.declared.snapshot.Server.{Server}
 
 -- a server before the first request
-abbrev pub new_server : ServeOptions → Option PlayerState → Server
-new_server options player = record { session = new_session options player; saved = None }
+abbrev pub new_server : ServeOptions → Option PlayerState → (address : Option Ptr) → Server
+new_server options player address = record { session = new_session options player address; saved = None }
+
+-- It holds of a server before the first request, whose memory has some address.
+abbrev pub FromNew : ServeOptions → Option PlayerState → (Holds : Server → Type 0) → Type 0
+FromNew options player Holds = (address : Option Ptr) × Holds (new_server options player address)
 
 -- A line is answered, and one that is too long is refused. At the end of the input nothing happens.
 abbrev pub AnswersNext : NextLine → Text → Server → Server → Text → Type 0
@@ -47,10 +53,10 @@ pub record ServesFront (bytes : List ℕ) (begin : Server) (text : Text) : Type 
   -- their answers, one after the other
   pub serves : Serves answered begin last text
 
--- a beginning of the text of some events that happen in order, or of the answer to the first of these lines
+-- a beginning of the answer to the first of these lines
 abbrev pub BeginsNext : List Text → Server → Text → Type 0
 BeginsNext [] a text = text ≡ []
-BeginsNext (line ∷ later) a text = Begins (Reaches (Turns line a) a.session.device) text
+BeginsNext (line ∷ later) a text = Begins (Reaches (Turns line a)) text
 
 -- The first lines of these bytes are answered, each in full, in order. Then at most a part of the next answer is written.
 pub record ServesBegun (bytes : List ℕ) (begin : Server) (text : Text) : Type 0 where
@@ -80,17 +86,18 @@ pub record ServesTo (bytes : List ℕ) (begin : Server) (left : Option PlayerSta
   -- the answers, one after the other
   pub serves : ServesWhole bytes begin last text
   -- its player is the result
-  pub player : left ≡ last.session.player
+  pub player : left ≡ last.session.kept.player
 
 -- From a new server with this player on, all lines are answered, and this is the player after them.
 abbrev pub ServesAll : ServeOptions → Option PlayerState → (bytes : List ℕ) → (left : Option PlayerState)
     → (before after : Option (List ℕ)) → Type 0
-ServesAll options player bytes left before after = Tells before after (ServesTo bytes (new_server options player) left)
+ServesAll options player bytes left before after =
+    FromNew options player (λ begin. Tells before after (ServesTo bytes begin left))
 
 -- From a new server with this player on, the first lines are answered.
 abbrev pub ServesSome : ServeOptions → Option PlayerState → (bytes : List ℕ) → (before after : Option (List ℕ)) → Type 0
-ServesSome options player bytes before after = Tells before after (ServesFront bytes (new_server options player))
+ServesSome options player bytes before after = FromNew options player (λ begin. Tells before after (ServesFront bytes begin))
 
 -- From a new server with this player on, the first lines are answered, and at most a part of the next answer is written.
 abbrev pub ServesPart : ServeOptions → Option PlayerState → (bytes : List ℕ) → (before after : Option (List ℕ)) → Type 0
-ServesPart options player bytes before after = Tells before after (ServesBegun bytes (new_server options player))
+ServesPart options player bytes before after = FromNew options player (λ begin. Tells before after (ServesBegun bytes begin))

@@ -1,17 +1,18 @@
-// Reads and writes, and the steps before each.
+// Reads and writes.
 
 ghost use Rattle.std.specs.Prelude.{◌≡◌, IsTrue, length};
 ghost use Rattle.std.specs.Int.{from_le_bytes, w32};
 ghost use Rattle.adapter_server.specs.Answers.{ReadsAt, ReadsMemory, ReadsRegister, TellsAnswer, WritesAt};
-ghost use Rattle.bus.specs.Machines.{after_event};
-ghost use Rattle.bus.specs.declared.event.Event.TheVariants.{Accesses};
-ghost use Rattle.served_session.specs.Sessions.{Takes, is_memory, place_in, write_to};
+ghost use Rattle.adapter_server.specs.Sessions.{Takes, place_in, write_to};
+ghost use Rattle.played_adapter.specs.Order.{Tells};
+ghost use Rattle.played_adapter.specs.Playing.{has_bytes};
+ghost use Rattle.played_adapter.specs.Requests.{ServesAccess};
 ghost use Rattle.server_requests.specs.Widths.{size_of};
 
+use crate::session::{Place, Session};
 use access_names::Target;
-use served_device::Device;
-use served_session::{Place, Session};
-use server_output::{AnswerError, refuse, say, say_read};
+use played_adapter::{Move, Observer, PlayedAdapter};
+use server_output::{AnswerError, Lines, refuse, say, say_read};
 use server_requests::Wanted;
 use std::alloc::Global;
 use std::io::Write;
@@ -30,16 +31,24 @@ fn register_value(bytes: &[u8]) -> u32
     u32::from_le_bytes(all)
 }
 
-/// Writes bytes at a place.
-fn write_to(device: &mut Device, place: Place, address: u64, bytes: &[u8])
+/// Writes bytes at a place, after moves.
+fn write_to<O: Observer>(
+    device: &mut PlayedAdapter,
+    moves: &[Move],
+    place: Place,
+    address: u64,
+    bytes: &[u8],
+    observer: &mut O,
+)
     requires { Takes place address bytes.now device.old }
-    ensures { device.new ≡ record device.old {
-      machine = after_event (Accesses (write_to place address bytes.now)) device.old.machine;
-    } }
+    ensures { Tells O.heard observer.old observer.new
+        (ServesAccess moves.now (write_to place address bytes.now) device.old device.new) }
 {
     match place {
-        Place::Register(offset) => device.machine.write(offset, register_value(bytes)),
-        Place::Memory => device.machine.store(address, bytes),
+        Place::Register(offset) => {
+            device.serve_write(moves, offset, register_value(bytes), observer);
+        }
+        Place::Memory => device.serve_store(moves, address, bytes, observer),
     }
 }
 
@@ -53,13 +62,24 @@ fn read_register<W: Write>(
     offset: u32,
 ) -> Result<(), AnswerError>
     requires { size_of wanted ≡ 4 }
-    ensures { TellsAnswer result (W.contents out.old) (W.contents out.new) session.old.device
+    ensures { TellsAnswer result (W.contents out.old) (W.contents out.new)
         (ReadsRegister offset wanted said.now session.old) session.new }
 {
-    session.play_before(alloc, out, Before::Read, Target::Register(offset))?;
-    let value = session.device.machine.read(offset);
-    session.finish(alloc, out, said)?;
-    say_read(alloc, out, wanted, &value.to_le_bytes())
+    let moves = session.meet_access(alloc, Before::Read, Target::Register(offset))?;
+    let mut lines = Lines {
+        out,
+        kept: &mut session.kept,
+        said,
+        alloc,
+        stopped: None,
+    };
+    let value = session
+        .device
+        .serve_read(moves.as_slice(), offset, &mut lines);
+    if let Some(error) = lines.stopped {
+        return Err(error);
+    }
+    say_read(alloc, lines.out, wanted, &value.to_le_bytes())
 }
 
 /// Reads bytes in memory.
@@ -71,15 +91,28 @@ fn read_memory<W: Write>(
     wanted: Wanted,
     address: u64,
 ) -> Result<(), AnswerError>
-    requires { IsTrue (is_memory session.old address (size_of wanted)) }
-    ensures { TellsAnswer result (W.contents out.old) (W.contents out.new) session.old.device
+    requires { IsTrue (has_bytes session.old.device address (size_of wanted)) }
+    ensures { TellsAnswer result (W.contents out.old) (W.contents out.new)
         (ReadsMemory address wanted said.now session.old) session.new }
 {
     let mut bytes = vec![in alloc; 0; wanted.size() as usize]?;
-    session.play_before_at(alloc, out, Before::Read, Place::Memory, address)?;
-    session.device.machine.load(address, bytes.as_mut_slice());
-    session.finish(alloc, out, said)?;
-    say_read(alloc, out, wanted, bytes.as_slice())
+    let target = session.target_at(Place::Memory, address);
+    let moves = session.meet_access(alloc, Before::Read, target)?;
+    let mut lines = Lines {
+        out,
+        kept: &mut session.kept,
+        said,
+        alloc,
+        stopped: None,
+    };
+    let into = bytes.as_mut_slice();
+    session
+        .device
+        .serve_load(moves.as_slice(), address, into, &mut lines);
+    if let Some(error) = lines.stopped {
+        return Err(error);
+    }
+    say_read(alloc, lines.out, wanted, bytes.as_slice())
 }
 
 /// `readb`, `readw`, `readl`, `readq`, `read`, `b64read`. Four bytes at a register are one access of it.
@@ -91,7 +124,7 @@ pub(crate) fn read<W: Write>(
     wanted: Wanted,
     address: u64,
 ) -> Result<(), AnswerError>
-    ensures { TellsAnswer result (W.contents out.old) (W.contents out.new) session.old.device
+    ensures { TellsAnswer result (W.contents out.old) (W.contents out.new)
         (ReadsAt (place_in session.old address (size_of wanted)) wanted address said.now session.old) session.new }
 {
     match session.place_of(address, wanted.size()) {
@@ -99,6 +132,43 @@ pub(crate) fn read<W: Write>(
         Ok(Place::Memory) => read_memory(session, alloc, out, said, wanted, address),
         Err(refusal) => refuse(out, refusal),
     }
+}
+
+/// Writes bytes at a place.
+fn write_at<W: Write>(
+    session: &mut Session,
+    alloc: Global,
+    out: &mut W,
+    said: &[u8],
+    place: Place,
+    address: u64,
+    bytes: &[u8],
+) -> Result<(), AnswerError>
+    requires { Takes place address bytes.now session.old.device }
+    ensures { TellsAnswer result (W.contents out.old) (W.contents out.new)
+        (WritesAt (Ok place) address bytes.now said.now session.old) session.new }
+{
+    let target = session.target_at(place, address);
+    let moves = session.meet_access(alloc, Before::Write, target)?;
+    let mut lines = Lines {
+        out,
+        kept: &mut session.kept,
+        said,
+        alloc,
+        stopped: None,
+    };
+    write_to(
+        &mut session.device,
+        moves.as_slice(),
+        place,
+        address,
+        bytes,
+        &mut lines,
+    );
+    if let Some(error) = lines.stopped {
+        return Err(error);
+    }
+    say(lines.out, b"OK\n")
 }
 
 /// `writeb`, `writew`, `writel`, `writeq`, `write`, `b64write`, `memset`. Four bytes at a register are one access
@@ -111,16 +181,12 @@ pub(crate) fn write<W: Write>(
     address: u64,
     bytes: &[u8],
 ) -> Result<(), AnswerError>
-    ensures { TellsAnswer result (W.contents out.old) (W.contents out.new) session.old.device
+    ensures { TellsAnswer result (W.contents out.old) (W.contents out.new)
         (WritesAt (place_in session.old address (length bytes.now)) address bytes.now said.now session.old)
         session.new }
 {
-    let place = match session.place_of(address, bytes.len() as u64) {
-        Ok(place) => place,
-        Err(refusal) => return refuse(out, refusal),
-    };
-    session.play_before_at(alloc, out, Before::Write, place, address)?;
-    write_to(&mut session.device, place, address, bytes);
-    session.finish(alloc, out, said)?;
-    say(out, b"OK\n")
+    match session.place_of(address, bytes.len() as u64) {
+        Ok(place) => write_at(session, alloc, out, said, place, address, bytes),
+        Err(refusal) => refuse(out, refusal),
+    }
 }

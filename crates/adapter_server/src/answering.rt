@@ -1,19 +1,18 @@
 // Answers to requests.
 
-ghost use Rattle.adapter_server.specs.Answers.{AnswersArrival, AnswersSettle, AnswersStep, SessionDoes, SettlesAll};
-ghost use Rattle.adapter_server.specs.Answers.{TellsAnswer};
-ghost use Rattle.served_device.specs.Devices.{TellsEvents};
+ghost use Rattle.adapter_server.specs.Answers.{AnswersArrival, AnswersSettle, AnswersStep, SessionDoes, TellsAnswer};
 
 use crate::access::{read, write};
+use crate::session::Session;
 use crate::small_answers::{
     change, fetch_faults, fetch_frames, offer, read_port, say_digest, say_level, set_clock,
     step_clock, write_port,
 };
 use crate::snapshot::Server;
 use adapter::StepKind;
-use played_adapter::MOST_ROUNDS;
-use served_session::Session;
-use server_output::{AnswerError, fate_word, outcome_word, refuse, say, say_number, say_word};
+use server_output::{
+    AnswerError, Lines, fate_word, outcome_word, refuse, say, say_number, say_word,
+};
 use server_requests::{NextLine, Refusal, Request, Stop, read_line};
 use std::alloc::Global;
 use std::io::Write;
@@ -23,13 +22,27 @@ fn take_step<W: Write>(
     session: &mut Session,
     alloc: Global,
     out: &mut W,
+    said: &[u8],
     kind: StepKind,
 ) -> Result<(), AnswerError>
-    ensures { TellsAnswer result (W.contents out.old) (W.contents out.new) session.old.device
-        (AnswersStep kind session.old) session.new }
+    ensures { TellsAnswer result (W.contents out.old) (W.contents out.new)
+        (AnswersStep kind said.now session.old) session.new }
 {
-    let outcome = session.device.step(alloc, out, kind)?;
-    say_word(alloc, out, outcome_word(outcome))
+    let moves = session.meet_request(alloc, "step")?;
+    let mut lines = Lines {
+        out,
+        kept: &mut session.kept,
+        said,
+        alloc,
+        stopped: None,
+    };
+    let outcome = session
+        .device
+        .serve_step(moves.as_slice(), kind, &mut lines);
+    if let Some(error) = lines.stopped {
+        return Err(error);
+    }
+    say_word(alloc, lines.out, outcome_word(outcome))
 }
 
 /// `arrive`.
@@ -40,35 +53,49 @@ fn deliver<W: Write>(
     said: &[u8],
     frame: &[u8],
 ) -> Result<(), AnswerError>
-    ensures { TellsAnswer result (W.contents out.old) (W.contents out.new) session.old.device
+    ensures { TellsAnswer result (W.contents out.old) (W.contents out.new)
         (AnswersArrival frame.now said.now session.old) session.new }
 {
-    let fate = session.device.machine.arrive(frame);
-    session.finish(alloc, out, said)?;
-    say_word(alloc, out, fate_word(fate))
-}
-
-/// Delivers all offered frames, and plays rounds until one does nothing. Returns the number of steps that did
-/// something.
-pub(crate) fn settle_all<W: Write>(
-    session: &mut Session,
-    alloc: Global,
-    out: &mut W,
-) -> Result<u64, AnswerError>
-    ensures { TellsEvents result (W.contents out.old) (W.contents out.new) session.old.device
-        (λ moved. SettlesAll moved session.old session.new) }
-{
-    session.deliver_all(alloc, out)?;
-    session.device.settle(alloc, out, MOST_ROUNDS)
+    let moves = session.meet_request(alloc, "arrive")?;
+    let mut lines = Lines {
+        out,
+        kept: &mut session.kept,
+        said,
+        alloc,
+        stopped: None,
+    };
+    let fate = session
+        .device
+        .serve_arrival(moves.as_slice(), frame, &mut lines);
+    if let Some(error) = lines.stopped {
+        return Err(error);
+    }
+    say_word(alloc, lines.out, fate_word(fate))
 }
 
 /// `settle`.
-fn settle<W: Write>(session: &mut Session, alloc: Global, out: &mut W) -> Result<(), AnswerError>
-    ensures { TellsAnswer result (W.contents out.old) (W.contents out.new) session.old.device
-        (AnswersSettle session.old) session.new }
+fn settle<W: Write>(
+    session: &mut Session,
+    alloc: Global,
+    out: &mut W,
+    said: &[u8],
+) -> Result<(), AnswerError>
+    ensures { TellsAnswer result (W.contents out.old) (W.contents out.new)
+        (AnswersSettle said.now session.old) session.new }
 {
-    let moved = settle_all(session, alloc, out)?;
-    say_number(out, moved)
+    let moves = session.meet_request(alloc, "settle")?;
+    let mut lines = Lines {
+        out,
+        kept: &mut session.kept,
+        said,
+        alloc,
+        stopped: None,
+    };
+    let moved = session.device.serve_settle(moves.as_slice(), &mut lines);
+    if let Some(error) = lines.stopped {
+        return Err(error);
+    }
+    say_number(lines.out, moved)
 }
 
 /// Answers a request to the adapter that is served. At `save` and `restore` it does nothing.
@@ -79,7 +106,7 @@ fn answer_session<W: Write>(
     said: &[u8],
     request: &Request,
 ) -> Result<(), AnswerError>
-    ensures { TellsAnswer result (W.contents out.old) (W.contents out.new) session.old.device
+    ensures { TellsAnswer result (W.contents out.old) (W.contents out.new)
         (SessionDoes request.now said.now session.old) session.new }
 {
     match request {
@@ -92,24 +119,24 @@ fn answer_session<W: Write>(
             write_port(session, out, *width, *port, *value)
         }
         Request::Endianness => say_word(alloc, out, b"little"),
-        Request::Step(kind) => take_step(session, alloc, out, *kind),
+        Request::Step(kind) => take_step(session, alloc, out, said, *kind),
         Request::Arrive(frame) => deliver(session, alloc, out, said, frame.as_slice()),
-        Request::Settle => settle(session, alloc, out),
+        Request::Settle => settle(session, alloc, out, said),
         Request::Set(setting) => change(session, out, *setting),
         Request::Line => say_level(session, out),
         Request::Digest => say_digest(session, out),
-        Request::ClockStep(nanoseconds) => step_clock(session, alloc, out, *nanoseconds),
-        Request::ClockSet(time) => set_clock(session, alloc, out, *time),
+        Request::ClockStep(nanoseconds) => step_clock(session, alloc, out, said, *nanoseconds),
+        Request::ClockSet(time) => set_clock(session, alloc, out, said, *time),
         Request::Intercept => say(out, b"OK\n"),
         Request::Frames => fetch_frames(session, alloc, out),
         Request::Faults => fetch_faults(session, alloc, out),
-        Request::Offer(frame) => offer(session, alloc, out, frame.as_slice()),
+        Request::Offer(frame) => offer(session, alloc, out, said, frame.as_slice()),
         Request::Save | Request::Restore => Ok(()),
     }
 }
 
 impl Server {
-    ghost use Rattle.adapter_server.specs.Answers.{AnswersLine, Does, Obeys};
+    ghost use Rattle.adapter_server.specs.Answers.{AnswersLine, Does};
     ghost use Rattle.adapter_server.specs.Serving.{AnswersNext};
 
     /// Answers a request.
@@ -120,7 +147,7 @@ impl Server {
         said: &[u8],
         request: &Request,
     ) -> Result<(), AnswerError>
-        ensures { TellsAnswer result (W.contents out.old) (W.contents out.new) self.old.session.device
+        ensures { TellsAnswer result (W.contents out.old) (W.contents out.new)
             (Does request.now said.now self.old) self.new }
     {
         match request {
@@ -130,21 +157,6 @@ impl Server {
         }
     }
 
-    /// Plays what comes before a request, and answers it.
-    fn obey<W: Write>(
-        &mut self,
-        alloc: Global,
-        out: &mut W,
-        said: &[u8],
-        request: &Request,
-    ) -> Result<(), AnswerError>
-        ensures { TellsAnswer result (W.contents out.old) (W.contents out.new) self.old.session.device
-            (Obeys request.now said.now self.old) self.new }
-    {
-        self.session.begin_round(alloc, out, request)?;
-        self.answer(alloc, out, said, request)
-    }
-
     /// Answers a line, which isn't too long.
     fn answer_line<W: Write>(
         &mut self,
@@ -152,11 +164,11 @@ impl Server {
         out: &mut W,
         line: &[u8],
     ) -> Result<(), AnswerError>
-        ensures { TellsAnswer result (W.contents out.old) (W.contents out.new) self.old.session.device
+        ensures { TellsAnswer result (W.contents out.old) (W.contents out.new)
             (AnswersLine line.now self.old) self.new }
     {
         match read_line(alloc, line) {
-            Ok(request) => self.obey(alloc, out, line, &request),
+            Ok(request) => self.answer(alloc, out, line, &request),
             Err(Stop::Refused(refusal)) => refuse(out, refusal),
             Err(Stop::Memory) => Err(AnswerError::Memory),
         }
@@ -170,7 +182,7 @@ impl Server {
         next: NextLine,
         line: &[u8],
     ) -> Result<(), AnswerError>
-        ensures { TellsAnswer result (W.contents out.old) (W.contents out.new) self.old.session.device
+        ensures { TellsAnswer result (W.contents out.old) (W.contents out.new)
             (AnswersNext next line.now self.old) self.new }
     {
         match next {

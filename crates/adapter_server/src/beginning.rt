@@ -4,18 +4,15 @@ ghost use Rattle.std.specs.Prelude.{◌≡◌, IfOk};
 ghost use Rattle.adapter_server.specs.NewSessions.{first_adapter, new_session};
 
 use crate::options::ServeOptions;
+use crate::session::Session;
 use adapter::Adapter;
 use adapter::offsets::PBA;
-use bus::Machine;
 use dma_memory::HostMemory;
 use pci_function::PciFunction;
-use rand_core::SeedableRng;
-use rand_pcg::Lcg64Xsh32;
-use schedule_player::Player;
-use served_device::Device;
-use served_session::Session;
-use server_output::{AnswerError, Faults, Frames};
+use played_adapter::{Frames, PlayedAdapter};
+use server_output::{AnswerError, Faults, Kept};
 use std::alloc::{AllocError, Global};
+use step_schedules::Player;
 
 /// A new adapter, whose PBA is written once and whose MPC is set.
 fn adapter_of(alloc: Global, options: &ServeOptions) -> Result<Adapter, AllocError>
@@ -29,31 +26,25 @@ fn adapter_of(alloc: Global, options: &ServeOptions) -> Result<Adapter, AllocErr
 
 /// The state before the first request: a new adapter, whose PBA is written once and whose MPC is set, memory of
 /// zeros, and this player.
-#[tactic(auto, unfolding(crate::specs::NewSessions::new_session))]
 pub(crate) fn new_session(
     alloc: Global,
     options: &ServeOptions,
     player: Option<Player>,
 ) -> Result<Session, AnswerError>
-    ensures { IfOk result (λ session. session ≡ new_session options.now player) }
+    ensures { IfOk result (λ session. session ≡ new_session options.now player session.device.address) }
 {
     let memory = HostMemory::new(alloc, options.memory)?;
     let adapter = adapter_of(alloc, options)?;
     Ok(Session {
-        device: Device {
-            machine: Machine::new(adapter, memory),
+        device: PlayedAdapter::watched(alloc, adapter, memory, options.seed)?,
+        function: PciFunction::new(options.registers),
+        clock: 0,
+        kept: Kept {
             log: false,
             events: false,
-            wire_free: true,
             put: Frames::new(alloc),
             faults: Faults::new(alloc),
+            player,
         },
-        function: PciFunction::new(options.registers),
-        generator: Lcg64Xsh32::seed_from_u64(options.seed),
-        most_steps: 0,
-        pace: 0,
-        clock: 0,
-        offered: Frames::new(alloc),
-        player,
     })
 }

@@ -9,9 +9,11 @@
 mod access;
 mod answering;
 mod beginning;
+mod moves;
 mod options;
 mod serve_error;
 mod server;
+mod session;
 mod small_answers;
 mod snapshot;
 

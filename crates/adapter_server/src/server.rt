@@ -10,11 +10,11 @@ ghost use Rattle.adapter_server.specs.declared.serve_error.ServeError.TheVariant
 use crate::options::ServeOptions;
 use crate::serve_error::ServeError;
 use crate::snapshot::Server;
-use schedule_player::Player;
 use server_output::{AnswerError, send};
 use server_requests::{MOST_LINE_BYTES, NextLine, next_line};
 use std::alloc::Global;
 use std::io::{BufRead, Write};
+use step_schedules::Player;
 
 /// Answers a line, and flushes the answer.
 fn answer_and_send<W: Write>(
@@ -24,7 +24,7 @@ fn answer_and_send<W: Write>(
     next: NextLine,
     line: &[u8],
 ) -> Result<(), AnswerError>
-    ensures { TellsAnswer result (W.contents output.old) (W.contents output.new) server.old.session.device
+    ensures { TellsAnswer result (W.contents output.old) (W.contents output.new)
         (AnswersNext next line.now server.old) server.new }
 {
     server.answer_next(alloc, output, next, line)?;
@@ -75,8 +75,7 @@ fn serve_lines<R: BufRead, W: Write>(
 ///
 /// E57 if memory was refused, E66 if reading failed or the input has 2^64 bytes, E67 if writing failed. At each error a
 /// number of first lines was answered in full, in order. At E66 nothing else was written. At E57 and E67 a beginning of
-/// the next answer may follow: a beginning of the text of some events, in the order in which they happened, or of the
-/// whole answer. That these are the events of the next line isn't proved.
+/// the next answer may follow.
 #[tactic(auto, using(crate::proofs::ServedLines::never_read))]
 pub fn serve<R: BufRead + Drop, W: Write>(
     alloc: Global,

@@ -1,16 +1,15 @@
 // A server: an adapter that is served, and the copy of it that is kept.
 
-ghost use Rattle.std.specs.Prelude.{◌≡◌, IfOk, Some};
-ghost use Rattle.server_output.specs.Texts.{ok_line};
+ghost use Rattle.std.specs.Prelude.{◌≡◌, IfOk};
 
 use crate::beginning::new_session;
 use crate::options::ServeOptions;
-use schedule_player::Player;
-use served_session::Session;
+use crate::session::Session;
 use server_output::{AnswerError, refuse, restored_text, say};
 use server_requests::Refusal;
 use std::alloc::Global;
 use std::io::Write;
+use step_schedules::Player;
 
 /// The state of a server between two requests.
 #[derive(Drop)]
@@ -29,7 +28,7 @@ fn put_in_place<T: Drop>(place: &mut T, value: T)
 }
 
 impl Server {
-    ghost use Rattle.adapter_server.specs.Answers.{Replies, Restores, TellsAnswer};
+    ghost use Rattle.adapter_server.specs.Answers.{Restores, Saves, TellsAnswer};
     ghost use Rattle.adapter_server.specs.Serving.{new_server};
 
     /// The state before the first request, with this player. Nothing is saved.
@@ -38,7 +37,7 @@ impl Server {
         options: &ServeOptions,
         player: Option<Player>,
     ) -> Result<Server, AnswerError>
-        ensures { IfOk result (λ server. server ≡ new_server options.now player) }
+        ensures { IfOk result (λ server. server ≡ new_server options.now player server.session.device.address) }
     {
         Ok(Server {
             session: new_session(alloc, options, player)?,
@@ -48,32 +47,31 @@ impl Server {
 
     /// The player after the last request.
     pub(crate) fn into_player(mut self) -> Option<Player>
-        ensures { result ≡ self.session.player }
+        ensures { result ≡ self.session.kept.player }
     {
-        let player = self.session.player.take();
+        let player = self.session.kept.player.take();
         drop(self);
         player
     }
 
     /// `save`.
     pub(crate) fn save<W: Write>(&mut self, out: &mut W) -> Result<(), AnswerError>
-        ensures { TellsAnswer result (W.contents out.old) (W.contents out.new) self.old.session.device
-            (Replies ok_line (record self.old { saved = Some self.old.session })) self.new }
+        ensures { TellsAnswer result (W.contents out.old) (W.contents out.new) (Saves self.old) self.new }
     {
-        let copy = self.session.clone()?;
+        let copy = self.session.copy()?;
         put_in_place(&mut self.saved, Some(copy));
         say(out, b"OK\n")
     }
 
     /// `restore`.
     pub(crate) fn restore<W: Write>(&mut self, out: &mut W) -> Result<(), AnswerError>
-        ensures { TellsAnswer result (W.contents out.old) (W.contents out.new) self.old.session.device
+        ensures { TellsAnswer result (W.contents out.old) (W.contents out.new)
             (Restores self.old.saved self.old) self.new }
     {
         let Some(saved) = &self.saved else {
             return refuse(out, Refusal::Saved);
         };
-        let session = saved.clone()?;
+        let session = saved.copy()?;
         let was = self.session.device.machine.line();
         let is = session.device.machine.line();
         put_in_place(&mut self.session, session);

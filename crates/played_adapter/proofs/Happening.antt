@@ -29,15 +29,20 @@ module _ {O : Type 0} (heard : O → O → List Told → Type 0) (laws : Compose
     hears = laws.joins before now end of_it reports.told tells reports.hears;
   }
 
+  -- An access happened.
+  pub alone : (access : Access) (a b : PlayedAdapter) (machine : MachineState) (before now end : O)
+      → Occurs (Accesses access) a.machine.world → machine ≡ after_event (Accesses access) a.machine
+      → heard before now (told.Accessed access ∷ []) → Tells heard now end (Reports (record a { machine = machine }) b)
+      → Tells heard before end (HappensAlone access a b)
+  alone access a b machine before now end occurs state tells reports =
+      happened (Accesses access) _ (told.Accessed access ∷ []) a (after (Accesses access) a) _ b before now end occurs
+      (ap (λ (m : MachineState). record a { machine = m }) state) tells refl reports
+
   -- An access happened after the steps before it.
-  pub accessed : (access : Access) (a middle b : PlayedAdapter) (machine : MachineState) (before now later end : O)
-      → Tells heard before now (Prepares a middle) → Occurs (Accesses access) middle.machine.world
-      → machine ≡ after_event (Accesses access) middle.machine → heard now later (told.Accessed access ∷ [])
-      → Tells heard later end (Reports (record middle { machine = machine }) b) → Tells heard before end (Accessed access a b)
-  accessed access a middle b machine before now later end prepares occurs state tells reports =
-      tells_both heard laws (Prepares a) (λ m. HappensAlone access m b) middle before now end prepares
-      (happened (Accesses access) _ (told.Accessed access ∷ []) middle (after (Accesses access) middle) _ b now later end occurs
-      (ap (λ (m : MachineState). record middle { machine = m }) state) tells refl reports)
+  pub accessed : (access : Access) (a middle b : PlayedAdapter) (before now end : O) → Tells heard before now (Prepares a middle)
+      → Tells heard now end (HappensAlone access middle b) → Tells heard before end (Accessed access a b)
+  accessed access a middle b before now end prepares happens =
+      tells_both heard laws (Prepares a) (λ m. HappensAlone access m b) middle before now end prepares happens
 
   -- No bytes are loaded.
   pub not_loaded : (address : ℕ) (bytes : List ℕ) (a : PlayedAdapter) (before : O) → false ≡ has_bytes a address (length bytes)

@@ -1,6 +1,8 @@
+pub mod Choosing
 pub mod Happening
 pub mod Playing
 pub mod Putting
+mod Quiet
 pub mod Rounds
 pub mod Schedules
 pub mod Telling

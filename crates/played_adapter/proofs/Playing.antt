@@ -1,15 +1,22 @@
 -- The steps before an access leave its bytes in memory. Without steps before it, an access happens alone.
-use Rattle.std.proofs.Common.{◌≡◌, ◌∙◌, ◌+◌, ◌++◌, ◌≤◌, [], ℕ, Bool, List, true, ap, arith, cond, length, subst, sym}
+use Rattle.std.proofs.Common.{◌≡◌, ◌∙◌, ◌+◌, ◌++◌, ◌∷◌, ◌≤◌, [], ℕ, Bool, List, true, ap, arith, cond, length, subst, sym}
 use Rattle.std.proofs.lemmas.Bool.Decides.{nat_tests}
 use Rattle.rand_pcg.specs.Lcg.{Lcg}
 use Rattle.adapter.specs.declared.outcome.Outcome.{Outcome}
 use Rattle.adapter.specs.declared.step.StepKind.{StepKind}
 use Rattle.bus.proofs.Trails.{event_happens}
+use Rattle.bus.specs.declared.event.Event.TheVariants.{Arrives}
 use Rattle.played_adapter.specs.Draws.{drawn_count}
 use Rattle.played_adapter.specs.Order.{InOrder, Times}
-use Rattle.played_adapter.specs.Playing.{DrawsStep, HappensAlone, Interleaves, Plays, PlaysScheduled, Prepares, QuietAccessesAreExact}
-use Rattle.played_adapter.specs.Playing.{Steps, both_ticks, chosen, counted, due_in, has_bytes, step_of, without_next}
+use Rattle.played_adapter.specs.Choices.{drawn}
+use Rattle.played_adapter.specs.Playing.{Chosen, ComesBefore, DrawsChoice, HappensAlone, Interleaves, Makes, OldestArrives, Plays}
+use Rattle.played_adapter.specs.Playing.{PlaysScheduled, Prepares, QuietAccessesAreExact, Steps, both_ticks, counted, drawn_from}
+use Rattle.played_adapter.specs.Playing.{due_in, has_bytes, step_of, without_next}
 use Rattle.played_adapter.specs.Told.{Told}
+use Rattle.played_adapter.specs.declared.choices.Choice.{Choice}
+use Rattle.played_adapter.specs.declared.choices.Choice.TheVariants.{Arrival, Step}
+use Rattle.played_adapter.specs.declared.choices.Move.{Move}
+use Rattle.played_adapter.specs.declared.choices.Move.TheVariants.{Hold, Play, Tick}
 use Rattle.played_adapter.specs.declared.player.PlayedAdapter.{PlayedAdapter}
 use Rattle.played_adapter.specs.declared.scheduling.ScheduledStep.{ScheduledStep}
 use Rattle.played_adapter.proofs.Telling.{in_order_keeps}
@@ -22,8 +29,27 @@ step_keeps : (kind : StepKind) (outcome : Outcome (Unit {0})) (a b : PlayedAdapt
 step_keeps kind outcome a b told steps =
     ap size_of steps.after ∙ (event_happens (step_of kind outcome a) a.machine.world tt steps.occurs).steady.size
 
-drawn_keeps : (a b : PlayedAdapter) (told : List Told) → DrawsStep a b told → size_of b ≡ size_of a
-drawn_keeps a b told drawn = step_keeps _ drawn.0 (chosen a) b told drawn.1
+oldest_keeps : (offered : List (List ℕ)) (a b : PlayedAdapter) (told : List Told) → OldestArrives offered a b told → size_of b ≡ size_of a
+oldest_keeps [] a b told same = ap size_of same.0
+oldest_keeps (frame ∷ later) a b told arrives =
+    ap size_of arrives.1.after ∙ (event_happens (Arrives frame arrives.0) a.machine.world tt arrives.1.occurs).steady.size
+
+chosen_keeps : (choice : Choice) (a b : PlayedAdapter) (told : List Told) → Chosen choice a b told → size_of b ≡ size_of a
+chosen_keeps (Step kind) a b told played = step_keeps kind played.outcome a b played.first played.steps
+chosen_keeps Arrival a b told played = oldest_keeps a.offered a b played.first played.arrives
+
+drawn_keeps : (a b : PlayedAdapter) (told : List Told) → DrawsChoice a b told → size_of b ≡ size_of a
+drawn_keeps a b told draws = chosen_keeps (drawn a.offered a.generator).0 (drawn_from a) b told draws
+
+interleaving_keeps : (a b : PlayedAdapter) (told : List Told) → Interleaves a b told → size_of b ≡ size_of a
+interleaving_keeps a b told steps =
+    in_order_keeps (λ (turn : ℕ). DrawsChoice) size_of (λ turn. drawn_keeps) _
+    (record a { generator = (drawn_count a.most_steps a.generator).1 }) b told steps
+
+made_keeps : (next : Move) (a b : PlayedAdapter) (told : List Told) → Makes next a b told → size_of b ≡ size_of a
+made_keeps (Tick kind) a b told played = step_keeps kind played.0 a b told played.1
+made_keeps (Hold action) a b told noted = ap size_of noted.0
+made_keeps (Play choice) a b told chosen = chosen_keeps choice a b told chosen
 
 scheduled_keeps : (step : ScheduledStep) (a b : PlayedAdapter) (told : List Told) → PlaysScheduled step a b told → size_of b ≡ size_of a
 scheduled_keeps step a b told played = step_keeps step.kind played.0 (without_next a) b told played.1
@@ -42,9 +68,17 @@ still_fits a b told address count fits steps =
     (ticked, steps.happens.0) _ steps.happens.1 in
     let first : size_of waited ≡ size_of ticked = in_order_keeps PlaysScheduled size_of scheduled_keeps _ ticked waited _
     steps.goes_on.happens in
-    let later : size_of draws.0 ≡ size_of waited = in_order_keeps (λ (turn : ℕ). DrawsStep) size_of (λ turn. drawn_keeps) _ _ draws.0 _
-    draws.1 in
+    let later = interleaving_keeps waited draws.0 _ draws.1 in
     let kept : size_of b ≡ size_of a = ap size_of draws.2 ∙ later ∙ first ∙ ticks in
+    let before : address + count ≤ size_of a = grind (arith, nat_tests) in
+    omega arith
+
+-- So do moves and what the generator chooses.
+pub moves_fit : (moves : List Move) (a b : PlayedAdapter) (told : List Told) (address count : ℕ) → has_bytes a address count ≡ true
+    → ComesBefore moves a b told → address + count ≤ size_of b
+moves_fit moves a b told address count fits steps =
+    let made = in_order_keeps Makes size_of made_keeps moves a steps.middle steps.first steps.happens in
+    let later = interleaving_keeps steps.middle b steps.rest steps.goes_on in
     let before : address + count ≤ size_of a = grind (arith, nat_tests) in
     omega arith
 
@@ -52,7 +86,7 @@ still_fits a b told address count fits steps =
 
 none_drawn : (a b : PlayedAdapter) (told : List Told) → a.most_steps ≡ 0 → Interleaves a b told → (b ≡ a) × (told ≡ [])
 none_drawn a b told none steps =
-    subst (λ (drawn : ℕ × Lcg). Times DrawsStep drawn.0 (record a { generator = drawn.1 }) b told)
+    subst (λ (drawn : ℕ × Lcg). Times DrawsChoice drawn.0 (record a { generator = drawn.1 }) b told)
     (ap (λ (most : ℕ). drawn_count most a.generator) none) steps
 
 pub quiet_accesses : QuietAccessesAreExact

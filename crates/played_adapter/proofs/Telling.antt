@@ -1,7 +1,7 @@
 -- What is told in order.
-use Rattle.std.proofs.Common.{◌≡◌, ◌++◌, ◌∙◌, ℕ, List, [], ◌∷◌, append_assoc, refl, subst, sym, ap}
-use Rattle.std.proofs.lemmas.List.{append-nil}
-use Rattle.played_adapter.specs.Order.{Composes, InOrder, Joins, Tells}
+use Rattle.std.proofs.Common.{◌≡◌, ◌+◌, ◌++◌, ◌∙◌, ℕ, List, [], ◌∷◌, append_assoc, replicate, refl, subst, sym, ap}
+use Rattle.std.proofs.lemmas.List.{append-nil, replicate_more}
+use Rattle.played_adapter.specs.Order.{Composes, InOrder, Joins, Tells, Times}
 
 -- The same was told, of which more is known.
 pub tells_so : {O T : Type 0} (heard : O → O → List T → Type 0) (P Q : List T → Type 0) (before after : O)
@@ -43,6 +43,11 @@ module _ {X S T : Type 0} (Happens : X → S → S → List T → Type 0) where
     told_is = sym (append-nil told);
   }
 
+  -- One more thing happens.
+  pub in_order_more : (xs : List X) (x : X) (a b c : S) (told rest : List T) → InOrder Happens xs a b told → Happens x b c rest
+      → InOrder Happens (xs ++ x ∷ []) a c (told ++ rest)
+  in_order_more xs x a b c told rest so_far next = in_order_joined xs (x ∷ []) a b c told rest so_far (in_order_one x b c rest next)
+
   -- What each of them keeps is kept.
   pub in_order_keeps : (size : S → ℕ) → ((x : X) (a b : S) (told : List T) → Happens x a b told → size b ≡ size a) → (xs : List X)
       (a b : S) (told : List T) → InOrder Happens xs a b told → size b ≡ size a
@@ -55,11 +60,19 @@ module _ {X S T : Type 0} (Happens : X → S → S → List T → Type 0) where
     pub tells_none : (a : S) (before : O) → Tells heard before before (InOrder Happens [] a a)
     tells_none a before = record { told = []; holds = (refl, refl); hears = laws.stays before }
 
-    -- One more thing happens.
+    -- One more thing is told.
     pub tells_more : (xs : List X) (x : X) (a b c : S) (before now after : O) → Tells heard before now (InOrder Happens xs a b)
         → Tells heard now after (Happens x b c) → Tells heard before after (InOrder Happens (xs ++ x ∷ []) a c)
     tells_more xs x a b c before now after so_far next = record {
       told = so_far.told ++ next.told;
-      holds = in_order_joined xs (x ∷ []) a b c so_far.told next.told so_far.holds (in_order_one x b c next.told next.holds);
+      holds = in_order_more xs x a b c so_far.told next.told so_far.holds next.holds;
       hears = laws.joins before now after so_far.told next.told so_far.hears next.hears;
     }
+
+-- Something happened once more.
+pub times_more : {S T O : Type 0} (Happens : S → S → List T → Type 0) (heard : O → O → List T → Type 0) → Composes heard → (count : ℕ)
+    (a b c : S) (before now after : O) → Tells heard before now (Times Happens count a b) → Tells heard now after (Happens b c)
+    → Tells heard before after (Times Happens (count + 1) a c)
+times_more Happens heard laws count a b c before now after so_far next =
+    subst (λ (turns : List ℕ). Tells heard before after (InOrder (λ (turn : ℕ). Happens) turns a c)) (replicate_more count 0)
+    (tells_more (λ (turn : ℕ). Happens) heard laws (replicate count 0) 0 a b c before now after so_far next)

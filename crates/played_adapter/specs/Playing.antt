@@ -1,7 +1,7 @@
 -- What is played on an adapter, and what an observer is told of it (our choice).
 use denote.RawPtr.{Ptr}
-use Rattle.std.specs.Prelude.{◌≡◌, ◌+◌, ◌++◌, ◌<◌, ◌≤◌, [], ◌∷◌, ℕ, Bool, false, true, List, Option, None, All}
-use Rattle.std.specs.Prelude.{drop, if◌then◌else◌, length, min, nat_le, nat_lt, sum}
+use Rattle.std.specs.Prelude.{◌≡◌, ◌==◌, ◌+◌, ◌++◌, ◌<◌, ◌≤◌, ◌&&◌, ◌||◌, [], ◌∷◌, ℕ, Bool, false, true, List, Option, None, All}
+use Rattle.std.specs.Prelude.{drop, if◌then◌else◌, length, min, nat_le, nat_lt, not, sum}
 use Rattle.rand_core.specs.Pcg32Seed.{pcg32_seed}
 use Rattle.rand_pcg.specs.Pcg.{pcg32_of_seed}
 use Rattle.adapter.specs.Outcomes.{FrameOutcome, framed, put_by}
@@ -23,41 +23,62 @@ use Rattle.engine_faults.specs.Faults.{fault_if_any}
 use Rattle.engine_faults.specs.declared.engine_fault.EngineFault.{EngineFault}
 use Rattle.rx_engine.specs.declared.arrival.Fate.{Fate}
 use Rattle.tx_engine.specs.Transmitter.{Queued}
-use Rattle.played_adapter.specs.Draws.{drawn_count, drawn_kind}
+use Rattle.step_schedules.specs.declared.deviation.Action.{Action}
+use Rattle.step_schedules.specs.declared.deviation.Action.TheVariants.{Arrive}
+use Rattle.played_adapter.specs.Choices.{drawn, step_action}
+use Rattle.played_adapter.specs.Draws.{drawn_count}
 use Rattle.played_adapter.specs.Order.{InOrder, Joins, Times}
-use Rattle.played_adapter.specs.Outcomes.{moved_by}
-use Rattle.played_adapter.specs.Told.{Arrived, Line, Stepped, Told}
+use Rattle.played_adapter.specs.Outcomes.{did, moved_by}
+use Rattle.played_adapter.specs.Told.{Arrived, Line, Noted, Offered, Stepped, Told}
 use Rattle.played_adapter.specs.Told as tell
+use Rattle.played_adapter.specs.declared.choices.Choice.{Choice}
+use Rattle.played_adapter.specs.declared.choices.Choice.TheVariants.{Arrival, Step}
+use Rattle.played_adapter.specs.declared.choices.Move.{Move}
+use Rattle.played_adapter.specs.declared.choices.Move.TheVariants.{Hold, Play, Tick}
 use Rattle.played_adapter.specs.declared.player.PlayedAdapter.{PlayedAdapter}
 use Rattle.played_adapter.specs.declared.scheduling.ScheduledStep.{ScheduledStep}
 
 -- A new adapter.
 
--- an empty wire of 64 frames, no steps before accesses, and no access so far; the address of memory is any
-unfoldable pub new_player : (memory : List ℕ) → AdapterState → Option Ptr → PlayedAdapter
-new_player memory adapter address = record {
+-- an empty wire of so many frames, a schedule with room for so many steps, none of them yet, and no access so far; the address of
+-- memory is any
+unfoldable pub new_with_room : (frames steps : ℕ) → (memory : List ℕ) → AdapterState → Option Ptr → PlayedAdapter
+new_with_room frames steps memory adapter address = record {
   machine = record { world = record { memory = memory; adapter = adapter }; reported = is_asserted adapter };
   address = address;
-  wire = record { capacity = 64; frames = [] };
+  wire = record { capacity = frames; frames = [] };
+  keeps_put = true;
+  wire_free = true;
+  offered = [];
   generator = pcg32_of_seed (pcg32_seed 16 0);
   most_steps = 0;
-  scheduled = record { items = []; capacity = 4096 };
+  pace = 0;
+  scheduled = record { items = []; capacity = steps };
   accesses = 0;
   ticks = false;
 }
 
--- A copy of an adapter: only the address of its memory differs, and the level of its interrupt line at the last report.
-pub record IsCopy (a copy : PlayedAdapter) : Type 0 where
-  -- the same adapter and the same memory
-  pub world : copy.machine.world ≡ a.machine.world
-  -- all else is the same, too
-  pub same : copy ≡ record a { machine = copy.machine; address = copy.address }
+-- a wire of 64 frames, and a schedule of 4,096 steps
+abbrev pub new_player : (memory : List ℕ) → AdapterState → Option Ptr → PlayedAdapter
+new_player memory adapter address = new_with_room 64 4096 memory adapter address
 
--- What happens.
+-- frames that are put don't wait, and no step is scheduled; the generator has this seed
+abbrev pub new_watched : (memory : List ℕ) → AdapterState → (seed : ℕ) → Option Ptr → PlayedAdapter
+new_watched memory adapter seed address =
+    record (new_with_room 0 0 memory adapter address) { keeps_put = false; generator = pcg32_of_seed (pcg32_seed 16 seed) }
 
 -- the adapter after the level of its interrupt line was told
 abbrev pub reported : PlayedAdapter → PlayedAdapter
 reported a = record a { machine = record a.machine { reported = is_asserted a.machine.world.adapter } }
+
+-- A copy of an adapter: only the address of its memory differs, and the level of its interrupt line counts as told.
+pub record IsCopy (a copy : PlayedAdapter) : Type 0 where
+  -- the same adapter and the same memory
+  pub world : copy.machine.world ≡ a.machine.world
+  -- all else is the same, too
+  pub same : copy ≡ record (reported a) { address = copy.address }
+
+-- What happens.
 
 -- a change of the interrupt line, if it is one
 abbrev pub line_told : (was is : Bool) → List Told
@@ -91,11 +112,29 @@ after one a = record a { machine = after_event one a.machine }
 abbrev pub Arrives : (frame : List ℕ) → Fate → PlayedAdapter → PlayedAdapter → List Told → Type 0
 Arrives frame fate a b told = Happens (event.Arrives frame fate) (Arrived frame fate ∷ []) (after (event.Arrives frame fate) a) a b told
 
+-- An offered frame arrives, and those after it still wait.
+abbrev pub FrameArrives : (frame : List ℕ) → (later : List (List ℕ)) → Fate → PlayedAdapter → PlayedAdapter → List Told → Type 0
+FrameArrives frame later fate a b told = Happens (event.Arrives frame fate) (Offered frame fate ∷ [])
+    (after (event.Arrives frame fate) (record a { offered = later })) a b told
+
+-- The oldest of these frames arrives, if there is one.
+abbrev pub OldestArrives : (offered : List (List ℕ)) → PlayedAdapter → PlayedAdapter → List Told → Type 0
+OldestArrives [] a b told = (b ≡ a) × (told ≡ [])
+OldestArrives (frame ∷ later) a b told = (fate : Fate) × FrameArrives frame later fate a b told
+
+-- The oldest offered frame arrives, if there is one.
+abbrev pub NextArrives : PlayedAdapter → PlayedAdapter → List Told → Type 0
+NextArrives a b told = OldestArrives a.offered a b told
+
+-- All offered frames arrive, the oldest first.
+abbrev pub AllArrive : PlayedAdapter → PlayedAdapter → List Told → Type 0
+AllArrive a b told = Times NextArrives (length a.offered) a b told
+
 -- Steps.
 
--- the wire has room while fewer frames wait on it than it holds
+-- the wire has room while it is free, and fewer frames wait on it than it holds
 abbrev pub has_room : PlayedAdapter → Bool
-has_room a = nat_lt (length a.wire.frames) a.wire.capacity
+has_room a = a.wire_free && (not a.keeps_put || nat_lt (length a.wire.frames) a.wire.capacity)
 
 -- a step of this kind with this outcome
 abbrev pub step_of : StepKind → Outcome (Unit {0}) → PlayedAdapter → Event
@@ -106,11 +145,13 @@ abbrev pub next_frames : List Queued → List (List ℕ)
 next_frames [] = []
 next_frames (queued ∷ later) = queued.frame ∷ []
 
--- after a step; a frame that it put waits on the wire after the others
+-- after a step; a frame that it put waits on the wire after the others, if frames that are put wait
 abbrev pub after_step : StepKind → Outcome (Unit {0}) → PlayedAdapter → PlayedAdapter
 after_step kind outcome a = record a {
   machine = after_event (step_of kind outcome a) a.machine;
-  wire = record a.wire { frames = a.wire.frames ++ put_by (framed outcome a.machine.world.adapter) };
+  wire = record a.wire {
+    frames = if a.keeps_put then a.wire.frames ++ put_by (framed outcome a.machine.world.adapter) else a.wire.frames;
+  };
 }
 
 -- the fault that a step is, if it is one, in the world after it
@@ -233,32 +274,76 @@ pub record AnswersSchedule (access : ℕ) (kind : StepKind) (answer : Bool) (a b
   -- if not, nothing changes
   pub refused : answer ≡ false → b ≡ a
 
--- after the generator chose a kind of steps
-abbrev pub chosen : PlayedAdapter → PlayedAdapter
-chosen a = record a { generator = (drawn_kind a.generator).1 }
+-- an action is told, if something was done
+abbrev pub noted : (did : Bool) → Action → List Told
+noted true action = Noted action ∷ []
+noted false action = []
 
--- A step of the kind that the generator's next word chooses is played.
-abbrev pub DrawsStep : PlayedAdapter → PlayedAdapter → List Told → Type 0
-DrawsStep a b told = (outcome : Outcome (Unit {0})) × Steps (drawn_kind a.generator).0 outcome (chosen a) b told
+-- A step is played, and noted if it does something.
+pub record StepChosen (kind : StepKind) (a b : PlayedAdapter) (told : List Told) : Type 0 where
+  -- its outcome
+  pub outcome : Outcome (Unit {0})
+  -- what is told of it
+  pub first : List Told
+  -- it is played
+  pub steps : Steps kind outcome a b first
+  -- it is noted if it did something
+  pub told_is : told ≡ first ++ noted (did outcome) (step_action kind)
 
--- The generator chooses a number of steps, and then the kind of each. The steps are played.
+-- The oldest offered frame arrives, and is noted, if there is one.
+pub record ArrivalChosen (a b : PlayedAdapter) (told : List Told) : Type 0 where
+  -- what is told of it
+  pub first : List Told
+  -- it arrives
+  pub arrives : NextArrives a b first
+  -- it is noted if there was one
+  pub told_is : told ≡ first ++ noted (not (length a.offered == 0)) Arrive
+
+-- A choice is played.
+abbrev pub Chosen : Choice → PlayedAdapter → PlayedAdapter → List Told → Type 0
+Chosen (Step kind) a b told = StepChosen kind a b told
+Chosen Arrival a b told = ArrivalChosen a b told
+
+-- after the generator's next word chose
+abbrev pub drawn_from : PlayedAdapter → PlayedAdapter
+drawn_from a = record a { generator = (drawn a.offered a.generator).1 }
+
+-- What the generator's next word chooses is played.
+abbrev pub DrawsChoice : PlayedAdapter → PlayedAdapter → List Told → Type 0
+DrawsChoice a b told = Chosen (drawn a.offered a.generator).0 (drawn_from a) b told
+
+-- The generator chooses a number, and then so many choices. They are played.
 abbrev pub Interleaves : PlayedAdapter → PlayedAdapter → List Told → Type 0
 Interleaves a b told =
-    Times DrawsStep (drawn_count a.most_steps a.generator).0 (record a { generator = (drawn_count a.most_steps a.generator).1 }) b told
+    Times DrawsChoice (drawn_count a.most_steps a.generator).0 (record a { generator = (drawn_count a.most_steps a.generator).1 }) b told
 
 -- an access is counted
 abbrev pub counted : PlayedAdapter → PlayedAdapter
 counted a = record a { accesses = min (a.accesses + 1) most_accesses }
 
--- The steps that the generator chooses are played, and the access is counted.
+-- What the generator chooses is played, and the access is counted.
 abbrev pub Draws : PlayedAdapter → PlayedAdapter → List Told → Type 0
 Draws a b told = (drawn : PlayedAdapter) × Interleaves a drawn told × (b ≡ counted drawn)
 
--- The ticks are played, if they are on, then the steps of the schedule that are due, and then the steps that the generator chooses. The
--- access is counted.
+-- The ticks are played, if they are on, then the steps of the schedule that are due, and then what the generator chooses. The access is
+-- counted.
 abbrev pub Prepares : PlayedAdapter → PlayedAdapter → List Told → Type 0
 Prepares a b told =
     Joins (Ticks a) (λ ticked later. Joins (InOrder PlaysScheduled (due_in ticked) ticked) (λ waited rest. Draws waited b rest) later) told
+
+-- A move is played.
+abbrev pub Makes : Move → PlayedAdapter → PlayedAdapter → List Told → Type 0
+Makes (Tick kind) a b told = (outcome : Outcome (Unit {0})) × Steps kind outcome a b told
+Makes (Hold action) a b told = (b ≡ a) × (told ≡ Noted action ∷ [])
+Makes (Play choice) a b told = Chosen choice a b told
+
+-- Moves are played, and then what the generator chooses.
+abbrev pub ComesBefore : List Move → PlayedAdapter → PlayedAdapter → List Told → Type 0
+ComesBefore moves a b told = Joins (InOrder Makes moves a) (λ middle rest. Interleaves middle b rest) told
+
+-- Rounds are played until one does nothing, up to the maximum that was set.
+abbrev pub Paced : PlayedAdapter → PlayedAdapter → List Told → Type 0
+Paced a b told = (moved : ℕ) × Settles a.pace moved a b told
 
 -- Accesses.
 
@@ -298,5 +383,5 @@ pub record AnswersStore (address : ℕ) (bytes : List ℕ) (answer : Bool) (a b 
 -- An access without steps before it happens alone.
 abbrev pub QuietAccessesAreExact : Type 0
 QuietAccessesAreExact =
-    (access : Access) (a b : PlayedAdapter) (told : List Told) → a.ticks ≡ false → a.most_steps ≡ 0 → due_in a ≡ [] → Accessed access a b told
-    → HappensAlone access (counted a) b told
+    (access : Access) (a b : PlayedAdapter) (told : List Told) → a.ticks ≡ false → a.most_steps ≡ 0 → due_in a ≡ []
+    → Accessed access a b told → HappensAlone access (counted a) b told

@@ -5,6 +5,7 @@ use Rattle.adapter.specs.declared.step.StepKind.{StepKind}
 use Rattle.bus.specs.declared.event.Access.{Access}
 use Rattle.engine_faults.specs.declared.engine_fault.EngineFault.{EngineFault}
 use Rattle.rx_engine.specs.declared.arrival.Fate.{Fate}
+use Rattle.step_schedules.specs.declared.deviation.Action.{Action}
 
 -- one thing that an observer is told
 pub data Told : Type 0 where
@@ -12,7 +13,11 @@ pub data Told : Type 0 where
   Stepped : StepKind → FrameOutcome → Option EngineFault → Told
   -- a frame that arrived, and its fate
   Arrived : (frame : List ℕ) → Fate → Told
+  -- an offered frame that arrived, and its fate
+  Offered : (frame : List ℕ) → Fate → Told
   -- an access
   Accessed : Access → Told
   -- the new level of the interrupt line
   Line : (level : Bool) → Told
+  -- a choice that did something, or a default step that was left out
+  Noted : Action → Told

@@ -1,10 +1,11 @@
 // Accesses of a driver: each comes after the steps before it.
 
-ghost use Rattle.std.specs.Prelude.{◌≡◌};
-ghost use Rattle.bus.specs.declared.event.Access.TheVariants.{Reads, Writes};
+ghost use Rattle.std.specs.Prelude.{◌≡◌, ◌+◌, ◌≤◌, [], false, length, true};
+ghost use Rattle.bus.specs.declared.event.Access.TheVariants.{Loads, Reads, Stores, Writes};
+ghost use Rattle.dma_memory.specs.HostMemory.{bytes_at};
 ghost use Rattle.played_adapter.specs.Order.{Tells};
-ghost use Rattle.played_adapter.specs.Playing.{Accessed, AnswersLoad, AnswersStore, Prepares, Ticks, counted};
-ghost use Rattle.played_adapter.specs.Playing.{has_bytes};
+ghost use Rattle.played_adapter.specs.Playing.{Accessed, AnswersLoad, AnswersStore, HappensAlone, Prepares, Ticks};
+ghost use Rattle.played_adapter.specs.Playing.{counted, has_bytes};
 
 use crate::observer::Observer;
 use crate::player::PlayedAdapter;
@@ -24,14 +25,37 @@ impl PlayedAdapter {
     }
 
     /// Counts an access.
+    #[inline(always)]
     fn count(&mut self)
         ensures { self.new ≡ counted self.old }
     {
         self.accesses = self.accesses.saturating_add(1);
     }
 
+    /// Whether it is known that no step comes before the next access.
+    #[inline(always)]
+    fn is_quiet(&self) -> bool
+        ensures { result ≡ true →
+            (self.now.ticks ≡ false) × (self.now.most_steps ≡ 0) × (self.now.scheduled.items ≡ []) }
+    {
+        !self.ticks && self.most_steps == 0 && self.scheduled.is_empty()
+    }
+
     /// Plays the steps before an access, and counts the access.
+    #[inline(always)]
     fn prepare<O: Observer>(&mut self, observer: &mut O)
+        ensures { Tells O.heard observer.old observer.new (Prepares self.old self.new) }
+    {
+        if self.is_quiet() {
+            self.count();
+            return;
+        }
+        self.prepare_steps(observer);
+    }
+
+    /// As [`prepare`](PlayedAdapter::prepare), if steps may come before the access.
+    #[inline(never)]
+    fn prepare_steps<O: Observer>(&mut self, observer: &mut O)
         ensures { Tells O.heard observer.old observer.new (Prepares self.old self.new) }
     {
         self.tick(observer);
@@ -40,33 +64,98 @@ impl PlayedAdapter {
         self.count();
     }
 
-    /// Reads the register at an offset in bytes. At an offset without a register it returns 0.
-    pub fn read<O: Observer>(&mut self, offset: u32, observer: &mut O) -> u32
-        ensures { Tells O.heard observer.old observer.new (Accessed (Reads offset result) self.old self.new) }
+    /// Reads a register, and reports a change of the line.
+    #[inline(always)]
+    pub(crate) fn read_now<O: Observer>(&mut self, offset: u32, observer: &mut O) -> u32
+        ensures { Tells O.heard observer.old observer.new (HappensAlone (Reads offset result) self.old self.new) }
     {
-        self.prepare(observer);
         let value = self.machine.read(offset);
         observer.read(offset, value);
         self.report(observer);
         value
     }
 
-    /// Writes the register at an offset in bytes. At an offset without a register nothing is written.
-    pub fn write<O: Observer>(&mut self, offset: u32, value: u32, observer: &mut O)
-        ensures { Tells O.heard observer.old observer.new (Accessed (Writes offset value) self.old self.new) }
+    /// Writes a register, and reports a change of the line.
+    #[inline(always)]
+    pub(crate) fn write_now<O: Observer>(&mut self, offset: u32, value: u32, observer: &mut O)
+        ensures { Tells O.heard observer.old observer.new (HappensAlone (Writes offset value) self.old self.new) }
     {
-        self.prepare(observer);
         self.machine.write(offset, value);
         observer.written(offset, value);
         self.report(observer);
     }
 
+    /// Loads bytes of memory, and reports a change of the line.
+    pub(crate) fn load_now<O: Observer>(&mut self, address: u64, into: &mut [u8], observer: &mut O)
+        requires { address + length into.old ≤ length self.old.machine.world.memory }
+        ensures tells { Tells O.heard observer.old observer.new
+            (HappensAlone (Loads address (length into.old)) self.old self.new) }
+        ensures loaded { into.new ≡ bytes_at self.new.machine.world.memory address (length into.old) }
+    {
+        self.machine.load(address, into);
+        observer.loaded(address, into);
+        self.report(observer);
+    }
+
+    /// Stores bytes in memory, and reports a change of the line.
+    pub(crate) fn store_now<O: Observer>(&mut self, address: u64, bytes: &[u8], observer: &mut O)
+        requires { address + length bytes.now ≤ length self.old.machine.world.memory }
+        ensures { Tells O.heard observer.old observer.new (HappensAlone (Stores address bytes.now) self.old self.new) }
+    {
+        self.machine.store(address, bytes);
+        observer.stored(address, bytes);
+        self.report(observer);
+    }
+
+    /// Reads the register at an offset in bytes. At an offset without a register it returns 0.
+    #[inline(always)]
+    pub fn read<O: Observer>(&mut self, offset: u32, observer: &mut O) -> u32
+        ensures { Tells O.heard observer.old observer.new (Accessed (Reads offset result) self.old self.new) }
+    {
+        if self.is_quiet() {
+            self.count();
+            return self.read_now(offset, observer);
+        }
+        self.read_after_steps(offset, observer)
+    }
+
+    /// As [`read`](PlayedAdapter::read), if steps may come before the access.
+    #[inline(never)]
+    fn read_after_steps<O: Observer>(&mut self, offset: u32, observer: &mut O) -> u32
+        ensures { Tells O.heard observer.old observer.new (Accessed (Reads offset result) self.old self.new) }
+    {
+        self.prepare_steps(observer);
+        self.read_now(offset, observer)
+    }
+
+    /// Writes the register at an offset in bytes. At an offset without a register nothing is written.
+    #[inline(always)]
+    pub fn write<O: Observer>(&mut self, offset: u32, value: u32, observer: &mut O)
+        ensures { Tells O.heard observer.old observer.new (Accessed (Writes offset value) self.old self.new) }
+    {
+        if self.is_quiet() {
+            self.count();
+            self.write_now(offset, value, observer);
+            return;
+        }
+        self.write_after_steps(offset, value, observer);
+    }
+
+    /// As [`write`](PlayedAdapter::write), if steps may come before the access.
+    #[inline(never)]
+    fn write_after_steps<O: Observer>(&mut self, offset: u32, value: u32, observer: &mut O)
+        ensures { Tells O.heard observer.old observer.new (Accessed (Writes offset value) self.old self.new) }
+    {
+        self.prepare_steps(observer);
+        self.write_now(offset, value, observer);
+    }
+
     /// Whether memory contains `count` bytes from an address on.
-    fn has_bytes(&self, address: u64, count: usize) -> bool
+    pub fn has_bytes(&self, address: u64, count: u64) -> bool
         ensures { result ≡ has_bytes self.now address count }
     {
         let size = self.machine.size();
-        count as u64 <= size && address <= size - count as u64
+        count <= size && address <= size - count
     }
 
     /// Loads the bytes from an address on into the whole of `into`.
@@ -76,13 +165,11 @@ impl PlayedAdapter {
         ensures { Tells O.heard observer.old observer.new
             (AnswersLoad address into.old into.new result self.old self.new) }
     {
-        if !self.has_bytes(address, into.len()) {
+        if !self.has_bytes(address, into.len() as u64) {
             return false;
         }
         self.prepare(observer);
-        self.machine.load(address, into);
-        observer.loaded(address, into);
-        self.report(observer);
+        self.load_now(address, into, observer);
         true
     }
 
@@ -92,13 +179,11 @@ impl PlayedAdapter {
     pub fn store<O: Observer>(&mut self, address: u64, bytes: &[u8], observer: &mut O) -> bool
         ensures { Tells O.heard observer.old observer.new (AnswersStore address bytes.now result self.old self.new) }
     {
-        if !self.has_bytes(address, bytes.len()) {
+        if !self.has_bytes(address, bytes.len() as u64) {
             return false;
         }
         self.prepare(observer);
-        self.machine.store(address, bytes);
-        observer.stored(address, bytes);
-        self.report(observer);
+        self.store_now(address, bytes, observer);
         true
     }
 }

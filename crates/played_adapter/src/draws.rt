@@ -1,4 +1,4 @@
-// The steps before an access that the generator draws.
+// The steps and arrivals before an access that the generator draws.
 
 ghost use Rattle.std.specs.Prelude.{◌≡◌};
 ghost use Rattle.rand_core.specs.Pcg32Seed.{pcg32_seed};
@@ -16,10 +16,10 @@ use rand_core::utils::NextWord;
 use rand_pcg::Lcg64Xsh32;
 
 /// The number of kinds of steps.
-pub const KINDS: u32 = 6;
+pub(crate) const KINDS: u32 = 6;
 
 /// The kind of steps with this number, below 6.
-pub fn kind_numbered(number: u32) -> StepKind
+pub(crate) fn kind_numbered(number: u32) -> StepKind
     ensures { result ≡ kinds.kind_numbered number }
 {
     match number {
@@ -43,7 +43,7 @@ impl PlayedAdapter {
     }
 
     /// The kind of steps that the next word of the generator chooses.
-    fn draw_kind(&mut self) -> StepKind
+    pub(crate) fn draw_kind(&mut self) -> StepKind
         ensures kind { result ≡ (drawn_kind self.old.generator).0 }
         ensures state { self.new ≡ record self.old { generator = (drawn_kind self.old.generator).1 } }
     {
@@ -64,14 +64,14 @@ impl PlayedAdapter {
         u64::from(word) % (u64::from(self.most_steps) + 1)
     }
 
-    /// Plays the steps before an access that the generator chooses.
+    /// Plays the steps and arrivals before an access that the generator chooses.
     pub(crate) fn interleave_steps<O: Observer>(&mut self, observer: &mut O)
         ensures { Tells O.heard observer.old observer.new (Interleaves self.old self.new) }
     {
         let count = self.draw_count();
         for _step in 0..count {
-            let kind = self.draw_kind();
-            self.step(kind, observer);
+            let choice = self.draw();
+            self.choose(choice, observer);
         }
     }
 }

@@ -10,6 +10,7 @@ ghost use Rattle.played_adapter.specs.Told.{Told};
 
 use adapter::{Fate, Outcome, StepKind};
 use engine_faults::EngineFault;
+use step_schedules::Action;
 
 /// Is told what happens to an adapter, in order. Bytes are lent to it; it must copy those that it needs later.
 pub trait Observer {
@@ -31,6 +32,10 @@ pub trait Observer {
     fn arrived(&mut self, frame: &[u8], fate: Fate)
         ensures { heard self.old self.new (told.Arrived frame.now fate ∷ []) };
 
+    /// An offered frame arrived, and had this fate.
+    fn offered(&mut self, frame: &[u8], fate: Fate)
+        ensures { heard self.old self.new (told.Offered frame.now fate ∷ []) };
+
     /// The register at an offset was read as this value.
     fn read(&mut self, offset: u32, value: u32)
         ensures { heard self.old self.new (told.Accessed (Reads offset value) ∷ []) };
@@ -46,6 +51,10 @@ pub trait Observer {
     /// These bytes were stored from an address on.
     fn stored(&mut self, address: u64, bytes: &[u8])
         ensures { heard self.old self.new (told.Accessed (Stores address bytes.now) ∷ []) };
+
+    /// A choice did something, or a default step was left out.
+    fn noted(&mut self, action: Action)
+        ensures { heard self.old self.new (told.Noted action ∷ []) };
 
     /// The interrupt line has this level now.
     fn line(&mut self, level: bool)
@@ -80,6 +89,8 @@ impl Observer for Nobody {
 
     fn arrived(&mut self, _frame: &[u8], _fate: Fate) {}
 
+    fn offered(&mut self, _frame: &[u8], _fate: Fate) {}
+
     fn read(&mut self, _offset: u32, _value: u32) {}
 
     fn written(&mut self, _offset: u32, _value: u32) {}
@@ -87,6 +98,8 @@ impl Observer for Nobody {
     fn loaded(&mut self, _address: u64, _bytes: &[u8]) {}
 
     fn stored(&mut self, _address: u64, _bytes: &[u8]) {}
+
+    fn noted(&mut self, _action: Action) {}
 
     fn line(&mut self, _level: bool) {}
 }

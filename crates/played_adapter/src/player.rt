@@ -1,8 +1,9 @@
 // The adapter that is played.
 
 ghost use Rattle.std.specs.Prelude.{◌≡◌, IfOk};
-ghost use Rattle.played_adapter.specs.Playing.{new_player};
+ghost use Rattle.played_adapter.specs.Playing.{new_player, new_watched, new_with_room};
 
+use crate::frames::Frames;
 use crate::scheduling::{MOST_SCHEDULED, ScheduledStep};
 use crate::wire::WIRE_FRAMES;
 use adapter::Adapter;
@@ -24,10 +25,18 @@ pub struct PlayedAdapter {
     pub address: Option<*const u8>,
     /// The frames that the adapter put on the wire and that nobody has taken, the oldest first.
     pub wire: FrameQueue,
+    /// Whether frames that are put wait on the wire. Otherwise only the observer gets them.
+    pub keeps_put: bool,
+    /// Whether the wire is free. If it isn't, it has no room.
+    pub wire_free: bool,
+    /// The frames that wait for their arrival.
+    pub offered: Frames,
     /// The generator of steps that are drawn before accesses.
     pub generator: Lcg64Xsh32,
     /// The maximum number of steps that are drawn before an access.
     pub most_steps: u16,
+    /// The maximum number of rounds that are played after an access or an arrival.
+    pub pace: u16,
     /// The steps that wait for their accesses.
     pub scheduled: HeapCircularBuffer<ScheduledStep>,
     /// The number of accesses so far, up to the greatest `u64`.
@@ -46,12 +55,41 @@ pub(crate) fn address_of(memory: &HostMemory) -> Option<*const u8> {
 }
 
 impl PlayedAdapter {
-    /// This adapter with this memory, and with an empty wire. No steps are played before accesses.
+    /// This adapter with this memory, with an empty wire and an empty schedule of these sizes. No frame is offered, and
+    /// no steps are played before accesses and after them.
+    #[tactic(auto, unfolding(crate::specs::Playing::new_with_room))]
+    fn with_room(
+        alloc: Global,
+        adapter: Adapter,
+        memory: HostMemory,
+        frames: u8,
+        steps: usize,
+    ) -> Result<PlayedAdapter, AllocError>
+        ensures { IfOk result (λ player. player ≡ new_with_room frames steps memory adapter player.address) }
+    {
+        let address = address_of(&memory);
+        Ok(PlayedAdapter {
+            machine: Machine::new(adapter, memory),
+            address,
+            wire: FrameQueue::new(alloc, frames)?,
+            keeps_put: true,
+            wire_free: true,
+            offered: Frames::new(alloc),
+            generator: Lcg64Xsh32::seed_from_u64(0),
+            most_steps: 0,
+            pace: 0,
+            scheduled: HeapCircularBuffer::with_capacity(alloc, steps)?,
+            accesses: 0,
+            ticks: false,
+        })
+    }
+
+    /// This adapter with this memory, and with an empty wire, on which frames wait. No frame is offered, and no steps
+    /// are played before accesses and after them.
     ///
     /// # Errors
     ///
     /// If memory is refused.
-    #[tactic(auto, unfolding(crate::specs::Playing::new_player))]
     pub fn new(
         alloc: Global,
         adapter: Adapter,
@@ -59,16 +97,25 @@ impl PlayedAdapter {
     ) -> Result<PlayedAdapter, AllocError>
         ensures { IfOk result (λ player. player ≡ new_player memory adapter player.address) }
     {
-        let address = address_of(&memory);
-        Ok(PlayedAdapter {
-            machine: Machine::new(adapter, memory),
-            address,
-            wire: FrameQueue::new(alloc, WIRE_FRAMES)?,
-            generator: Lcg64Xsh32::seed_from_u64(0),
-            most_steps: 0,
-            scheduled: HeapCircularBuffer::with_capacity(alloc, MOST_SCHEDULED)?,
-            accesses: 0,
-            ticks: false,
-        })
+        PlayedAdapter::with_room(alloc, adapter, memory, WIRE_FRAMES, MOST_SCHEDULED)
+    }
+
+    /// The same, but frames that are put don't wait, and no step can be scheduled. The generator has this seed.
+    ///
+    /// # Errors
+    ///
+    /// If memory is refused.
+    pub fn watched(
+        alloc: Global,
+        adapter: Adapter,
+        memory: HostMemory,
+        seed: u64,
+    ) -> Result<PlayedAdapter, AllocError>
+        ensures { IfOk result (λ player. player ≡ new_watched memory adapter seed player.address) }
+    {
+        let mut player = PlayedAdapter::with_room(alloc, adapter, memory, 0, 0)?;
+        player.keeps_put = false;
+        player.generator = Lcg64Xsh32::seed_from_u64(seed);
+        Ok(player)
     }
 }

@@ -19,7 +19,7 @@ use engine_faults::{EngineFault, fault_of};
 pub const MOST_ROUNDS: u32 = 131_072;
 
 /// The kinds of steps, each once, in the order of a round.
-pub const ROUND: [StepKind; 6] = [
+pub(crate) const ROUND: [StepKind; 6] = [
     StepKind::TxTake,
     StepKind::TxPut,
     StepKind::RxData,
@@ -29,14 +29,14 @@ pub const ROUND: [StepKind; 6] = [
 ];
 
 /// Whether a step with this outcome did something.
-pub fn did(outcome: Outcome<()>) -> bool
+pub(crate) fn did(outcome: Outcome<()>) -> bool
     ensures { result ≡ outcomes.did outcome }
 {
     !matches!(outcome, Outcome::Nothing | Outcome::WireFull)
 }
 
 /// 1 if a step with this outcome did something, else 0.
-pub fn moved_by(outcome: Outcome<()>) -> u64
+pub(crate) fn moved_by(outcome: Outcome<()>) -> u64
     ensures { result ≡ outcomes.moved_by outcome }
 {
     match outcome {
@@ -73,7 +73,7 @@ impl PlayedAdapter {
         ensures state { self.new ≡ after_step kind result self.old }
     {
         let wire_free = self.has_room();
-        if wire_free && kind == StepKind::TxPut {
+        if self.keeps_put && wire_free && kind == StepKind::TxPut {
             self.put_oldest();
         }
         self.machine.step(kind, wire_free)
@@ -106,7 +106,7 @@ impl PlayedAdapter {
         outcome
     }
 
-    /// Makes the adapter take a step. The wire has room for a frame until 64 frames wait on it.
+    /// Makes the adapter take a step.
     pub fn step<O: Observer>(&mut self, kind: StepKind, observer: &mut O) -> Outcome<()>
         ensures { Tells O.heard observer.old observer.new (Steps kind result self.old self.new) }
     {

@@ -9,12 +9,12 @@ use crate::player::PlayedAdapter;
 pub const WIRE_FRAMES: u8 = 64;
 
 impl PlayedAdapter {
-    /// Whether the wire has room for a frame: until 64 frames wait on it.
+    /// Whether the wire has room for a frame: while it is free, and until 64 frames wait on it.
     #[inline(always)]
     pub(crate) fn has_room(&self) -> bool
         ensures { result ≡ has_room self.now }
     {
-        self.wire.len() < self.wire.capacity()
+        self.wire_free && (!self.keeps_put || self.wire.len() < self.wire.capacity())
     }
 
     /// Copies the frame that the adapter puts next, if there is one, to the end of the wire, which has room.

@@ -24,8 +24,6 @@ mod printed_counts;
 #[cfg(test)]
 mod scenario_readme;
 #[cfg(test)]
-mod schedule_player_readme;
-#[cfg(test)]
 mod server_calls;
 #[cfg(test)]
 mod step_schedules_readme;

@@ -1,3 +1,4 @@
 pub mod Parts
 pub mod PartsWritten
+pub mod Refused
 pub mod Writing

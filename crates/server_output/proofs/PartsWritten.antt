@@ -7,11 +7,8 @@ use Rattle.std.specs.Prelude.{Err, IsErr, Ok, OnErr, Result}
 use Rattle.std.specs.Io.KnownBytes.{Appends, Keeps}
 use Rattle.server_output.specs.Order.{Begins, Says, Tells, TellsPart, WritesPart}
 use Rattle.server_output.specs.Texts.{Text}
+pub use Rattle.server_output.specs.WritingLaws.{keeps_same, part_then}
 use Rattle.server_output.proofs.Writing.{appends_kept, appends_none, appends_then, tells_so}
-
-pub keeps_same : (bytes : Option (List ℕ)) → Keeps bytes bytes
-keeps_same None = tt
-keeps_same (Some bytes) = refl
 
 -- A text that was written in full is a beginning of itself.
 pub part_whole : (Holds : Text → Type 0) (before after : Option (List ℕ)) → Tells before after Holds → TellsPart before after Holds
@@ -42,21 +39,6 @@ part_so P Q before after so tells =
       holds = so begins.text begins.holds;
       text_is = begins.text_is;
     }) tells
-
--- A text, and then a part of another, are a part of what the two make.
-pub part_then : (P Q R : Text → Type 0) (before now after : Option (List ℕ))
-    → ((first later : Text) → P first → Q later → R (first ++ later)) → Tells before now P → TellsPart now after Q
-    → TellsPart before after R
-part_then P Q R before now after joins first later = record {
-  text = first.text ++ later.text;
-  holds = record {
-    text = first.text ++ later.holds.text;
-    rest = later.holds.rest;
-    holds = joins first.text later.holds.text first.holds later.holds.holds;
-    text_is = ap (λ (t : Text). first.text ++ t) later.holds.text_is ∙ sym (append_assoc first.text later.text later.holds.rest);
-  };
-  written = appends_then before now after first.text later.text first.written later.written;
-}
 
 -- A text is written piece by piece: the pieces so far, and what is left of it.
 

@@ -1,5 +1,5 @@
--- Things that happen in order, and the text that is written for them.
-use Rattle.std.specs.Prelude.{◌≡◌, ◌++◌, ℕ, List, [], ◌∷◌, Option, Result, Ok, Err, replicate}
+-- Texts that are written, and beginnings of them.
+use Rattle.std.specs.Prelude.{◌≡◌, ◌++◌, ℕ, List, Option, Result, Ok, Err}
 use Rattle.std.specs.Io.KnownBytes.{Appends}
 use Rattle.server_output.specs.Texts.{Text}
 
@@ -35,40 +35,3 @@ WritesPart before after whole = TellsPart before after (λ text. text ≡ whole)
 abbrev pub Says : {T E : Type 0} → Result T E → (before after : Option (List ℕ)) → Text → Type 0
 Says (Ok value) before after text = Appends before after text
 Says (Err error) before after text = WritesPart before after text
-
--- One thing happens, and then another. Their texts are joined.
-pub record Joins {S : Type 0} (First Later : S → Text → Type 0) (text : Text) : Type 0 where
-  -- the state between the two
-  pub middle : S
-  -- the first text
-  pub first : Text
-  -- the second text
-  pub rest : Text
-  -- the first thing
-  pub happens : First middle first
-  -- the second thing
-  pub goes_on : Later middle rest
-  -- both texts, one after the other
-  pub text_is : text ≡ first ++ rest
-
--- One text, and then another.
-pub record Both (First Later : Text → Type 0) (text : Text) : Type 0 where
-  -- the first text
-  pub first : Text
-  -- the second text
-  pub rest : Text
-  -- what holds of the first
-  pub happens : First first
-  -- what holds of the second
-  pub goes_on : Later rest
-  -- both, one after the other
-  pub text_is : text ≡ first ++ rest
-
--- Something happens for each of a list in order, in the state after those before it.
-abbrev pub InOrder : {X S : Type 0} → (X → S → S → Text → Type 0) → List X → S → S → Text → Type 0
-InOrder Happens [] a b text = (b ≡ a) × (text ≡ [])
-InOrder Happens (x ∷ later) a c text = Joins (λ b first. Happens x a b first) (λ b rest. InOrder Happens later b c rest) text
-
--- Something happens so many times.
-abbrev pub Times : {S : Type 0} → (S → S → Text → Type 0) → ℕ → S → S → Text → Type 0
-Times Happens count a b text = InOrder (λ (turn : ℕ). Happens) (replicate count 0) a b text

@@ -4,15 +4,15 @@ ghost use Rattle.std.specs.Prelude.{◌≡◌, ◌++◌, ◌-◌, [], IfOk, OnOk
 ghost use Rattle.server_output.specs.Texts as texts;
 
 use crate::faults::Faults;
-use crate::frames::Frames;
 use adapter::{Fate, Outcome, StepKind};
 use base64::engine::general_purpose::STANDARD;
 use engine_faults::{Engine, EngineFault, Reason};
 use itoa::Buffer;
+use played_adapter::Frames;
 use std::alloc::{AllocError, Global};
 
 /// The word of a kind of step.
-pub fn kind_word(kind: StepKind) -> &'static [u8]
+pub(crate) fn kind_word(kind: StepKind) -> &'static [u8]
     ensures { result.now ≡ texts.kind_word kind }
 {
     match kind {
@@ -91,38 +91,23 @@ fn push_said(text: &mut Vec<u8>, log: bool, said: &[&[u8]]) -> Result<(), AllocE
     text.extend_from_slice(b"\n")
 }
 
-/// The line of the level of the interrupt line, if there is one to print.
-fn line_text(level: Option<bool>) -> &'static [u8]
-    ensures { result.now ≡ texts.line_told level }
-{
-    match level {
-        Some(true) => b"IRQ raise 0\n",
-        Some(false) => b"IRQ lower 0\n",
-        None => b"",
-    }
-}
-
-/// What is printed of an event: what the log says of it, if the log is on; what is always printed of it; and the level
-/// of the interrupt line, if there is one to print.
-pub fn event_text(
+/// What is written of an event: what the log says of it, if the log is on, and then this text.
+pub(crate) fn event_text(
     alloc: Global,
     log: bool,
     said: &[&[u8]],
     shown: &[u8],
-    level: Option<bool>,
 ) -> Result<Vec<u8>, AllocError>
-    ensures { IfOk result (λ text. text.items
-        ≡ texts.said_log log (texts.joined said.now) ++ (shown.now ++ texts.line_told level)) }
+    ensures { IfOk result (λ text. text.items ≡ texts.said_log log (texts.joined said.now) ++ shown.now) }
 {
     let mut text = Vec::new(alloc);
     push_said(&mut text, log, said)?;
     text.extend_from_slice(shown)?;
-    text.extend_from_slice(line_text(level))?;
     Ok(text)
 }
 
 /// The line of a frame that was put onto the wire, from its digits.
-pub fn frame_line(alloc: Global, digits: &[u8]) -> Result<Vec<u8>, AllocError>
+pub(crate) fn frame_line(alloc: Global, digits: &[u8]) -> Result<Vec<u8>, AllocError>
     ensures { IfOk result (λ text. text.items ≡ texts.digits_line digits.now) }
 {
     joined(alloc, &[b"frame ", digits, b"\n"])
@@ -130,7 +115,7 @@ pub fn frame_line(alloc: Global, digits: &[u8]) -> Result<Vec<u8>, AllocError>
 
 /// The line of an offered frame that arrived, from the word of its fate and its digits.
 #[tactic(auto, unfolding(crate::specs::Texts::digits_arrived))]
-pub fn arrived_line<'a>(
+pub(crate) fn arrived_line<'a>(
     alloc: Global,
     fate: &'a [u8],
     digits: &'a [u8],
@@ -261,7 +246,7 @@ pub(crate) fn push_fault(text: &mut Vec<u8>, fault: EngineFault) -> Result<(), A
 }
 
 /// Appends the line of a fault.
-pub fn push_fault_line(text: &mut Vec<u8>, fault: EngineFault) -> Result<(), AllocError>
+pub(crate) fn push_fault_line(text: &mut Vec<u8>, fault: EngineFault) -> Result<(), AllocError>
     ensures { OnOk result (text.new.items ≡ text.old.items ++ texts.fault_line fault) }
 {
     text.extend_from_slice(b"fault")?;

@@ -8,10 +8,10 @@ ghost use Rattle.server_requests.specs.Refusals.{refusal_line};
 
 use crate::answer_error::AnswerError;
 use crate::faults::Faults;
-use crate::frames::Frames;
 use crate::lines::{
     base64_line, bytes_line, decimal_line, faults_line, frames_line, number_line, word_line,
 };
+use played_adapter::Frames;
 use server_requests::Refusal;
 use std::alloc::Global;
 use std::io::{ErrorKind, Write};

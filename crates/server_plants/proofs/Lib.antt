@@ -1,2 +1,1 @@
-mod OneCourse
 mod OnePlay

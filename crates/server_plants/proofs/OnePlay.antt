@@ -1,5 +1,5 @@
 -- What is played on an adapter has one course: one state after it, and one list of what is told.
-use Rattle.std.proofs.Common.{◌≡◌, ◌+◌, ◌++◌, ◌∷◌, [], ℕ, List, sym, ap, subst, ◌∙◌}
+use Rattle.std.proofs.Common.{◌≡◌, ◌==◌, ◌+◌, ◌++◌, ◌∷◌, [], ℕ, List, length, not, sym, ap, subst, ◌∙◌}
 use Rattle.std.specs.Prelude.{if◌then◌else◌, replicate}
 use Rattle.adapter.specs.declared.outcome.Outcome.{Outcome}
 use Rattle.adapter.specs.declared.step.StepKind.{StepKind}
@@ -8,15 +8,22 @@ use Rattle.adapter_plants.specs.OneFate.{one_fate}
 use Rattle.bus.specs.declared.event.Access.{Access}
 use Rattle.bus.specs.declared.event.Access.TheVariants.{Reads}
 use Rattle.bus.specs.declared.event.Event.{Event}
-use Rattle.played_adapter.specs.Draws.{drawn_count, drawn_kind}
-use Rattle.played_adapter.specs.Order.{InOrder, Joins, Times}
-use Rattle.played_adapter.specs.Outcomes.{moved_by}
-use Rattle.played_adapter.specs.Playing.{Accessed, Arrives, Draws, DrawsStep, Happens, HappensAlone, Interleaves, Plays, PlaysScheduled}
-use Rattle.played_adapter.specs.Playing.{Prepares, Steps, Ticks, both_ticks, chosen, counted, due_in, without_next}
+use Rattle.played_adapter.specs.Choices.{drawn, step_action}
+use Rattle.played_adapter.specs.Draws.{drawn_count}
+use Rattle.played_adapter.specs.Order.{InOrder, Joins, Tells, Times}
+use Rattle.played_adapter.specs.Outcomes.{did, moved_by}
+use Rattle.played_adapter.specs.Playing.{Accessed, AllArrive, Arrives, Chosen, Draws, DrawsChoice, FrameArrives, Happens, HappensAlone}
+use Rattle.played_adapter.specs.Playing.{Interleaves, Makes, NextArrives, OldestArrives, Plays, PlaysScheduled, Prepares, Steps, Ticks}
+use Rattle.played_adapter.specs.Playing.{both_ticks, counted, drawn_from, due_in, noted, without_next}
 use Rattle.played_adapter.specs.Told.{Told}
+use Rattle.played_adapter.specs.declared.choices.Choice.{Choice}
+use Rattle.played_adapter.specs.declared.choices.Choice.TheVariants.{Arrival, Step}
+use Rattle.played_adapter.specs.declared.choices.Move.{Move}
+use Rattle.played_adapter.specs.declared.choices.Move.TheVariants.{Hold, Play, Tick}
 use Rattle.played_adapter.specs.declared.player.PlayedAdapter.{PlayedAdapter}
 use Rattle.played_adapter.specs.declared.scheduling.ScheduledStep.{ScheduledStep}
 use Rattle.rx_engine.specs.declared.arrival.Fate.{Fate}
+use Rattle.step_schedules.specs.declared.deviation.Action.TheVariants.{Arrive}
 
 -- Two states after it are equal, and so is what is told.
 abbrev pub IsOne : {S : Type 0} → (S → S → List Told → Type 0) → Type 0
@@ -63,11 +70,18 @@ steps_one kind a b c outcome another told other p q =
     let again = subst (λ (x : Outcome (Unit {0})). Steps kind x a c other) (sym same) q in
     (p.after ∙ sym again.after, p.told_is ∙ sym again.told_is)
 
+pub step_one : (kind : StepKind) (outcome : Outcome (Unit {0})) → IsOne (Steps kind outcome)
+step_one kind outcome a b c told other p q = (p.after ∙ sym q.after, p.told_is ∙ sym q.told_is)
+
 -- A frame that arrives has one fate.
 pub arrives_one : (frame : List ℕ) (a b c : PlayedAdapter) (fate another : Fate) (told other : List Told)
     → Arrives frame fate a b told → Arrives frame another a c other → fate ≡ another
 arrives_one frame a b c fate another told other p q =
     one_fate a.machine.world.adapter frame fate another p.occurs.1 q.occurs.1
+
+-- It leaves one state, and one list is told.
+pub arrival_one : (frame : List ℕ) (fate : Fate) → IsOne (Arrives frame fate)
+arrival_one frame fate a b c told other p q = (p.after ∙ sym q.after, p.told_is ∙ sym q.told_is)
 
 plays_one : (kind : StepKind) → IsOne (Plays kind)
 plays_one kind a b c told other p q =
@@ -86,13 +100,54 @@ ticks_one a b c told other p q =
 scheduled_one : (step : ScheduledStep) → IsOne (PlaysScheduled step)
 scheduled_one step a b c told other p q = steps_one step.kind (without_next a) b c p.0 q.0 told other p.1 q.1
 
-draws_step_one : IsOne DrawsStep
-draws_step_one a b c told other p q = steps_one (drawn_kind a.generator).0 (chosen a) b c p.0 q.0 told other p.1 q.1
+-- Offered frames, choices and moves.
+
+frame_one : (frame : List ℕ) (later : List (List ℕ)) (a b c : PlayedAdapter) (fate another : Fate) (told other : List Told)
+    → FrameArrives frame later fate a b told → FrameArrives frame later another a c other → (b ≡ c) × (told ≡ other)
+frame_one frame later a b c fate another told other p q =
+    let same = one_fate a.machine.world.adapter frame fate another p.occurs.1 q.occurs.1 in
+    let again = subst (λ (x : Fate). FrameArrives frame later x a c other) (sym same) q in
+    (p.after ∙ sym again.after, p.told_is ∙ sym again.told_is)
+
+oldest_one : (offered : List (List ℕ)) → IsOne (OldestArrives offered)
+oldest_one [] a b c told other p q = (p.0 ∙ sym q.0, p.1 ∙ sym q.1)
+oldest_one (frame ∷ later) a b c told other p q = frame_one frame later a b c p.0 q.0 told other p.1 q.1
+
+next_one : IsOne NextArrives
+next_one a b c told other p q = oldest_one a.offered a b c told other p q
+
+-- All offered frames arrive.
+pub all_one : IsOne AllArrive
+all_one a b c told other p q = times_one NextArrives next_one (length a.offered) a b c told other p q
+
+chosen_one : (choice : Choice) → IsOne (Chosen choice)
+chosen_one (Step kind) a b c told other p q =
+    let outcomes = outcome_is_one kind a b c p.outcome q.outcome p.first q.first p.steps q.steps in
+    let same = steps_one kind a b c p.outcome q.outcome p.first q.first p.steps q.steps in (
+      same.0,
+      p.told_is ∙ both_told p.first q.first (noted (did p.outcome) (step_action kind)) (noted (did q.outcome) (step_action kind)) same.1
+          (ap (λ (x : Outcome (Unit {0})). noted (did x) (step_action kind)) outcomes) ∙ sym q.told_is,
+    )
+chosen_one Arrival a b c told other p q =
+    let same = next_one a b c p.first q.first p.arrives q.arrives in
+    (same.0, p.told_is ∙ ap (λ (x : List Told). x ++ noted (not (length a.offered == 0)) Arrive) same.1 ∙ sym q.told_is)
+
+draws_choice_one : IsOne DrawsChoice
+draws_choice_one a b c told other p q = chosen_one (drawn a.offered a.generator).0 (drawn_from a) b c told other p q
 
 interleaves_one : IsOne Interleaves
 interleaves_one a b c told other p q =
-    times_one DrawsStep draws_step_one (drawn_count a.most_steps a.generator).0
+    times_one DrawsChoice draws_choice_one (drawn_count a.most_steps a.generator).0
     (record a { generator = (drawn_count a.most_steps a.generator).1 }) b c told other p q
+
+makes_one : (move : Move) → IsOne (Makes move)
+makes_one (Tick kind) a b c told other p q = steps_one kind a b c p.0 q.0 told other p.1 q.1
+makes_one (Hold action) a b c told other p q = (p.0 ∙ sym q.0, p.1 ∙ sym q.1)
+makes_one (Play choice) a b c told other p q = chosen_one choice a b c told other p q
+
+-- Moves are played.
+pub moves_one : (moves : List Move) → IsOne (InOrder Makes moves)
+moves_one moves = in_order_one Makes makes_one moves
 
 draws_one : IsOne Draws
 draws_one a b c told other p q =
@@ -121,3 +176,11 @@ pub accessed_one : (access : Access) → IsOne (Accessed access)
 accessed_one access a b c told other p q =
     joins_one (Prepares a) (λ middle d rest. HappensAlone access middle d rest) (λ m n. prepares_one a m n)
     (λ m d e x y p q. (p.after ∙ sym q.after, p.told_is ∙ sym q.told_is)) b c told other p q
+
+-- Both observers were told the same.
+pub one_told : {O S : Type 0} (heard : O → O → List Told → Type 0) (Happens : S → S → List Told → Type 0) → IsOne Happens → (a b c : S)
+    (before after before' after' : O) → Tells heard before after (Happens a b) → Tells heard before' after' (Happens a c)
+    → (b ≡ c) × ((told : List Told) × heard before after told × heard before' after' told)
+one_told heard Happens one a b c before after before' after' p q =
+    let same = one a b c p.told q.told p.holds q.holds in
+    (same.0, (p.told, p.hears, subst (λ (told : List Told). heard before' after' told) (sym same.1) q.hears))

@@ -10,5 +10,4 @@ pub mod played_calls;
 pub mod player_calls;
 pub mod qtest_calls;
 pub mod schedule_calls;
-pub mod session_calls;
 pub mod text_calls;

@@ -4,7 +4,7 @@ ghost use Rattle.std.specs.Prelude.{◌≡◌, List, true};
 ghost use Rattle.played_adapter.specs.Told.{Told};
 
 use adapter::{Fate, Outcome, StepKind};
-use played_adapter::{Observer, PlayedAdapter};
+use played_adapter::{Move, Observer, PlayedAdapter};
 
 /// [`PlayedAdapter::step`] twice.
 pub fn step<O: Observer>(
@@ -22,7 +22,7 @@ pub fn step<O: Observer>(
     (one.step(kind, observer), other.step(kind, another))
 }
 
-/// [`PlayedAdapter::arrive`] twice. Only the fate is compared.
+/// [`PlayedAdapter::arrive`] twice.
 pub fn arrive<O: Observer>(
     one: &mut PlayedAdapter,
     other: &mut PlayedAdapter,
@@ -31,9 +31,42 @@ pub fn arrive<O: Observer>(
     another: &mut O,
 ) -> (Fate, Fate)
     requires { one.old ≡ other.old }
-    ensures { result.0 ≡ result.1 }
+    ensures fate { result.0 ≡ result.1 }
+    ensures state { one.new ≡ other.new }
+    ensures told { (told : List Told) × O.heard observer.old observer.new told × O.heard another.old another.new told }
 {
     (one.arrive(frame, observer), other.arrive(frame, another))
+}
+
+/// [`PlayedAdapter::deliver_all`] twice.
+pub fn deliver_all<O: Observer>(
+    one: &mut PlayedAdapter,
+    other: &mut PlayedAdapter,
+    observer: &mut O,
+    another: &mut O,
+)
+    requires { one.old ≡ other.old }
+    ensures state { one.new ≡ other.new }
+    ensures told { (told : List Told) × O.heard observer.old observer.new told × O.heard another.old another.new told }
+{
+    one.deliver_all(observer);
+    other.deliver_all(another);
+}
+
+/// [`PlayedAdapter::make_all`] twice.
+pub fn make_all<O: Observer>(
+    one: &mut PlayedAdapter,
+    other: &mut PlayedAdapter,
+    moves: &[Move],
+    observer: &mut O,
+    another: &mut O,
+)
+    requires { one.old ≡ other.old }
+    ensures state { one.new ≡ other.new }
+    ensures told { (told : List Told) × O.heard observer.old observer.new told × O.heard another.old another.new told }
+{
+    one.make_all(moves, observer);
+    other.make_all(moves, another);
 }
 
 /// [`PlayedAdapter::read`] twice.

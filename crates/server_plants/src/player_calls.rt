@@ -4,9 +4,8 @@ ghost use Rattle.std.specs.Prelude.{◌≡◌, IfOk, OnOk, string_bytes};
 ghost use Rattle.std.specs.Option.{option_map};
 ghost use Rattle.step_schedules.specs.Schedules.{option_texts};
 
-use schedule_player::Player;
 use std::alloc::{AllocError, Global};
-use step_schedules::{Action, Before};
+use step_schedules::{Action, Before, Player};
 
 /// [`Player::meet`] twice.
 pub fn meet(

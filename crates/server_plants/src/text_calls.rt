@@ -1,5 +1,5 @@
-//! The calls that name targets, read requests and write answers, each made twice. When there is too little memory is open,
-//! and when a write fails.
+//! The calls that name targets, read requests and write answers, each made twice. When there is too little memory is
+//! open, and when a write fails.
 
 ghost use Rattle.std.specs.Prelude.{◌≡◌, IfOk, IfSome, OnOk, length, string_bytes};
 ghost use Rattle.server_requests.specs.Reading as reading;

@@ -16,7 +16,7 @@ abbrev pub behind_line : List ℕ → List ℕ
 behind_line [] = []
 behind_line (byte ∷ later) = if is_feed byte then later else behind_line later
 
--- a byte added to the front of the first line
+-- the lines in which this byte is added to the front of the first one
 abbrev pub with_front : ℕ → List Text → List Text
 with_front byte [] = (byte ∷ []) ∷ []
 with_front byte (line ∷ lines) = (byte ∷ line) ∷ lines

@@ -24,25 +24,25 @@ kept_as is_long = if is_long then Long else Whole
 
 -- These bytes were read, and none of them ends the line.
 pub record GoesOn (bytes old new : List ℕ) : Type 0 where
-  -- They were the first.
+  -- The bytes were the first that were left.
   pub all : old ≡ bytes ++ new
-  -- The line begins with them,
+  -- The line begins with these bytes.
   pub first : first_line old ≡ bytes ++ first_line new
-  -- and ends after them.
+  -- The bytes after the line are the same before and after.
   pub behind : behind_line old ≡ behind_line new
 
 -- These bytes were read, and they are a whole line.
 pub record Ends (bytes old new : List ℕ) : Type 0 where
   -- There was a line.
   pub some : old ≢ []
-  -- It consists of the bytes.
+  -- The line consists of the bytes.
   pub first : first_line old ≡ bytes
   -- The bytes after it are left.
   pub rest : new ≡ behind_line old
 
 -- Bytes were appended to a line, as far as there was room; `is_long` is whether they didn't all fit.
 pub record Adds (is_long : Bool) (bytes : List ℕ) (line line' : Text) : Type 0 where
-  -- The line keeps the first ones.
+  -- The line keeps the first bytes, as far as there is room.
   pub kept : line' ≡ take most_line_bytes (line ++ bytes)
   -- whether the line has no room for all bytes
   pub long : is_long ≡ nat_lt most_line_bytes (length line + length bytes)

@@ -32,7 +32,7 @@ most_count = 65535
 abbrev pub sized : ℕ → ℕ → List ℕ → Result Request Refusal
 sized address size bytes = if length bytes == size then Ok (requests.Write address bytes) else Err refusals.Value
 
--- `write ADDR SIZE HEX`
+-- the request of `write ADDR SIZE HEX`
 abbrev pub write_in : List Text → Result Request Refusal
 write_in words = do
   address ← number_below greatest_number (word 1 words)
@@ -40,7 +40,7 @@ write_in words = do
   bytes ← payload_in (word 3 words)
   sized address size bytes
 
--- `b64write ADDR SIZE BASE64`
+-- the request of `b64write ADDR SIZE BASE64`
 abbrev pub write_base64_in : List Text → Result Request Refusal
 write_base64_in words = do
   address ← number_below greatest_number (word 1 words)
@@ -48,7 +48,7 @@ write_base64_in words = do
   bytes ← base64_in (word 3 words)
   sized address size bytes
 
--- `memset ADDR SIZE VALUE`
+-- the request of `memset ADDR SIZE VALUE`
 abbrev pub memset_in : List Text → Result Request Refusal
 memset_in words = do
   address ← number_below greatest_number (word 1 words)
@@ -56,20 +56,20 @@ memset_in words = do
   value ← number_below 0xFF (word 3 words)
   Ok (requests.Write address (replicate size value))
 
--- which of two words it is: true for the first
+-- Whether a word is the first of two words. Another word is refused.
 abbrev pub is_first : (first second word : Text) → Result Bool Refusal
 is_first first second word =
     if bytes_eq word first then Ok true else if bytes_eq word second then Ok false else Err refusals.Value
 
--- `log on` or `log off`
+-- the request of `log on` or `log off`
 abbrev pub log_in : Text → Result Request Refusal
 log_in word = is_first (codes "on") (codes "off") word >>= λ on. Ok (requests.Set (settings.Log on))
 
--- `wire free` or `wire full`
+-- the request of `wire free` or `wire full`
 abbrev pub wire_in : Text → Result Request Refusal
 wire_in word = is_first (codes "free") (codes "full") word >>= λ free. Ok (requests.Set (settings.Wire free))
 
--- `events on` or `events off`
+-- the request of `events on` or `events off`
 abbrev pub events_in : Text → Result Request Refusal
 events_in word = is_first (codes "on") (codes "off") word >>= λ on. Ok (requests.Set (settings.Events on))
 
@@ -78,7 +78,7 @@ abbrev pub step_or_refusal : Option StepKind → Result Request Refusal
 step_or_refusal (Some kind) = Ok (requests.Step kind)
 step_or_refusal None = Err refusals.Value
 
--- `step KIND`
+-- the request of `step KIND`
 abbrev pub step_in : Text → Result Request Refusal
 step_in word = step_or_refusal (kind_named word)
 
@@ -95,14 +95,14 @@ write_number_in width words = do
   value ← number_below (greatest width) (word 2 words)
   Ok (requests.Write address (bytes_spelling width value))
 
--- `read ADDR SIZE`
+-- the request of `read ADDR SIZE`
 abbrev pub read_in : List Text → Result Request Refusal
 read_in words = do
   address ← number_below greatest_number (word 1 words)
   size ← size_in (word 2 words)
   Ok (requests.Read (wanted.Bytes size) address)
 
--- `b64read ADDR SIZE`
+-- the request of `b64read ADDR SIZE`
 abbrev pub read_base64_in : List Text → Result Request Refusal
 read_base64_in words = do
   address ← number_below greatest_number (word 1 words)
@@ -124,29 +124,29 @@ write_port_in width words = do
   value ← number_below (greatest_at_port width) (word 2 words)
   Ok (requests.WritePort width port value)
 
--- `arrive HEX`
+-- the request of `arrive HEX`
 abbrev pub arrive_in : Text → Result Request Refusal
 arrive_in word = bytes_in word >>= λ bytes. Ok (requests.Arrive bytes)
 
--- `offer HEX`
+-- the request of `offer HEX`
 abbrev pub offer_in : Text → Result Request Refusal
 offer_in word = bytes_in word >>= λ bytes. Ok (requests.Offer bytes)
 
--- `interleave N`
+-- the request of `interleave N`
 abbrev pub interleave_in : Text → Result Request Refusal
 interleave_in word = number_below most_count word >>= λ count. Ok (requests.Set (settings.Interleave count))
 
--- `pace N`
+-- the request of `pace N`
 abbrev pub pace_in : Text → Result Request Refusal
 pace_in word = number_below most_count word >>= λ count. Ok (requests.Set (settings.Pace count))
 
--- the clock advances by this many nanoseconds, or by none if there is no such word
+-- the request of `clock_step NS`, or of `clock_step` alone, which advances the clock by 0
 abbrev pub clock_step_in : List Text → Result Request Refusal
 clock_step_in words =
     if length words == 1 then Ok (requests.ClockStep 0)
     else number_below greatest_number (word 1 words) >>= λ time. Ok (requests.ClockStep time)
 
--- `clock_set TIME`
+-- the request of `clock_set TIME`
 abbrev pub clock_set_in : Text → Result Request Refusal
 clock_set_in word = number_below greatest_number word >>= λ time. Ok (requests.ClockSet time)
 

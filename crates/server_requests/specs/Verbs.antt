@@ -61,7 +61,7 @@ verbs =
 unfoldable pub verb_named : Text → Option Verb
 verb_named word = value_in verbs word
 
--- its line has this number of words
+-- whether a line with this first word has this number of words
 abbrev pub takes_words : Verb → (count : ℕ) → Bool
 takes_words (ReadNumber width) count = count == 2
 takes_words (WriteNumber width) count = count == 3

@@ -8,7 +8,7 @@ use Rattle.server_requests.specs.declared.request.Wanted.TheVariants.{Base64, By
 use Rattle.server_requests.specs.declared.request.Width.{Width}
 use Rattle.server_requests.specs.declared.request.Width.TheVariants.{Byte, Word, Long, Quad}
 
--- the number of bytes of a number
+-- the number of bytes of a number of this width
 abbrev pub bytes_of : Width → ℕ
 bytes_of Byte = 1
 bytes_of Word = 2

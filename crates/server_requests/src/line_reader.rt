@@ -1,6 +1,7 @@
 // Reads lines from any reader.
 
-ghost use Rattle.std.specs.Prelude.{◌≡◌, ◌≢◌, ◌<◌, ◌≤◌, All, IfOk, OnErr, OnOk, length, slice_index, take, vec_capacity};
+ghost use Rattle.std.specs.Prelude.{◌≡◌, ◌≢◌, ◌<◌, ◌≤◌, All, IfOk, OnErr, OnOk, length, slice_index, take};
+ghost use Rattle.std.specs.Prelude.{vec_capacity};
 ghost use Rattle.std.specs.Io.KnownBytes.{Keeps};
 ghost use Rattle.server_requests.specs.LinesRead.{Adds, BothKnown, IsNextLine, TakesPart, kept_as};
 

@@ -158,7 +158,7 @@ fn interleave_of(word: &str) -> Result<Request, Stop>
     Ok(Request::Set(Setting::Interleave(count as u16)))
 }
 
-/// Which of two words a word is: true for the first.
+/// Whether a word is the first of two words. Another word is refused.
 fn is_first(word: &str, first: &str, second: &str) -> Result<bool, Refusal>
     ensures { result ≡ reading.is_first first.now second.now word.now }
 {

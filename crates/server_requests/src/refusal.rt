@@ -33,7 +33,7 @@ pub enum Refusal {
 /// Why a line wasn't read.
 #[derive(Clone, Copy)]
 pub enum Stop {
-    /// It is refused.
+    /// The line is refused.
     Refused(Refusal),
     /// Memory was refused.
     Memory,
@@ -56,7 +56,7 @@ impl From<AllocError> for Stop {
 }
 
 impl Refusal {
-    /// The line that is written for it.
+    /// The line that is written for a refusal.
     pub fn text(self) -> &'static [u8]
         ensures { result.now ≡ refusal_line self }
     {

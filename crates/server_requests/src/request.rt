@@ -1,10 +1,9 @@
 // Requests.
 
-ghost use Rattle.std.specs.Prelude.{◌≡◌, IfOk};
+ghost use Rattle.std.specs.Prelude.{◌≡◌};
 
 use adapter::StepKind;
 use pci_function::PortWidth;
-use std::alloc::{AllocError, Global};
 use std::marker::Model;
 
 /// The width of a number in an access.
@@ -45,30 +44,7 @@ impl Model for Payload {
     ghost view = { λ payload. payload.bytes.items };
 }
 
-impl Clone for Payload {
-    ghost is_clone = { λ payload copy. copy ≡ payload };
-
-    /// The same bytes. Fails only if memory was refused.
-    fn clone(&self) -> Result<Payload, AllocError> {
-        Ok(Payload {
-            bytes: self.bytes.clone()?,
-        })
-    }
-}
-
 impl Payload {
-    /// A copy of these bytes.
-    ///
-    /// # Errors
-    ///
-    /// Memory was refused.
-    pub fn copy_of(alloc: Global, bytes: &[u8]) -> Result<Payload, AllocError>
-        ensures { IfOk result (λ payload. payload ≡ bytes.now) }
-    {
-        let bytes = Vec::from_slice(alloc, bytes)?;
-        Ok(Payload { bytes })
-    }
-
     /// The bytes.
     pub fn as_slice(&self) -> &[u8]
         ensures { result.now ≡ self.now }
@@ -113,7 +89,7 @@ pub enum Request {
     Settle,
     /// `interleave`, `pace`, `log`, `events`, `wire`: sets this for later requests.
     Set(Setting),
-    /// `line`: whether the interrupt line is asserted.
+    /// `line`: the level of the interrupt line.
     Line,
     /// `digest`: a digest of the state of the adapter and of memory.
     Digest,
@@ -123,9 +99,9 @@ pub enum Request {
     Frames,
     /// `faults`: which faults stopped an engine while events weren't printed.
     Faults,
-    /// `clock_step`: settles, and the clock advances by this number of nanoseconds.
+    /// `clock_step`: settles, and then advances the clock by this number of nanoseconds.
     ClockStep(u64),
-    /// `clock_set`: settles, and the clock becomes this one, if it is earlier.
+    /// `clock_set`: settles, and then sets the clock to this time, if the clock is earlier.
     ClockSet(u64),
     /// `irq_intercept_in`, `irq_intercept_out`: changes of the interrupt line are always printed.
     Intercept,

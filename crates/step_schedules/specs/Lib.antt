@@ -4,3 +4,6 @@ pub mod Results
 pub mod Deviations
 pub mod Schedules
 pub mod Texts
+pub mod Events
+pub mod Waiting
+pub mod Players

@@ -1,61 +1,78 @@
-use Rattle.std.proofs.Common.{◌≡◌, ◌∙◌, ap, arith, length, refl}
-use Rattle.bus.specs.declared.event.Access.TheVariants.{Loads}
-use Rattle.adapter_server.specs.Answers.{Accessed, in_memory}
+use Rattle.std.proofs.Common.{◌≡◌, ◌∙◌, ap, arith, length, refl, subst, sym, ℕ}
+use Rattle.played_adapter.specs.Requests.{ServesLoad}
 use Rattle.server_output.specs.ReadLines.{answer_line}
-use Rattle.served_session.specs.Sessions.{ComesBefore, reported, target_at}
-use Rattle.served_session.specs.declared.session.Place.TheVariants.{Memory}
-use Rattle.step_schedules.specs.declared.deviation.Before.TheVariants.{Read}
 use Rattle.server_requests.specs.Widths.{size_of}
-use Rattle.adapter_server.proofs.Accesses.{accessed, events_of_access, rounds_answer, rounds_stop}
-use Rattle.served_session.proofs.Places.{still_fits}
+use Rattle.adapter_server.specs.Answers.{ReadsMemory}
+use Rattle.access_names.specs.Names.{target_text}
+use Rattle.step_schedules.specs.declared.deviation.Before.TheVariants.{Read}
+use Rattle.adapter_server.specs.Sessions.{access_moves, meeting}
+use Rattle.adapter_server.specs.declared.session.Session.{Session}
 use Rattle.adapter_server.proofs.Slices.{filled}
-use Rattle.adapter_server.proofs.Stopping.{answer_stops}
-use Rattle.served_device.proofs.Stopping.{stopped_before}
+use Rattle.adapter_server.proofs.Printing.{answer_none, answered, begun, stopped}
 use Rattle.adapter_server.proofs.access.read_memory.Goals as goal
 
-pub load-requires : goal.load-requires
-load-requires g c =
-    let steps = c.in_ok-play_before_at.ensures in
-    let fits = still_fits Read (target_at Memory c.args.address c.args.session.now) c.args.session.now c.play_before_at.new.self
-    steps.text c.args.address (size_of c.args.wanted) c.requires steps.holds in
-    record { lies = omega (arith, c.in_ok-bytes.ensures.len, c.size.ensures) }
-
 pub returns-in_err-bytes : goal.returns-in_err-bytes
-returns-in_err-bytes g c =
-    let contents = g.W.Write.contents c.args.out.now in
-    answer_stops c.from_residual.result c.args.session.now.device _ _ contents contents c.from_residual.ensures.0
-    (stopped_before c.args.session.now.device contents)
+returns-in_err-bytes g c = answer_none c.from_residual.result _ _ _ c.from_residual.ensures.0
 
-pub returns-in_err-play_before_at : goal.returns-in_err-play_before_at
-returns-in_err-play_before_at g c =
-    answer_stops c.from_residual-in_err-play_before_at.result c.args.session.now.device _ _ _ _
-    c.from_residual-in_err-play_before_at.ensures.0
-    c.in_err-play_before_at.ensures
+pub returns-in_err-moves : goal.returns-in_err-moves
+returns-in_err-moves g c = answer_none c.from_residual-in_err-moves.result _ _ _ c.from_residual-in_err-moves.ensures.0
 
-pub returns-in_err-finish : goal.returns-in_err-finish
-returns-in_err-finish g c =
-    let a = c.args.session.now in
-    let middle = c.play_before_at.new.self in
+pub returns-in-Some : goal.returns-in-Some
+returns-in-Some g c =
     let said = c.args.said.now in
-    let access = Loads c.args.address (size_of c.args.wanted) in
-    answer_stops c.from_residual-in_err-finish.result a.device _ _ _ _ c.from_residual-in_err-finish.ensures.0
-    (rounds_stop a middle said (ComesBefore Read (target_at Memory c.args.address a) a middle) _ _ _
-    (λ first steps. events_of_access access said a (reported middle) _ (accessed access said a middle middle tt refl first steps))
-    c.in_ok-play_before_at.ensures c.in_err-finish.ensures)
+    let met = c.meet_access.new.self in
+    let moves = c.as_slice.result.now in
+    let value = c.serve_load.new.into in
+    let a = c.args.session.now in
+    let tells = c.serve_load.ensures in
+    let count : length c.as_mut_slice-into.result.now ≡ size_of c.args.wanted = c.as_mut_slice-into.ensures.len
+    ∙ c.in_ok-bytes.ensures.len ∙ c.size.ensures in
+    let holds = subst (λ (size : ℕ). ServesLoad moves c.args.address size value met.device c.serve_load.new.self tells.told) count
+    tells.holds in
+    rw (c.out-1.given.1 (sym tells.hears.0))
+    (stopped (ServesLoad moves c.args.address (size_of c.args.wanted) value) said met c.serve_load.new.self
+    c.serve_load.new.observer.kept.now tells.told holds
+    (answer_line c.args.wanted value) (ReadsMemory c.args.address c.args.wanted said c.args.session.now) (λ (b : Session). b)
+    (λ b text plays. (
+      value,
+      record {
+        told = text;
+        happens = begun (λ ms. ServesLoad ms c.args.address (size_of c.args.wanted) value) moves _ said met _ b text
+            (c.as_slice.ensures.value ∙ c.in_ok-moves.ensures.moves ∙ ap (λ target. access_moves Read (target_text target) a)
+            c.target_at-target.ensures)
+            (c.in_ok-moves.ensures.state ∙ ap (λ target. meeting Read (target_text target) a) c.target_at-target.ensures) plays;
+        text_is = refl;
+      },
+    )) c.in-Some.error c.serve_load.new.observer.stopped (g.W.Write.contents c.args.out.now)
+    (g.W.Write.contents c.serve_load.new.observer.out.now) c.in-Some.is tells.hears.2.wrote)
 
 pub returns : goal.returns
 returns g c =
-    let a = c.args.session.now in
-    let middle = c.play_before_at.new.self in
     let said = c.args.said.now in
-    let size = size_of c.args.wanted in
-    let access = Loads c.args.address size in
-    let count : length c.as_mut_slice.result.now ≡ size = c.as_mut_slice.ensures.len ∙ c.in_ok-bytes.ensures.len ∙ c.size.ensures in
-    let loaded = c.as_slice.ensures.value
-    ∙ filled c.in_ok-bytes.bytes.len c.load.new.into c.in_ok-bytes.bytes.items (omega arith)
-    ∙ c.load.ensures.loaded ∙ ap (in_memory middle c.args.address) count in
-    rounds_answer c.say_read.result a middle c.finish.new.self said
-    (answer_line c.args.wanted (in_memory (reported middle) c.args.address size))
-    (ComesBefore Read (target_at Memory c.args.address a) a middle) (Accessed access said a) _ _ _ _ _
-    (accessed access said a middle middle tt refl) c.in_ok-play_before_at.ensures c.in_ok-finish.ensures
-    (λ text answer. (reported middle, answer)) (rw loaded at c.say_read.ensures)
+    let met = c.meet_access.new.self in
+    let moves = c.as_slice.result.now in
+    let value = c.serve_load.new.into in
+    let a = c.args.session.now in
+    let tells = c.serve_load.ensures in
+    let count : length c.as_mut_slice-into.result.now ≡ size_of c.args.wanted = c.as_mut_slice-into.ensures.len
+    ∙ c.in_ok-bytes.ensures.len ∙ c.size.ensures in
+    let holds = subst (λ (size : ℕ). ServesLoad moves c.args.address size value met.device c.serve_load.new.self tells.told) count
+    tells.holds in
+    rw (c.out-2-1.given.1 (sym tells.hears.0))
+    (answered (ServesLoad moves c.args.address (size_of c.args.wanted) value) said met c.serve_load.new.self
+    c.serve_load.new.observer.kept.now tells.told holds
+    (answer_line c.args.wanted value) (ReadsMemory c.args.address c.args.wanted said c.args.session.now) (λ (b : Session). b)
+    (λ b text plays. (
+      value,
+      record {
+        told = text;
+        happens = begun (λ ms. ServesLoad ms c.args.address (size_of c.args.wanted) value) moves _ said met _ b text
+            (c.as_slice.ensures.value ∙ c.in_ok-moves.ensures.moves ∙ ap (λ target. access_moves Read (target_text target) a)
+            c.target_at-target.ensures)
+            (c.in_ok-moves.ensures.state ∙ ap (λ target. meeting Read (target_text target) a) c.target_at-target.ensures) plays;
+        text_is = refl;
+      },
+    )) c.say_read.result c.serve_load.new.observer.stopped (g.W.Write.contents c.args.out.now)
+    (g.W.Write.contents c.serve_load.new.observer.out.now) (g.W.Write.contents c.say_read.new.out) c.in_default.is
+    tells.hears.2.wrote tells.hears.2.kept_is (rw (c.as_slice-2.ensures.value
+    ∙ filled c.in_ok-bytes.bytes.len c.serve_load.new.into c.in_ok-bytes.bytes.items (omega arith)) at c.say_read.ensures))

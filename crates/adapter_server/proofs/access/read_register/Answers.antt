@@ -1,46 +1,59 @@
-use Rattle.std.proofs.Common.{ap}
+use Rattle.std.proofs.Common.{◌∙◌, refl, sym}
 use Rattle.std.specs.Int.{to_le_bytes, w32}
-use Rattle.bus.specs.Machines.{MachineState}
 use Rattle.bus.specs.declared.event.Access.TheVariants.{Reads}
-use Rattle.adapter_server.specs.Answers.{Accessed}
+use Rattle.played_adapter.specs.Requests.{ServesAccess}
 use Rattle.server_output.specs.ReadLines.{answer_line}
-use Rattle.served_session.specs.Sessions.{ComesBefore, reported}
-use Rattle.served_session.specs.declared.session.Session.{Session}
-use Rattle.access_names.specs.declared.target.Target.TheVariants as targets
-use Rattle.step_schedules.specs.declared.deviation.Before.TheVariants.{Read}
-use Rattle.adapter_server.proofs.Accesses.{accessed, events_of_access, rounds_answer, rounds_stop}
-use Rattle.adapter_server.proofs.Stopping.{answer_stops}
+use Rattle.adapter_server.specs.Answers.{ReadsRegister}
+use Rattle.adapter_server.specs.declared.session.Session.{Session}
+use Rattle.adapter_server.proofs.Printing.{answer_none, answered, begun, stopped}
 use Rattle.adapter_server.proofs.access.read_register.Goals as goal
 
-pub returns-in_err-play_before : goal.returns-in_err-play_before
-returns-in_err-play_before g c =
-    answer_stops c.from_residual.result c.args.session.now.device _ _ _ _ c.from_residual.ensures.0 c.in_err-play_before.ensures
+pub returns-in_err-moves : goal.returns-in_err-moves
+returns-in_err-moves g c = answer_none c.from_residual.result _ _ _ c.from_residual.ensures.0
 
-pub returns-in_err-finish : goal.returns-in_err-finish
-returns-in_err-finish g c =
-    let a = c.args.session.now in
-    let middle = c.play_before.new.self in
+pub returns-in-Some : goal.returns-in-Some
+returns-in-Some g c =
     let said = c.args.said.now in
-    let access = Reads c.args.offset c.read-value.result in
-    let with : MachineState → Session = λ machine. record middle { device = record middle.device { machine = machine } } in
-    let moved = with c.read-value.new.self in
-    let made = accessed access said a middle moved c.read-value.ensures.occurs (ap with c.read-value.ensures.state) in
-    answer_stops c.from_residual-in_err-finish.result a.device _ _ _ _ c.from_residual-in_err-finish.ensures.0
-    (rounds_stop a moved said (ComesBefore Read (targets.Register c.args.offset) a middle) _ _ _
-    (λ first steps. events_of_access access said a (reported moved) _ (made first steps)) c.in_ok-play_before.ensures
-    c.in_err-finish.ensures)
+    let met = c.meet_access.new.self in
+    let moves = c.as_slice.result.now in
+    let value = c.serve_read-value.result in
+    let tells = c.serve_read-value.ensures in
+    rw (c.out-1.given.1 (sym tells.hears.0))
+    (stopped (ServesAccess moves (Reads c.args.offset value)) said met c.serve_read-value.new.self
+    c.serve_read-value.new.observer.kept.now tells.told tells.holds
+    (answer_line c.args.wanted (to_le_bytes w32 value)) (ReadsRegister c.args.offset c.args.wanted said c.args.session.now) (λ (b :
+    Session). b)
+    (λ b text plays. (
+      value,
+      record {
+        told = text;
+        happens = begun (λ ms. ServesAccess ms (Reads c.args.offset value)) moves _ said met _ b text (c.as_slice.ensures.value ∙
+            c.in_ok-moves.ensures.moves) c.in_ok-moves.ensures.state plays;
+        text_is = refl;
+      },
+    )) c.in-Some.error c.serve_read-value.new.observer.stopped (g.W.Write.contents c.args.out.now)
+    (g.W.Write.contents c.serve_read-value.new.observer.out.now) c.in-Some.is tells.hears.2.wrote)
 
 pub returns : goal.returns
 returns g c =
-    let a = c.args.session.now in
-    let middle = c.play_before.new.self in
     let said = c.args.said.now in
-    let value = c.read-value.result in
-    let access = Reads c.args.offset value in
-    let with : MachineState → Session = λ machine. record middle { device = record middle.device { machine = machine } } in
-    let moved = with c.read-value.new.self in
-    rounds_answer c.say_read.result a moved c.finish.new.self said (answer_line c.args.wanted (to_le_bytes w32 value))
-    (ComesBefore Read (targets.Register c.args.offset) a middle) (Accessed access said a) _ _ _ _ _
-    (accessed access said a middle moved c.read-value.ensures.occurs (ap with c.read-value.ensures.state))
-    c.in_ok-play_before.ensures c.in_ok-finish.ensures (λ text answer. (value, reported moved, answer))
-    (rw c.to_le_bytes.ensures at c.say_read.ensures)
+    let met = c.meet_access.new.self in
+    let moves = c.as_slice.result.now in
+    let value = c.serve_read-value.result in
+    let tells = c.serve_read-value.ensures in
+    rw (c.out-2-1.given.1 (sym tells.hears.0))
+    (answered (ServesAccess moves (Reads c.args.offset value)) said met c.serve_read-value.new.self
+    c.serve_read-value.new.observer.kept.now tells.told tells.holds
+    (answer_line c.args.wanted (to_le_bytes w32 value)) (ReadsRegister c.args.offset c.args.wanted said c.args.session.now) (λ (b :
+    Session). b)
+    (λ b text plays. (
+      value,
+      record {
+        told = text;
+        happens = begun (λ ms. ServesAccess ms (Reads c.args.offset value)) moves _ said met _ b text (c.as_slice.ensures.value ∙
+            c.in_ok-moves.ensures.moves) c.in_ok-moves.ensures.state plays;
+        text_is = refl;
+      },
+    )) c.say_read.result c.serve_read-value.new.observer.stopped (g.W.Write.contents c.args.out.now)
+    (g.W.Write.contents c.serve_read-value.new.observer.out.now) (g.W.Write.contents c.say_read.new.out) c.in_default.is
+    tells.hears.2.wrote tells.hears.2.kept_is (rw c.to_le_bytes.ensures at c.say_read.ensures))

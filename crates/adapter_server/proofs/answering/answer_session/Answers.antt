@@ -18,9 +18,8 @@ pub returns-in-WritePort : goal.returns-in-WritePort
 returns-in-WritePort g c = rw c.in-WritePort.is c.write_port.ensures
 
 pub returns-in-Endianness : goal.returns-in-Endianness
-returns-in-Endianness g c =
-    let a = c.args.session.now in
-    rw c.in-Endianness.is (replied c.say_word.result a.device (word_line (codes "little")) a _ _ c.say_word.ensures)
+returns-in-Endianness g c = rw c.in-Endianness.is
+    (replied c.say_word.result (word_line (codes "little")) c.args.session.now _ _ c.say_word.ensures)
 
 pub returns-in-Step : goal.returns-in-Step
 returns-in-Step g c = rw c.in-Step.is c.take_step.ensures
@@ -47,9 +46,7 @@ pub returns-in-ClockSet : goal.returns-in-ClockSet
 returns-in-ClockSet g c = rw c.in-ClockSet.is c.set_clock.ensures
 
 pub returns-in-Intercept : goal.returns-in-Intercept
-returns-in-Intercept g c =
-    let a = c.args.session.now in
-    rw c.in-Intercept.is (replied c.say.result a.device ok_line a _ _ c.say.ensures)
+returns-in-Intercept g c = rw c.in-Intercept.is (replied c.say.result ok_line c.args.session.now _ _ c.say.ensures)
 
 pub returns-in-Frames : goal.returns-in-Frames
 returns-in-Frames g c = rw c.in-Frames.is c.fetch_frames.ensures

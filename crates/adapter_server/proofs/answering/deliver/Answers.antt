@@ -1,39 +1,57 @@
-use Rattle.std.proofs.Common.{◌≡◌, [], refl}
-use Rattle.bus.specs.declared.event.Event.TheVariants.{Arrives}
-use Rattle.served_device.specs.Devices.{Prints}
-use Rattle.served_device.specs.Happenings.{Logged}
-use Rattle.served_session.specs.Sessions.{OnDevice, reported}
+use Rattle.std.proofs.Common.{◌∙◌, refl, sym}
+use Rattle.played_adapter.specs.Requests.{ServesArrival}
 use Rattle.server_output.specs.Texts.{fate_word, word_line}
-use Rattle.served_session.specs.declared.session.Session.{Session}
-use Rattle.adapter_server.proofs.Accesses.{events_of_arrival, arrived, rounds_answer, rounds_stop}
-use Rattle.adapter_server.proofs.Stopping.{answer_stops}
-use Rattle.server_output.proofs.Writing.{appends_none}
+use Rattle.adapter_server.specs.Answers.{AnswersArrival}
+use Rattle.adapter_server.specs.declared.session.Session.{Session}
+use Rattle.adapter_server.proofs.Printing.{answer_none, answered, begun, stopped}
 use Rattle.adapter_server.proofs.answering.deliver.Goals as goal
 
-pub returns-in_err-finish : goal.returns-in_err-finish
-returns-in_err-finish g c =
-    let a = c.args.session.now in
-    let frame = c.args.frame.now in
-    let fate = c.arrive-fate.result in
+pub returns-in_err-moves : goal.returns-in_err-moves
+returns-in_err-moves g c = answer_none c.from_residual.result _ _ _ c.from_residual.ensures.0
+
+pub returns-in-Some : goal.returns-in-Some
+returns-in-Some g c =
     let said = c.args.said.now in
-    let moved : Session = record a { device = record a.device { machine = c.arrive-fate.new.self } } in
-    let before = g.W.Write.contents c.args.out.now in
-    answer_stops c.from_residual.result a.device _ _ _ _ c.from_residual.ensures.0
-    (rounds_stop a moved said (λ text. text ≡ []) before before _
-    (λ first none. events_of_arrival frame fate said a (reported moved) _
-    (arrived frame fate said a c.arrive-fate.new.self c.arrive-fate.ensures.occurs c.arrive-fate.ensures.state first none))
-    (record { text = []; holds = refl; written = appends_none before }) c.in_err-finish.ensures)
+    let met = c.meet_request.new.self in
+    let moves = c.as_slice.result.now in
+    let value = c.serve_arrival-fate.result in
+    let tells = c.serve_arrival-fate.ensures in
+    rw (c.out-1.given.1 (sym tells.hears.0))
+    (stopped (ServesArrival moves c.args.frame.now value) said met c.serve_arrival-fate.new.self
+    c.serve_arrival-fate.new.observer.kept.now tells.told tells.holds
+    (word_line (fate_word value)) (AnswersArrival c.args.frame.now said c.args.session.now) (λ (b : Session). b)
+    (λ b text plays. (
+      value,
+      record {
+        told = text;
+        happens = begun (λ ms. ServesArrival ms c.args.frame.now value) moves _ said met _ b text (c.as_slice.ensures.value ∙
+            c.in_ok-moves.ensures.moves)
+            c.in_ok-moves.ensures.state plays;
+        text_is = refl;
+      },
+    )) c.in-Some.error c.serve_arrival-fate.new.observer.stopped (g.W.Write.contents c.args.out.now)
+    (g.W.Write.contents c.serve_arrival-fate.new.observer.out.now) c.in-Some.is tells.hears.2.wrote)
 
 pub returns : goal.returns
 returns g c =
-    let a = c.args.session.now in
-    let frame = c.args.frame.now in
-    let fate = c.arrive-fate.result in
     let said = c.args.said.now in
-    let moved : Session = record a { device = record a.device { machine = c.arrive-fate.new.self } } in
-    let before = g.W.Write.contents c.args.out.now in
-    rounds_answer c.say_word.result a moved c.finish.new.self said (word_line (fate_word fate)) (λ text. text ≡ [])
-    (OnDevice (Prints (Logged (Arrives frame fate) said)) a) _ before before _ _
-    (arrived frame fate said a c.arrive-fate.new.self c.arrive-fate.ensures.occurs c.arrive-fate.ensures.state)
-    (record { text = []; holds = refl; written = appends_none before }) c.in_ok-finish.ensures
-    (λ text answer. (fate, reported moved, answer)) (rw c.fate_word.ensures at c.say_word.ensures)
+    let met = c.meet_request.new.self in
+    let moves = c.as_slice.result.now in
+    let value = c.serve_arrival-fate.result in
+    let tells = c.serve_arrival-fate.ensures in
+    rw (c.out-2-1.given.1 (sym tells.hears.0))
+    (answered (ServesArrival moves c.args.frame.now value) said met c.serve_arrival-fate.new.self
+    c.serve_arrival-fate.new.observer.kept.now tells.told tells.holds
+    (word_line (fate_word value)) (AnswersArrival c.args.frame.now said c.args.session.now) (λ (b : Session). b)
+    (λ b text plays. (
+      value,
+      record {
+        told = text;
+        happens = begun (λ ms. ServesArrival ms c.args.frame.now value) moves _ said met _ b text (c.as_slice.ensures.value ∙
+            c.in_ok-moves.ensures.moves)
+            c.in_ok-moves.ensures.state plays;
+        text_is = refl;
+      },
+    )) c.say_word.result c.serve_arrival-fate.new.observer.stopped (g.W.Write.contents c.args.out.now)
+    (g.W.Write.contents c.serve_arrival-fate.new.observer.out.now) (g.W.Write.contents c.say_word.new.out) c.in_default.is
+    tells.hears.2.wrote tells.hears.2.kept_is (rw c.fate_word.ensures at c.say_word.ensures))

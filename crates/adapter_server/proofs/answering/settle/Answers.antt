@@ -1,15 +1,55 @@
-use Rattle.adapter_server.specs.Answers.{SettlesAll}
+use Rattle.std.proofs.Common.{◌∙◌, refl, sym}
+use Rattle.played_adapter.specs.Requests.{ServesSettle}
 use Rattle.server_output.specs.Texts.{number_line}
-use Rattle.adapter_server.proofs.Printing.{answered}
-use Rattle.adapter_server.proofs.Stopping.{answer_stops}
+use Rattle.adapter_server.specs.Answers.{AnswersSettle}
+use Rattle.adapter_server.specs.declared.session.Session.{Session}
+use Rattle.adapter_server.proofs.Printing.{answer_none, answered, begun, stopped}
 use Rattle.adapter_server.proofs.answering.settle.Goals as goal
 
-pub returns-in_err-moved : goal.returns-in_err-moved
-returns-in_err-moved g c =
-    answer_stops c.from_residual.result c.args.session.now.device _ _ _ _ c.from_residual.ensures.0 c.in_err-moved.ensures
+pub returns-in_err-moves : goal.returns-in_err-moves
+returns-in_err-moves g c = answer_none c.from_residual.result _ _ _ c.from_residual.ensures.0
+
+pub returns-in-Some : goal.returns-in-Some
+returns-in-Some g c =
+    let said = c.args.said.now in
+    let met = c.meet_request.new.self in
+    let moves = c.as_slice.result.now in
+    let value = c.serve_settle-moved.result in
+    let tells = c.serve_settle-moved.ensures in
+    rw (c.out-1.given.1 (sym tells.hears.0))
+    (stopped (ServesSettle moves value) said met c.serve_settle-moved.new.self c.serve_settle-moved.new.observer.kept.now tells.told
+    tells.holds
+    (number_line value) (AnswersSettle said c.args.session.now) (λ (b : Session). b)
+    (λ b text plays. (
+      value,
+      record {
+        told = text;
+        happens = begun (λ ms. ServesSettle ms value) moves _ said met _ b text (c.as_slice.ensures.value ∙ c.in_ok-moves.ensures.moves)
+            c.in_ok-moves.ensures.state plays;
+        text_is = refl;
+      },
+    )) c.in-Some.error c.serve_settle-moved.new.observer.stopped (g.W.Write.contents c.args.out.now)
+    (g.W.Write.contents c.serve_settle-moved.new.observer.out.now) c.in-Some.is tells.hears.2.wrote)
 
 pub returns : goal.returns
 returns g c =
-    let a = c.args.session.now in
-    answered c.say_number.result a.device (λ moved b. SettlesAll moved a b) number_line c.in_ok-moved.moved c.settle_all.new.session _ _ _
-    c.in_ok-moved.ensures c.say_number.ensures
+    let said = c.args.said.now in
+    let met = c.meet_request.new.self in
+    let moves = c.as_slice.result.now in
+    let value = c.serve_settle-moved.result in
+    let tells = c.serve_settle-moved.ensures in
+    rw (c.out-2-1.given.1 (sym tells.hears.0))
+    (answered (ServesSettle moves value) said met c.serve_settle-moved.new.self c.serve_settle-moved.new.observer.kept.now tells.told
+    tells.holds
+    (number_line value) (AnswersSettle said c.args.session.now) (λ (b : Session). b)
+    (λ b text plays. (
+      value,
+      record {
+        told = text;
+        happens = begun (λ ms. ServesSettle ms value) moves _ said met _ b text (c.as_slice.ensures.value ∙ c.in_ok-moves.ensures.moves)
+            c.in_ok-moves.ensures.state plays;
+        text_is = refl;
+      },
+    )) c.say_number.result c.serve_settle-moved.new.observer.stopped (g.W.Write.contents c.args.out.now)
+    (g.W.Write.contents c.serve_settle-moved.new.observer.out.now) (g.W.Write.contents c.say_number.new.out) c.in_default.is
+    tells.hears.2.wrote tells.hears.2.kept_is c.say_number.ensures)

@@ -1,21 +1,57 @@
-use Rattle.served_device.specs.Devices.{Steps}
-use Rattle.served_session.specs.Sessions.{OnDevice}
+use Rattle.std.proofs.Common.{◌∙◌, refl, sym}
+use Rattle.played_adapter.specs.Requests.{ServesStep}
 use Rattle.server_output.specs.Texts.{outcome_word, word_line}
-use Rattle.served_session.specs.declared.session.Session.{Session}
-use Rattle.adapter_server.proofs.Printing.{answered}
-use Rattle.served_session.proofs.Playing.{on_device}
-use Rattle.adapter_server.proofs.Stopping.{answer_stops}
+use Rattle.adapter_server.specs.Answers.{AnswersStep}
+use Rattle.adapter_server.specs.declared.session.Session.{Session}
+use Rattle.adapter_server.proofs.Printing.{answer_none, answered, begun, stopped}
 use Rattle.adapter_server.proofs.answering.take_step.Goals as goal
 
-pub returns-in_err-outcome : goal.returns-in_err-outcome
-returns-in_err-outcome g c =
-    answer_stops c.from_residual.result c.args.session.now.device _ _ _ _ c.from_residual.ensures.0 c.in_err-outcome.ensures
+pub returns-in_err-moves : goal.returns-in_err-moves
+returns-in_err-moves g c = answer_none c.from_residual.result _ _ _ c.from_residual.ensures.0
+
+pub returns-in-Some : goal.returns-in-Some
+returns-in-Some g c =
+    let said = c.args.said.now in
+    let met = c.meet_request.new.self in
+    let moves = c.as_slice.result.now in
+    let value = c.serve_step-outcome.result in
+    let tells = c.serve_step-outcome.ensures in
+    rw (c.out-1.given.1 (sym tells.hears.0))
+    (stopped (ServesStep moves c.args.kind value) said met c.serve_step-outcome.new.self c.serve_step-outcome.new.observer.kept.now
+    tells.told tells.holds
+    (word_line (outcome_word value)) (AnswersStep c.args.kind said c.args.session.now) (λ (b : Session). b)
+    (λ b text plays. (
+      value,
+      record {
+        told = text;
+        happens = begun (λ ms. ServesStep ms c.args.kind value) moves _ said met _ b text (c.as_slice.ensures.value ∙
+            c.in_ok-moves.ensures.moves)
+            c.in_ok-moves.ensures.state plays;
+        text_is = refl;
+      },
+    )) c.in-Some.error c.serve_step-outcome.new.observer.stopped (g.W.Write.contents c.args.out.now)
+    (g.W.Write.contents c.serve_step-outcome.new.observer.out.now) c.in-Some.is tells.hears.2.wrote)
 
 pub returns : goal.returns
 returns g c =
-    let a = c.args.session.now in
-    let b : Session = record a { device = c.step.new.self } in
-    answered c.say_word.result a.device (λ outcome b. OnDevice (Steps c.args.kind outcome) a b)
-    (λ outcome. word_line (outcome_word outcome)) c.in_ok-outcome.outcome b _ _ _
-    (on_device (Steps c.args.kind c.in_ok-outcome.outcome) a c.step.new.self _ _ c.in_ok-outcome.ensures)
-    (rw c.outcome_word.ensures at c.say_word.ensures)
+    let said = c.args.said.now in
+    let met = c.meet_request.new.self in
+    let moves = c.as_slice.result.now in
+    let value = c.serve_step-outcome.result in
+    let tells = c.serve_step-outcome.ensures in
+    rw (c.out-2-1.given.1 (sym tells.hears.0))
+    (answered (ServesStep moves c.args.kind value) said met c.serve_step-outcome.new.self c.serve_step-outcome.new.observer.kept.now
+    tells.told tells.holds
+    (word_line (outcome_word value)) (AnswersStep c.args.kind said c.args.session.now) (λ (b : Session). b)
+    (λ b text plays. (
+      value,
+      record {
+        told = text;
+        happens = begun (λ ms. ServesStep ms c.args.kind value) moves _ said met _ b text (c.as_slice.ensures.value ∙
+            c.in_ok-moves.ensures.moves)
+            c.in_ok-moves.ensures.state plays;
+        text_is = refl;
+      },
+    )) c.say_word.result c.serve_step-outcome.new.observer.stopped (g.W.Write.contents c.args.out.now)
+    (g.W.Write.contents c.serve_step-outcome.new.observer.out.now) (g.W.Write.contents c.say_word.new.out) c.in_default.is
+    tells.hears.2.wrote tells.hears.2.kept_is (rw c.outcome_word.ensures at c.say_word.ensures))

@@ -6,7 +6,7 @@ use Rattle.adapter_server.proofs.small_answers.read_port.Goals as goal
 pub returns : goal.returns
 returns g c =
     let a = c.args.session.now in
-    replied c.say_number.result a.device _ a _ _
+    replied c.say_number.result _ a _ _
     (rw (c.from.ensures ∙ c.read_port.ensures
     ∙ ap (λ asserted. answer_at c.args.port c.args.width asserted a.function) c.line-asserted.ensures.line)
     at c.say_number.ensures)

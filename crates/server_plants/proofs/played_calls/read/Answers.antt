@@ -10,7 +10,8 @@ pub returns-clause-answer : goal.returns-clause-answer
 returns-clause-answer g c =
     let again = subst (λ (s : PlayedAdapter). Accessed (Reads c.args.offset c.read-2.result) s c.read-2.new.self c.read-2.ensures.told)
     (sym c.requires) c.read-2.ensures.holds in
-    let answers = reads_one c.args.offset c.read.result c.read-2.result c.args.one.now c.read.new.self c.read-2.new.self c.read.ensures.told
+    let answers = reads_one c.args.offset c.read.result c.read-2.result c.args.one.now c.read.new.self c.read-2.new.self
+    c.read.ensures.told
     c.read-2.ensures.told c.read.ensures.holds again in
     answers
 
@@ -18,7 +19,8 @@ pub returns-clause-state : goal.returns-clause-state
 returns-clause-state g c =
     let again = subst (λ (s : PlayedAdapter). Accessed (Reads c.args.offset c.read-2.result) s c.read-2.new.self c.read-2.ensures.told)
     (sym c.requires) c.read-2.ensures.holds in
-    let answers = reads_one c.args.offset c.read.result c.read-2.result c.args.one.now c.read.new.self c.read-2.new.self c.read.ensures.told
+    let answers = reads_one c.args.offset c.read.result c.read-2.result c.args.one.now c.read.new.self c.read-2.new.self
+    c.read.ensures.told
     c.read-2.ensures.told c.read.ensures.holds again in
     let again = subst (λ (value : ℕ). Accessed (Reads c.args.offset value) c.args.one.now c.read-2.new.self c.read-2.ensures.told)
     (sym answers) again in
@@ -30,7 +32,8 @@ pub returns-clause-told : goal.returns-clause-told
 returns-clause-told g c =
     let again = subst (λ (s : PlayedAdapter). Accessed (Reads c.args.offset c.read-2.result) s c.read-2.new.self c.read-2.ensures.told)
     (sym c.requires) c.read-2.ensures.holds in
-    let answers = reads_one c.args.offset c.read.result c.read-2.result c.args.one.now c.read.new.self c.read-2.new.self c.read.ensures.told
+    let answers = reads_one c.args.offset c.read.result c.read-2.result c.args.one.now c.read.new.self c.read-2.new.self
+    c.read.ensures.told
     c.read-2.ensures.told c.read.ensures.holds again in
     let again = subst (λ (value : ℕ). Accessed (Reads c.args.offset value) c.args.one.now c.read-2.new.self c.read-2.ensures.told)
     (sym answers) again in

@@ -1,8 +1,7 @@
 use Rattle.adapter_server.specs.Answers.{Does, OnSession, SessionDoes}
 use Rattle.adapter_server.specs.declared.snapshot.Server.{Server}
-use Rattle.adapter_server.proofs.Printing.{lifted}
 use Rattle.adapter_server.proofs.Requests.{does_on}
-use Rattle.adapter_server.proofs.Stopping.{answer_so}
+use Rattle.adapter_server.proofs.Printing.{answer_so, lifted}
 use Rattle.adapter_server.proofs.snapshot.Server.answer.Goals as goal
 
 pub returns-in-Save : goal.returns-in-Save
@@ -17,6 +16,6 @@ returns-in_default g c =
     let b = c.answer_session.new.session in
     let request = c.args.request.now in
     let said = c.args.said.now in
-    answer_so c.answer_session.result (OnSession (SessionDoes request said) a) (Does request said a) (λ (s : Server). s) a.session.device
+    answer_so c.answer_session.result (OnSession (SessionDoes request said) a) (Does request said a) (λ (s : Server). s)
     (record a { session = b }) _ _ (does_on request said a c.in_default.not-Save c.in_default.not-Restore)
     (lifted c.answer_session.result (SessionDoes request said) a b _ _ c.answer_session.ensures)

@@ -1,9 +1,7 @@
-use Rattle.adapter_server.specs.Answers.{AnswersLine, Obeys, Refuses}
+use Rattle.adapter_server.specs.Answers.{AnswersLine, Does, Refuses}
 use Rattle.adapter_server.specs.declared.snapshot.Server.{Server}
-use Rattle.adapter_server.proofs.Printing.{replied}
+use Rattle.adapter_server.proofs.Printing.{answer_so, nothing_written, replied}
 use Rattle.adapter_server.proofs.ReadRequests.{answers_read, answers_refused}
-use Rattle.adapter_server.proofs.Stopping.{answer_so, stopped_answer}
-use Rattle.served_device.proofs.Stopping.{stopped_before}
 use Rattle.adapter_server.proofs.snapshot.Server.answer_line.Goals as goal
 
 pub returns-in-Ok : goal.returns-in-Ok
@@ -11,20 +9,17 @@ returns-in-Ok g c =
     let line = c.args.line.now in
     let a = c.args.self.now in
     let request = c.in-Ok.request in
-    answer_so c.obey.result (Obeys request line a) (AnswersLine line a) (λ (b : Server). b) a.session.device c.obey.new.self _ _
-    (λ b text does. answers_read line request a b text c.in-Ok.ensures does) c.obey.ensures
+    answer_so c.answer.result (Does request line a) (AnswersLine line a) (λ (b : Server). b) c.answer.new.self _ _
+    (λ b text does. answers_read line request a b text c.in-Ok.ensures does) c.answer.ensures
 
 pub returns-in-Err-Refused : goal.returns-in-Err-Refused
 returns-in-Err-Refused g c =
     let line = c.args.line.now in
     let a = c.args.self.now in
     let refusal = c.in-Err-Refused.refusal in
-    answer_so c.refuse.result (Refuses refusal a) (AnswersLine line a) (λ (b : Server). b) a.session.device a _ _
+    answer_so c.refuse.result (Refuses refusal a) (AnswersLine line a) (λ (b : Server). b) a _ _
     (λ b text refuses. answers_refused line refusal a b text (rw c.in-Err-Refused.field-0-is at c.in-Err-Refused.ensures) refuses)
-    (replied c.refuse.result a.session.device _ a _ _ (rw c.in-Err-Refused.field-0-is at c.refuse.ensures))
+    (replied c.refuse.result _ a _ _ (rw c.in-Err-Refused.field-0-is at c.refuse.ensures))
 
 pub returns-in-Err-Memory : goal.returns-in-Err-Memory
-returns-in-Err-Memory g c =
-    let device = c.args.self.now.session.device in
-    let contents = g.W.Write.contents c.args.out.now in
-    stopped_answer (AnswersLine c.args.line.now c.args.self.now) device contents contents (stopped_before device contents)
+returns-in-Err-Memory g c = nothing_written (AnswersLine c.args.line.now c.args.self.now) _

@@ -13,4 +13,4 @@ returns-in-Whole g c = rw c.in-Whole.is c.answer_line.ensures
 pub returns-in-Long : goal.returns-in-Long
 returns-in-Long g c =
     let a = c.args.self.now in
-    rw c.in-Long.is (replied c.refuse.result a.session.device _ a _ _ c.refuse.ensures)
+    rw c.in-Long.is (replied c.refuse.result _ a _ _ c.refuse.ensures)

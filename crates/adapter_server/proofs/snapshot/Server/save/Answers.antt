@@ -1,25 +1,22 @@
-use Rattle.std.proofs.Common.{◌≡◌, ◌∙◌, Option, Some, ap, rules, subst, sym}
-use Rattle.adapter_server.specs.Answers.{Replies, TellsAnswer}
+use Rattle.std.proofs.Common.{◌≡◌, ◌∙◌, Option, Some, ap, subst, sym}
+use Rattle.adapter_server.specs.Answers.{Replies, Saves, TellsAnswer}
+use Rattle.adapter_server.specs.Sessions.{copied}
 use Rattle.server_output.specs.Texts.{ok_line}
-use Rattle.served_session.specs.declared.session.Session.{Session}
-use Rattle.adapter_server.proofs.Printing.{replied}
-use Rattle.adapter_server.proofs.Stopping.{answer_stops}
-use Rattle.served_device.proofs.Stopping.{stopped_before}
+use Rattle.adapter_server.specs.declared.session.Session.{Session}
+use Rattle.adapter_server.specs.declared.snapshot.Server.{Server}
+use Rattle.adapter_server.proofs.Printing.{answer_none, answer_so, replied}
 use Rattle.adapter_server.proofs.snapshot.Server.save.Goals as goal
 
 pub returns-in_err-copy : goal.returns-in_err-copy
-returns-in_err-copy g c =
-    let device = c.args.self.now.session.device in
-    let contents = g.W.Write.contents c.args.out.now in
-    answer_stops c.from_residual.result device _ _ contents contents c.from_residual.ensures.0 (stopped_before device contents)
+returns-in_err-copy g c = answer_none c.from_residual.result _ _ _ c.from_residual.ensures.0
 
 pub returns : goal.returns
 returns g c =
     let a = c.args.self.now in
-    let copy = c.in_ok-copy.copy in
-    let same : copy ≡ a.session = search rules in
+    let copy = c.in_ok-copy.ensures in
+    let saved : Server = record a { saved = Some (copied copy.address a.session) } in
     subst
     (λ (saved : Option Session). TellsAnswer c.say.result (g.W.Write.contents c.args.out.now) (g.W.Write.contents c.say.new.out)
-    a.session.device (Replies ok_line (record a { saved = Some a.session })) (record a { saved = saved }))
-    (sym (c.put_in_place.ensures ∙ ap Some same))
-    (replied c.say.result a.session.device ok_line (record a { saved = Some a.session }) _ _ c.say.ensures)
+    (Saves a) (record a { saved = saved })) (sym (c.put_in_place.ensures ∙ ap Some copy.same))
+    (answer_so c.say.result (Replies ok_line saved) (Saves a) (λ (s : Server). s) saved _ _ (λ b text replies. (copy.address, replies))
+    (replied c.say.result ok_line saved _ _ c.say.ensures))

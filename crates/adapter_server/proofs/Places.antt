@@ -1,0 +1,72 @@
+-- Which bytes are in memory.
+use Rattle.std.proofs.Common.{◌≡◌, ◌-◌, ℕ, Bool, List, Option, Some, None, Ok, Err, true, false, ap, arith, if◌then◌else◌, length, refl}
+use Rattle.std.proofs.lemmas.Bool.Decides.{nat_tests}
+use Rattle.access_names.specs.Names.{target_text}
+use Rattle.access_names.specs.declared.target.Target.{Target}
+use Rattle.pci_function.specs.ConfigSpace.{registers_of}
+use Rattle.played_adapter.specs.Playing.{has_bytes}
+use Rattle.server_requests.specs.declared.refusal.Refusal.TheVariants as refusals
+use Rattle.step_schedules.specs.declared.deviation.Before.TheVariants.{Write}
+use Rattle.adapter_server.specs.Sessions.{Takes, access_moves, is_register, meeting, meets_registers, met_before, moves_before, place_in}
+use Rattle.adapter_server.specs.Sessions.{place_with, target_at, write_to}
+use Rattle.adapter_server.specs.declared.session.Place.{Place}
+use Rattle.adapter_server.specs.declared.session.Place.TheVariants.{Memory, Register}
+use Rattle.adapter_server.specs.declared.session.Session.{Session}
+
+is_true : (register memory meets : Bool) (offset : ℕ)
+    → (if register then Ok (Register offset) else if memory then Ok Memory
+    else if meets then Err refusals.Register else Err refusals.Address) ≡ Ok Memory → memory ≡ true
+is_true true memory meets offset e = absurd (cc)
+is_true false true meets offset e = refl
+is_true false false true offset e = absurd (cc)
+is_true false false false offset e = absurd (cc)
+
+is_at : (register memory meets : Bool) (offset at : ℕ)
+    → (if register then Ok (Register offset) else if memory then Ok Memory
+    else if meets then Err refusals.Register else Err refusals.Address) ≡ Ok (Register at) → register ≡ true
+is_at true memory meets offset at e = refl
+is_at false true meets offset at e = absurd (cc)
+is_at false false true offset at e = absurd (cc)
+is_at false false false offset at e = absurd (cc)
+
+in_memory : (registers : Option ℕ) (memory : Bool) (address count : ℕ) → place_with registers memory address count ≡ Ok Memory
+    → memory ≡ true
+in_memory (Some registers) memory address count place =
+    is_true (is_register registers address count) memory (meets_registers registers address count) (address - registers) place
+in_memory None true address count place = refl
+in_memory None false address count place = absurd (cc)
+
+four_bytes : (registers : Option ℕ) (memory : Bool) (address count offset : ℕ)
+    → place_with registers memory address count ≡ Ok (Register offset) → count ≡ 4
+four_bytes (Some registers) memory address count offset place =
+    let is = is_at (is_register registers address count) memory (meets_registers registers address count) (address - registers) offset
+    place in
+    grind (arith, nat_tests, is)
+four_bytes None true address count offset place = absurd (cc)
+four_bytes None false address count offset place = absurd (cc)
+
+-- An access of memory accesses bytes that are in it.
+pub memory_place : (a : Session) (address count : ℕ) → place_in a address count ≡ Ok Memory → has_bytes a.device address count ≡ true
+memory_place a address count place = in_memory (registers_of a.function) (has_bytes a.device address count) address count place
+
+-- An access of a register has four bytes.
+pub register_place : (a : Session) (address count offset : ℕ) → place_in a address count ≡ Ok (Register offset) → count ≡ 4
+register_place a address count offset place =
+    four_bytes (registers_of a.function) (has_bytes a.device address count) address count offset place
+
+-- A place that was found for bytes takes them.
+pub place_takes : (place : Place) (a : Session) (address : ℕ) (bytes : List ℕ) → place_in a address (length bytes) ≡ Ok place
+    → Takes place address bytes a.device
+place_takes (Register offset) a address bytes at = register_place a address (length bytes) offset at
+place_takes Memory a address bytes at = memory_place a address (length bytes) at
+
+-- What a player does before a write, by its place.
+pub write_moves : (place : Place) (address : ℕ) (bytes : List ℕ) (a : Session) (target : Target) → target ≡ target_at place address a
+    → access_moves Write (target_text target) a ≡ moves_before (write_to place address bytes) a
+write_moves (Register offset) address bytes a target at = ap (λ (t : Target). access_moves Write (target_text t) a) at
+write_moves Memory address bytes a target at = ap (λ (t : Target). access_moves Write (target_text t) a) at
+
+pub write_met : (place : Place) (address : ℕ) (bytes : List ℕ) (a : Session) (target : Target) → target ≡ target_at place address a
+    → meeting Write (target_text target) a ≡ met_before (write_to place address bytes) a
+write_met (Register offset) address bytes a target at = ap (λ (t : Target). meeting Write (target_text t) a) at
+write_met Memory address bytes a target at = ap (λ (t : Target). meeting Write (target_text t) a) at

@@ -1,0 +1,42 @@
+-- What a player plays before accesses and requests (our choice; `tools/race_finder/README.md`, "A schedule").
+use Rattle.std.specs.Prelude.{◌&&◌, ◌∷◌, [], Bool, List, false, if◌then◌else◌, not, true}
+use Rattle.adapter.specs.declared.step.StepKind.{StepKind}
+use Rattle.adapter.specs.declared.step.StepKind.TheVariants as kinds
+use Rattle.played_adapter.specs.declared.choices.Choice.TheVariants.{Step, Arrival}
+use Rattle.played_adapter.specs.declared.choices.Move.{Move}
+use Rattle.played_adapter.specs.declared.choices.Move.TheVariants.{Hold, Play, Tick}
+use Rattle.step_schedules.specs.declared.deviation.Action.{Action}
+use Rattle.step_schedules.specs.declared.deviation.Action.TheVariants.{TxTake, TxPut, RxData, RxDone, Tx, Rx, Arrive}
+use Rattle.step_schedules.specs.declared.deviation.Action.TheVariants.{EepromTick, HoldEeprom, HoldPhy, PhyTick}
+
+-- a step of this kind, played by itself
+abbrev pub play_step : StepKind → Move
+play_step kind = Play (Step kind)
+
+-- the moves of an action; a hold has none
+abbrev pub moves_of : Action → List Move
+moves_of TxTake = play_step kinds.TxTake ∷ []
+moves_of TxPut = play_step kinds.TxPut ∷ []
+moves_of RxData = play_step kinds.RxData ∷ []
+moves_of RxDone = play_step kinds.RxDone ∷ []
+moves_of EepromTick = play_step kinds.EepromTick ∷ []
+moves_of PhyTick = play_step kinds.PhyTick ∷ []
+moves_of Tx = play_step kinds.TxTake ∷ play_step kinds.TxPut ∷ []
+moves_of Rx = play_step kinds.RxData ∷ play_step kinds.RxDone ∷ []
+moves_of Arrive = Play Arrival ∷ []
+moves_of HoldEeprom = []
+moves_of HoldPhy = []
+
+-- whether the EEPROM gets no tick
+abbrev pub holds_eeprom : Action → Bool
+holds_eeprom HoldEeprom = true
+holds_eeprom _ = false
+
+-- whether the PHY gets no tick
+abbrev pub holds_phy : Action → Bool
+holds_phy HoldPhy = true
+holds_phy _ = false
+
+-- the move of a default step that has work: a schedule plays the step unless a hold is due; else it is left out
+abbrev pub default_moves : (has_work plays is_held : Bool) → StepKind → Action → List Move
+default_moves has_work plays is_held kind hold = if has_work then (if plays && not is_held then Tick kind else Hold hold) ∷ [] else []

@@ -1,0 +1,151 @@
+-- The state of an adapter that is served, and what a player plays before accesses and requests (our choice).
+use denote.RawPtr.{Ptr}
+use Rattle.std.specs.Prelude.{◌≡◌, ◌==◌, ◌+◌, ◌-◌, ◌%◌, ◌&&◌, ◌++◌, [], ℕ, Bool, List, Option, None, Some, Result, Err, Ok, false, true}
+use Rattle.std.specs.Prelude.{flat_map, if◌then◌else◌, length, nat_le, nat_lt}
+use Rattle.std.specs.Int.{from_le_bytes, w32}
+use Rattle.std.specs.List.{list_any}
+use Rattle.std.specs.Option.{option_map, option_map_or}
+use Rattle.access_names.specs.Names.{target_text}
+use Rattle.access_names.specs.Targets.{memory_target_in}
+use Rattle.access_names.specs.declared.target.Target.{Target}
+use Rattle.access_names.specs.declared.target.Target.TheVariants as targets
+use Rattle.adapter.specs.declared.step.StepKind.TheVariants.{EepromTick, PhyTick}
+use Rattle.bus.specs.declared.event.Access.{Access}
+use Rattle.bus.specs.declared.event.Access.TheVariants.{Loads, Reads, Stores, Writes}
+use Rattle.eeprom.specs.Eerd.{is_pending}
+use Rattle.mdic_phy.specs.Mdic.{has_work}
+use Rattle.pci_function.specs.ConfigSpace.{registers_of}
+use Rattle.played_adapter.specs.Playing.{has_bytes, reported}
+use Rattle.played_adapter.specs.declared.choices.Move.{Move}
+use Rattle.played_adapter.specs.declared.player.PlayedAdapter.{PlayedAdapter}
+use Rattle.server_output.specs.Texts.{Text}
+use Rattle.server_requests.specs.declared.refusal.Refusal.{Refusal}
+use Rattle.server_requests.specs.declared.refusal.Refusal.TheVariants as refusals
+use Rattle.server_requests.specs.declared.request.Setting.{Setting}
+use Rattle.server_requests.specs.declared.request.Setting.TheVariants as settings
+use Rattle.step_schedules.specs.Players.{PlayerState, after_meeting, due_actions}
+use Rattle.step_schedules.specs.declared.deviation.Action.{Action}
+use Rattle.step_schedules.specs.declared.deviation.Action.TheVariants.{HoldEeprom, HoldPhy}
+use Rattle.step_schedules.specs.declared.deviation.Before.{Before}
+use Rattle.step_schedules.specs.declared.deviation.Before.TheVariants.{Read, Request, Write}
+use Rattle.adapter_server.specs.Moves.{default_moves, holds_eeprom, holds_phy, moves_of}
+use Rattle.adapter_server.specs.declared.session.Place.{Place}
+use Rattle.adapter_server.specs.declared.session.Place.TheVariants.{Memory, Register}
+use Rattle.adapter_server.specs.declared.session.Session.{Session}
+
+-- a copy of a session: its memory has an address of its own, and the level of its interrupt line counts as reported
+abbrev pub copied : (address : Option Ptr) → Session → Session
+copied address session = record session { device = record (reported session.device) { address = address } }
+
+-- It is a copy.
+pub record IsCopied (a copy : Session) : Type 0 where
+  -- the address of its memory
+  pub address : Option Ptr
+  -- all else is the same
+  pub same : copy ≡ copied address a
+
+-- Whether a schedule is played.
+abbrev pub plays_schedule : Session → Bool
+plays_schedule session = option_map_or (λ (player : PlayerState). player.is_playing) session.kept.player false
+
+-- how later requests are answered; while a schedule is played, the generator chooses nothing
+abbrev pub with_setting : Setting → Session → Session
+with_setting (settings.Interleave count) session =
+    record session { device = record session.device { most_steps = if plays_schedule session then 0 else count } }
+with_setting (settings.Pace count) session = record session { device = record session.device { pace = count } }
+with_setting (settings.Log on) session = record session { kept = record session.kept { log = on } }
+with_setting (settings.Events on) session = record session { kept = record session.kept { events = on } }
+with_setting (settings.Wire free) session = record session { device = record session.device { wire_free = free } }
+
+-- The target of an access.
+
+-- the number of bytes of registers (13.4 "Main Register Descriptions")
+abbrev pub register_bytes : ℕ
+register_bytes = 0x20000
+
+-- an aligned word of 32 bits among the registers
+abbrev pub is_register : (registers address count : ℕ) → Bool
+is_register registers address count =
+    (count == 4) && nat_le registers address && nat_lt (address - registers) register_bytes && ((address - registers) % 4 == 0)
+
+-- Some of this many bytes from an address on are those of registers.
+abbrev pub meets_registers : (registers address count : ℕ) → Bool
+meets_registers registers address count =
+    nat_lt 0 count && nat_lt address (registers + register_bytes) && nat_lt registers (address + count)
+
+-- the target of an access of this many bytes at an address, all of which are in memory or not, or why there is none; without an
+-- address of the first register, there are no registers
+abbrev pub place_with : Option ℕ → (in_memory : Bool) → (address count : ℕ) → Result Place Refusal
+place_with (Some registers) in_memory address count =
+    if is_register registers address count then Ok (Register (address - registers))
+    else if in_memory then Ok Memory
+    else if meets_registers registers address count then Err refusals.Register
+    else Err refusals.Address
+place_with None in_memory address count = if in_memory then Ok Memory else Err refusals.Address
+
+-- the place of these bytes in a register or in memory, if they have one
+abbrev pub place_in : Session → (address count : ℕ) → Result Place Refusal
+place_in session address count = place_with (registers_of session.function) (has_bytes session.device address count) address count
+
+-- the access that writes bytes at this place
+abbrev pub write_to : Place → (address : ℕ) → List ℕ → Access
+write_to (Register offset) address bytes = Writes offset (from_le_bytes w32 bytes)
+write_to Memory address bytes = Stores address bytes
+
+-- This place takes these bytes: a register four, and memory those that are in it.
+abbrev pub Takes : Place → (address : ℕ) → List ℕ → PlayedAdapter → Type 0
+Takes (Register offset) address bytes device = length bytes ≡ 4
+Takes Memory address bytes device = has_bytes device address (length bytes) ≡ true
+
+-- What a player plays.
+
+-- the session after its player, if there is one, has met an access or a request with this name
+abbrev pub meeting : Before → (name : Text) → Session → Session
+meeting before name session =
+    record session { kept = record session.kept { player = option_map (after_meeting before name) session.kept.player } }
+
+-- the moves of the default steps before an access for which these actions are due
+abbrev pub tick_moves : (due : List Action) → Session → List Move
+tick_moves due session =
+    let adapter = session.device.machine.world.adapter in
+    let plays = plays_schedule session in
+    default_moves (is_pending adapter.eerd) plays (list_any holds_eeprom due) EepromTick HoldEeprom
+    ++ default_moves (has_work adapter.mdic adapter.phy) plays (list_any holds_phy due) PhyTick HoldPhy
+
+-- the moves of the player before an access: of the default steps, and then of what is due
+abbrev pub access_moves : Before → (name : Text) → Session → List Move
+access_moves before name session =
+    option_map_or (λ (player : PlayerState).
+    let due = due_actions before name player in tick_moves due session ++ flat_map moves_of due) session.kept.player []
+
+-- the moves of the player before a request that begins a round
+abbrev pub request_moves : (name : Text) → Session → List Move
+request_moves name session =
+    option_map_or (λ (player : PlayerState). flat_map moves_of (due_actions Request name player)) session.kept.player []
+
+-- whether an access reads or writes
+abbrev pub before_of : Access → Before
+before_of (Reads offset value) = Read
+before_of (Writes offset value) = Write
+before_of (Loads address size) = Read
+before_of (Stores address bytes) = Write
+
+-- what an access reads or writes
+abbrev pub target_of : Access → Session → Target
+target_of (Reads offset value) session = targets.Register offset
+target_of (Writes offset value) session = targets.Register offset
+target_of (Loads address size) session = memory_target_in session.device.machine.world.adapter address
+target_of (Stores address bytes) session = memory_target_in session.device.machine.world.adapter address
+
+-- the target at this place
+abbrev pub target_at : Place → (address : ℕ) → Session → Target
+target_at (Register offset) address session = targets.Register offset
+target_at Memory address session = memory_target_in session.device.machine.world.adapter address
+
+-- the moves before this access
+abbrev pub moves_before : Access → Session → List Move
+moves_before access session = access_moves (before_of access) (target_text (target_of access session)) session
+
+-- the session after its player has met this access
+abbrev pub met_before : Access → Session → Session
+met_before access session = meeting (before_of access) (target_text (target_of access session)) session

@@ -1,0 +1,142 @@
+// The state of an adapter that is served.
+
+ghost use Rattle.std.specs.Prelude.{◌≡◌, ◌-◌, None, Some, if◌then◌else◌};
+ghost use Rattle.adapter_server.specs.Sessions.{is_register, meets_registers, place_with};
+
+use pci_function::PciFunction;
+use played_adapter::PlayedAdapter;
+use server_output::Kept;
+use server_requests::{Refusal, Setting};
+use std::alloc::AllocError;
+
+/// The number of bytes of registers (13.4 "Main Register Descriptions").
+const REGISTER_BYTES: u64 = 0x2_0000;
+
+/// The number of bytes of a register.
+const WORD_BYTES: u64 = 4;
+
+/// An adapter that is served, between two requests.
+#[derive(Drop)]
+pub struct Session {
+    /// The adapter, its memory, and what is played before and after an access.
+    pub device: PlayedAdapter,
+    /// The PCI function, which tells where the registers are.
+    pub function: PciFunction,
+    /// The time of the clock, in nanoseconds.
+    pub clock: u64,
+    /// What is kept of what happened, and what is written of it.
+    pub kept: Kept,
+}
+
+/// The target of an access.
+#[derive(Clone, Copy)]
+pub enum Place {
+    /// The register at this offset.
+    Register(u32),
+    /// Bytes of memory.
+    Memory,
+}
+
+/// Whether some of `count` bytes from an address on are those of registers.
+fn meets_registers(registers: u64, address: u64, count: u64) -> bool
+    ensures { result ≡ meets_registers registers address count }
+{
+    let address = u128::from(address);
+    let registers = u128::from(registers);
+    let end = address + u128::from(count);
+    count > 0 && address < registers + u128::from(REGISTER_BYTES) && registers < end
+}
+
+/// The register at an address, for an access of `count` bytes: an aligned word of 32 bits.
+fn register_at(registers: u64, address: u64, count: u64) -> Option<u32>
+    ensures { result ≡ (if is_register registers address count then Some (address - registers) else None) }
+{
+    if count != WORD_BYTES || address < registers {
+        return None;
+    }
+    let offset = address - registers;
+    if offset < REGISTER_BYTES && offset % WORD_BYTES == 0 {
+        Some(offset as u32)
+    } else {
+        None
+    }
+}
+
+/// The target of an access of `count` bytes at an address, or why there is none, if the registers begin at this
+/// address, and if these bytes are in memory or not.
+fn place_with(
+    registers: Option<u64>,
+    in_memory: bool,
+    address: u64,
+    count: u64,
+) -> Result<Place, Refusal>
+    ensures { result ≡ place_with registers in_memory address count }
+{
+    if let Some(registers) = registers {
+        if let Some(offset) = register_at(registers, address, count) {
+            return Ok(Place::Register(offset));
+        }
+        if !in_memory && meets_registers(registers, address, count) {
+            return Err(Refusal::Register);
+        }
+    }
+    if in_memory {
+        Ok(Place::Memory)
+    } else {
+        Err(Refusal::Address)
+    }
+}
+
+impl Session {
+    ghost use Rattle.std.specs.Prelude.{IfOk};
+    ghost use Rattle.adapter_server.specs.Sessions.{IsCopied, place_in, plays_schedule, with_setting};
+
+    /// The same state, with memory of its own. Fails only if memory was refused.
+    pub(crate) fn copy(&self) -> Result<Session, AllocError>
+        ensures { IfOk result (λ copy. IsCopied self.now copy) }
+    {
+        Ok(Session {
+            device: self.device.copy()?,
+            function: self.function,
+            clock: self.clock,
+            kept: self.kept.clone()?,
+        })
+    }
+
+    /// Whether a schedule is played.
+    pub(crate) fn plays_schedule(&self) -> bool
+        ensures { result ≡ plays_schedule self.now }
+    {
+        match &self.kept.player {
+            Some(player) => player.is_playing(),
+            None => false,
+        }
+    }
+
+    /// Sets how later requests are answered.
+    pub(crate) fn set(&mut self, setting: Setting)
+        ensures { self.new ≡ with_setting setting self.old }
+    {
+        match setting {
+            Setting::Interleave(count) => {
+                self.device.most_steps = if self.plays_schedule() { 0 } else { count };
+            }
+            Setting::Pace(count) => self.device.pace = count,
+            Setting::Log(on) => self.kept.log = on,
+            Setting::Events(on) => self.kept.events = on,
+            Setting::Wire(free) => self.device.wire_free = free,
+        }
+    }
+
+    /// The target of an access of `count` bytes at an address, or why there is none.
+    pub(crate) fn place_of(&self, address: u64, count: u64) -> Result<Place, Refusal>
+        ensures { result ≡ place_in self.now address count }
+    {
+        place_with(
+            self.function.registers(),
+            self.device.has_bytes(address, count),
+            address,
+            count,
+        )
+    }
+}

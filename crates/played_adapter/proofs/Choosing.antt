@@ -1,0 +1,53 @@
+-- Offered frames that arrive, and accesses that are asked for.
+use Rattle.std.proofs.Common.{◌≡◌, ◌∷◌, ◌++◌, ◌∙◌, [], ℕ, List, ap, refl, subst, sym}
+use Rattle.bus.specs.Machines.{MachineState, after_event}
+use Rattle.bus.specs.Trails.{Occurs}
+use Rattle.bus.specs.declared.event.Access.{Access}
+use Rattle.bus.specs.declared.event.Event.TheVariants.{Arrives}
+use Rattle.rx_engine.specs.declared.arrival.Fate.{Fate}
+use Rattle.played_adapter.specs.Order.{Composes, Tells}
+use Rattle.played_adapter.specs.Playing.{ComesBefore, FrameArrives, HappensAlone, NextArrives, OldestArrives, Paced, Reports, after}
+use Rattle.played_adapter.specs.Requests.{AccessedAfter, ServesAccess}
+use Rattle.played_adapter.specs.Told.{Offered, Told}
+use Rattle.played_adapter.specs.declared.choices.Move.{Move}
+use Rattle.played_adapter.specs.declared.player.PlayedAdapter.{PlayedAdapter}
+use Rattle.played_adapter.proofs.Happening.{happened}
+use Rattle.played_adapter.proofs.Telling.{tells_both, tells_so}
+
+module _ {O : Type 0} (heard : O → O → List Told → Type 0) (laws : Composes heard) where
+  -- No frame is offered.
+  pub none_arrives : (left : List (List ℕ)) (a : PlayedAdapter) (before : O) → a.offered ≡ [] → left ≡ []
+      → Tells heard before before (NextArrives a (record a { offered = left }))
+  none_arrives left a before none still = record {
+    told = [];
+    holds = subst (λ (offered : List (List ℕ)). OldestArrives offered a (record a { offered = left }) []) (sym none)
+        (ap (λ (offered : List (List ℕ)). record a { offered = offered }) (still ∙ sym none), refl);
+    hears = laws.stays before;
+  }
+
+  -- The oldest frame arrived.
+  pub oldest_arrives : (frame : List ℕ) (later : List (List ℕ)) (fate : Fate) (a b : PlayedAdapter) (machine : MachineState)
+      (before now end : O) → a.offered ≡ frame ∷ later → Occurs (Arrives frame fate) a.machine.world
+      → machine ≡ after_event (Arrives frame fate) a.machine → heard before now (Offered frame fate ∷ [])
+      → Tells heard now end (Reports (record a { machine = machine; offered = later }) b) → Tells heard before end (NextArrives a b)
+  oldest_arrives frame later fate a b machine before now end some occurs state tells reports =
+      tells_so heard (FrameArrives frame later fate a b) (NextArrives a b) before end
+      (λ told arrives. subst (λ (offered : List (List ℕ)). OldestArrives offered a b told) (sym some) (fate, arrives))
+      (happened heard laws (Arrives frame fate) _ (Offered frame fate ∷ []) a
+      (after (Arrives frame fate) (record a { offered = later })) _ b before now end
+      occurs (ap (λ (m : MachineState). record a { machine = m; offered = later }) state) tells refl reports)
+
+  -- What comes before an access was played, and the access happened.
+  pub accessed_after : (moves : List Move) (access : Access) (a middle b : PlayedAdapter) (before now end : O)
+      → Tells heard before now (ComesBefore moves a middle) → Tells heard now end (HappensAlone access middle b)
+      → Tells heard before end (AccessedAfter moves access a b)
+  accessed_after moves access a middle b before now end comes happens =
+      tells_both heard laws (ComesBefore moves a) (λ m rest. HappensAlone access m b rest) middle before now end comes happens
+
+  -- Then rounds were played.
+  pub served : (moves : List Move) (access : Access) (a middle later b : PlayedAdapter) (before now then end : O)
+      → Tells heard before now (ComesBefore moves a middle) → Tells heard now then (HappensAlone access middle later)
+      → Tells heard then end (Paced later b) → Tells heard before end (ServesAccess moves access a b)
+  served moves access a middle later b before now then end comes happens paced =
+      tells_both heard laws (AccessedAfter moves access a) (λ m rest. Paced m b rest) later before then end
+      (accessed_after moves access a middle later before now then comes happens) paced

@@ -1,0 +1,7 @@
+use Rattle.played_adapter.proofs.Happening.{alone}
+use Rattle.played_adapter.proofs.player.PlayedAdapter.store_now.Goals as goal
+
+pub returns : goal.returns
+returns g c =
+    alone g.O.Observer.heard g.met.O.Observer.composes _ c.args.self.now c.report.new.self _ c.args.observer.now c.stored.new.self
+    c.report.new.observer tt c.store.ensures.state c.stored.ensures c.report.ensures

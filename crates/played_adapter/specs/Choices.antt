@@ -1,0 +1,31 @@
+-- What may be played before accesses and requests (our choice; `tools/race_finder/README.md`, "A schedule").
+use Rattle.std.specs.Prelude.{◌==◌, ◌%◌, ℕ, List, if◌then◌else◌, length}
+use Rattle.rand_pcg.specs.Lcg.{Lcg}
+use Rattle.rand_pcg.specs.Pcg.{pcg32}
+use Rattle.adapter.specs.declared.step.StepKind.{StepKind}
+use Rattle.adapter.specs.declared.step.StepKind.TheVariants as kinds
+use Rattle.step_schedules.specs.declared.deviation.Action.{Action}
+use Rattle.step_schedules.specs.declared.deviation.Action.TheVariants.{EepromTick, PhyTick, RxData, RxDone, TxPut, TxTake}
+use Rattle.played_adapter.specs.Draws.{drawn_kind}
+use Rattle.played_adapter.specs.Kinds.{kind_numbered}
+use Rattle.played_adapter.specs.declared.choices.Choice.{Choice}
+use Rattle.played_adapter.specs.declared.choices.Choice.TheVariants.{Step, Arrival}
+
+-- the choice with this number while a frame waits
+abbrev pub choice_numbered : ℕ → Choice
+choice_numbered number = if number == 6 then Arrival else Step (kind_numbered number)
+
+-- a choice: of the six kinds of steps, and of one more, an arrival, while a frame waits
+abbrev pub drawn : (offered : List (List ℕ)) → Lcg → Choice × Lcg
+drawn offered generator =
+    if length offered == 0 then (let kind = drawn_kind generator in (Step kind.0, kind.1))
+    else (let word = pcg32 generator in (choice_numbered (word.0 % 7), word.1))
+
+-- the action of a step
+abbrev pub step_action : StepKind → Action
+step_action kinds.TxTake = TxTake
+step_action kinds.TxPut = TxPut
+step_action kinds.RxData = RxData
+step_action kinds.RxDone = RxDone
+step_action kinds.EepromTick = EepromTick
+step_action kinds.PhyTick = PhyTick

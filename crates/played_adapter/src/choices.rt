@@ -1,0 +1,167 @@
+// What is played before accesses and requests: choices of a generator, and moves.
+
+ghost use Rattle.std.specs.Prelude.{◌≡◌};
+ghost use Rattle.played_adapter.specs.Choices as spec;
+ghost use Rattle.played_adapter.specs.Choices.{drawn};
+ghost use Rattle.played_adapter.specs.Order.{InOrder, Tells};
+ghost use Rattle.played_adapter.specs.Playing.{AllArrive, ArrivalChosen, Chosen, ComesBefore, Makes, NextArrives};
+ghost use Rattle.played_adapter.specs.Playing.{StepChosen, drawn_from, noted};
+
+use crate::draws::{KINDS, kind_numbered};
+use crate::observer::Observer;
+use crate::player::PlayedAdapter;
+use crate::steps::did;
+use adapter::StepKind;
+use rand_core::utils::NextWord;
+use step_schedules::Action;
+
+/// The number of choices while a frame waits: a step of each kind, and an arrival.
+const CHOICES: u32 = KINDS + 1;
+
+/// What may be chosen.
+#[derive(Clone, Copy)]
+pub enum Choice {
+    /// A step of this kind.
+    Step(StepKind),
+    /// The arrival of the oldest offered frame.
+    Arrival,
+}
+
+/// What is played before an access or a request.
+#[derive(Clone, Copy)]
+pub enum Move {
+    /// The EEPROM or the PHY takes its default step.
+    Tick(StepKind),
+    /// Its default step is left out.
+    Hold(Action),
+    /// This is played, and noted if it does something.
+    Play(Choice),
+}
+
+/// The choice with this number, below 7.
+fn choice_numbered(number: u32) -> Choice
+    ensures { result ≡ spec.choice_numbered number }
+{
+    if number == KINDS {
+        Choice::Arrival
+    } else {
+        Choice::Step(kind_numbered(number))
+    }
+}
+
+/// The action of a step.
+fn step_action(kind: StepKind) -> Action
+    ensures { result ≡ spec.step_action kind }
+{
+    match kind {
+        StepKind::TxTake => Action::TxTake,
+        StepKind::TxPut => Action::TxPut,
+        StepKind::RxData => Action::RxData,
+        StepKind::RxDone => Action::RxDone,
+        StepKind::EepromTick => Action::EepromTick,
+        StepKind::PhyTick => Action::PhyTick,
+    }
+}
+
+impl PlayedAdapter {
+    /// Tells an action, if something was done.
+    fn note<O: Observer>(&self, did: bool, action: Action, observer: &mut O)
+        ensures { O.heard observer.old observer.new (noted did action) }
+    {
+        if did {
+            observer.noted(action);
+        }
+    }
+
+    /// What the next word of the generator chooses: a step, or also an arrival while a frame waits.
+    pub(crate) fn draw(&mut self) -> Choice
+        ensures choice { result ≡ (drawn self.old.offered self.old.generator).0 }
+        ensures state { self.new ≡ drawn_from self.old }
+    {
+        if self.offered.is_empty() {
+            return Choice::Step(self.draw_kind());
+        }
+        let word: u32 = self.generator.next_word();
+        choice_numbered(word % CHOICES)
+    }
+
+    /// Delivers the oldest offered frame, if there is one.
+    fn deliver_next<O: Observer>(&mut self, observer: &mut O)
+        ensures { Tells O.heard observer.old observer.new (NextArrives self.old self.new) }
+    {
+        let Some(frame) = self.offered.pop() else {
+            return;
+        };
+        let bytes = frame.as_slice();
+        let fate = self.machine.arrive(bytes);
+        observer.offered(bytes, fate);
+        self.report(observer);
+    }
+
+    /// Delivers all offered frames, the oldest first.
+    pub fn deliver_all<O: Observer>(&mut self, observer: &mut O)
+        ensures { Tells O.heard observer.old observer.new (AllArrive self.old self.new) }
+    {
+        let count = self.offered.len();
+        for _frame in 0..count {
+            self.deliver_next(observer);
+        }
+    }
+
+    /// Plays a step. It is noted if it does something.
+    fn choose_step<O: Observer>(&mut self, kind: StepKind, observer: &mut O)
+        ensures { Tells O.heard observer.old observer.new (StepChosen kind self.old self.new) }
+    {
+        let outcome = self.step(kind, observer);
+        self.note(did(outcome), step_action(kind), observer);
+    }
+
+    /// Delivers the oldest offered frame, if there is one. It is noted.
+    fn choose_arrival<O: Observer>(&mut self, observer: &mut O)
+        ensures { Tells O.heard observer.old observer.new (ArrivalChosen self.old self.new) }
+    {
+        let is_offered = !self.offered.is_empty();
+        self.deliver_next(observer);
+        self.note(is_offered, Action::Arrive, observer);
+    }
+
+    /// Plays a choice.
+    pub(crate) fn choose<O: Observer>(&mut self, choice: Choice, observer: &mut O)
+        ensures { Tells O.heard observer.old observer.new (Chosen choice self.old self.new) }
+    {
+        match choice {
+            Choice::Step(kind) => self.choose_step(kind, observer),
+            Choice::Arrival => self.choose_arrival(observer),
+        }
+    }
+
+    /// Plays a move.
+    fn make<O: Observer>(&mut self, next: Move, observer: &mut O)
+        ensures { Tells O.heard observer.old observer.new (Makes next self.old self.new) }
+    {
+        match next {
+            Move::Tick(kind) => {
+                let _outcome = self.step(kind, observer);
+            }
+            Move::Hold(action) => observer.noted(action),
+            Move::Play(choice) => self.choose(choice, observer),
+        }
+    }
+
+    /// Plays moves, in order.
+    pub fn make_all<O: Observer>(&mut self, moves: &[Move], observer: &mut O)
+        ensures { Tells O.heard observer.old observer.new (InOrder Makes moves.now self.old self.new) }
+    {
+        for next in moves {
+            self.make(*next, observer);
+        }
+    }
+
+    /// Plays what comes before an access: moves, and what the generator chooses.
+    pub(crate) fn play_before<O: Observer>(&mut self, moves: &[Move], observer: &mut O)
+        ensures { Tells O.heard observer.old observer.new (ComesBefore moves.now self.old self.new) }
+    {
+        self.make_all(moves, observer);
+        self.interleave_steps(observer);
+    }
+}

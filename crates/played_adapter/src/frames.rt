@@ -1,0 +1,123 @@
+// Lists of frames.
+
+ghost use Rattle.std.specs.Prelude.{◌≡◌, ◌++◌, ◌∷◌, ◌==◌, [], IfNone, IfOk, IfSome, OnErr, OnOk, length};
+
+use std::alloc::{AllocError, Global};
+use std::collections::VecDeque;
+use std::marker::Model;
+
+/// A frame that waits. In contracts it is the list of its bytes.
+#[derive(Drop)]
+pub struct WaitingFrame {
+    bytes: Vec<u8>,
+}
+
+impl Model for WaitingFrame {
+    ghost use Rattle.std.specs.Prelude.{List, ℕ};
+
+    ghost Value = { List ℕ };
+
+    ghost view = { λ frame. frame.bytes.items };
+}
+
+impl Clone for WaitingFrame {
+    ghost is_clone = { λ frame copy. copy ≡ frame };
+
+    /// The same bytes. Fails only if memory was refused.
+    fn clone(&self) -> Result<WaitingFrame, AllocError> {
+        Ok(WaitingFrame {
+            bytes: self.bytes.clone()?,
+        })
+    }
+}
+
+impl WaitingFrame {
+    /// A copy of these bytes.
+    fn copy_of(alloc: Global, bytes: &[u8]) -> Result<WaitingFrame, AllocError>
+        ensures { IfOk result (λ frame. frame ≡ bytes.now) }
+    {
+        let bytes = Vec::from_slice(alloc, bytes)?;
+        Ok(WaitingFrame { bytes })
+    }
+
+    /// The bytes.
+    pub fn as_slice(&self) -> &[u8]
+        ensures { result.now ≡ self.now }
+    {
+        self.bytes.as_slice()
+    }
+}
+
+/// Frames that wait, to arrive or to be fetched, the oldest first. In contracts it is their list.
+#[derive(Drop)]
+pub struct Frames {
+    frames: VecDeque<WaitingFrame>,
+}
+
+impl Model for Frames {
+    ghost use Rattle.std.specs.Prelude.{List, ℕ};
+
+    ghost Value = { List (List ℕ) };
+
+    ghost view = { λ list. list.frames.items };
+}
+
+impl Clone for Frames {
+    ghost is_clone = { λ frames copy. copy ≡ frames };
+
+    /// The same frames, in the same order. Fails only if memory was refused.
+    fn clone(&self) -> Result<Frames, AllocError> {
+        Ok(Frames {
+            frames: self.frames.clone()?,
+        })
+    }
+}
+
+impl Frames {
+    /// A list without a frame.
+    pub fn new(alloc: Global) -> Frames
+        ensures { result ≡ [] }
+    {
+        Frames {
+            frames: VecDeque::new(alloc),
+        }
+    }
+
+    /// Whether there is no frame.
+    pub fn is_empty(&self) -> bool
+        ensures { result ≡ (length self.now == 0) }
+    {
+        self.frames.is_empty()
+    }
+
+    /// The number of frames.
+    pub fn len(&self) -> usize
+        ensures { result ≡ length self.now }
+    {
+        self.frames.len()
+    }
+
+    /// Adds a copy of a frame after all others. If memory is refused, nothing changes.
+    pub fn try_push(&mut self, alloc: Global, frame: &[u8]) -> Result<(), AllocError>
+        ensures ok { OnOk result (self.new ≡ self.old ++ frame.now ∷ []) }
+        ensures err { OnErr result (self.new ≡ self.old) }
+    {
+        self.frames.push_back(WaitingFrame::copy_of(alloc, frame)?)?;
+        Ok(())
+    }
+
+    /// Adds a copy of a frame after all others. Fails only if memory was refused.
+    pub fn push(&mut self, alloc: Global, frame: &[u8]) -> Result<(), AllocError>
+        ensures { OnOk result (self.new ≡ self.old ++ frame.now ∷ []) }
+    {
+        self.try_push(alloc, frame)
+    }
+
+    /// Removes the oldest frame, if there is one, and returns it.
+    pub fn pop(&mut self) -> Option<WaitingFrame>
+        ensures none { IfNone result ((self.old ≡ []) × (self.new ≡ [])) }
+        ensures some { IfSome result (λ frame. self.old ≡ frame ∷ self.new) }
+    {
+        self.frames.pop_front()
+    }
+}

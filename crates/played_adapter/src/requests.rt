@@ -1,0 +1,123 @@
+// Requests: moves come before each, and rounds after an access or an arrival.
+
+ghost use Rattle.std.specs.Prelude.{IsTrue, length};
+ghost use Rattle.bus.specs.declared.event.Access.TheVariants.{Reads, Stores, Writes};
+ghost use Rattle.played_adapter.specs.Order.{Tells};
+ghost use Rattle.played_adapter.specs.Playing.{Paced, has_bytes};
+ghost use Rattle.played_adapter.specs.Requests.{ServesAccess, ServesArrival, ServesLoad, ServesSettle, ServesStep};
+
+use crate::choices::Move;
+use crate::observer::Observer;
+use crate::player::PlayedAdapter;
+use crate::steps::MOST_ROUNDS;
+use adapter::{Fate, Outcome, StepKind};
+
+impl PlayedAdapter {
+    /// Plays what comes after an access or an arrival: rounds of steps, until one does nothing or the number that was
+    /// set is reached.
+    fn pace_rounds<O: Observer>(&mut self, observer: &mut O)
+        ensures { Tells O.heard observer.old observer.new (Paced self.old self.new) }
+    {
+        let _moved = self.settle(u32::from(self.pace), observer);
+    }
+
+    /// Reads the register at an offset in bytes, after moves and what the generator chooses, and plays rounds.
+    pub fn serve_read<O: Observer>(&mut self, moves: &[Move], offset: u32, observer: &mut O) -> u32
+        ensures { Tells O.heard observer.old observer.new
+            (ServesAccess moves.now (Reads offset result) self.old self.new) }
+    {
+        self.play_before(moves, observer);
+        let value = self.read_now(offset, observer);
+        self.pace_rounds(observer);
+        value
+    }
+
+    /// Writes the register at an offset in bytes, after moves and what the generator chooses, and plays rounds.
+    pub fn serve_write<O: Observer>(
+        &mut self,
+        moves: &[Move],
+        offset: u32,
+        value: u32,
+        observer: &mut O,
+    )
+        ensures { Tells O.heard observer.old observer.new
+            (ServesAccess moves.now (Writes offset value) self.old self.new) }
+    {
+        self.play_before(moves, observer);
+        self.write_now(offset, value, observer);
+        self.pace_rounds(observer);
+    }
+
+    /// Loads bytes of memory from an address on, after moves and what the generator chooses, and plays rounds.
+    pub fn serve_load<O: Observer>(
+        &mut self,
+        moves: &[Move],
+        address: u64,
+        into: &mut [u8],
+        observer: &mut O,
+    )
+        requires { IsTrue (has_bytes self.old address (length into.old)) }
+        ensures { Tells O.heard observer.old observer.new
+            (ServesLoad moves.now address (length into.old) into.new self.old self.new) }
+    {
+        self.play_before(moves, observer);
+        self.load_now(address, into, observer);
+        self.pace_rounds(observer);
+    }
+
+    /// Stores bytes in memory from an address on, after moves and what the generator chooses, and plays rounds.
+    pub fn serve_store<O: Observer>(
+        &mut self,
+        moves: &[Move],
+        address: u64,
+        bytes: &[u8],
+        observer: &mut O,
+    )
+        requires { IsTrue (has_bytes self.old address (length bytes.now)) }
+        ensures { Tells O.heard observer.old observer.new
+            (ServesAccess moves.now (Stores address bytes.now) self.old self.new) }
+    {
+        self.play_before(moves, observer);
+        self.store_now(address, bytes, observer);
+        self.pace_rounds(observer);
+    }
+
+    /// Delivers a frame after moves, and plays rounds. Returns the frame's fate.
+    pub fn serve_arrival<O: Observer>(
+        &mut self,
+        moves: &[Move],
+        frame: &[u8],
+        observer: &mut O,
+    ) -> Fate
+        ensures { Tells O.heard observer.old observer.new
+            (ServesArrival moves.now frame.now result self.old self.new) }
+    {
+        self.make_all(moves, observer);
+        let fate = self.arrive(frame, observer);
+        self.pace_rounds(observer);
+        fate
+    }
+
+    /// Makes the adapter take a step after moves.
+    pub fn serve_step<O: Observer>(
+        &mut self,
+        moves: &[Move],
+        kind: StepKind,
+        observer: &mut O,
+    ) -> Outcome<()>
+        ensures { Tells O.heard observer.old observer.new (ServesStep moves.now kind result self.old self.new) }
+    {
+        self.make_all(moves, observer);
+        self.step(kind, observer)
+    }
+
+    /// Delivers all offered frames after moves, and plays rounds until one does nothing. Returns the number of steps
+    /// of these rounds that did something.
+    pub fn serve_settle<O: Observer>(&mut self, moves: &[Move], observer: &mut O) -> u64
+        ensures { Tells O.heard observer.old observer.new (ServesSettle moves.now result self.old self.new) }
+    {
+        self.make_all(moves, observer);
+        self.deliver_all(observer);
+        self.settle(MOST_ROUNDS, observer)
+    }
+}

@@ -1,9 +1,0 @@
-use Rattle.std.proofs.Common.{◌≡◌, map, take}
-use Rattle.schedule_player.specs.Waiting.{unmet_in, waiting_read}
-use Rattle.step_schedules.specs.Deviations.{deviation_read}
-use Rattle.schedule_player.proofs.waiting.unmet_in.Given as goal
-
--- those before the index that weren't met
-abbrev pub invariant-loop-one : goal.invariant-loop-one
-invariant-loop-one l =
-    map deviation_read l.unmet.items ≡ unmet_in (map waiting_read (take l.one-index l.waiting))

@@ -1,8 +1,0 @@
-use Rattle.std.proofs.Common.{◌≡◌, map}
-use Rattle.schedule_player.specs.Waiting.{waiting_read, waits}
-use Rattle.step_schedules.specs.Deviations.{deviation_read}
-use Rattle.schedule_player.proofs.waiting.waiting_of.Given as goal
-
--- the deviations so far wait
-abbrev pub invariant-loop-deviation : goal.invariant-loop-deviation
-invariant-loop-deviation l = map waiting_read l.waiting.items ≡ map waits (map deviation_read l.yielded)

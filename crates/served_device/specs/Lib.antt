@@ -1,4 +1,0 @@
-pub mod Moves
-pub mod Choices
-pub mod Happenings
-pub mod Devices

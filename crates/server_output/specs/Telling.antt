@@ -1,0 +1,77 @@
+-- What a server writes of what happens to an adapter, and what it keeps (our choice).
+use Rattle.std.specs.Prelude.{◌≡◌, ◌++◌, ℕ, Bool, List, [], ◌∷◌, Option, Some, None, flat_map, if◌then◌else◌}
+use Rattle.std.specs.Io.KnownBytes.{Appends, Keeps}
+use Rattle.std.specs.Option.{option_map}
+use Rattle.adapter.specs.Outcomes.{FrameOutcome, put_by, with_frame}
+use Rattle.engine_faults.specs.declared.engine_fault.EngineFault.{EngineFault}
+use Rattle.played_adapter.specs.Told.{Accessed, Arrived, Line, Noted, Offered, Stepped, Told}
+use Rattle.server_output.specs.Order.{WritesPart}
+use Rattle.server_output.specs.Texts.{Text, arrive_said, arrived_line, fault_line, frame_line, line_told, said_log, step_said}
+use Rattle.server_output.specs.declared.answer_error.AnswerError.{AnswerError}
+use Rattle.server_output.specs.declared.kept.Kept.{Kept}
+use Rattle.step_schedules.specs.Players.{after_playing}
+
+-- what there is, at most one
+abbrev pub listed : {T : Type 0} → Option T → List T
+listed (Some one) = one ∷ []
+listed None = []
+
+-- What is kept.
+
+-- after a step with this outcome and this fault: the frame that it put and the fault are to be fetched, if events aren't written
+abbrev pub kept_with : FrameOutcome → Option EngineFault → Kept → Kept
+kept_with outcome fault kept = record kept {
+  put = if kept.events then kept.put else kept.put ++ put_by outcome;
+  faults = if kept.events then kept.faults else kept.faults ++ listed fault;
+}
+
+-- after this was told; the player, if there is one, notes what was chosen
+abbrev pub kept_one : Told → Kept → Kept
+kept_one (Stepped kind outcome fault) kept = kept_with outcome fault kept
+kept_one (Arrived frame fate) kept = kept
+kept_one (Offered frame fate) kept = kept
+kept_one (Accessed access) kept = kept
+kept_one (Line level) kept = kept
+kept_one (Noted action) kept = record kept { player = option_map (after_playing action) kept.player }
+
+-- after all this was told, in order
+abbrev pub kept_after : List Told → Kept → Kept
+kept_after [] kept = kept
+kept_after (one ∷ later) kept = kept_after later (kept_one one kept)
+
+-- What is written.
+
+-- what is written of a step if events are written: the line of the frame that it put, and the line of its fault
+abbrev pub step_shown : (events : Bool) → FrameOutcome → Option EngineFault → Text
+step_shown events outcome fault =
+    (if events then flat_map frame_line (put_by outcome) else []) ++ (if events then flat_map fault_line (listed fault) else [])
+
+-- what is written of one thing that is told; of an access or an arrival that was asked for, the log says the line of the request
+abbrev pub told_text : (log events : Bool) → (said : Text) → Told → Text
+told_text log events said (Stepped kind outcome fault) =
+    said_log log (step_said kind (with_frame tt outcome)) ++ step_shown events outcome fault
+told_text log events said (Arrived frame fate) = said_log log said
+told_text log events said (Offered frame fate) = said_log log (arrive_said frame) ++ (if events then arrived_line fate frame else [])
+told_text log events said (Accessed access) = said_log log said
+told_text log events said (Line level) = line_told (Some level)
+told_text log events said (Noted action) = []
+
+-- what is written of all that is told, in order
+abbrev pub text_of : Kept → (said : Text) → List Told → Text
+text_of kept said told = flat_map (told_text kept.log kept.events said) told
+
+-- A text was written, or a beginning of it where writing stopped. After it stopped, nothing is written.
+abbrev pub WroteText : (was is : Option AnswerError) → (before after : Option (List ℕ)) → Text → Type 0
+WroteText (Some error) is before after text = (is ≡ Some error) × Keeps before after
+WroteText None None before after text = Appends before after text
+WroteText None (Some error) before after text = WritesPart before after text
+
+-- This was told, between two states: what the log says of a request, what is kept, why writing stopped, and what was written.
+pub record Heard (said said' : Text) (kept kept' : Kept) (was is : Option AnswerError) (before after : Option (List ℕ)) (told : List Told)
+    : Type 0 where
+  -- the log says the same
+  pub said_is : said' ≡ said
+  -- its text was written, up to where writing stopped
+  pub wrote : WroteText was is before after (text_of kept said told)
+  -- unless it stopped, what belongs to it is kept
+  pub kept_is : is ≡ None → kept' ≡ kept_after told kept

@@ -1,0 +1,92 @@
+// What a server keeps of what happened.
+
+ghost use Rattle.std.specs.Prelude.{◌≡◌, ◌++◌, OnOk, if◌then◌else◌};
+ghost use Rattle.std.specs.Option.{option_map};
+ghost use Rattle.adapter.specs.Outcomes.{put_by, with_frame};
+ghost use Rattle.server_output.specs.Telling.{listed};
+ghost use Rattle.step_schedules.specs.Players.{after_playing};
+
+use crate::faults::Faults;
+use adapter::Outcome;
+use engine_faults::EngineFault;
+use played_adapter::Frames;
+use std::alloc::{AllocError, Global};
+use step_schedules::{Action, Player};
+
+/// What a server keeps of what happened, and what it writes of it.
+#[derive(Drop)]
+pub struct Kept {
+    /// Whether steps, accesses and arrivals are written.
+    pub log: bool,
+    /// Whether frames that are put onto the wire, faults, and arrivals of offered frames are written.
+    pub events: bool,
+    /// The frames that were put onto the wire while events weren't written, and that weren't fetched yet.
+    pub put: Frames,
+    /// The faults that stopped an engine while events weren't written, and that weren't fetched yet.
+    pub faults: Faults,
+    /// The player of a schedule, or of a run that is recorded, if there is one.
+    pub player: Option<Player>,
+}
+
+impl Clone for Kept {
+    ghost is_clone = { λ kept copy. copy ≡ kept };
+
+    /// The same, with memory of its own. Fails only if memory was refused.
+    fn clone(&self) -> Result<Kept, AllocError> {
+        Ok(Kept {
+            put: self.put.clone()?,
+            faults: self.faults.clone()?,
+            player: self.player.clone()?,
+            log: self.log,
+            events: self.events,
+        })
+    }
+}
+
+impl Kept {
+    /// Keeps a frame that a step put, if events aren't written.
+    pub(crate) fn keep_put(
+        &mut self,
+        alloc: Global,
+        outcome: Outcome<()>,
+        frame: &[u8],
+    ) -> Result<(), AllocError>
+        ensures { OnOk result (self.new ≡ record self.old {
+          put = if self.old.events then self.old.put else self.old.put ++ put_by (with_frame frame.now outcome);
+        }) }
+    {
+        if self.events {
+            return Ok(());
+        }
+        match outcome {
+            Outcome::Put(()) => self.put.push(alloc, frame),
+            _ => Ok(()),
+        }
+    }
+
+    /// Keeps the fault of a step, if it is one and events aren't written.
+    pub(crate) fn keep_fault(&mut self, fault: Option<EngineFault>) -> Result<(), AllocError>
+        ensures { OnOk result (self.new ≡ record self.old {
+          faults = if self.old.events then self.old.faults else self.old.faults ++ listed fault;
+        }) }
+    {
+        if self.events {
+            return Ok(());
+        }
+        match fault {
+            Some(fault) => self.faults.push(fault),
+            None => Ok(()),
+        }
+    }
+
+    /// The player, if there is one, notes an action.
+    pub(crate) fn note(&mut self, action: Action) -> Result<(), AllocError>
+        ensures { OnOk result (self.new ≡
+            record self.old { player = option_map (after_playing action) self.old.player }) }
+    {
+        match &mut self.player {
+            Some(player) => player.note(action),
+            None => Ok(()),
+        }
+    }
+}

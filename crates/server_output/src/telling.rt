@@ -1,0 +1,251 @@
+// The observer that writes lines.
+
+ghost use Rattle.std.specs.Prelude.{◌≡◌, ◌++◌, [], IfOk, None, OnOk, Some, flat_map, if◌then◌else◌};
+ghost use Rattle.adapter.specs.Outcomes.{put_by, with_frame};
+ghost use Rattle.played_adapter.specs.Told as told;
+ghost use Rattle.server_output.specs.Telling.{WroteText, kept_with, listed, told_text};
+ghost use Rattle.server_output.specs.Texts.{fault_line, frame_line, line_told, said_log};
+
+use crate::answer_error::AnswerError;
+use crate::kept::Kept;
+use crate::lines::{
+    arrived_line, event_text, fate_word, frame_line, kind_word, outcome_word, push_fault_line,
+};
+use crate::output::say;
+use adapter::{Fate, Outcome, StepKind};
+use engine_faults::EngineFault;
+use played_adapter::Observer;
+use std::alloc::{AllocError, Global};
+use std::io::Write;
+use step_schedules::Action;
+
+/// Writes lines about what it is told, and keeps what `Kept` says. After an error it writes nothing, and keeps the
+/// error.
+#[derive(Drop)]
+pub struct Lines<'a, W: Write> {
+    /// What it writes to.
+    pub out: &'a mut W,
+    /// What is kept.
+    pub kept: &'a mut Kept,
+    /// The line of the request, which the log says of an access or an arrival.
+    pub said: &'a [u8],
+    /// The allocator of texts.
+    pub alloc: Global,
+    /// Why it stopped writing, if it did.
+    pub stopped: Option<AnswerError>,
+}
+
+/// The line of a level of the interrupt line.
+fn level_text(level: bool) -> &'static [u8]
+    ensures { result.now ≡ line_told (Some level) }
+{
+    if level {
+        b"IRQ raise 0\n"
+    } else {
+        b"IRQ lower 0\n"
+    }
+}
+
+impl<'a, W: Write> Lines<'a, W> {
+    /// The line of a frame that a step put, if events are written.
+    fn put_text(&self, outcome: Outcome<()>, frame: &[u8]) -> Result<Vec<u8>, AllocError>
+        ensures { IfOk result (λ text. text.items
+            ≡ (if self.now.kept.now.events then flat_map frame_line (put_by (with_frame frame.now outcome)) else [])) }
+    {
+        if !self.kept.events {
+            return Ok(Vec::new(self.alloc));
+        }
+        let Outcome::Put(()) = outcome else {
+            return Ok(Vec::new(self.alloc));
+        };
+        let digits = hex::encode(self.alloc, frame)?;
+        frame_line(self.alloc, digits.as_bytes())
+    }
+
+    /// Appends the line of a fault, if events are written.
+    fn push_fault(&self, text: &mut Vec<u8>, fault: Option<EngineFault>) -> Result<(), AllocError>
+        ensures { OnOk result (text.new.items ≡ text.old.items
+            ++ (if self.now.kept.now.events then flat_map fault_line (listed fault) else [])) }
+    {
+        if !self.kept.events {
+            return Ok(());
+        }
+        match fault {
+            Some(fault) => push_fault_line(text, fault),
+            None => Ok(()),
+        }
+    }
+
+    /// What is written of a step.
+    fn step_text(
+        &self,
+        kind: StepKind,
+        outcome: Outcome<()>,
+        frame: &[u8],
+        fault: Option<EngineFault>,
+    ) -> Result<Vec<u8>, AllocError>
+        ensures { IfOk result (λ text. text.items ≡ told_text self.now.kept.now.log self.now.kept.now.events
+            self.now.said.now (told.Stepped kind (with_frame frame.now outcome) fault)) }
+    {
+        let mut shown = self.put_text(outcome, frame)?;
+        self.push_fault(&mut shown, fault)?;
+        let said: [&[u8]; 4] = [b"step ", kind_word(kind), b" -> ", outcome_word(outcome)];
+        event_text(self.alloc, self.kept.log, &said, shown.as_slice())
+    }
+
+    /// What is written of the arrival of an offered frame.
+    fn arrival_text(&self, frame: &[u8], fate: Fate) -> Result<Vec<u8>, AllocError>
+        ensures { IfOk result (λ text. text.items ≡ told_text self.now.kept.now.log self.now.kept.now.events
+            self.now.said.now (told.Offered frame.now fate)) }
+    {
+        let text = hex::encode(self.alloc, frame)?;
+        let digits = text.as_bytes();
+        let said: [&[u8]; 2] = [b"arrive ", digits];
+        if !self.kept.events {
+            return event_text(self.alloc, self.kept.log, &said, &[]);
+        }
+        let shown = arrived_line(self.alloc, fate_word(fate), digits)?;
+        event_text(self.alloc, self.kept.log, &said, shown.as_slice())
+    }
+
+    /// Writes a text, or keeps the error.
+    fn write(&mut self, text: &[u8])
+        requires { self.old.stopped ≡ None }
+        ensures state { self.new ≡ record self.old { out = self.new.out; stopped = self.new.stopped } }
+        ensures lent { self.new.out.ghost_name ≡ self.old.out.ghost_name }
+        ensures text { WroteText None self.new.stopped (W.contents self.old.out.now) (W.contents self.new.out.now) text.now }
+    {
+        if let Err(error) = say(self.out, text) {
+            self.stopped = Some(error);
+        }
+    }
+
+    /// Writes what the log says of an access or an arrival: the line of the request. Or keeps the error.
+    fn say_request(&mut self)
+        requires { self.old.stopped ≡ None }
+        ensures state { self.new ≡ record self.old { out = self.new.out; stopped = self.new.stopped } }
+        ensures lent { self.new.out.ghost_name ≡ self.old.out.ghost_name }
+        ensures text { WroteText None self.new.stopped (W.contents self.old.out.now) (W.contents self.new.out.now)
+            (said_log self.old.kept.now.log self.old.said.now) }
+    {
+        if !self.kept.log {
+            return;
+        }
+        match event_text(self.alloc, true, &[self.said], &[]) {
+            Ok(text) => self.write(text.as_slice()),
+            Err(_) => self.stopped = Some(AnswerError::Memory),
+        }
+    }
+
+    /// Keeps what a step put, and its fault. Or keeps the error.
+    fn keep_step(&mut self, outcome: Outcome<()>, frame: &[u8], fault: Option<EngineFault>)
+        requires { self.old.stopped ≡ None }
+        ensures state { self.new ≡ record self.old { kept = self.new.kept; stopped = self.new.stopped } }
+        ensures lent { self.new.kept.ghost_name ≡ self.old.kept.ghost_name }
+        ensures kept { self.new.stopped ≡ None
+            → self.new.kept.now ≡ kept_with (with_frame frame.now outcome) fault self.old.kept.now }
+    {
+        let kept = self.kept.keep_put(self.alloc, outcome, frame);
+        if kept.is_err() || self.kept.keep_fault(fault).is_err() {
+            self.stopped = Some(AnswerError::Memory);
+        }
+    }
+}
+
+impl<'a, W: Write> Observer for Lines<'a, W> {
+    ghost use Rattle.server_output.specs.Telling.{Heard};
+    ghost use Rattle.server_output.specs.TellingLaws.{heard_joins, heard_stays, lent_joins, lent_stays};
+
+    ghost heard = { λ a b told. (b.out.ghost_name ≡ a.out.ghost_name) × (b.kept.ghost_name ≡ a.kept.ghost_name)
+        × Heard a.said.now b.said.now a.kept.now b.kept.now a.stopped b.stopped (W.contents a.out.now)
+        (W.contents b.out.now) told };
+
+    ghost composes = { record {
+      stays = λ a. (
+        lent_stays a.out.ghost_name,
+        lent_stays a.kept.ghost_name,
+        heard_stays a.said.now a.kept.now a.stopped (W.contents a.out.now),
+      );
+      joins = λ a b c first later one two. (
+        lent_joins a.out.ghost_name b.out.ghost_name c.out.ghost_name one.0 two.0,
+        lent_joins a.kept.ghost_name b.kept.ghost_name c.kept.ghost_name one.1 two.1,
+        heard_joins a.said.now b.said.now c.said.now a.kept.now b.kept.now c.kept.now a.stopped b.stopped c.stopped
+            (W.contents a.out.now) (W.contents b.out.now) (W.contents c.out.now) first later one.2 two.2,
+      );
+    } };
+
+    fn stepped(
+        &mut self,
+        kind: StepKind,
+        outcome: Outcome<()>,
+        frame: &[u8],
+        fault: Option<EngineFault>,
+    ) {
+        if self.stopped.is_some() {
+            return;
+        }
+        self.keep_step(outcome, frame, fault);
+        if self.stopped.is_some() {
+            return;
+        }
+        match self.step_text(kind, outcome, frame, fault) {
+            Ok(text) => self.write(text.as_slice()),
+            Err(_) => self.stopped = Some(AnswerError::Memory),
+        }
+    }
+
+    fn arrived(&mut self, _frame: &[u8], _fate: Fate) {
+        if self.stopped.is_none() {
+            self.say_request();
+        }
+    }
+
+    fn offered(&mut self, frame: &[u8], fate: Fate) {
+        if self.stopped.is_some() {
+            return;
+        }
+        match self.arrival_text(frame, fate) {
+            Ok(text) => self.write(text.as_slice()),
+            Err(_) => self.stopped = Some(AnswerError::Memory),
+        }
+    }
+
+    fn read(&mut self, _offset: u32, _value: u32) {
+        if self.stopped.is_none() {
+            self.say_request();
+        }
+    }
+
+    fn written(&mut self, _offset: u32, _value: u32) {
+        if self.stopped.is_none() {
+            self.say_request();
+        }
+    }
+
+    fn loaded(&mut self, _address: u64, _bytes: &[u8]) {
+        if self.stopped.is_none() {
+            self.say_request();
+        }
+    }
+
+    fn stored(&mut self, _address: u64, _bytes: &[u8]) {
+        if self.stopped.is_none() {
+            self.say_request();
+        }
+    }
+
+    fn noted(&mut self, action: Action) {
+        if self.stopped.is_some() {
+            return;
+        }
+        if self.kept.note(action).is_err() {
+            self.stopped = Some(AnswerError::Memory);
+        }
+    }
+
+    fn line(&mut self, level: bool) {
+        if self.stopped.is_none() {
+            self.write(level_text(level));
+        }
+    }
+}

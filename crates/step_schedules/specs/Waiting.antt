@@ -1,0 +1,53 @@
+-- Deviations that wait to be played.
+use Rattle.std.specs.Prelude.{◌-◌, ◌==◌, ◌&&◌, ℕ, Bool, List, filter, if◌then◌else◌, map, nat_lt}
+use Rattle.step_schedules.specs.Events.{EventRead, is_met_by}
+use Rattle.step_schedules.specs.declared.waiting.Waiting.{Waiting}
+use Rattle.step_schedules.specs.Deviations.{DeviationRead, deviation_read}
+use Rattle.step_schedules.specs.declared.deviation.Action.{Action}
+use Rattle.step_schedules.specs.declared.deviation.Site.{Site}
+use Rattle.step_schedules.specs.declared.deviation.Site.TheVariants as site
+
+-- a deviation, and how often its event must still come until it is played; 0: it was met
+pub record WaitingRead : Type 0 where
+  -- the deviation
+  pub deviation : DeviationRead
+  -- how often its event must still come
+  pub left : ℕ
+
+abbrev pub waiting_read : Waiting → WaitingRead
+waiting_read waiting = record { deviation = deviation_read waiting.deviation; left = waiting.left }
+
+abbrev pub left_at : Site → ℕ
+left_at (site.Place place) = 1
+left_at (site.Number number) = number
+
+-- before the run
+abbrev pub waits : DeviationRead → WaitingRead
+waits deviation = record { deviation = deviation; left = left_at deviation.site }
+
+-- whether a deviation is played before an event
+abbrev pub is_due : EventRead → WaitingRead → Bool
+is_due event waiting = waiting.left == 1 && is_met_by event waiting.deviation
+
+-- after an event, with `0 - 1` being 0
+abbrev pub counted : EventRead → WaitingRead → WaitingRead
+counted event waiting =
+    record waiting { left = if is_met_by event waiting.deviation then waiting.left - 1 else waiting.left }
+
+-- what it plays
+abbrev pub action_of : WaitingRead → Action
+action_of waiting = waiting.deviation.action
+
+-- the actions that are due before an event
+abbrev pub due_before : EventRead → List WaitingRead → List Action
+due_before event waiting = map action_of (filter (is_due event) waiting)
+
+-- a deviation that the run hasn't met
+abbrev pub is_unmet : WaitingRead → Bool
+is_unmet waiting = nat_lt 0 waiting.left
+
+abbrev pub deviation_of : WaitingRead → DeviationRead
+deviation_of waiting = waiting.deviation
+
+abbrev pub unmet_in : List WaitingRead → List DeviationRead
+unmet_in waiting = map deviation_of (filter is_unmet waiting)
