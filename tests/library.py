@@ -34,7 +34,7 @@ from expected import EN, RST  # noqa: E402
 from random_requests import BAM, RandomRequests, Words  # noqa: E402
 
 MEMORY = 8192
-GPRC = 0x4074
+GPRC, MPC = 0x4074, 0x4010
 SEEDS, REQUESTS = 10, 1000
 # The steps before an access, of every other seed
 STEPS = 3
@@ -100,7 +100,9 @@ def names(library):
     library.check("the number of the header's registers", len(found), 30)
     constants = {name: int(value, 16) for name, value in re.findall(r"^    pub const (\w+): u32 = (0x[0-9A-F]{4});$", rust, re.M)}
     library.check("the registers of the crate in Rust", constants, found)
-    exported = set(re.findall(r'extern "C" fn (nic82540em_\w+)', text_of("crates", "nic82540em", "src", "lib.rt")))
+    sources = os.path.join("crates", "nic82540em", "src")
+    calls = "\n".join(text_of(sources, name) for name in sorted(os.listdir(os.path.join(TOP, sources))))
+    exported = set(re.findall(r'extern "C" fn (nic82540em_\w+)', calls))
     library.check("the header's calls", set(re.findall(r"^(?!static).*?(nic82540em_\w+)\(struct", header, re.M)), exported)
     library.check("the calls of the crate in Rust", set(re.findall(r"fn (nic82540em_\w+)\(", rust)), exported)
     library.check("the calls in Python", {f"nic82540em_{name}" for name in nic82540em.CALLS}, exported)
@@ -113,8 +115,8 @@ def names(library):
 class InProcess:
     """Answers requests of `serve` by the library."""
 
-    def __init__(self, library, memory):
-        self.nic = nic82540em.Nic(library, memory=memory)
+    def __init__(self, library, memory, **options):
+        self.nic = nic82540em.Nic(library, memory=memory, **options)
 
     def register(self, address, size):
         """The offset of the register that an access goes to, or None."""
@@ -152,6 +154,12 @@ class InProcess:
             return f"0x{int(getattr(self.nic, verb)()):016x}"
         if verb == "interleave":
             self.nic.interleave(int(words[0]), seed)
+            return ""
+        if verb == "offer":
+            self.nic.offer(bytes.fromhex("".join(words)))
+            return ""
+        if verb == "wire":
+            self.nic.fill_wire(words[0] == "full")
             return ""
         return {"step": lambda: self.nic.step(words[0]), "arrive": lambda: self.nic.arrive(bytes.fromhex("".join(words))),
                 "log": lambda: ""}[verb]()
@@ -207,6 +215,85 @@ def same_answers(library):
             differ = next(((request, got, wanted) for request in requests_of(seed)
                            if (got := inside.reply(request, seed)) != (wanted := served.reply(request))), None)
             library.check(f"{REQUESTS} requests of seed {seed}, in process and served", differ, None)
+
+
+def events_in(told, request, answer):
+    """The events in what `serve` reported of a request, with the log and events on."""
+    found, fault = [], ""
+    if request.startswith("arrive") and answer != "refused":
+        found.append(("arrived", answer))
+    for line in told:
+        words = line.split()
+        if words[0] == "arrived":
+            found.append(("arrived", words[1]))
+        elif words[:2] == ["#", "step"] and words[4] == "fault":
+            fault = words[2]
+        elif words[:2] == ["#", "step"] and words[4] != "nothing":
+            found.append(("step", words[2], words[4]))
+        elif words[0] == "fault":
+            found.append(("fault", fault, int(words[2]), words[3]))
+        elif words[0] == "IRQ":
+            found.append(("line", words[1] == "raise"))
+    return found
+
+
+def with_offers(seed):
+    """Requests of a hostile driver, with offered frames, and with a wire that is full now and then."""
+    for place, request in enumerate(requests_of(seed)):
+        if place % 11 == 3:
+            yield "offer " + (bytes([255] * 6) + bytes([place & 255]) * (14 + place % 60)).hex()
+        if place % 60 in (20, 50):
+            yield f"wire {'full' if place % 60 == 20 else 'free'}"
+        yield request
+
+
+def events_as_served(library):
+    """The answers, frames and events are those of `serve`, also of steps and arrivals before accesses."""
+    kinds = set()
+    for seed in 9, 12, 13, 15:
+        inside, differ = InProcess(library.shared, MEMORY), None
+        inside.nic.events(True)
+        with Served(library.program, "--memory", str(MEMORY), "--seed", str(seed)) as served:
+            served.ask("log on")
+            for request in with_offers(seed):
+                served.told.clear()
+                got, wanted = inside.reply(request, seed), served.reply(request)
+                got, wanted = (got, inside.nic.take_events()), (wanted, events_in(served.told, request, wanted[0]))
+                kinds |= {event[0] for event in got[1]} | {event[2] for event in got[1] if event[0] == "step"}
+                differ = differ or (got != wanted and (request, got, wanted)) or None
+        library.check(f"events of seed {seed}, in process and served", differ, None)
+    library.check("kinds of events", {"fault", "arrived", "line", "wirefull"} - kinds, set())
+
+
+def events_that_wait(library):
+    """At most 4,096 events wait; a copy has them; and none is kept unless it is asked for."""
+    with nic82540em.Nic(library.shared) as nic:
+        nic.arrive(bytes(60))
+        nic.events(True)
+        for _ in range(4100):
+            nic.arrive(bytes(60))
+        with nic.copy() as copy:
+            waiting = [one.take_events() for one in (nic, copy)]
+        library.check("events that wait", (waiting[0], waiting[1]), ([("arrived", "off")] * 4096,) * 2)
+        nic.events(False)
+        nic.arrive(bytes(60))
+        library.check("no events", nic.take_events(), [])
+
+
+def image_and_missed(library):
+    """The EEPROM's words and MPC at the start are those of `serve`, with the options --image and --missed."""
+    words = [(40503 * place + 7) & 0xFFFF for place in range(64)]
+    library.put("image.bin", b"".join(word.to_bytes(2, "little") for word in words))
+    missed, register = 2**32 - 1, adapter.REGISTERS
+    asked = [f"readl {register + MPC:#x}"] * 2 + [f"readl {register + place:#x}" for place in (0x5400, 0x5404)]
+    for place in range(64):
+        asked += [f"writel {register + EERD:#x} {place << 8 | 1:#x}", "step eeprom", f"readl {register + EERD:#x}"]
+    inside = InProcess(library.shared, MEMORY, missed=missed, image=words)
+    options = "--memory", str(MEMORY), "--missed", str(missed), "--image", library.path("image.bin")
+    with Served(library.program, *options) as served:
+        answers = [(inside.reply(request, 0)[0], served.reply(request)[0]) for request in asked]
+    library.check("image and missed", [got for got, _ in answers], [wanted for _, wanted in answers])
+    library.check("the words that were read", [int(got, 16) >> 16 for got, _ in answers[6::3]], words)
 
 
 # The calls that `serve` hasn't.
@@ -491,8 +578,8 @@ def refused_memory(library):
         source = os.path.join(TOP, "tests", "library_refused.c")
         flags = ["-std=c99", "-g", *WARNINGS, SANITIZERS]
         if library.compiles("refused memory", "cc", *flags, "-o", target, source, *library.flags):
-            library.prints("refused memory: runs", [target], "new: refused at each of 10 allocations\n"
-                           "copy: refused at each of 10 allocations\nno block is left\n")
+            library.prints("refused memory: runs", [target], "new: refused at each of 11 allocations\n"
+                           "copy: refused at each of 11 allocations\noffer: refused at each of 2 allocations\nno block is left\n")
 
 
 def examples_in_other_languages(library):
@@ -501,6 +588,9 @@ def examples_in_other_languages(library):
         source = os.path.join(EXAMPLES, "first.c")
         if library.compiles("first as C++", "c++", "-x", "c++", *WARNINGS, "-o", target, source, "-x", "none", *library.flags):
             library.prints("first as C++: runs", [target], text_of("examples", "library", "first.txt"))
+    env = ["env", f"PYTHONPATH={os.path.join(TOP, 'bindings', 'python')}", f"NIC82540EM_LIB={os.path.join(library.root, 'lib')}"]
+    library.prints("events.py: runs", [*env, sys.executable, "-B", os.path.join(EXAMPLES, "events.py")],
+                   text_of("examples", "library", "events.txt"))
     if library.is_there("rustc", "the crate and the example in Rust"):
         rustc = ["rustc", "--edition", "2021", "-O", "-D", "warnings"]
         path = ["-L", f"native={os.path.join(library.root, 'lib')}"]
@@ -523,8 +613,8 @@ def is_built(library, words):
     return ran.returncode == 0
 
 
-PARTS = (same_answers, steps_by_schedule, state_without_accesses, steps_that_are_possible, copies, states_by_contents,
-         steps_by_ticks, frames_that_wait, drivers, refused_memory, examples_in_c, fuzzers, examples_in_other_languages,
+PARTS = (same_answers, events_as_served, events_that_wait, image_and_missed, steps_by_schedule, state_without_accesses,
+         steps_that_are_possible, copies, states_by_contents, steps_by_ticks, frames_that_wait, drivers, refused_memory, examples_in_c, fuzzers, examples_in_other_languages,
          by_pkg_config, by_cmake, by_pip)
 
 

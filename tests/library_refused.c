@@ -47,10 +47,12 @@ void rattle_dealloc(void *block)
 int main(void)
 {
     struct nic82540em nic = NIC82540EM_NONE, copy = NIC82540EM_NONE;
-    const struct nic82540em_options options = { 4096, 1, 48, { 2, 0, 0, 0, 0, 1 } };
+    struct nic82540em_options options = NIC82540EM_DEFAULTS;
+    struct nic82540em_event event;
     uint32_t value = 7;
     long refused;
 
+    options.memory = 4096;
     for (refused = 0;; refused++) {
         left = refused;
         if (nic82540em_new(&nic, &options))
@@ -70,6 +72,13 @@ int main(void)
     }
     CHECK(refused > 0);
     printf("copy: refused at each of %ld allocations\n", refused);
+    left = 0;
+    nic82540em_events(&nic, true);
+    CHECK(nic82540em_arrive(&nic, "frame", 5) == NIC_OFF && nic82540em_take_event(&nic, &event) && event.what == NIC_ARRIVED);
+    for (refused = 0; left = refused, !nic82540em_offer(&nic, "frame", 5); refused++)
+        CHECK(nic82540em_settle(&nic) == 0 && !nic82540em_take_event(&nic, &event));
+    CHECK(refused > 0 && nic82540em_settle(&nic) == 0 && nic82540em_take_event(&nic, &event) && event.what == NIC_ARRIVED);
+    printf("offer: refused at each of %ld allocations\n", refused);
     left = 0;
     CHECK(nic82540em_peek(&copy, NIC_VET, &value) && value == 0x1234);
     CHECK(nic82540em_read(&nic, NIC_VET) == 0x1234 && nic82540em_settle(&nic) == 0);

@@ -1,10 +1,11 @@
-"""Builds the object of the C library without proof and with run-time checks, in about a minute.
+"""Builds the object of the C library without proof and with run-time checks, in about a minute on an idle machine.
 
 `rt try` compiles programs only. So this copies the crates of the library, and makes a program of the one that has the
 exports: its `main` calls each export. In the program's code, in LLVM's text form, each export then gets its name for C,
 and `main` is hidden. If any step fails, QuickBuildFailed says why.
 """
 
+import glob
 import os
 import re
 import shutil
@@ -21,12 +22,13 @@ HANDLE = "&mut Nic"
 # A value for each type that a parameter has
 VALUES = {"Global": "rt.alloc()", HANDLE: "&mut nic", "&AdapterOptions": "&options", "u32": "0", "u64": "0",
           "bool": "false", "&[u8]": "&bytes", "&mut [u8]": "&mut bytes", "&mut u32": "&mut word",
-          "&mut *const u8": "&mut place"}
+          "&mut *const u8": "&mut place", "&mut KeptEvent": "&mut event"}
 MAIN = """
 fn main(rt: HostRuntime) {
     let mut nic = Nic { held: false, owner: owner::probed(rt.alloc()) };
     let mut other = Nic { held: false, owner: owner::probed(rt.alloc()) };
-    let options = AdapterOptions { memory: 0, link: 0, receive_kilobytes: 0, address: [0; 6] };
+    let options = AdapterOptions { memory: 0, link: 0, receive_kilobytes: 0, address: [0; 6], has_image: false, missed: 0, image: [0; 64] };
+    let mut event = KeptEvent { what: 0, kind: 0, value: 0, reason: 0, index: 0 };
     let mut bytes = [0_u8; 1];
     let mut word = 0_u32;
     let mut place: *const u8 = std::ptr::null();
@@ -85,7 +87,8 @@ def copy(crates, top):
     folder = os.path.join(top, "crates", NAME)
     library, owner = (os.path.join(folder, "src", name) for name in ("lib.rt", "owner.rt"))
     text = read(library)
-    found = exports(text)
+    # the calls of a module are in the program's root by their names
+    found = exports("\n".join(read(path) for path in sorted(glob.glob(os.path.join(folder, "src", "*.rt")))))
     calls = [f"{name}({', '.join(values_of(types))});" for name, types in found.items()]
     write(os.path.join(folder, "src", "main.rt"), text + MAIN.replace("CALLS", "\n    ".join(calls)))
     os.remove(library)
@@ -96,11 +99,11 @@ def copy(crates, top):
 def exported(text, names):
     """The code with the names of the exports for C, and without a `main` for others."""
     for name in names:
-        inner = f'@"{NAME}::{name}"('
-        text, count = re.subn(rf'^define internal (.*){re.escape(inner)}', rf"define \1@{name}(", text, flags=re.M)
+        inner = rf'@"{NAME}::(?:\w+::)?{name}"\('
+        text, count = re.subn(rf'^define internal (.*){inner}', rf"define \1@{name}(", text, flags=re.M)
         if count != 1:
             raise QuickBuildFailed(f"the code has {count} functions {name}")
-        text = text.replace(inner, f"@{name}(")
+        text = re.sub(inner, f"@{name}(", text)
     return re.sub(r"^define (.*@main\()", r"define internal \1", text, flags=re.M)
 
 

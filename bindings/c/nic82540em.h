@@ -10,6 +10,8 @@
  *   - The areas that two pointers of one call point to must not overlap.
  *   - Make all calls for one adapter in one thread.
  *
+ * Only nic82540em_new, nic82540em_copy and nic82540em_offer request memory.
+ *
  * If the handle has no adapter (before nic82540em_new, and after nic82540em_free), each call but nic82540em_new returns
  * 0, false or NIC_REFUSED, and changes nothing.
  *
@@ -42,11 +44,14 @@ struct nic82540em_options {
     uint32_t link;      /* the number of NIC_PHY steps from the start of negotiation until the link is up, at most
                          * 65,535; 0: the link is never up */
     uint32_t rxa;       /* PBA.RXA, the size of the receive packet buffer in kilobytes: an even number from 2 to 48 */
-    uint8_t address[6]; /* the Ethernet address in the EEPROM */
+    uint8_t address[6]; /* the Ethernet address in the EEPROM, unless `image` is the EEPROM's contents */
+    bool has_image;     /* whether `image` is the EEPROM's contents */
+    uint32_t missed;    /* MPC, the number of missed packets, at the start */
+    uint16_t image[64]; /* all words of the EEPROM, also with a wrong checksum; words 0 to 2 are the address */
 };
 
 /* The options that `nicbench serve` has by default. */
-#define NIC82540EM_DEFAULTS { 1 << 20, 1, 48, { 0x02, 0, 0, 0, 0, 0x01 } }
+#define NIC82540EM_DEFAULTS { 1 << 20, 1, 48, { 0x02, 0, 0, 0, 0, 0x01 }, false, 0, { 0 } }
 
 /* The result of a call that refuses a number, or finds no adapter. */
 #define NIC_REFUSED 0xFFFFFFFFu
@@ -66,7 +71,7 @@ enum {
     NIC_NOTHING,  /* there was nothing to do */
     NIC_TOOK,     /* a frame was taken from the transmit ring */
     NIC_PUT,      /* a frame was put on the wire */
-    NIC_WIREFULL, /* 64 frames wait on the wire, so nothing changed */
+    NIC_WIREFULL, /* 64 frames wait on the wire, or it is full, so nothing changed */
     NIC_PART,     /* a piece of a received frame was written, and more of the frame is left */
     NIC_MOVED,    /* the last piece, or the whole frame, was written */
     NIC_DONE,     /* a receive descriptor was written back */
@@ -81,6 +86,34 @@ enum {
     NIC_FILTERED, /* the receive filter rejects the frame */
     NIC_MISSED,   /* the receive packet buffer has no room for it */
     NIC_STORED    /* the frame is in the receive packet buffer */
+};
+
+/* The reasons of faults (docs/REQUESTS.md, "Faults"): the first that applies. */
+enum {
+    NIC_NO_FAULT,         /* there is no fault */
+    NIC_FAULT_RING,       /* the ring has no descriptors, or head or tail isn't the index of one */
+    NIC_FAULT_DESCRIPTOR, /* the descriptor isn't inside memory */
+    NIC_FAULT_DEXT,       /* DEXT is set in a transmit descriptor */
+    NIC_FAULT_EOP,        /* EOP is clear in a transmit descriptor */
+    NIC_FAULT_LENGTH,     /* the length in a transmit descriptor is 0 or above 1,518 */
+    NIC_FAULT_BUFFER,     /* the bytes that the descriptor points to aren't inside memory */
+    NIC_FAULT_BSEX        /* RCTL.BSEX is set */
+};
+
+/* What an event is. */
+enum {
+    NIC_STEPPED, /* a step had another outcome than NIC_NOTHING */
+    NIC_ARRIVED, /* a frame arrived */
+    NIC_LINE     /* the interrupt line changed */
+};
+
+/* An event. */
+struct nic82540em_event {
+    uint32_t what;   /* NIC_STEPPED, NIC_ARRIVED or NIC_LINE */
+    uint32_t kind;   /* the kind of the step, else 0 */
+    uint32_t value;  /* the outcome of the step, the fate of the frame, or whether the line is asserted: 1 or 0 */
+    uint32_t reason; /* if the outcome is NIC_FAULT, its reason, else NIC_NO_FAULT */
+    uint32_t index;  /* if the outcome is NIC_FAULT, TDH or RDH, the index of the descriptor, else 0 */
 };
 
 /* Makes an adapter, with memory of zeros and an empty wire. Returns false, and changes nothing, if the handle has an
@@ -138,6 +171,15 @@ uint32_t nic82540em_possible(struct nic82540em *nic);
 /* Delivers a frame of `count` bytes to the adapter, without its checksum. Returns the frame's fate. */
 uint32_t nic82540em_arrive(struct nic82540em *nic, const void *frame, size_t count);
 
+/* Offers a frame of `count` bytes to the adapter, without its checksum: it waits after the frames that were offered
+ * before. While a frame waits, a random step before an access may also be the arrival of the oldest one
+ * (nic82540em_interleave). The frames that still wait at the next nic82540em_settle arrive then. Events report their
+ * fates. Returns false, and changes nothing, if memory is refused. */
+bool nic82540em_offer(struct nic82540em *nic, const void *frame, size_t count);
+
+/* From now on, the wire is full if `full` is true: no frame is put on it, even if fewer than 64 wait. */
+void nic82540em_fill_wire(struct nic82540em *nic, bool full);
+
 /* Takes the oldest frame off the wire, if it has at most `room` bytes. Returns the frame's length in bytes, or 0 if no
  * frame waits. If the result is greater than `room`, the frame is still on the wire. A frame has at most 1,518 bytes. */
 size_t nic82540em_take_put(struct nic82540em *nic, void *into, size_t room);
@@ -145,14 +187,14 @@ size_t nic82540em_take_put(struct nic82540em *nic, void *into, size_t room);
 /* Whether the interrupt line is asserted. */
 bool nic82540em_line(struct nic82540em *nic);
 
-/* Plays rounds, each with one step of each kind. Stops after a round in which no step did anything, or after 131,072
- * rounds. Returns the number of steps that did something: all but those with the outcome NIC_NOTHING or
- * NIC_WIREFULL. */
+/* Lets all offered frames arrive, and plays rounds, each with one step of each kind. Stops after a round in which no step
+ * did anything, or after 131,072 rounds. Returns the number of steps of the rounds that did something: all but those
+ * with the outcome NIC_NOTHING or NIC_WIREFULL. */
 uint64_t nic82540em_settle(struct nic82540em *nic);
 
 /* From now on, up to `count` random steps are played before each access; with 0, none. The seed determines the steps:
- * they are those of `nicbench serve --seed SEED` after its first `interleave COUNT`, while no frame is offered. Returns
- * false, and changes nothing, if `count` is above 65,535. */
+ * they are those of `nicbench serve --seed SEED` after its first `interleave COUNT`. Returns false, and changes nothing,
+ * if `count` is above 65,535. */
 bool nic82540em_interleave(struct nic82540em *nic, uint32_t count, uint64_t seed);
 
 /* Adds a step of this kind to the end of the schedule. Before each access, the first steps of the schedule whose
@@ -165,10 +207,19 @@ bool nic82540em_schedule(struct nic82540em *nic, uint64_t access, uint32_t kind)
  * accesses. A new adapter has no such steps. */
 void nic82540em_ticks(struct nic82540em *nic, bool on);
 
+/* Events: what happened, also in steps before accesses and in nic82540em_settle. */
+
+/* From now on, events are kept, if `on` is true. At most 4,096 wait; while so many wait, a further event isn't kept. A new
+ * adapter keeps none. */
+void nic82540em_events(struct nic82540em *nic, bool on);
+
+/* Takes the oldest event into `into`, and returns true. Returns false, and changes nothing, if none waits. */
+bool nic82540em_take_event(struct nic82540em *nic, struct nic82540em_event *into);
+
 /* States of an adapter. */
 
 /* Makes a copy of the adapter in the handle `into`, which has no adapter: with its memory, its wire, its schedule, its
- * random steps and the number of accesses. The same calls on both have the same results. Returns false, and changes
+ * random steps, its offered frames, its events and the number of accesses. The same calls on both have the same results. Returns false, and changes
  * nothing, if there is no adapter to copy, if `into` has an adapter, or if memory is refused. */
 bool nic82540em_copy(struct nic82540em *nic, struct nic82540em *into);
 

@@ -124,9 +124,10 @@ int LLVMFuzzerTestOneInput(const uint8_t *data, size_t size);
 int LLVMFuzzerTestOneInput(const uint8_t *data, size_t size)
 {
     struct nic82540em one = NIC82540EM_NONE, two = NIC82540EM_NONE;
-    const struct nic82540em_options options = { MEMORY, 1, 48, { 2, 0, 0, 0, 0, 1 } };
+    struct nic82540em_options options = NIC82540EM_DEFAULTS;
     struct input input = { data, data + size };
 
+    options.memory = MEMORY;
     if (!nic82540em_new(&one, &options) || !nic82540em_new(&two, &options))
         abort();
     while (input.at < input.end)

@@ -139,8 +139,9 @@ static void play_round(struct driver *driver, int first)
 int LLVMFuzzerTestOneInput(const uint8_t *data, size_t size)
 {
     struct driver driver = { NIC82540EM_NONE, 0, 0 };
-    const struct nic82540em_options options = { MEMORY, 1, 48, { 2, 0, 0, 0, 0, 1 } };
+    struct nic82540em_options options = NIC82540EM_DEFAULTS;
 
+    options.memory = MEMORY;
     if (!nic82540em_new(&driver.nic, &options))
         abort();
     start(&driver);

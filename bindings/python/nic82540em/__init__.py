@@ -12,6 +12,12 @@ from contextlib import contextmanager
 KINDS = "txtake", "txput", "rxdata", "rxdone", "eeprom", "phy"
 OUTCOMES = "nothing", "took", "put", "wirefull", "part", "moved", "done", "ticked", "fault"
 FATES = "off", "illegal", "filtered", "missed", "stored"
+# The reasons of faults, from number 1 on
+REASONS = "ring", "descriptor", "dext", "eop", "length", "buffer", "bsex"
+# What an event is
+STEPPED, ARRIVED, LINE = range(3)
+# The words of the EEPROM
+IMAGE_WORDS = 64
 # The result of a call that refuses a number, or finds no adapter
 REFUSED = 0xFFFFFFFF
 # The most bytes of a frame
@@ -33,7 +39,13 @@ class Handle(ctypes.Structure):
 class Options(ctypes.Structure):
     """What a new adapter is made of, `struct nic82540em_options`."""
     _fields_ = [("memory", ctypes.c_uint64), ("link", ctypes.c_uint32), ("rxa", ctypes.c_uint32),
-                ("address", ctypes.c_uint8 * 6)]
+                ("address", ctypes.c_uint8 * 6), ("has_image", ctypes.c_bool), ("missed", ctypes.c_uint32),
+                ("image", ctypes.c_uint16 * IMAGE_WORDS)]
+
+
+class Event(ctypes.Structure):
+    """Something that happened, `struct nic82540em_event`."""
+    _fields_ = [(name, ctypes.c_uint32) for name in ("what", "kind", "value", "reason", "index")]
 
 
 # The calls: their results, and what they take after the handle
@@ -62,6 +74,10 @@ CALLS = {
     "digest": (ctypes.c_uint64, []),
     "state_digest": (ctypes.c_uint64, [ctypes.c_uint64]),
     "copy": (ctypes.c_bool, [ctypes.POINTER(Handle)]),
+    "offer": (ctypes.c_bool, [ctypes.c_char_p, ctypes.c_size_t]),
+    "fill_wire": (None, [ctypes.c_bool]),
+    "events": (None, [ctypes.c_bool]),
+    "take_event": (ctypes.c_bool, [ctypes.POINTER(Event)]),
 }
 
 
@@ -86,14 +102,18 @@ class Nic:
     Raises Refused if an option is out of range, or memory is refused.
     """
 
-    def __init__(self, library=None, memory=1 << 20, link=1, rxa=48, address=b"\x02\0\0\0\0\x01"):
+    def __init__(self, library=None, memory=1 << 20, link=1, rxa=48, address=b"\x02\0\0\0\0\x01", missed=0, image=None):
+        """Makes an adapter. `image` has the 64 words of the EEPROM; without it, they are those for `address`."""
         self.handle = Handle()
         library = default_library() if library is None else library
         self.library = load_library(library) if isinstance(library, str) else library
-        for name, value, most in ("memory", memory, 1 << 64), ("link", link, 1 << 32), ("rxa", rxa, 1 << 32):
-            if not 0 <= value < most:
+        for name, value, bits in ("memory", memory, 64), ("link", link, 32), ("rxa", rxa, 32), ("missed", missed, 32):
+            if not 0 <= value < 1 << bits:
                 raise Refused(f"{name}: {value}")
-        options = Options(memory, link, rxa, (ctypes.c_uint8 * 6)(*address))
+        if image is not None and (len(image) != IMAGE_WORDS or not all(0 <= word < 1 << 16 for word in image)):
+            raise Refused(f"image: {image}")
+        options = Options(memory, link, rxa, (ctypes.c_uint8 * 6)(*address), image is not None, missed,
+                          (ctypes.c_uint16 * IMAGE_WORDS)(*(image or ())))
         if not self.call("new", options):
             raise Refused("an option is out of range, or memory is refused")
 
@@ -194,6 +214,15 @@ class Nic:
         """Delivers a frame to the adapter. Returns its fate, one of FATES."""
         return FATES[self.call("arrive", bytes(frame), len(frame))]
 
+    def offer(self, frame):
+        """Offers a frame: it arrives before a later access, if a random step is its arrival, or in the next `settle`."""
+        if not self.call("offer", bytes(frame), len(frame)):
+            raise Refused("memory is refused")
+
+    def fill_wire(self, full):
+        """From now on, the wire is full, so that no frame is put on it, or not."""
+        self.call("fill_wire", full)
+
     def take_put(self):
         """Takes the oldest frame off the wire, and returns it, or None if no frame waits."""
         into = ctypes.create_string_buffer(MOST_FRAME_BYTES)
@@ -205,7 +234,7 @@ class Nic:
         return self.call("line")
 
     def settle(self):
-        """Plays steps until nothing is left to do, and returns the number of steps that did something."""
+        """Lets offered frames arrive, plays steps until nothing is left to do, and returns how many did something."""
         return self.call("settle")
 
     def interleave(self, count, seed=0):
@@ -222,16 +251,57 @@ class Nic:
         """From now on, plays a step of the EEPROM and one of the PHY before each access, or not."""
         self.call("ticks", on)
 
+    # Events
+
+    def events(self, on):
+        """From now on, keeps events, or not: steps that aren't "nothing", arrivals and changes of the line; at most 4,096."""
+        self.call("events", on)
+
+    def take_events(self):
+        """Takes the events that wait, the oldest first.
+
+        Each is ("step", kind, outcome), ("fault", kind, index, reason), ("arrived", fate) or ("line", is_asserted).
+        """
+        event, found = Event(), []
+        while self.call("take_event", ctypes.byref(event)):
+            found.append(event_of(event))
+        return found
+
+
+def event_of(event):
+    """An event in words."""
+    if event.what == ARRIVED:
+        return "arrived", FATES[event.value]
+    if event.what == LINE:
+        return "line", event.value == 1
+    if event.reason:
+        return "fault", KINDS[event.kind], event.index, REASONS[event.reason - 1]
+    return "step", KINDS[event.kind], OUTCOMES[event.value]
+
+
+def image_in(path):
+    """The words of the EEPROM in a file, the low byte of each first."""
+    with open(path, "rb") as file:
+        data = file.read()
+    if len(data) != 2 * IMAGE_WORDS:
+        raise Refused(f"{path} hasn't {2 * IMAGE_WORDS} bytes")
+    return [int.from_bytes(data[place:place + 2], "little") for place in range(0, len(data), 2)]
+
 
 def options_of(words):
-    """The settings of `Nic`, and the seed, from options of `serve`: --memory, --link, --rxa, --address and --seed."""
-    names = {"--memory": "memory", "--link": "link", "--rxa": "rxa", "--seed": "seed"}
+    """The settings of `Nic`, and the seed, from options of `serve`.
+
+    They are --memory, --link, --rxa, --address, --missed, --image and --seed.
+    """
+    names = {"--memory": "memory", "--link": "link", "--rxa": "rxa", "--missed": "missed", "--seed": "seed"}
     settings = {"seed": 0}
     if len(words) % 2:
         raise Refused(f"{words[-1]} has no value")
     for name, value in zip(words[::2], words[1::2]):
         if name == "--address":
             settings["address"] = bytes.fromhex(value.replace(":", ""))
+        elif name == "--image":
+            settings["image"] = image_in(value)
         elif name in names:
             settings[names[name]] = 0 if value == "never" else int(value, 0)
         else:
@@ -322,6 +392,10 @@ class Adapter:
         fate = self.nic.arrive(frame)
         self.look()
         return fate
+
+    def offer(self, frame):
+        """Offers a frame: it arrives before a later access, or in the next `settle`."""
+        self.nic.offer(frame)
 
     def settle(self):
         """Plays steps until nothing is left to do, and returns the number of steps that did something."""

@@ -85,7 +85,7 @@ pub enum Outcome {
     Took,
     /// A frame was put on the wire.
     Put,
-    /// 64 frames wait on the wire, so nothing changed.
+    /// 64 frames wait on the wire, or it is full, so nothing changed.
     WireFull,
     /// A piece of a received frame was written, and more of the frame is left.
     Part,
@@ -128,6 +128,42 @@ pub enum Fate {
 
 const FATES: [Fate; 5] = [Fate::Off, Fate::Illegal, Fate::Filtered, Fate::Missed, Fate::Stored];
 
+/// Why a step is a fault: the first reason that applies (docs/REQUESTS.md, "Faults").
+#[derive(Clone, Copy, Debug, PartialEq, Eq)]
+pub enum Reason {
+    /// The ring has no descriptors, or head or tail isn't the index of one.
+    Ring,
+    /// The descriptor isn't inside memory.
+    Descriptor,
+    /// DEXT is set in a transmit descriptor.
+    Dext,
+    /// EOP is clear in a transmit descriptor.
+    Eop,
+    /// The length in a transmit descriptor is 0 or above 1,518.
+    Length,
+    /// The bytes that the descriptor points to aren't inside memory.
+    Buffer,
+    /// RCTL.BSEX is set.
+    Bsex,
+}
+
+/// In the order of their numbers, from 1 on.
+const REASONS: [Reason; 7] =
+    [Reason::Ring, Reason::Descriptor, Reason::Dext, Reason::Eop, Reason::Length, Reason::Buffer, Reason::Bsex];
+
+/// Something that happened.
+#[derive(Clone, Copy, Debug, PartialEq, Eq)]
+pub enum Event {
+    /// A step had this outcome, which isn't [`Outcome::Nothing`] or [`Outcome::Fault`].
+    Stepped(Step, Outcome),
+    /// A step was a fault: the index of the descriptor (TDH or RDH), and the reason.
+    Faulted(Step, u32, Reason),
+    /// A frame arrived, and had this fate.
+    Arrived(Fate),
+    /// The interrupt line changed. It is asserted if this is true.
+    Line(bool),
+}
+
 /// A call was refused. Nothing changed.
 #[derive(Clone, Copy, Debug, PartialEq, Eq)]
 pub enum Error {
@@ -135,6 +171,8 @@ pub enum Error {
     New,
     /// Some of the bytes are outside memory.
     OutOfRange,
+    /// Memory is refused.
+    NoMemory,
     /// The number of steps before an access is above 65,535, or 4,096 steps wait for their accesses.
     TooManySteps,
 }
@@ -144,6 +182,7 @@ impl fmt::Display for Error {
         f.write_str(match self {
             Error::New => "an option is out of range, or memory is refused",
             Error::OutOfRange => "some of the bytes are outside memory",
+            Error::NoMemory => "memory is refused",
             Error::TooManySteps => "the number of steps before an access is above 65,535, or 4,096 steps wait for their accesses",
         })
     }
@@ -151,9 +190,11 @@ impl fmt::Display for Error {
 
 impl std::error::Error for Error {}
 
+/// The words of the EEPROM.
+pub const IMAGE_WORDS: usize = 64;
+
 /// What a new adapter is made of.
 #[derive(Clone, Copy, Debug)]
-#[repr(C)]
 pub struct Options {
     /// The size of the host's memory in bytes. Memory begins at address 0.
     pub memory: u64,
@@ -161,14 +202,69 @@ pub struct Options {
     pub link: u32,
     /// PBA.RXA, the size of the receive packet buffer in kilobytes: an even number from 2 to 48.
     pub rxa: u32,
-    /// The Ethernet address in the EEPROM.
+    /// The Ethernet address in the EEPROM, if `image` is `None`.
     pub address: [u8; 6],
+    /// MPC, the number of missed packets, at the start.
+    pub missed: u32,
+    /// All words of the EEPROM, also with a wrong checksum. Words 0 to 2 are the address.
+    pub image: Option<[u16; IMAGE_WORDS]>,
 }
 
 impl Default for Options {
     /// The options that `nicbench serve` has by default.
     fn default() -> Options {
-        Options { memory: 1 << 20, link: 1, rxa: 48, address: [0x02, 0, 0, 0, 0, 0x01] }
+        Options { memory: 1 << 20, link: 1, rxa: 48, address: [0x02, 0, 0, 0, 0, 0x01], missed: 0, image: None }
+    }
+}
+
+#[repr(C)]
+struct RawOptions {
+    memory: u64,
+    link: u32,
+    rxa: u32,
+    address: [u8; 6],
+    has_image: bool,
+    missed: u32,
+    image: [u16; IMAGE_WORDS],
+}
+
+impl From<&Options> for RawOptions {
+    fn from(options: &Options) -> RawOptions {
+        RawOptions {
+            memory: options.memory,
+            link: options.link,
+            rxa: options.rxa,
+            address: options.address,
+            has_image: options.image.is_some(),
+            missed: options.missed,
+            image: options.image.unwrap_or([0; IMAGE_WORDS]),
+        }
+    }
+}
+
+#[repr(C)]
+#[derive(Default)]
+struct RawEvent {
+    what: u32,
+    kind: u32,
+    value: u32,
+    reason: u32,
+    index: u32,
+}
+
+impl RawEvent {
+    fn event(&self) -> Event {
+        match self.what {
+            1 => Event::Arrived(FATES[self.value as usize]),
+            2 => Event::Line(self.value == 1),
+            _ => {
+                let step = Step::ALL[self.kind as usize];
+                match self.reason {
+                    0 => Event::Stepped(step, OUTCOMES[self.value as usize]),
+                    reason => Event::Faulted(step, self.index, REASONS[reason as usize - 1]),
+                }
+            }
+        }
     }
 }
 
@@ -179,7 +275,7 @@ struct Handle {
 }
 
 extern "C" {
-    fn nic82540em_new(nic: &mut Handle, options: &Options) -> bool;
+    fn nic82540em_new(nic: &mut Handle, options: &RawOptions) -> bool;
     fn nic82540em_free(nic: &mut Handle);
     fn nic82540em_read(nic: &mut Handle, offset: u32) -> u32;
     fn nic82540em_write(nic: &mut Handle, offset: u32, value: u32);
@@ -203,6 +299,10 @@ extern "C" {
     fn nic82540em_digest(nic: &mut Handle) -> u64;
     fn nic82540em_state_digest(nic: &mut Handle, seed: u64) -> u64;
     fn nic82540em_copy(nic: &mut Handle, into: &mut Handle) -> bool;
+    fn nic82540em_offer(nic: &mut Handle, frame: *const u8, count: usize) -> bool;
+    fn nic82540em_fill_wire(nic: &mut Handle, full: bool);
+    fn nic82540em_events(nic: &mut Handle, on: bool);
+    fn nic82540em_take_event(nic: &mut Handle, into: &mut RawEvent) -> bool;
 }
 
 /// An adapter with its host's memory and its wire. It is freed when it is dropped.
@@ -216,7 +316,7 @@ impl Nic {
     /// Makes an adapter, with memory of zeros and an empty wire.
     pub fn new(options: &Options) -> Result<Nic, Error> {
         let mut handle = Handle { held: false, state: null_mut() };
-        if unsafe { nic82540em_new(&mut handle, options) } {
+        if unsafe { nic82540em_new(&mut handle, &options.into()) } {
             Ok(Nic { handle })
         } else {
             Err(Error::New)
@@ -287,6 +387,29 @@ impl Nic {
         FATES[unsafe { nic82540em_arrive(&mut self.handle, frame.as_ptr(), frame.len()) } as usize]
     }
 
+    /// Offers a frame to the adapter, without its checksum. While it waits, a random step before an access may also be the
+    /// arrival of the oldest offered frame. Those that still wait at the next [`settle`](Nic::settle) arrive then.
+    ///
+    /// ```
+    /// use nic82540em::{Event, Fate, Nic, Options};
+    ///
+    /// let mut nic = Nic::new(&Options::default()).unwrap();
+    /// nic.events(true);
+    /// nic.offer(&[0xFF; 60]).unwrap();
+    /// assert_eq!(nic.take_event(), None);
+    /// nic.settle();
+    /// assert_eq!(nic.take_event(), Some(Event::Arrived(Fate::Off)));
+    /// ```
+    pub fn offer(&mut self, frame: &[u8]) -> Result<(), Error> {
+        let is_done = unsafe { nic82540em_offer(&mut self.handle, frame.as_ptr(), frame.len()) };
+        is_done.then_some(()).ok_or(Error::NoMemory)
+    }
+
+    /// From now on, the wire is full, so that no frame is put on it, or not.
+    pub fn fill_wire(&mut self, full: bool) {
+        unsafe { nic82540em_fill_wire(&mut self.handle, full) }
+    }
+
     /// Takes the oldest frame off the wire, if one waits.
     pub fn take_put(&mut self) -> Option<Vec<u8>> {
         let mut frame = vec![0; MOST_FRAME_BYTES];
@@ -300,7 +423,8 @@ impl Nic {
         unsafe { nic82540em_line(&mut self.handle) }
     }
 
-    /// Plays steps until nothing is left to do. Returns the number of steps that did something.
+    /// Lets all offered frames arrive, and plays steps until nothing is left to do. Returns the number of steps that did
+    /// something.
     pub fn settle(&mut self) -> u64 {
         unsafe { nic82540em_settle(&mut self.handle) }
     }
@@ -323,6 +447,29 @@ impl Nic {
         unsafe { nic82540em_ticks(&mut self.handle, on) }
     }
 
+    /// From now on, keeps events, or not. At most 4,096 wait; while so many wait, a further event isn't kept.
+    ///
+    /// ```
+    /// use nic82540em::{Event, Nic, Options, Reason, Step, registers};
+    ///
+    /// let mut nic = Nic::new(&Options::default()).unwrap();
+    /// nic.events(true);
+    /// nic.write(registers::TCTL, 2); // enabled, with a ring of no descriptors
+    /// nic.write(registers::TDT, 1);
+    /// nic.settle();
+    /// assert_eq!(nic.take_event(), Some(Event::Faulted(Step::TxTake, 0, Reason::Ring)));
+    /// assert_eq!(nic.take_event(), None);
+    /// ```
+    pub fn events(&mut self, on: bool) {
+        unsafe { nic82540em_events(&mut self.handle, on) }
+    }
+
+    /// Takes the oldest event, if one waits.
+    pub fn take_event(&mut self) -> Option<Event> {
+        let mut event = RawEvent::default();
+        unsafe { nic82540em_take_event(&mut self.handle, &mut event) }.then(|| event.event())
+    }
+
     /// Sets the number of accesses so far.
     pub fn recount(&mut self, accesses: u64) {
         unsafe { nic82540em_recount(&mut self.handle, accesses) }
@@ -340,7 +487,7 @@ impl Nic {
         unsafe { nic82540em_state_digest(&mut self.handle, seed) }
     }
 
-    /// A copy of the adapter, with its memory, its wire and its schedule.
+    /// A copy of the adapter, with its memory, its wire, its schedule and its events.
     pub fn copy(&mut self) -> Result<Nic, Error> {
         let mut handle = Handle { held: false, state: null_mut() };
         if unsafe { nic82540em_copy(&mut self.handle, &mut handle) } {

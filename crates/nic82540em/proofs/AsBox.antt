@@ -6,8 +6,8 @@ use Rattle.std_alloc.proofs.BoxSteps.Form.{Bx}
 use Rattle.std_heap.specs.contracts.Global as Heap
 use Rattle.std_heap.specs.contracts.GlobalAllocator.TheImpl.{ghosts, dict}
 use Rattle.std_heap.proofs.Global.TheLaws as heap
-use Rattle.played_adapter.specs.contracts.player.PlayedAdapter as Held
-use Rattle.played_adapter.proofs.player.PlayedAdapter.TheLaws as held
+use Rattle.nic82540em.specs.contracts.watched.WatchedAdapter as Held
+use Rattle.nic82540em.proofs.watched.WatchedAdapter.TheLaws as held
 use Rattle.boxed_parts.specs.contracts.Parts as Parts
 use Rattle.nic82540em.specs.contracts.owner.Owner as Owner
 

@@ -10,7 +10,7 @@ use Rattle.adapter.specs.declared.step.StepKind.TheVariants.{EepromTick, PhyTick
 use Rattle.nic82540em.specs.Calls.{HasWork, TellsPossible, TellsWork, bit_if}
 use Rattle.nic82540em.specs.Numbers.{outcome_number}
 use Rattle.played_adapter.specs.Playing.{has_room}
-use Rattle.played_adapter.specs.declared.player.PlayedAdapter.{PlayedAdapter}
+use Rattle.nic82540em.specs.declared.watched.WatchedAdapter.{WatchedAdapter}
 
 by_number : (works : Bool) (outcome : Outcome (Unit {0})) (answer : ℕ) (adapter : AdapterState) → answer ≡ outcome_number outcome
     → IsTrue works ↔ (framed outcome adapter ≢ Nothing) → IsTrue works ↔ (answer ≢ 0)
@@ -27,12 +27,12 @@ by_number works (Delivered unit fate) answer adapter is tells =
     ((λ yes zero. absurd (cc)), (λ other. tells.1 (λ same. absurd (cc))))
 
 -- What the adapter has to do, a step answers.
-pub has_work : (kind : StepKind) (works : Bool) (player : PlayedAdapter) → steps.TellsWork kind works player.machine.world.adapter
-    → HasWork kind works player
-has_work kind works player tells answer b answered =
-    let adapter = player.machine.world.adapter in
+pub has_work : (kind : StepKind) (works : Bool) (watched : WatchedAdapter) → steps.TellsWork kind works watched.player.machine.world.adapter
+    → HasWork kind works watched
+has_work kind works watched tells answer b answered =
+    let adapter = watched.player.machine.world.adapter in
     by_number works answered.outcome answer adapter answered.number_is
-    (tells (has_room player) player.machine.world.memory (framed answered.outcome adapter) answered.plays.happens.occurs.1)
+    (tells (has_room watched.player) watched.player.machine.world.memory (framed answered.outcome adapter) answered.plays.holds.occurs.1)
 
 -- Whether each of the six kinds has something to do.
 abbrev for_kind : (take put moves done eeprom phy : Bool) → StepKind → Bool
@@ -43,23 +43,23 @@ for_kind take put moves done eeprom phy RxDone = done
 for_kind take put moves done eeprom phy EepromTick = eeprom
 for_kind take put moves done eeprom phy PhyTick = phy
 
-for_each : (player : PlayedAdapter) (take put moves done eeprom phy : Bool) → HasWork TxTake take player → HasWork TxPut put player
-    → HasWork RxData moves player → HasWork RxDone done player → HasWork EepromTick eeprom player → HasWork PhyTick phy player
-    → (kind : StepKind) → HasWork kind (for_kind take put moves done eeprom phy kind) player
-for_each player take put moves done eeprom phy has0 has1 has2 has3 has4 has5 TxTake = has0
-for_each player take put moves done eeprom phy has0 has1 has2 has3 has4 has5 TxPut = has1
-for_each player take put moves done eeprom phy has0 has1 has2 has3 has4 has5 RxData = has2
-for_each player take put moves done eeprom phy has0 has1 has2 has3 has4 has5 RxDone = has3
-for_each player take put moves done eeprom phy has0 has1 has2 has3 has4 has5 EepromTick = has4
-for_each player take put moves done eeprom phy has0 has1 has2 has3 has4 has5 PhyTick = has5
+for_each : (watched : WatchedAdapter) (take put moves done eeprom phy : Bool) → HasWork TxTake take watched → HasWork TxPut put watched
+    → HasWork RxData moves watched → HasWork RxDone done watched → HasWork EepromTick eeprom watched → HasWork PhyTick phy watched
+    → (kind : StepKind) → HasWork kind (for_kind take put moves done eeprom phy kind) watched
+for_each watched take put moves done eeprom phy has0 has1 has2 has3 has4 has5 TxTake = has0
+for_each watched take put moves done eeprom phy has0 has1 has2 has3 has4 has5 TxPut = has1
+for_each watched take put moves done eeprom phy has0 has1 has2 has3 has4 has5 RxData = has2
+for_each watched take put moves done eeprom phy has0 has1 has2 has3 has4 has5 RxDone = has3
+for_each watched take put moves done eeprom phy has0 has1 has2 has3 has4 has5 EepromTick = has4
+for_each watched take put moves done eeprom phy has0 has1 has2 has3 has4 has5 PhyTick = has5
 
 -- The bits of all kinds are those of a mask.
-pub possible : (player : PlayedAdapter) (n0 n1 n2 n3 n4 n5 : ℕ) → TellsWork TxTake 1 n0 player → TellsWork TxPut 2 n1 player
-    → TellsWork RxData 4 n2 player → TellsWork RxDone 8 n3 player → TellsWork EepromTick 16 n4 player → TellsWork PhyTick 32 n5 player
-    → TellsPossible (n0 + n1 + n2 + n3 + n4 + n5) player
-possible player n0 n1 n2 n3 n4 n5 take put moves done eeprom phy = record {
+pub possible : (watched : WatchedAdapter) (n0 n1 n2 n3 n4 n5 : ℕ) → TellsWork TxTake 1 n0 watched → TellsWork TxPut 2 n1 watched
+    → TellsWork RxData 4 n2 watched → TellsWork RxDone 8 n3 watched → TellsWork EepromTick 16 n4 watched → TellsWork PhyTick 32 n5 watched
+    → TellsPossible (n0 + n1 + n2 + n3 + n4 + n5) watched
+possible watched n0 n1 n2 n3 n4 n5 take put moves done eeprom phy = record {
   works = for_kind take.works put.works moves.works done.works eeprom.works phy.works;
-  each = for_each player take.works put.works moves.works done.works eeprom.works phy.works take.has_work put.has_work moves.has_work
+  each = for_each watched take.works put.works moves.works done.works eeprom.works phy.works take.has_work put.has_work moves.has_work
       done.has_work eeprom.has_work phy.has_work;
   mask_is = ap (λ (n : ℕ). n + n1 + n2 + n3 + n4 + n5) take.answer_is
       ∙ ap (λ (n : ℕ). bit_if take.works 1 + n + n2 + n3 + n4 + n5) put.answer_is

@@ -1,6 +1,6 @@
 -- What the calls of C do, on the adapter of a handle: numbers stand for kinds, outcomes and fates (our choice).
-use Rattle.std.specs.Prelude.{◌≡◌, ◌≢◌, ◌↔◌, ◌+◌, ℕ, Bool, false, true, IsTrue, List, Option, Some, None}
-use Rattle.std.specs.Prelude.{if◌then◌else◌, nat_le, replicate}
+use Rattle.std.specs.Prelude.{◌≡◌, ◌≢◌, ◌↔◌, ◌+◌, ◌++◌, ◌∷◌, [], ℕ, Bool, false, true, IsTrue, List, Option, Some, None}
+use Rattle.std.specs.Prelude.{if◌then◌else◌, nat_le, not, replicate, slice_get}
 use Rattle.rand_core.specs.Pcg32Seed.{pcg32_seed}
 use Rattle.rand_pcg.specs.Pcg.{pcg32_of_seed}
 use Rattle.adapter.specs.Registers.{after_write, new_adapter}
@@ -13,52 +13,74 @@ use Rattle.eeprom.specs.Image.{image_with}
 use Rattle.mdic_phy.specs.declared.phy.Link.{Link}
 use Rattle.rx_engine.specs.declared.arrival.Fate.{Fate}
 use Rattle.nic82540em.specs.Numbers.{fate_number, is_receive_share, kind_with, link_with, outcome_number, refused}
+use Rattle.nic82540em.specs.Events.{HearsBetween, no_events, without_first}
+use Rattle.nic82540em.specs.declared.events.KeptEvent.{KeptEvent}
 use Rattle.nic82540em.specs.declared.numbers.AdapterOptions.{AdapterOptions}
+use Rattle.nic82540em.specs.declared.watched.WatchedAdapter.{WatchedAdapter}
+use Rattle.played_adapter.specs.Order.{Tells}
 use Rattle.played_adapter.specs.Playing as player
 use Rattle.played_adapter.specs.Playing.{Arrives, Steps, new_player}
+use Rattle.played_adapter.specs.Requests.{ServesSettle}
 use Rattle.played_adapter.specs.Told.{Told}
 use Rattle.played_adapter.specs.declared.player.PlayedAdapter.{PlayedAdapter}
 
--- It happens, and nobody is told.
-pub record Unheard (Happens : List Told → Type 0) : Type 0 where
-  -- what is told of it
-  pub told : List Told
-  -- it happens
-  pub happens : Happens told
+-- It happens to the adapter, and the events of what is told of it are kept.
+abbrev pub Heard : (PlayedAdapter → PlayedAdapter → List Told → Type 0) → WatchedAdapter → WatchedAdapter → Type 0
+Heard Happens a b = Tells HearsBetween a.events b.events (Happens a.player b.player)
+
+-- The adapter changes so, and no event is kept.
+abbrev pub Silently : (PlayedAdapter → PlayedAdapter → Type 0) → WatchedAdapter → WatchedAdapter → Type 0
+Silently Changes a b = Changes a.player b.player × (b.events ≡ a.events)
 
 -- The steps before an access are played, and then the access happens.
-abbrev pub Accessed : Access → PlayedAdapter → PlayedAdapter → Type 0
-Accessed access a b = Unheard (player.Accessed access a b)
+abbrev pub Accessed : Access → WatchedAdapter → WatchedAdapter → Type 0
+Accessed access a b = Heard (player.Accessed access) a b
 
 -- Bytes are loaded, if memory contains them.
-abbrev pub AnswersLoad : (address : ℕ) → (old new : List ℕ) → (answer : Bool) → PlayedAdapter → PlayedAdapter → Type 0
-AnswersLoad address old new answer a b = Unheard (player.AnswersLoad address old new answer a b)
+abbrev pub AnswersLoad : (address : ℕ) → (old new : List ℕ) → (answer : Bool) → WatchedAdapter → WatchedAdapter → Type 0
+AnswersLoad address old new answer a b = Heard (player.AnswersLoad address old new answer) a b
 
 -- Bytes are stored, if memory contains their places.
-abbrev pub AnswersStore : (address : ℕ) → (bytes : List ℕ) → (answer : Bool) → PlayedAdapter → PlayedAdapter → Type 0
-AnswersStore address bytes answer a b = Unheard (player.AnswersStore address bytes answer a b)
+abbrev pub AnswersStore : (address : ℕ) → (bytes : List ℕ) → (answer : Bool) → WatchedAdapter → WatchedAdapter → Type 0
+AnswersStore address bytes answer a b = Heard (player.AnswersStore address bytes answer) a b
 
--- Rounds are played until one does nothing, up to the maximum. This many steps do something.
-abbrev pub Settles : (moved : ℕ) → PlayedAdapter → PlayedAdapter → Type 0
-Settles moved a b = Unheard (player.Settles player.most_rounds moved a b)
+-- All offered frames arrive, and then rounds are played until one does nothing, up to the maximum. This many steps of them do something.
+abbrev pub Settles : (moved : ℕ) → WatchedAdapter → WatchedAdapter → Type 0
+Settles moved a b = Heard (ServesSettle [] moved) a b
+
+-- The oldest frame is taken off the wire, if it fits.
+abbrev pub AnswersTaking : (old new : List ℕ) → (answer : ℕ) → WatchedAdapter → WatchedAdapter → Type 0
+AnswersTaking old new answer a b = Silently (player.AnswersTaking old new answer) a b
 
 -- PBA's offset (13.4.16 "Packet Buffer Allocation")
 abbrev pub pba : ℕ
 pba = 0x1000
 
--- the adapter before the first call: new, except for one write of PBA
-abbrev pub adapter_of : AdapterOptions → Link → AdapterState
-adapter_of options link = after_write pba options.receive_kilobytes (new_adapter (image_with options.address) link)
+-- the words of the EEPROM: those of the options, or else an image with their address
+abbrev pub image_of : AdapterOptions → List ℕ
+image_of options = if options.has_image then options.image else image_with options.address
 
--- memory of zeros, and a new adapter; the address of memory is any
-abbrev pub IsMade : AdapterOptions → Link → PlayedAdapter → Type 0
-IsMade options link a = a ≡ new_player (replicate options.memory 0) (adapter_of options link) a.address
+-- MPC has this value
+abbrev pub with_missed : (count : ℕ) → AdapterState → AdapterState
+with_missed count adapter = record adapter { missed_packets = count }
+
+-- the adapter before the first call: new, except for one write of PBA, and for MPC
+abbrev pub adapter_of : AdapterOptions → Link → AdapterState
+adapter_of options link = with_missed options.missed (after_write pba options.receive_kilobytes (new_adapter (image_of options) link))
+
+-- a new adapter, with memory of zeros at any address
+abbrev pub IsMadeOf : AdapterOptions → Link → PlayedAdapter → Type 0
+IsMadeOf options link a = a ≡ new_player (replicate options.memory 0) (adapter_of options link) a.address
+
+-- such an adapter, whose events aren't kept
+abbrev pub IsMade : AdapterOptions → Link → WatchedAdapter → Type 0
+IsMade options link a = IsMadeOf options link a.player × (a.events ≡ no_events)
 
 -- The options are in range, and the adapter is new.
-pub record IsNew (options : AdapterOptions) (a : PlayedAdapter) : Type 0 where
+pub record IsNew (options : AdapterOptions) (a : WatchedAdapter) : Type 0 where
   -- the link with the number of the options
   pub link : Link
-  -- that number stands for a link
+  -- the link's number in the options stands for a link
   pub link_is : link_with options.link ≡ Some link
   -- PBA.RXA may have the value of the options
   pub share : is_receive_share options.receive_kilobytes ≡ true
@@ -66,31 +88,31 @@ pub record IsNew (options : AdapterOptions) (a : PlayedAdapter) : Type 0 where
   pub new : IsMade options link a
 
 -- A step of this kind is played, and this number stands for its outcome.
-pub record StepAnswered (kind : StepKind) (number : ℕ) (a b : PlayedAdapter) : Type 0 where
+pub record StepAnswered (kind : StepKind) (number : ℕ) (a b : WatchedAdapter) : Type 0 where
   -- the outcome of the step
   pub outcome : Outcome (Unit {0})
-  -- its number
+  -- the number of this outcome
   pub number_is : number ≡ outcome_number outcome
   -- the step is played
-  pub plays : Unheard (Steps kind outcome a b)
+  pub plays : Heard (Steps kind outcome) a b
 
--- the answer to a kind; without one, nothing happens
-abbrev pub AnswersKind : Option StepKind → (answer : ℕ) → PlayedAdapter → PlayedAdapter → Type 0
+-- the answer to a step of this kind; if there is no kind, nothing happens
+abbrev pub AnswersKind : Option StepKind → (answer : ℕ) → WatchedAdapter → WatchedAdapter → Type 0
 AnswersKind (Some kind) answer a b = StepAnswered kind answer a b
 AnswersKind None answer a b = (answer ≡ refused) × (b ≡ a)
 
--- the answer to the number of a kind
-abbrev pub AnswersStep : (number answer : ℕ) → PlayedAdapter → PlayedAdapter → Type 0
+-- the answer to a step of the kind with this number
+abbrev pub AnswersStep : (number answer : ℕ) → WatchedAdapter → WatchedAdapter → Type 0
 AnswersStep number answer a b = AnswersKind (kind_with number) answer a b
 
 -- A frame is delivered, and this number stands for its fate.
-pub record AnswersArrival (frame : List ℕ) (answer : ℕ) (a b : PlayedAdapter) : Type 0 where
+pub record AnswersArrival (frame : List ℕ) (answer : ℕ) (a b : WatchedAdapter) : Type 0 where
   -- the fate of the frame
   pub fate : Fate
-  -- its number
+  -- the number of this fate
   pub number_is : answer ≡ fate_number fate
   -- the frame arrives
-  pub arrives : Unheard (Arrives frame fate a b)
+  pub arrives : Heard (Arrives frame fate) a b
 
 -- A step of this kind is added to the schedule, if there is a kind and the schedule has room.
 abbrev pub SchedulesKind : (access : ℕ) → Option StepKind → (answer : Bool) → PlayedAdapter → PlayedAdapter → Type 0
@@ -98,46 +120,84 @@ SchedulesKind access (Some kind) answer a b = player.AnswersSchedule access kind
 SchedulesKind access None answer a b = (answer ≡ false) × (b ≡ a)
 
 -- the answer to the number of a kind
-abbrev pub AnswersSchedule : (access number : ℕ) → (answer : Bool) → PlayedAdapter → PlayedAdapter → Type 0
-AnswersSchedule access number answer a b = SchedulesKind access (kind_with number) answer a b
+abbrev pub AnswersSchedule : (access number : ℕ) → (answer : Bool) → WatchedAdapter → WatchedAdapter → Type 0
+AnswersSchedule access number answer a b = Silently (SchedulesKind access (kind_with number) answer) a b
 
 -- the greatest maximum of steps that are drawn before an access
 abbrev pub most_drawn : ℕ
 most_drawn = 65535
 
 -- From now on, up to this many steps are drawn before each access, from this seed on.
-pub record AnswersInterleave (count seed : ℕ) (answer : Bool) (a b : PlayedAdapter) : Type 0 where
+pub record Interleaves (count seed : ℕ) (answer : Bool) (a b : PlayedAdapter) : Type 0 where
   -- whether the maximum is allowed
   pub range : answer ≡ nat_le count most_drawn
-  -- if it is, it holds from now on
+  -- if it is allowed, it is set, and the generator has this seed
   pub taken : answer ≡ true → b ≡ record a { generator = pcg32_of_seed (pcg32_seed 16 seed); most_steps = count }
-  -- if not, nothing changes
+  -- if it isn't allowed, nothing changes
   pub refused : answer ≡ false → b ≡ a
+
+-- The same, and no event is kept.
+abbrev pub AnswersInterleave : (count seed : ℕ) → (answer : Bool) → WatchedAdapter → WatchedAdapter → Type 0
+AnswersInterleave count seed answer a b = Silently (Interleaves count seed answer) a b
+
+-- A frame waits after the other offered frames, if memory isn't refused: the answer is then true.
+pub record AnswersOffer (frame : List ℕ) (answer : Bool) (a b : WatchedAdapter) : Type 0 where
+  -- the frame waits
+  pub taken : answer ≡ true → b ≡ record a { player = record a.player { offered = a.player.offered ++ frame ∷ [] } }
+  -- nothing changes
+  pub refused : answer ≡ false → b ≡ a
+
+-- the wire has no room from now on, or has room again until 64 frames wait
+abbrev pub with_wire : (full : Bool) → WatchedAdapter → WatchedAdapter
+with_wire full a = record a { player = record a.player { wire_free = not full } }
+
+-- A copy of an adapter and of the events that wait.
+abbrev pub IsCopy : WatchedAdapter → WatchedAdapter → Type 0
+IsCopy a copy = player.IsCopy a.player copy.player × (copy.events ≡ a.events)
+
+-- The oldest event, if one waits, is taken: what was at its place before and after, and whether one waited.
+pub record AnswersEvent (old new : KeptEvent) (answer : Bool) (a b : WatchedAdapter) : Type 0 where
+  -- if one waited, it is at the place, and no longer waits
+  pub taken : answer ≡ true → (slice_get a.events.waiting.items 0 ≡ Some new) × (b ≡ record a { events = without_first a.events })
+  -- if none waits, nothing changes
+  pub refused : answer ≡ false → (slice_get a.events.waiting.items 0 ≡ None) × (new ≡ old) × (b ≡ a)
+
+-- ticks are played before later accesses, or not
+abbrev pub with_ticks : Bool → WatchedAdapter → WatchedAdapter
+with_ticks on a = record a { player = record a.player { ticks = on } }
+
+-- this is the number of accesses so far
+abbrev pub with_accesses : ℕ → WatchedAdapter → WatchedAdapter
+with_accesses accesses a = record a { player = record a.player { accesses = accesses } }
+
+-- later events are kept, or not; those that wait stay
+abbrev pub with_events : Bool → WatchedAdapter → WatchedAdapter
+with_events on a = record a { events = record a.events { on = on } }
 
 -- What is possible.
 
 -- Whether a step of this kind has something to do: if and only if not, 0 stands for its outcome, the number of `Nothing`.
-abbrev pub HasWork : StepKind → (works : Bool) → PlayedAdapter → Type 0
-HasWork kind works a = (answer : ℕ) (b : PlayedAdapter) → StepAnswered kind answer a b → IsTrue works ↔ (answer ≢ 0)
+abbrev pub HasWork : StepKind → (works : Bool) → WatchedAdapter → Type 0
+HasWork kind works a = (answer : ℕ) (b : WatchedAdapter) → StepAnswered kind answer a b → IsTrue works ↔ (answer ≢ 0)
 
 -- the value of a bit of a mask, if it is set
 abbrev pub bit_if : Bool → (value : ℕ) → ℕ
 bit_if is_set value = if is_set then value else 0
 
 -- A bit with this value is set if and only if a step of this kind has something to do.
-pub record TellsWork (kind : StepKind) (value : ℕ) (answer : ℕ) (a : PlayedAdapter) : Type 0 where
-  -- whether it has something to do
+pub record TellsWork (kind : StepKind) (value : ℕ) (answer : ℕ) (a : WatchedAdapter) : Type 0 where
+  -- whether a step of this kind has something to do
   pub works : Bool
-  -- a step of this kind answers so
+  -- `works` is right for this kind
   pub has_work : HasWork kind works a
-  -- the bit is set, or 0
+  -- the answer is the value of the bit, or 0
   pub answer_is : answer ≡ bit_if works value
 
 -- The kinds of steps that have something to do: the bit of a mask with the number of a kind is set if and only if a step of this kind has.
-pub record TellsPossible (mask : ℕ) (a : PlayedAdapter) : Type 0 where
+pub record TellsPossible (mask : ℕ) (a : WatchedAdapter) : Type 0 where
   -- whether a kind has something to do
   pub works : StepKind → Bool
-  -- a step of each kind answers so
+  -- `works` is right for each kind
   pub each : (kind : StepKind) → HasWork kind (works kind) a
   -- a bit for each kind, by its number
   pub mask_is : mask ≡ bit_if (works TxTake) 1 + bit_if (works TxPut) 2 + bit_if (works RxData) 4 + bit_if (works RxDone) 8

@@ -26,7 +26,7 @@ abbrev pub kind_with : ℕ → Option StepKind
 kind_with number = if nat_lt number 6 then Some (kind_numbered number) else None
 
 -- the number of an outcome
-abbrev pub outcome_number : Outcome (Unit {0}) → ℕ
+abbrev pub outcome_number : {F : Type 0} → Outcome F → ℕ
 outcome_number Nothing = 0
 outcome_number Took = 1
 outcome_number (Put frame) = 2

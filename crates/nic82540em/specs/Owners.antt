@@ -9,8 +9,10 @@ use Rattle.std.specs.Global.{Global}
 use Rattle.std.specs.Prelude.{[], ◌∷◌, List, None}
 use Rattle.std_heap.specs.contracts.GlobalAllocator.TheImpl.{ghosts}
 use Rattle.adapter.specs.Registers.{new_adapter}
-use Rattle.played_adapter.specs.contracts.player.PlayedAdapter.{the_row}
-use Rattle.played_adapter.specs.declared.player.PlayedAdapter.{PlayedAdapter}
+use Rattle.nic82540em.specs.contracts.watched.WatchedAdapter.{the_row}
+use Rattle.nic82540em.specs.declared.watched.WatchedAdapter.{WatchedAdapter}
+use Rattle.nic82540em.specs.Events.{no_events}
+use Rattle.played_adapter.specs.Playing.{new_player}
 use Rattle.mdic_phy.specs.declared.phy.Link.TheVariants.{Never}
 
 -- a full owner owns a box, and an empty one has the null pointer
@@ -22,14 +24,5 @@ abbrev pub value_coded : Coded the_row.Denot
 value_coded = the_row.coded
 
 -- what an empty owner has for its value
-abbrev pub no_adapter : PlayedAdapter
-no_adapter = record {
-  machine = record { world = record { memory = []; adapter = new_adapter [] Never }; reported = false };
-  address = None;
-  wire = record { capacity = 0; frames = [] };
-  generator = record { state = 0; increment = 0 };
-  most_steps = 0;
-  scheduled = record { items = []; capacity = 0 };
-  accesses = 0;
-  ticks = false;
-}
+abbrev pub no_adapter : WatchedAdapter
+no_adapter = record { player = new_player [] (new_adapter [] Never) None; events = no_events }

@@ -1,56 +1,81 @@
-// The calls of C, on the adapter of a handle. Nobody is told what happens.
+// The calls of C, on the adapter of a handle.
 
 ghost use Rattle.std.specs.Prelude.{◌≡◌, IfOk, IfSome};
-ghost use Rattle.adapter.specs.Registers.{after_write, new_adapter};
 ghost use Rattle.bus.specs.declared.event.Access.TheVariants.{Reads, Writes};
-ghost use Rattle.eeprom.specs.Image.{image_with};
-ghost use Rattle.nic82540em.specs.Calls.{Accessed, AnswersArrival, AnswersInterleave, AnswersLoad, AnswersSchedule};
-ghost use Rattle.nic82540em.specs.Calls.{AnswersStep, AnswersStore, IsMade, IsNew, Settles, pba};
+ghost use Rattle.nic82540em.specs.Calls.{Accessed, AnswersArrival, AnswersEvent, AnswersInterleave, AnswersLoad};
+ghost use Rattle.nic82540em.specs.Calls.{AnswersOffer, AnswersSchedule, AnswersStep, AnswersStore, IsCopy, IsMade};
+ghost use Rattle.nic82540em.specs.Calls.{IsMadeOf, IsNew, Settles, adapter_of, image_of};
 ghost use Rattle.nic82540em.specs.Digests.{state_digest_of};
 
+use crate::events::{Events, KeptEvent};
 use crate::numbers::{
     AdapterOptions, REFUSED, fate_number, is_receive_share, kind_with, link_with, outcome_number,
 };
+use crate::watched::WatchedAdapter;
 use adapter::Adapter;
 use adapter::offsets::PBA;
 use dma_memory::HostMemory;
 use eeprom::Image;
 use mdic_phy::Link;
-use played_adapter::{MOST_ROUNDS, Nobody, PlayedAdapter};
+use played_adapter::PlayedAdapter;
 use std::alloc::{AllocError, Global};
 use std::hash::{FoldHasher, Hasher};
 
 /// The greatest maximum of steps before an access (our choice).
 const MOST_DRAWN: u32 = 65_535;
 
-/// A new adapter, whose PBA is written once.
-fn adapter_of(alloc: Global, options: &AdapterOptions, link: Link) -> Result<Adapter, AllocError>
-    ensures { IfOk result (λ adapter. adapter ≡ after_write pba options.now.receive_kilobytes
-        (new_adapter (image_with options.now.address) link)) }
+/// The words of the EEPROM: those of the options, or else an image with their address.
+fn image_of(options: &AdapterOptions) -> Image
+    ensures { result ≡ image_of options.now }
 {
-    let image = Image::with_address(options.address);
-    let mut adapter = Adapter::new(alloc, &image, link)?;
+    if options.has_image {
+        Image::from_words(options.image)
+    } else {
+        Image::with_address(options.address)
+    }
+}
+
+/// A new adapter, whose PBA is written once and whose MPC is set.
+fn adapter_of(alloc: Global, options: &AdapterOptions, link: Link) -> Result<Adapter, AllocError>
+    ensures { IfOk result (λ adapter. adapter ≡ adapter_of options.now link) }
+{
+    let mut adapter = Adapter::new(alloc, &image_of(options), link)?;
     adapter.write(PBA, options.receive_kilobytes);
+    adapter.set_missed(options.missed);
     Ok(adapter)
 }
 
 /// A new adapter with this link.
-fn with_link(
+fn player_of(
     alloc: Global,
     options: &AdapterOptions,
     link: Link,
 ) -> Result<PlayedAdapter, AllocError>
-    ensures { IfOk result (λ made. IsMade options.now link made) }
+    ensures { IfOk result (λ made. IsMadeOf options.now link made) }
 {
     let memory = HostMemory::new(alloc, options.memory)?;
     let adapter = adapter_of(alloc, options, link)?;
     PlayedAdapter::new(alloc, adapter, memory)
 }
 
-/// A new adapter with memory of zeros and an empty wire. No steps are played before accesses.
+/// A new adapter with this link, whose events aren't kept.
+fn with_link(
+    alloc: Global,
+    options: &AdapterOptions,
+    link: Link,
+) -> Result<WatchedAdapter, AllocError>
+    ensures { IfOk result (λ made. IsMade options.now link made) }
+{
+    Ok(WatchedAdapter {
+        player: player_of(alloc, options, link)?,
+        events: Events::new(alloc)?,
+    })
+}
+
+/// A new adapter with memory of zeros and an empty wire. No steps are played before accesses, and no event is kept.
 ///
 /// Returns `None` if a number of the options is out of range, and if memory is refused.
-pub(crate) fn new(alloc: Global, options: &AdapterOptions) -> Option<PlayedAdapter>
+pub(crate) fn new(alloc: Global, options: &AdapterOptions) -> Option<WatchedAdapter>
     ensures { IfSome result (λ made. IsNew options.now made) }
 {
     let link = link_with(options.link)?;
@@ -64,74 +89,77 @@ pub(crate) fn new(alloc: Global, options: &AdapterOptions) -> Option<PlayedAdapt
 }
 
 /// Reads the register at an offset in bytes.
-pub(crate) fn read(adapter: &mut PlayedAdapter, offset: u32) -> u32
-    ensures { Accessed (Reads offset result) adapter.old adapter.new }
+pub(crate) fn read(watched: &mut WatchedAdapter, offset: u32) -> u32
+    ensures { Accessed (Reads offset result) watched.old watched.new }
 {
-    let mut nobody = Nobody;
-    adapter.read(offset, &mut nobody)
+    watched.player.read(offset, &mut watched.events)
 }
 
 /// Writes the register at an offset in bytes.
-pub(crate) fn write(adapter: &mut PlayedAdapter, offset: u32, value: u32)
-    ensures { Accessed (Writes offset value) adapter.old adapter.new }
+pub(crate) fn write(watched: &mut WatchedAdapter, offset: u32, value: u32)
+    ensures { Accessed (Writes offset value) watched.old watched.new }
 {
-    let mut nobody = Nobody;
-    adapter.write(offset, value, &mut nobody);
+    watched.player.write(offset, value, &mut watched.events);
 }
 
 /// Loads the bytes from an address on, if memory contains them.
-pub(crate) fn load(adapter: &mut PlayedAdapter, address: u64, into: &mut [u8]) -> bool
-    ensures { AnswersLoad address into.old into.new result adapter.old adapter.new }
+pub(crate) fn load(watched: &mut WatchedAdapter, address: u64, into: &mut [u8]) -> bool
+    ensures { AnswersLoad address into.old into.new result watched.old watched.new }
 {
-    let mut nobody = Nobody;
-    adapter.load(address, into, &mut nobody)
+    watched.player.load(address, into, &mut watched.events)
 }
 
 /// Stores bytes from an address on, if memory contains their places.
-pub(crate) fn store(adapter: &mut PlayedAdapter, address: u64, bytes: &[u8]) -> bool
-    ensures { AnswersStore address bytes.now result adapter.old adapter.new }
+pub(crate) fn store(watched: &mut WatchedAdapter, address: u64, bytes: &[u8]) -> bool
+    ensures { AnswersStore address bytes.now result watched.old watched.new }
 {
-    let mut nobody = Nobody;
-    adapter.store(address, bytes, &mut nobody)
+    watched.player.store(address, bytes, &mut watched.events)
 }
 
-/// Plays rounds of steps until one does nothing. Returns the number of steps that did something.
-pub(crate) fn settle(adapter: &mut PlayedAdapter) -> u64
-    ensures { Settles result adapter.old adapter.new }
+/// Lets all offered frames arrive, and then plays rounds of steps until a round does nothing. Returns the number of
+/// steps of the rounds that did something.
+pub(crate) fn settle(watched: &mut WatchedAdapter) -> u64
+    ensures { Settles result watched.old watched.new }
 {
-    let mut nobody = Nobody;
-    adapter.settle(MOST_ROUNDS, &mut nobody)
+    watched.player.serve_settle(&[], &mut watched.events)
 }
 
 /// Makes the adapter take the step with this number. Returns the number of the outcome.
 ///
 /// If the number is above 5, returns [`REFUSED`] and changes nothing.
-pub(crate) fn step(adapter: &mut PlayedAdapter, number: u32) -> u32
-    ensures { AnswersStep number result adapter.old adapter.new }
+pub(crate) fn step(watched: &mut WatchedAdapter, number: u32) -> u32
+    ensures { AnswersStep number result watched.old watched.new }
 {
-    let mut nobody = Nobody;
     match kind_with(number) {
-        Some(kind) => outcome_number(adapter.step(kind, &mut nobody)),
+        Some(kind) => outcome_number(watched.player.step(kind, &mut watched.events)),
         None => REFUSED,
     }
 }
 
 /// Delivers a frame to the adapter. Returns the number of its fate.
-pub(crate) fn arrive(adapter: &mut PlayedAdapter, frame: &[u8]) -> u32
-    ensures { AnswersArrival frame.now result adapter.old adapter.new }
+pub(crate) fn arrive(watched: &mut WatchedAdapter, frame: &[u8]) -> u32
+    ensures { AnswersArrival frame.now result watched.old watched.new }
 {
-    let mut nobody = Nobody;
-    fate_number(adapter.arrive(frame, &mut nobody))
+    fate_number(watched.player.arrive(frame, &mut watched.events))
+}
+
+/// Adds a copy of a frame to those that are offered.
+///
+/// If memory is refused, returns `false` and changes nothing.
+pub(crate) fn offer(alloc: Global, watched: &mut WatchedAdapter, frame: &[u8]) -> bool
+    ensures { AnswersOffer frame.now result watched.old watched.new }
+{
+    watched.player.offered.try_push(alloc, frame).is_ok()
 }
 
 /// Adds a step of the kind with this number to the end of the schedule.
 ///
 /// If no kind has this number, or 4,096 steps wait, returns `false` and changes nothing.
-pub(crate) fn schedule(adapter: &mut PlayedAdapter, access: u64, number: u32) -> bool
-    ensures { AnswersSchedule access number result adapter.old adapter.new }
+pub(crate) fn schedule(watched: &mut WatchedAdapter, access: u64, number: u32) -> bool
+    ensures { AnswersSchedule access number result watched.old watched.new }
 {
     match kind_with(number) {
-        Some(kind) => adapter.schedule(access, kind),
+        Some(kind) => watched.player.schedule(access, kind),
         None => false,
     }
 }
@@ -139,24 +167,47 @@ pub(crate) fn schedule(adapter: &mut PlayedAdapter, access: u64, number: u32) ->
 /// From now on, up to `count` steps are played before each access. A generator with this seed draws them.
 ///
 /// If `count` is above 65,535, returns `false` and changes nothing.
-pub(crate) fn interleave(adapter: &mut PlayedAdapter, count: u32, seed: u64) -> bool
-    ensures { AnswersInterleave count seed result adapter.old adapter.new }
+pub(crate) fn interleave(watched: &mut WatchedAdapter, count: u32, seed: u64) -> bool
+    ensures { AnswersInterleave count seed result watched.old watched.new }
 {
     if count > MOST_DRAWN {
         return false;
     }
-    adapter.interleave(count as u16, seed);
+    watched.player.interleave(count as u16, seed);
     true
 }
 
 /// A digest of the adapter's state, by its contents: its registers, the frames in its packet buffer and the work in
 /// progress. Adapters with the same state have equal digests for each seed.
 #[tactic(auto, unfolding(crate::specs::Digests::state_digest_of))]
-pub(crate) fn state_digest(adapter: &PlayedAdapter, seed: u64) -> u64
-    ensures { result ≡ state_digest_of seed adapter.now.machine.world.adapter }
+pub(crate) fn state_digest(watched: &WatchedAdapter, seed: u64) -> u64
+    ensures { result ≡ state_digest_of seed watched.now.player.machine.world.adapter }
 {
     let mut hasher = FoldHasher::default();
     hasher.write_u64(seed);
-    adapter.machine.adapter().feed(&mut hasher);
+    watched.player.machine.adapter().feed(&mut hasher);
     hasher.finish()
+}
+
+/// Takes the oldest event.
+///
+/// If none waits, returns `false` and changes nothing.
+pub(crate) fn take_event(watched: &mut WatchedAdapter, into: &mut KeptEvent) -> bool
+    ensures { AnswersEvent into.old into.new result watched.old watched.new }
+{
+    let Some(event) = watched.events.take() else {
+        return false;
+    };
+    *into = event;
+    true
+}
+
+/// A copy of the adapter and of the events that wait.
+pub(crate) fn copy(watched: &WatchedAdapter) -> Result<WatchedAdapter, AllocError>
+    ensures { IfOk result (λ copy. IsCopy watched.now copy) }
+{
+    Ok(WatchedAdapter {
+        player: watched.player.copy()?,
+        events: watched.events.copy()?,
+    })
 }

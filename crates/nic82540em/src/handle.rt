@@ -2,10 +2,10 @@
 
 use crate::owner::Owner;
 
-/// A place for an adapter. C makes it with zeros.
+/// A place for an adapter. C sets all its bytes to 0 before the first call.
 #[repr(C)]
 pub struct Nic {
-    /// Whether it holds an adapter.
+    /// Whether the handle holds an adapter.
     pub held: bool,
     /// The adapter.
     pub owner: Owner,

@@ -1,11 +1,13 @@
 // Numbers that stand for options, kinds of steps, outcomes and fates in calls from C (our choice).
 
 ghost use Rattle.std.specs.Prelude.{◌≡◌};
+ghost use Rattle.nic82540em.specs.Events as events;
 ghost use Rattle.nic82540em.specs.Numbers as numbers;
 
 use adapter::{Fate, Outcome, StepKind};
+use eeprom::WORDS;
+use engine_faults::Reason;
 use mdic_phy::Link;
-use played_adapter::{KINDS, kind_numbered};
 
 /// The number that a call returns if it refuses the number of a step.
 pub const REFUSED: u32 = 0xFFFF_FFFF;
@@ -23,8 +25,14 @@ pub struct AdapterOptions {
     pub link: u32,
     /// PBA.RXA, the receive part of the packet buffer in kilobytes: an even number from 2 to 48.
     pub receive_kilobytes: u32,
-    /// The Ethernet address in the EEPROM.
+    /// The Ethernet address in the EEPROM, if there is no image.
     pub address: [u8; 6],
+    /// Whether there is an image.
+    pub has_image: bool,
+    /// MPC, the number of missed packets, at the start.
+    pub missed: u32,
+    /// The words of the EEPROM, if there is an image.
+    pub image: [u16; WORDS],
 }
 
 /// The link with this number.
@@ -51,10 +59,44 @@ pub(crate) fn is_receive_share(kilobytes: u32) -> bool
 pub(crate) fn kind_with(number: u32) -> Option<StepKind>
     ensures { result ≡ numbers.kind_with number }
 {
-    if number < KINDS {
-        return Some(kind_numbered(number));
+    Some(match number {
+        0 => StepKind::TxTake,
+        1 => StepKind::TxPut,
+        2 => StepKind::RxData,
+        3 => StepKind::RxDone,
+        4 => StepKind::EepromTick,
+        5 => StepKind::PhyTick,
+        _ => return None,
+    })
+}
+
+/// The number of a kind of steps.
+pub(crate) fn kind_number(kind: StepKind) -> u32
+    ensures { result ≡ events.kind_number kind }
+{
+    match kind {
+        StepKind::TxTake => 0,
+        StepKind::TxPut => 1,
+        StepKind::RxData => 2,
+        StepKind::RxDone => 3,
+        StepKind::EepromTick => 4,
+        StepKind::PhyTick => 5,
     }
-    None
+}
+
+/// The number of the reason of a fault.
+pub(crate) fn reason_number(reason: Reason) -> u32
+    ensures { result ≡ events.reason_number reason }
+{
+    match reason {
+        Reason::Ring => 1,
+        Reason::Descriptor => 2,
+        Reason::Dext => 3,
+        Reason::Eop => 4,
+        Reason::Length => 5,
+        Reason::Buffer => 6,
+        Reason::Bsex => 7,
+    }
 }
 
 /// The number of an outcome.

@@ -1,11 +1,11 @@
 // A box whose owner is C.
 
 ghost use Rattle.std.specs.Prelude.{◌≡◌, Bool, true, false};
-ghost use Rattle.played_adapter.specs.declared.player.PlayedAdapter.{PlayedAdapter};
+ghost use Rattle.nic82540em.specs.declared.watched.WatchedAdapter.{WatchedAdapter};
 ghost use Rattle.nic82540em.specs.Owners.{held_owns, value_coded};
 
+use crate::watched::WatchedAdapter;
 use boxed_parts::Parts;
-use played_adapter::PlayedAdapter;
 use std::alloc::Global;
 use std::marker::Model;
 use std::mem::replace;
@@ -19,7 +19,7 @@ pub struct Owner {
     at: *mut u8,
     alloc: Global,
     pub ghost full: { Bool },
-    pub ghost value: { PlayedAdapter } by { value_coded },
+    pub ghost value: { WatchedAdapter } by { value_coded },
 }
 
 impl Model for Owner {
@@ -28,7 +28,7 @@ impl Model for Owner {
 
 impl Owner {
     /// Takes the adapter out. The owner is empty then.
-    pub(crate) fn take(&mut self, alloc: Global) -> Box<PlayedAdapter>
+    pub(crate) fn take(&mut self, alloc: Global) -> Box<WatchedAdapter>
         requires { self.old.full ≡ true }
         ensures value { result.value ≡ self.old.value }
         ensures empty { self.new.full ≡ false }
@@ -37,7 +37,7 @@ impl Owner {
     }
 
     /// Puts an adapter into an empty owner.
-    pub(crate) fn put(&mut self, adapter: Box<PlayedAdapter>)
+    pub(crate) fn put(&mut self, adapter: Box<WatchedAdapter>)
         requires { self.old.full ≡ false }
         ensures full { self.new.full ≡ true }
         ensures value { self.new.value ≡ adapter.value }
@@ -56,7 +56,7 @@ impl Owner {
     }
 
     /// This adapter.
-    fn holding(adapter: Box<PlayedAdapter>) -> Owner
+    fn holding(adapter: Box<WatchedAdapter>) -> Owner
         ensures full { result.full ≡ true }
         ensures value { result.value ≡ adapter.value }
     {
@@ -64,7 +64,7 @@ impl Owner {
     }
 
     /// The adapter that is owned.
-    fn into_box(self) -> Box<PlayedAdapter>
+    fn into_box(self) -> Box<WatchedAdapter>
         requires { self.full ≡ true }
         ensures { result.value ≡ self.value }
     {
@@ -81,7 +81,7 @@ impl Owner {
     }
 
     /// The owner of a box's parts.
-    fn of_parts(parts: Parts<PlayedAdapter, Global>) -> Owner
+    fn of_parts(parts: Parts<WatchedAdapter, Global>) -> Owner
         ensures { (result.full ≡ true) × (result.value ≡ parts.value) }
     {
         let Parts { ptr, alloc } = parts;
@@ -92,13 +92,13 @@ impl Owner {
     }
 
     /// The parts of the box that is owned.
-    fn into_parts(self) -> Parts<PlayedAdapter, Global>
+    fn into_parts(self) -> Parts<WatchedAdapter, Global>
         requires { self.full ≡ true }
         ensures { result.value ≡ self.value }
     {
         let Owner { at, alloc } = self;
         Parts {
-            ptr: at as *mut PlayedAdapter,
+            ptr: at as *mut WatchedAdapter,
             alloc,
         }
     }

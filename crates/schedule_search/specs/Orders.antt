@@ -52,7 +52,7 @@ next_path [] = None
 next_path (choice ∷ path) =
     if nat_lt choice.taken choice.place.possible then Some (next_choice choice ∷ path) else next_path path
 
--- the same with the room after it
+-- the next path to try, and the number of places that may follow it
 abbrev pub next : List Choice → ℕ → Option Reached
 next [] room = None
 next (choice ∷ path) room =

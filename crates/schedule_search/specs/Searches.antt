@@ -37,13 +37,13 @@ pub record IsTried (test : Test) (cost : ℕ) (choice : Choice) (run : List ℕ)
   pub before : (number : ℕ) → number < choice.taken → MayTake cost choice.left choice.place.possible number
       → AllPass test cost (left_after cost choice.left choice.place.possible number) (number ∷ run)
 
--- It is so at each choice of a path.
+-- At each choice of a path, all schedules pass that take a smaller number there.
 abbrev pub AreTried : Test → ℕ → ℕ → List Choice → Type 0
 AreTried test cost depth [] = Unit {0}
 AreTried test cost depth (choice ∷ path) =
     IsTried test cost choice (run_of path) × (choice.left ≡ left_of cost depth path) × AreTried test cost depth path
 
--- From each place with the key of an entry, all schedules pass whose deviations cost at most what the entry says.
+-- From each place with the key of an entry, all schedules pass whose deviations cost at most the cost in the entry.
 abbrev pub IsTrueKnown : Test → ℕ → Known → Type 0
 IsTrueKnown test cost entry =
     0 < entry.key.one → (run : List ℕ) (place : Place) → test.at run ≡ Some place → place.key ≡ entry.key
@@ -71,7 +71,7 @@ BelowPass test search choices =
 abbrev pub known_of : Key → ℕ → Known
 known_of key left = record { key = key; left = left }
 
--- whether an entry says that all schedules from this state pass whose deviations cost at most `left`
+-- whether an entry states that all schedules from this state pass whose deviations cost at most `left`
 abbrev pub IsKnownBy : Known → Key → ℕ → Type 0
 IsKnownBy entry key left = (0 < key.one) × (entry.key ≡ key) × (left ≤ entry.left)
 

@@ -9,7 +9,8 @@ pub record Test : Type 0 where
   -- whether a run that has ended passes
   pub passes : List ℕ → Bool
 
--- A number below `possible` is a deviation, which has a cost. The number `possible` is none, and may always be taken.
+-- A number below `possible` is a deviation, which has a cost. The number `possible` stands for no deviation, and may
+-- always be taken.
 abbrev pub MayTake : ℕ → ℕ → ℕ → ℕ → Type 0
 MayTake cost left possible number = (number ≡ possible) ⊎ ((number < possible) × (cost ≤ left))
 

@@ -29,7 +29,7 @@ pub fn find(known: &[Known], key: Key) -> usize
     size
 }
 
-/// Whether an entry says that all schedules from a state pass whose deviations cost at most `left`.
+/// Whether an entry states that all schedules from a state pass whose deviations cost at most `left`.
 pub(crate) fn is_known(entry: Known, key: Key, left: u32) -> bool
     ensures { result ≡ true → IsKnownBy entry key left }
 {

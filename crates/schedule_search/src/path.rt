@@ -27,7 +27,7 @@ pub struct Choice {
     pub place: Place,
     /// How much the deviations may cost from here on.
     pub left: u32,
-    /// The number of the deviation. `possible`: none.
+    /// The number of the deviation, or `possible` for none.
     pub taken: u32,
 }
 

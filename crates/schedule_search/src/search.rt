@@ -28,17 +28,17 @@ pub struct Search {
 pub enum Met {
     /// The newest choice of the path is taken.
     Goes,
-    /// All that follows passes.
+    /// All schedules that begin with the path pass.
     Passes,
     /// The path has no room.
     Full,
 }
 
-/// What is done after all that follows a path was tried.
+/// What is done after all schedules that begin with a path were tried.
 pub enum Step {
     /// The newest choice of the path, which has changed, is taken.
     Another,
-    /// There is one choice less, and all that follows the path was tried.
+    /// The newest choice is removed, and all schedules that begin with the shorter path were tried.
     Removed,
     /// The search has come to its end.
     Ended,

@@ -1,0 +1,74 @@
+-- What C's program is told of what happens (our choice).
+use Rattle.std.specs.Prelude.{◌==◌, ◌&&◌, ◌++◌, ◌∷◌, ◌≡◌, [], ℕ, Bool, false, List, Option, Some, None, drop, if◌then◌else◌, length, nat_lt}
+use Rattle.adapter.specs.declared.step.StepKind.{StepKind}
+use Rattle.adapter.specs.declared.step.StepKind.TheVariants.{EepromTick, PhyTick, RxData, RxDone, TxPut, TxTake}
+use Rattle.engine_faults.specs.declared.engine_fault.EngineFault.{EngineFault}
+use Rattle.engine_faults.specs.declared.engine_fault.Reason.{Reason}
+use Rattle.engine_faults.specs.declared.engine_fault.Reason.TheVariants.{Ring, Descriptor, Dext, Eop, Length, Buffer, Bsex}
+use Rattle.nic82540em.specs.Numbers.{fate_number, outcome_number}
+use Rattle.nic82540em.specs.declared.events.Events.{Events}
+use Rattle.nic82540em.specs.declared.events.KeptEvent.{KeptEvent}
+use Rattle.played_adapter.specs.Told.{Told, Accessed, Arrived, Line, Noted, Offered, Stepped}
+
+-- the number of a kind of steps
+abbrev pub kind_number : StepKind → ℕ
+kind_number TxTake = 0
+kind_number TxPut = 1
+kind_number RxData = 2
+kind_number RxDone = 3
+kind_number EepromTick = 4
+kind_number PhyTick = 5
+
+-- the number of the reason of a fault
+abbrev pub reason_number : Reason → ℕ
+reason_number Ring = 1
+reason_number Descriptor = 2
+reason_number Dext = 3
+reason_number Eop = 4
+reason_number Length = 5
+reason_number Buffer = 6
+reason_number Bsex = 7
+
+-- a step, by the numbers of its kind and its outcome; if it is a fault, with its reason and the index of its descriptor
+abbrev pub step_event : (kind outcome : ℕ) → Option EngineFault → KeptEvent
+step_event kind outcome None = record { what = 0; kind = kind; value = outcome; reason = 0; index = 0 }
+step_event kind outcome (Some fault) =
+    record { what = 0; kind = kind; value = outcome; reason = reason_number fault.reason; index = fault.index }
+
+-- something else than a step
+abbrev pub other_event : (what value : ℕ) → KeptEvent
+other_event what value = record { what = what; kind = 0; value = value; reason = 0; index = 0 }
+
+-- The event that is kept of a thing that is told: a step that isn't `Nothing`, an arrival, and a change of the interrupt line.
+abbrev pub event_of : Told → Option KeptEvent
+event_of (Stepped kind outcome fault) =
+    if outcome_number outcome == 0 then None else Some (step_event (kind_number kind) (outcome_number outcome) fault)
+event_of (Arrived frame fate) = Some (other_event 1 (fate_number fate))
+event_of (Offered frame fate) = Some (other_event 1 (fate_number fate))
+event_of (Accessed access) = None
+event_of (Noted action) = None
+event_of (Line level) = Some (other_event 2 (if level then 1 else 0))
+
+-- no event waits, and none is kept
+abbrev pub no_events : Events
+no_events = record { on = false; waiting = record { items = []; capacity = 4096 } }
+
+-- An event is the last of those that wait, if events are kept and there is room for it.
+abbrev pub keeps : Events → Option KeptEvent → Events
+keeps events None = events
+keeps events (Some event) =
+    if events.on && nat_lt (length events.waiting.items) events.waiting.capacity
+    then record events { waiting = record events.waiting { items = events.waiting.items ++ event ∷ [] } } else events
+
+-- the events that are kept after this was told
+abbrev pub hears : List Told → Events → Events
+hears [] events = events
+hears (told ∷ later) events = hears later (keeps events (event_of told))
+
+-- This was told between two states.
+abbrev pub HearsBetween : Events → Events → List Told → Type 0
+HearsBetween before after told = after ≡ hears told before
+
+-- the oldest event no longer waits
+abbrev pub without_first : Events → Events
+without_first events = record events { waiting = record events.waiting { items = drop 1 events.waiting.items } }

@@ -1,0 +1,81 @@
+// The events that are kept for C.
+
+ghost use Rattle.std.specs.Prelude.{◌≡◌, IfOk, IfSome, None, Some, slice_get};
+ghost use Rattle.nic82540em.specs.Events.{keeps, no_events, without_first};
+
+use circular_buffer::HeapCircularBuffer;
+use frame_queue::copy_of;
+use std::alloc::{AllocError, Global};
+
+/// The number of events that may wait (our choice).
+const MOST_EVENTS: usize = 4096;
+
+/// Something that happened, as numbers.
+#[repr(C)]
+#[derive(Clone, Copy)]
+pub struct KeptEvent {
+    /// 0: a step; 1: a frame that arrived; 2: a change of the interrupt line.
+    pub what: u32,
+    /// The number of the step's kind, else 0.
+    pub kind: u32,
+    /// The number of the step's outcome or of the frame's fate, or the line's new level.
+    pub value: u32,
+    /// The number of the fault's reason, or 0 if there is no fault.
+    pub reason: u32,
+    /// The index of the fault's descriptor.
+    pub index: u32,
+}
+
+/// What happened and isn't taken yet, the oldest first, if it is kept.
+#[derive(Drop)]
+pub struct Events {
+    /// Whether events are kept.
+    pub on: bool,
+    /// The events that wait.
+    pub waiting: HeapCircularBuffer<KeptEvent>,
+}
+
+impl Events {
+    /// An empty list of events. New events aren't kept.
+    pub(crate) fn new(alloc: Global) -> Result<Events, AllocError>
+        ensures { IfOk result (λ events. events ≡ no_events) }
+    {
+        Ok(Events {
+            on: false,
+            waiting: HeapCircularBuffer::with_capacity(alloc, MOST_EVENTS)?,
+        })
+    }
+
+    /// A copy.
+    pub(crate) fn copy(&self) -> Result<Events, AllocError>
+        ensures { IfOk result (λ copy. copy ≡ self.now) }
+    {
+        Ok(Events {
+            on: self.on,
+            waiting: copy_of(&self.waiting)?,
+        })
+    }
+
+    /// Keeps an event, if events are kept and fewer than 4,096 wait.
+    pub(crate) fn keep(&mut self, event: KeptEvent)
+        ensures { self.new ≡ keeps self.old (Some event) }
+    {
+        if self.on {
+            let _kept = self.waiting.try_push_back(event);
+        }
+    }
+
+    /// Takes the oldest event.
+    pub(crate) fn take(&mut self) -> Option<KeptEvent>
+        ensures event { result ≡ slice_get self.old.waiting.items 0 }
+        ensures state { IfSome result (λ event. self.new ≡ without_first self.old) }
+        ensures none { result ≡ None → self.new ≡ self.old }
+    {
+        let Some(front) = self.waiting.front() else {
+            return None;
+        };
+        let event = *front;
+        self.waiting.pop_front();
+        Some(event)
+    }
+}
