@@ -11,7 +11,7 @@ use Rattle.bus.specs.declared.event.Event.{Event}
 use Rattle.solo_bus.specs.SoloBuses.{Recounts, SoloState, is_go, lively_ticks, solo_tick_of}
 use Rattle.solo_bus.specs.declared.solo_bus.SoloTick.TheVariants.{Go}
 
--- Equal states, but for the number of accesses above the greatest count.
+-- Both states are equal, except that numbers of accesses at the greatest count aren't compared.
 pub record AreOneState (b c : SoloState) : Type 0 where
   pub world : b.world ≡ c.world
   pub waiting : b.waiting ≡ c.waiting
@@ -49,11 +49,11 @@ module _ (a b c : SoloState) (past other : Past) (x y : Access) (has : past.acce
   pasts_are_one : past ≡ other
   pasts_are_one = p.past_is ∙ ap past_of events_are_one ∙ sym q.past_is
 
-  -- The accesses have one answer.
+  -- Both accesses have the same answer.
   pub answer_one : x ≡ y
   answer_one = cc (has, had, ap (λ (it : Past). it.accesses) pasts_are_one)
 
-  -- They leave one state.
+  -- Both accesses lead to equal states.
   pub state_one : AreOneState b c
   state_one = record {
     world = trail_end p.events a.world b.world c.world p.trail

@@ -45,7 +45,7 @@ each_same change other same k (station ∷ later) =
     ap (λ (x : StationState). x ∷ at_each change (suc k) later) (same k station)
     ∙ ap (λ (xs : List StationState). other k station ∷ xs) (each_same change other same (suc k) later)
 
--- What a step leaves doesn't depend on whether it found the wire free.
+-- The state after a step with this outcome doesn't depend on whether the wire was free.
 found_after : (found : Option StationState) (host : ℕ) (kind : StepKind) (free other : Bool) (answer : FrameOutcome)
     (stations : List StationState) → all_after found host (Steps kind free answer) stations
     ≡ all_after found host (Steps kind other answer) stations

@@ -1,4 +1,4 @@
--- What a solo bus plays has one course.
+-- A solo bus that plays the same ticks and requests from one state has one list of events.
 use Rattle.std.proofs.Common.{◌≡◌, ◌+◌, ◌++◌, ◌∷◌, [], ℕ, List, Bool, refl, sym, ap, subst, length, ◌∙◌}
 use Rattle.std.specs.Prelude.{⊤, map}
 use Rattle.adapter.specs.Outcomes.{FrameOutcome}
@@ -16,7 +16,7 @@ use Rattle.bus.specs.declared.event.Event.TheVariants.{Accesses, Arrives, Steps}
 use Rattle.rx_engine.specs.declared.arrival.Fate.{Fate}
 use Rattle.solo_bus.specs.SoloBuses.{AreFree, solo_tick_of}
 
--- The same access, whatever a read answers.
+-- Both accesses are the same, except for the value that a read returned.
 abbrev pub IsSameRequest : Access → Access → Type 0
 IsSameRequest (Reads offset value) (Reads at other) = offset ≡ at
 IsSameRequest (Writes offset value) (Writes at other) = (offset ≡ at) × (value ≡ other)
@@ -24,7 +24,7 @@ IsSameRequest (Loads address size) (Loads at other) = (address ≡ at) × (size 
 IsSameRequest (Stores address bytes) (Stores at other) = (address ≡ at) × (bytes ≡ other)
 IsSameRequest _ _ = ⊥
 
--- The same accesses, whatever the reads answer.
+-- Both lists have the same accesses, except for the values that reads returned.
 abbrev pub AreSameRequests : List Access → List Access → Type 0
 AreSameRequests [] [] = ⊤
 AreSameRequests (x ∷ xs) (y ∷ ys) = IsSameRequest x y × AreSameRequests xs ys
@@ -43,7 +43,7 @@ access_one (Loads address size) _ world same p q = absurd same
 access_one (Stores address bytes) (Stores at other) world same p q = cc (same.0, same.1)
 access_one (Stores address bytes) _ world same p q = absurd same
 
-no_accesses : (kind : StepKind) (answer : FrameOutcome) → (past_of_step kind answer).accesses ≡ []
+pub no_accesses : (kind : StepKind) (answer : FrameOutcome) → (past_of_step kind answer).accesses ≡ []
 no_accesses TxTake answer = refl
 no_accesses TxPut answer = refl
 no_accesses RxData answer = refl
@@ -55,7 +55,7 @@ pub trail_end : (events : List Event) (a b c : World) → Trail events a b → T
 trail_end [] a b c p q = p ∙ sym q
 trail_end (event ∷ later) a b c p q = trail_end later (world_after event a) b c p.1 q.1
 
--- Two courses of the same ticks and the same requests.
+-- Two lists of events from one state, of the same ticks and the same requests.
 pub record Courses (xs ys : List Event) (a b c : World) (frames : ℕ) : Type 0 where
   pub ticks : map solo_tick_of xs ≡ map solo_tick_of ys
   pub free : AreFree xs frames
@@ -64,7 +64,7 @@ pub record Courses (xs ys : List Event) (a b c : World) (frames : ℕ) : Type 0 
   pub trail : Trail xs a b
   pub other_trail : Trail ys a c
 
--- They are one.
+-- Both lists are equal.
 pub courses_one : (xs ys : List Event) (a b c : World) (frames : ℕ) → Courses xs ys a b c frames → xs ≡ ys
 courses_one [] [] a b c frames p = refl
 courses_one [] (y ∷ ys) a b c frames p = absurd (cc (p.ticks))

@@ -82,7 +82,7 @@ pub fn to_put<'a>(one: &'a Adapter, other: &'a Adapter) -> (Option<&'a [u8]>, Op
     (one.to_put(), other.to_put())
 }
 
-/// [`Adapter::has_work`], and the [`Adapter::step`] whose outcome it tells.
+/// [`Adapter::has_work`], and the [`Adapter::step`] whose outcome it predicts.
 pub fn has_work(
     adapter: &mut Adapter,
     kind: StepKind,

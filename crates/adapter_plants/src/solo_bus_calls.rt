@@ -68,6 +68,15 @@ pub fn play(one: &mut SoloBus, other: &mut SoloBus, ticks: &[SoloTick])
     other.play(ticks);
 }
 
+/// [`SoloBus::finish`] twice.
+pub fn finish(one: &mut SoloBus, other: &mut SoloBus)
+    requires { one.old ≡ other.old }
+    ensures { one.new ≡ other.new }
+{
+    one.finish();
+    other.finish();
+}
+
 /// [`SoloBus::line`] twice.
 pub fn line(one: &SoloBus, other: &SoloBus) -> (bool, bool)
     requires { one.now ≡ other.now }

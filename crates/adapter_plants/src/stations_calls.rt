@@ -1,13 +1,13 @@
 //! The calls of `Stations`, each made twice, and a call of the bus that lends them.
 
-ghost use Rattle.std.specs.Prelude.{◌≡◌, ◌<◌, ◌∷◌, []};
+ghost use Rattle.std.specs.Prelude.{◌≡◌, ◌<◌, ◌∷◌, [], List};
 ghost use Rattle.adapter.specs.Outcomes.{FrameOutcome};
 ghost use Rattle.adapter.specs.Registers.{answer_at};
 ghost use Rattle.adapter.specs.World.{world_after_read};
 ghost use Rattle.bus.specs.Keeping.{Keeps, view_of};
 ghost use Rattle.bus.specs.Law.{Acts};
 ghost use Rattle.bus.specs.declared.event.Access.TheVariants.{Reads};
-ghost use Rattle.stations.specs.ToldTicks.{tick_told};
+ghost use Rattle.stations.specs.ToldTicks.{TickTold, tick_told};
 
 use bus::Bus;
 use stations::{LentBus, Observer, Stations, Tick};
@@ -32,20 +32,24 @@ pub fn play<O: Observer>(
     other.play(tick, accesses, another);
 }
 
-/// [`LentBus::finish`] twice. What the observers are told isn't compared.
+/// [`LentBus::finish`] twice: both observers are told the same.
 pub fn finish<'a, 't, O: Observer>(one: &mut LentBus<'a, 't, O>, other: &mut LentBus<'a, 't, O>)
     requires stations { one.old.stations.now ≡ other.old.stations.now }
     requires ticks { one.old.ticks.now ≡ other.old.ticks.now }
     requires accesses { one.old.accesses ≡ other.old.accesses }
+    requires host { one.old.host ≡ other.old.host }
     ensures stations { one.new.stations.now ≡ other.new.stations.now }
     ensures ticks { one.new.ticks.now ≡ other.new.ticks.now }
     ensures accesses { one.new.accesses ≡ other.new.accesses }
+    ensures host { one.new.host ≡ other.new.host }
+    ensures told { (told : List TickTold) × O.heard one.old.observer.now one.new.observer.now told
+        × O.heard other.old.observer.now other.new.observer.now told }
 {
     one.finish();
     other.finish();
 }
 
-/// A twin of [`Bus::read`] of `LentBus`.
+/// A correct use of [`Bus::read`] of `LentBus`, the control of the edits.
 pub fn read<'a, 't, O: Observer>(bus: &mut LentBus<'a, 't, O>, offset: u32) -> u32
     ensures keeps { Keeps ⟦<LentBus<'a, 't, O> as Bus>⟧ bus.old bus.new }
     ensures acts { ⟦<LentBus<'a, 't, O> as Bus>⟧.honest bus.old

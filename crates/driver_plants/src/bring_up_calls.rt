@@ -1,13 +1,17 @@
 //! The calls of `bring_up`.
 
-ghost use Rattle.std.specs.Prelude.{◌↔◌, IsOk};
+ghost use Rattle.std.specs.Prelude.{◌≡◌, ◌≤◌, ◌<◌, ◌+◌, ◌*◌, ◌↔◌, ℕ, Bool, IsOk, length};
+ghost use Rattle.dma_memory.specs.Layout.{descriptor_bytes};
 ghost use Rattle.rx_engine.specs.NumberTables.{HasNumbers, numbers_of_groups};
+ghost use Rattle.bring_up.specs.ClearedDescriptors.{clears_from};
 ghost use Rattle.bring_up.specs.Configuration.{CanBeHad};
 ghost use Rattle.bring_up.specs.Device.{FindsDevice};
 ghost use Rattle.bring_up.specs.EepromReading.{ReadsImage};
 ghost use Rattle.bring_up.specs.Link.{AwaitsLink};
 ghost use Rattle.bring_up.specs.RingRegisters.{receive_writes};
 ghost use Rattle.bring_up.specs.SettingSteps.{SetsOnly};
+ghost use Rattle.driver_law.specs.Calls.{IsReady, Ran, at, only};
+ghost use Rattle.driver_law.specs.DriverState.{DriverState, address_limit, receive_slot};
 
 use bring_up::{Config, InitError};
 use bus::Bus;
@@ -50,6 +54,18 @@ pub fn enable_receiver<B: Bus>(bus: &mut B, promiscuous: bool, by_vlan: bool)
     ensures sets { B.honest bus.old → SetsOnly B.Bus (receive_writes promiscuous by_vlan) bus.old bus.new }
 {
     bring_up::enable_receiver(bus, promiscuous, by_vlan);
+}
+
+/// A twin of [`bring_up::clear_descriptors`].
+pub fn clear_descriptors<B: Bus>(bus: &mut B, first: u64, count: u16)
+    requires memory { first + descriptor_bytes * count ≤ B.extent bus.old }
+    requires addresses { first + descriptor_bytes * count < address_limit }
+    ensures spare { (up : Bool) (d : DriverState) (slot : ℕ) → IsReady B.Bus up (at bus.old d)
+        → d.oldest_receive ≡ 0 → length d.buffers + length d.staged ≤ slot → slot + count ≤ d.layout.rx
+        → first ≡ receive_slot slot
+        → Ran B.Bus up (only (clears_from first count)) (at bus.old d) (at bus.new d) }
+{
+    bring_up::clear_descriptors(bus, first, count);
 }
 
 /// A twin of [`bring_up::group_table`].

@@ -39,7 +39,8 @@ pub fn runs_have_slots<B: Bus, R: Receiver>(
 /// Over any bus, a host without sockets counts each frame that it takes as unclaimed.
 pub fn frames_without_sockets_are_counted<B: Bus>(host: &mut Host, bus: &mut B) -> Handled
     requires memory { size_of host.old.driver.layout ≤ B.extent bus.old }
-    ensures counted { IfHandled result (λ taken. host.old.kinds ≡ [] → GrowsBy host.old.unclaimed host.new.unclaimed taken) }
+    ensures counted { IfHandled result (λ taken. host.old.kinds ≡ []
+        → GrowsBy host.old.unclaimed host.new.unclaimed taken) }
 {
     host.interrupt(bus)
 }

@@ -8,7 +8,7 @@ ghost use Rattle.driver_law.specs.DriverState.{owners};
 ghost use Rattle.driver.specs.HandlerSteps.{Handles, ReadsHeld, WhereReadyIn, scene};
 ghost use Rattle.driver.specs.Initialisation.{Refuses};
 ghost use Rattle.driver.specs.Parts.{IsWholeFrame, buffers_in, part_loads};
-ghost use Rattle.driver.specs.RefillSteps.{Refills};
+ghost use Rattle.driver.specs.RefillSteps.{Refills, WhereHeld};
 ghost use Rattle.driver.specs.Resetting.{Resets};
 ghost use Rattle.driver.specs.SendSteps.{Transmits};
 
@@ -82,6 +82,7 @@ pub fn give<B: Bus>(driver: &mut Driver, bus: &mut B, parts: Parts)
     requires one_owner { HasNoSecondOwner driver.old.layout.buffers (buffers_in parts ++ owners driver.old) }
     ensures offers { OffersAll driver.old driver.new }
     ensures owners { HaveSameNumbers (buffers_in parts ++ owners driver.old) (owners driver.new) }
+    ensures gives { WhereHeld B.Bus parts (at bus.old driver.old) (at bus.new driver.new) (Refills B.Bus) }
 {
     driver.give(bus, parts);
 }

@@ -11,6 +11,7 @@ use joined_groups::GroupError;
 
 /// A twin of [`Driver::join`].
 pub fn join<B: Bus>(driver: &mut Driver, bus: &mut B, group: [u8; 6]) -> Result<(), GroupError>
+    ensures quiet { HasNumber driver.old.groups group → bus.new ≡ bus.old }
     ensures joins { WhereReady B.Bus (at bus.old driver.old) (at bus.new driver.new)
         (λ up old new. OnOk result (ChangesJoined B.Bus up driver.old.groups group old new)) }
 {

@@ -2,3 +2,4 @@ pub mod Made
 pub mod Drained
 pub mod Counted
 pub mod Reading
+pub mod Failing

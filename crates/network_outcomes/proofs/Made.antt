@@ -37,7 +37,7 @@ hosts-alike plan one other s s' x y = record {
   link = x.devices.link_is ∙ sym y.devices.link_is;
 }
 
-there-is : {X : Type 0} (xs : List X) (k : ℕ) → k < length xs → (x : X) × (slice_get xs k ≡ Some x)
+pub there-is : {X : Type 0} (xs : List X) (k : ℕ) → k < length xs → (x : X) × (slice_get xs k ≡ Some x)
 there-is [] k below = absurd (omega (arith, below))
 there-is (x ∷ xs) zero below = (x, refl)
 there-is (x ∷ xs) (suc k) below = there-is xs k (omega (arith, below))

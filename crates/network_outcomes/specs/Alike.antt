@@ -1,9 +1,14 @@
--- What is alike of two calls from equal states: all that the contract of the call determines of its outcome (our choice).
-use Rattle.std.specs.Prelude.{⊤, ◌≡◌, ◌≢◌, ◌↔◌, ◌++◌, ℕ, List, Some, length, slice_get}
+-- What is equal after two calls from equal states: all that the contract of the call determines of its outcome (our
+-- choice).
+use Rattle.std.specs.Prelude.{⊤, ◌≡◌, ◌≢◌, ◌⊎◌, ◌↔◌, ◌++◌, ℕ, Err, List, Result, Some, length, slice_get}
 use Rattle.adapter.specs.HostFrames.{frames_to_send}
 use Rattle.adapter.specs.World.{World}
+use Rattle.mdic_phy.specs.declared.phy.Link.TheVariants.{Never}
+use Rattle.bring_up.specs.Link.{NeedsMoreThan}
+use Rattle.bring_up.specs.declared.init_error.InitError.{InitError}
 use Rattle.host_calls.specs.DrainedHosts.{HoldsNothing}
 use Rattle.host_calls.specs.Networks.{IsHost, NetworkState}
+use Rattle.network_plan.specs.declared.plan.HostPlan.{HostPlan}
 use Rattle.network_plan.specs.declared.plan_error.PlanError.{PlanError}
 use Rattle.network_plan.specs.declared.plan_error.PlanError.TheVariants as refused
 use Rattle.packet_socket.specs.HostCalls.{Given, given_for}
@@ -12,6 +17,7 @@ use Rattle.rx_engine.specs.Passing.{Passes}
 use Rattle.rx_engine.specs.Registers.{filter_of}
 use Rattle.stations.specs.Stations.{StationState, backlog_at, world_at}
 use Rattle.wire.specs.Equations.{counted}
+use Rattle.wire.specs.HostsUp.{most_link_ticks}
 
 -- Networks that one plan made.
 
@@ -46,15 +52,25 @@ pub record NetworksAreAlike (one other : NetworkState) : Type 0 where
   -- the wire of each host
   pub wires : (k : ℕ) (s s' : StationState) → slice_get one.stations k ≡ Some s → slice_get other.stations k ≡ Some s' → s.wire ≡ s'.wire
 
--- the plan itself is refused, not for want of memory, and not as a host can't be initialized
+-- the error is one of the plan itself: neither refused memory nor a host that can't be initialized
 abbrev pub IsOfPlan : PlanError → Type 0
 IsOfPlan refused.Memory = ⊥
 IsOfPlan (refused.Init host error) = ⊥
 IsOfPlan error = ⊤
 
+-- The link of each host comes up within 2,000 ticks, or never. Of a link that comes up later, the contract of `Lan::new` leaves open
+-- whether it is found.
+abbrev pub LinksAreClear : List HostPlan → Type 0
+LinksAreClear plans =
+    (k : ℕ) (plan : HostPlan) → slice_get plans k ≡ Some plan → NeedsMoreThan most_link_ticks plan.link → plan.link ≡ Never
+
+-- the same host can't be initialized for the same reason, or memory is refused
+abbrev pub IsSameFailure : {T : Type 0} (host : ℕ) → InitError → Result T PlanError → Type 0
+IsSameFailure host error answer = (answer ≡ Err refused.Memory) ⊎ (answer ≡ Err (refused.Init host error))
+
 -- Drains of one host from one state.
 
--- what an outlet had before a drain, and has after it
+-- the frames of a sink before and after a drain
 pub record Outlets : Type 0 where
   pub before : List Given
   pub after : List Given
@@ -66,7 +82,7 @@ pub record Gave (outlet : Outlets) : Type 0 where
 
 -- Two drains of the host with this number.
 pub record DrainsAreAlike (host : ℕ) (a b : Outlets) (one other : NetworkState) : Type 0 where
-  -- what the drains gave
+  -- the frames that the first drain returned
   pub first : Gave a
   pub second : Gave b
   -- the frames of each socket, in order

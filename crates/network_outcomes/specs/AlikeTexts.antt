@@ -1,4 +1,4 @@
--- What is alike of two reads of one text (our choice).
+-- What is equal after two reads of one text (our choice).
 use Rattle.std.specs.Prelude.{◌≡◌, ◌⊎◌, ℕ, Err, Ok, Result}
 use Rattle.scenario.specs.SoFar.{so_far}
 use Rattle.scenario.specs.declared.command.Scenario.{Scenario}
@@ -10,7 +10,8 @@ use Rattle.scenario.specs.declared.refusal.Refusal.TheVariants.{Line, Memory}
 abbrev pub ReadAlike : (one other : Result Scenario Refusal) → Type 0
 ReadAlike one other = (a b : Scenario) → one ≡ Ok a → other ≡ Ok b → so_far a ≡ so_far b
 
--- If the text is refused for a line, it is refused once more for this line, with this fault, or for want of memory.
+-- If the first read refuses the text for a line, the second refuses it for this line with this fault, or because memory
+-- is refused.
 abbrev pub RefusedAlike : (one other : Result Scenario Refusal) → Type 0
 RefusedAlike one other =
     (line : ℕ) (fault : Fault) → one ≡ Err (Line line fault) → (other ≡ Err (Line line fault)) ⊎ (other ≡ Err Memory)

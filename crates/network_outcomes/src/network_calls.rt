@@ -1,14 +1,17 @@
-//! Calls that are made twice, from equal states. The prover knows nothing of a call but its clauses, so these exclude every
-//! body whose outcome differs in what the function compares. Memory that is refused isn't compared: no clause states when
-//! it is.
+//! Calls that are made twice, from equal states. The prover knows nothing of a call but its clauses, so these exclude
+//! every body whose outcome differs in what the function compares. Memory that is refused isn't compared: no clause
+//! states when it is.
 
-ghost use Rattle.std.specs.Prelude.{◌≡◌, ◌≤◌, ◌+◌, [], length};
+ghost use Rattle.std.specs.Prelude.{◌≡◌, ◌≤◌, ◌+◌, [], ℕ, length};
+ghost use Rattle.bring_up.specs.declared.init_error.InitError.{InitError};
 ghost use Rattle.host_calls.specs.Networks.{IsHost, NetworkState};
 ghost use Rattle.network_plan.specs.declared.plan_error.PlanError.{PlanError};
+ghost use Rattle.network_plan.specs.declared.plan_error.PlanError.TheVariants.{Init};
 ghost use Rattle.packet_socket.specs.HostState.{HostState};
 ghost use Rattle.stations.specs.Stations.{backlog_at};
 ghost use Rattle.stations.specs.WireLogs.{last_of_others};
-ghost use Rattle.network_outcomes.specs.Alike.{DrainsAreAlike, IsOfPlan, NetworksAreAlike};
+ghost use Rattle.network_outcomes.specs.Alike.{DrainsAreAlike, IsOfPlan, IsSameFailure};
+ghost use Rattle.network_outcomes.specs.Alike.{LinksAreClear, NetworksAreAlike};
 ghost use Rattle.network_outcomes.specs.AlikeTexts.{ReadAlike, RefusedAlike};
 
 use descriptors::Frame;
@@ -18,8 +21,8 @@ use scenario::{Refusal, Scenario};
 use std::alloc::Global;
 use wire::{Counts, Lan, Outlet};
 
-/// [`Scenario::read`] twice: one text is read to the same hosts, commands and traces, or refused for the same line, with
-/// the same fault.
+/// [`Scenario::read`] twice: one text is read to the same hosts, commands and traces, or refused for the same line,
+/// with the same fault.
 pub fn read_twice(
     alloc: Global,
     text: &[u8],
@@ -31,10 +34,13 @@ pub fn read_twice(
     (Scenario::read(alloc, text), Scenario::read(alloc, text))
 }
 
-/// [`Lan::new`] twice: one plan is refused for the same reason, or makes networks that are alike.
+/// [`Lan::new`] twice: one plan is refused for the same reason, or makes networks that are alike. If each link comes up
+/// within 2,000 ticks or never, then the same host can't be initialized, for the same reason.
 pub fn new_twice(alloc: Global, plan: &Plan) -> (Result<Lan, PlanError>, Result<Lan, PlanError>)
     ensures refused { (error : PlanError) → result.0 ≡ Err error → IsOfPlan error → result.1 ≡ Err error }
     ensures made { (one other : NetworkState) → result.0 ≡ Ok one → result.1 ≡ Ok other → NetworksAreAlike one other }
+    ensures failed { LinksAreClear plan.now.hosts.items → (host : ℕ) (error : InitError)
+        → result.0 ≡ Err (Init host error) → IsSameFailure host error result.1 }
 {
     (Lan::new(alloc, plan), Lan::new(alloc, plan))
 }
@@ -62,8 +68,8 @@ pub fn drain_room_twice(lan: &Lan, host: usize) -> (usize, usize)
     (lan.drain_room(host), lan.drain_room(host))
 }
 
-/// [`Lan::drain`] twice: two drains of one host, from equal networks, give the same frames at each socket, and leave the
-/// networks alike.
+/// [`Lan::drain`] twice: two drains of one host, from equal networks, give the same frames at each socket, and leave
+/// the networks alike.
 pub fn drain_twice<S: Outlet>(
     one: &mut Lan,
     other: &mut Lan,

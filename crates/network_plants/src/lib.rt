@@ -1,4 +1,5 @@
-//! Twins of the calls of a network and of a scenario: each hands on what its call gives, and edits make it wrong.
+//! Correct bodies for the contracts of a network's calls and of a scenario's: each makes one call and returns its
+//! result. The edits of `must-fail/` make these bodies wrong.
 #![tactic(auto)]
 
 mod of_bench;
@@ -6,5 +7,5 @@ mod of_lan;
 mod of_network;
 
 pub use of_bench::{bench, bench_err};
-pub use of_lan::{play, run};
+pub use of_lan::{drain, play, run};
 pub use of_network::{call_in_network, reset_in_network};

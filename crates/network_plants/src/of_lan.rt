@@ -1,11 +1,15 @@
 //! The calls of `Lan`.
 
-ghost use Rattle.std.specs.Prelude.{◌<◌, IfErr, OnOk, length, slice_get, take};
+ghost use Rattle.std.specs.Prelude.{◌<◌, ◌≤◌, ◌+◌, IfErr, OnOk, length, slice_get, take};
+ghost use Rattle.host_calls.specs.Networks.{IsHost};
+ghost use Rattle.packet_socket.specs.HostState.{HostState};
+ghost use Rattle.wire.specs.DrainedNetworks.{NetworkDrains};
 ghost use Rattle.wire.specs.Runs.{RunTold, RunsTo, StopsAt};
 
 use network_plan::{Event, Reply, Stopped};
+use rx_engine::MOST_FRAMES;
 use std::alloc::Global;
-use wire::{Lan, RunObserver};
+use wire::{Lan, Outlet, RunObserver};
 
 /// A twin of [`Lan::play`].
 pub fn play<O: RunObserver>(
@@ -38,4 +42,13 @@ pub fn run(
         Ok(()) => Ok(()),
         Err(stopped) => Err(stopped),
     }
+}
+
+/// A twin of [`Lan::drain`].
+pub fn drain<S: Outlet>(lan: &mut Lan, host: usize, sink: &mut S) -> u64
+    requires room { (state : HostState) → IsHost lan.old host state
+        → state.driver.layout.buffers + MOST_FRAMES ≤ S.room_left sink.old }
+    ensures drains { NetworkDrains lan.old host result (S.frames sink.old) (S.frames sink.new) lan.new }
+{
+    lan.drain(host, sink)
 }

@@ -1,2 +1,3 @@
 mod Fates
 mod OneJob
+mod WrongValues

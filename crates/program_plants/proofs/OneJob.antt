@@ -96,7 +96,7 @@ flag_one P false false p q = refl
 given_one : (text : Option (List ℕ)) (a b : List ℕ) → text ≡ Some a → text ≡ Some b → a ≡ b
 given_one text a b p q = some_one text a b p q
 
-not_both : (text : Option (List ℕ)) (given : List ℕ) → text ≡ Some given → IsNone text → ⊥
+pub not_both : (text : Option (List ℕ)) (given : List ℕ) → text ≡ Some given → IsNone text → ⊥
 not_both None given some none = absurd (cc (some))
 not_both (Some text) given some none = absurd (cc (none))
 

@@ -1,3 +1,4 @@
+use Rattle.network_outcomes.proofs.Failing.{failures-alike}
 use Rattle.network_outcomes.proofs.Made.{refusals-alike, made-alike}
 use Rattle.network_outcomes.proofs.network_calls.new_twice.Goals as goal
 
@@ -6,3 +7,6 @@ returns-clause-refused c = refusals-alike _ _ _ c.new.ensures c.new-2.ensures
 
 pub returns-clause-made : goal.returns-clause-made
 returns-clause-made c = made-alike _ _ _ c.new.ensures c.new-2.ensures
+
+pub returns-clause-failed : goal.returns-clause-failed
+returns-clause-failed c = failures-alike _ _ _ c.new.ensures c.new-2.ensures

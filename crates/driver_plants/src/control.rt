@@ -1,0 +1,22 @@
+//! A control of the functions that make a call twice: if the contract of the call leaves the result open, the prover
+//! must refuse such a function, though the body of the call always gives the same result.
+
+ghost use Rattle.std.specs.Prelude.{◌≡◌, ◌≤◌};
+ghost use Rattle.dma_memory.specs.Layout.{size_of};
+
+use driver::Driver;
+
+/// The number of bytes that the rings and buffers of a driver occupy.
+fn bytes_of(driver: &Driver) -> u64
+    ensures exact { result ≡ size_of driver.now.layout }
+{
+    driver.layout().size()
+}
+
+/// The same call twice, with equal drivers. An edit loosens the clause `exact` of this call, and nothing else.
+pub fn bytes_twice(one: &Driver, other: &Driver) -> (u64, u64)
+    requires { one.now ≡ other.now }
+    ensures { result.0 ≡ result.1 }
+{
+    (bytes_of(one), bytes_of(other))
+}
