@@ -109,6 +109,7 @@ is_there first (Some one) text e is = refl
 is_there first None text e is = absurd cc
 
 -- the one text that the rows have isn't of the option's form
-pub unspelled_here : (P : Text → Type 0) (first : Option Text) (text here : Text) → ¬ P text → first ≡ Some text → first ≡ Some here → ¬ P here
+pub unspelled_here : (P : Text → Type 0) (first : Option Text) (text here : Text) → ¬ P text → first ≡ Some text → first ≡ Some here
+    → ¬ P here
 unspelled_here P first text here unspelled e f =
     subst (λ (t : Text). ¬ P t) (same_Some text here (sym e ∙ f)) unspelled

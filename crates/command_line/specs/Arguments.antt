@@ -1,12 +1,26 @@
 -- The subcommands and arguments that the code gives clap, as clap's contracts see them (our choice).
-use Rattle.std.specs.Prelude.{List, [], ◌∷◌, codes, map, true}
+use Rattle.std.specs.Prelude.{Bool, List, [], ◌∷◌, codes, false, map, true}
 use Rattle.clap.specs.Simple.{on_top}
 use Rattle.clap.specs.Words.{App, Rule, Text, new_app, with_rule, with_subcommand}
+use Rattle.clap.specs.declared.builder.action.ArgAction.{ArgAction}
+use Rattle.clap.specs.declared.builder.ArgAction.TheVariants as action
 use Rattle.command_line.specs.Shape.{file_rule, flag_rule, option_rule, required_rule}
 use Rattle.command_line.specs.declared.command.Argument.{Argument}
 use Rattle.command_line.specs.declared.command.Form.{Form}
 use Rattle.command_line.specs.declared.command.Form.TheVariants.{File, Flag, Required, Value}
 use Rattle.command_line.specs.declared.command.Subcommand.{Subcommand}
+
+abbrev pub is_required_form : Form → Bool
+is_required_form (Value value) = false
+is_required_form (Required value) = true
+is_required_form Flag = false
+is_required_form File = true
+
+abbrev pub action_of_form : Form → ArgAction
+action_of_form (Value value) = action.Set
+action_of_form (Required value) = action.Set
+action_of_form Flag = action.SetTrue
+action_of_form File = action.Set
 
 abbrev pub rule_of_form : Form → Text → Rule
 rule_of_form (Value value) name = option_rule name
@@ -17,7 +31,7 @@ rule_of_form File name = file_rule name
 abbrev pub rule_for : Argument → Rule
 rule_for argument = rule_of_form argument.1 argument.0.now
 
--- a command with these rules more, in this order
+-- a command with these additional rules, in this order
 abbrev pub with_rules : App → List Rule → App
 with_rules app [] = app
 with_rules app (rule ∷ others) = with_rules (with_rule app rule) others
@@ -26,7 +40,7 @@ with_rules app (rule ∷ others) = with_rules (with_rule app rule) others
 abbrev pub app_for : Subcommand → App
 app_for subcommand = with_rules (new_app subcommand.name.now) (map rule_for subcommand.arguments.now)
 
--- a program with these subcommands more, in this order
+-- a program with these additional subcommands, in this order
 abbrev pub with_subcommands : App → List App → App
 with_subcommands program [] = program
 with_subcommands program (command ∷ others) = with_subcommands (with_subcommand program command.top) others

@@ -22,12 +22,12 @@ IsMadeOf error (Words same) = (same ≡ error) × (kind_of error ≢ OutOfMemory
 IsMadeOf error (Value value) = ⊥
 IsMadeOf error NotUnicode = ⊥
 
--- a fact of clap's error, where the words were refused
+-- if the words were refused, this fact holds of clap's error
 abbrev pub IfWords : LineError → (Error → Type 0) → Type 0
 IfWords (Words error) P = P error
 IfWords _ P = ⊤
 
--- a fact of the value, where a value was refused
+-- if a value was refused, this fact holds of the value
 abbrev pub IfValue : LineError → (InvalidValue → Type 0) → Type 0
 IfValue (Value value) P = P value
 IfValue _ P = ⊤

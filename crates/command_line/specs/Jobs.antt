@@ -1,7 +1,8 @@
 -- What clap holds for the words, as a job or as the value that it is refused for (our choice).
 use Rattle.std.specs.Prelude.{◌≡◌, ◌≤◌, ◌⊎◌, ◌↔◌, IfSome, IsTrue, ℕ, Bool, List, [], ◌∷◌, IsSomeAnd, Option, Some, None}
 use Rattle.std.specs.Borrow.{Bor}
-use Rattle.std.specs.Prelude.{⊤, IsNone, IsSome, codes, option_map}
+use Rattle.std.specs.Prelude.{⊤, ◌||◌, IsNone, IsSome, codes, option_map, true}
+use Rattle.std.specs.Str.{bytes_eq}
 use Rattle.clap.specs.Words.{Row, Text, first_of}
 use Rattle.command_line.specs.Shape.{found_in, refusals}
 use Rattle.text.specs.Addresses.{SpellsAddress}
@@ -25,18 +26,18 @@ use Rattle.command_line.specs.declared.job.ValueOption.{ValueOption}
 use Rattle.command_line.specs.declared.serve.ServedAdapter.{ServedAdapter}
 use Rattle.command_line.specs.declared.job.ValueOption.TheVariants as options
 
--- the value that an option's text spells, and none exactly where the option isn't there
+-- the value that an option's text spells; there is none if and only if the option isn't given
 abbrev pub IsValueOf : {V : Type 0} → (Text → V → Type 0) → Option Text → Option V → Type 0
 IsValueOf spells None None = ⊤
 IsValueOf spells (Some text) (Some value) = spells text value
 IsValueOf spells _ _ = ⊥
 
--- the value that an option's text spells, and this one where the option isn't there
+-- the value that an option's text spells, and the default if the option isn't given
 abbrev pub IsValueOr : {V : Type 0} → (Text → V → Type 0) → V → Option Text → V → Type 0
 IsValueOr spells default None value = value ≡ default
 IsValueOr spells default (Some text) value = spells text value
 
--- an option's text itself, and none exactly where the option isn't there
+-- the text of an option; there is none if and only if the option isn't given
 abbrev pub IsTextOf : Option Text → Option (Bor Text) → Type 0
 IsTextOf text value = text ≡ option_map (λ value. value.now) value
 
@@ -65,7 +66,7 @@ pub record IsRunJobOf (rows : List Row) (job : RunJob) : Type 0 where
 abbrev pub IsShowJobOf : List Row → ShowJob → Type 0
 IsShowJobOf rows job = first_of (codes "TRACE") rows ≡ Some job.trace.now
 
--- the file of `--image`, where there is no `--address`; else an image of the address that is given, or of the default
+-- the file of `--image`, if there is no `--address`; else an image of the address that is given, or of the default
 abbrev pub IsImageOf : List Row → ServeImage → Type 0
 IsImageOf rows (images.File path) =
     (first_of (codes "image") rows ≡ Some path.now) × IsNone (first_of (codes "address") rows)
@@ -121,7 +122,7 @@ IsJobOf found (Drive job) = (found.0 ≡ codes "drive") × IsDriveJobOf found.1 
 abbrev pub IsWithinBounds : PassFilter → Type 0
 IsWithinBounds filter = IfSome filter.group IsGroup × IfSome filter.vlan (λ n. n ≤ 4095)
 
--- the same of a `serve`: a packet buffer's kilobytes are those that there can be, and a link takes one tick at least
+-- what a caller may count on of a `serve`: the packet buffer has an allowed size, and the link needs at least one tick
 abbrev pub IsServable : ServeJob → Type 0
 IsServable job = IsKilobytes job.receive_kilobytes × IsLink job.link
 
@@ -171,7 +172,25 @@ name_of options.Buffers = codes "buffers"
 name_of options.Expect = codes "expect"
 name_of options.Idle = codes "idle"
 
--- the text is of the option's form; that of `--image` is any, where there is no `--address`
+-- the subcommand of this name has the option
+abbrev pub has_option : Text → ValueOption → Bool
+has_option name options.Address = bytes_eq name (codes "pass") || bytes_eq name (codes "serve")
+has_option name options.Group = bytes_eq name (codes "pass")
+has_option name options.Vlan = bytes_eq name (codes "pass")
+has_option name options.Memory = bytes_eq name (codes "serve") || bytes_eq name (codes "drive")
+has_option name options.Registers = bytes_eq name (codes "serve") || bytes_eq name (codes "drive")
+has_option name options.Image = bytes_eq name (codes "serve")
+has_option name options.Link = bytes_eq name (codes "serve")
+has_option name options.Rxa = bytes_eq name (codes "serve")
+has_option name options.Seed = bytes_eq name (codes "serve")
+has_option name options.Missed = bytes_eq name (codes "serve")
+has_option name options.Rx = bytes_eq name (codes "drive")
+has_option name options.Tx = bytes_eq name (codes "drive")
+has_option name options.Buffers = bytes_eq name (codes "drive")
+has_option name options.Expect = bytes_eq name (codes "drive")
+has_option name options.Idle = bytes_eq name (codes "drive")
+
+-- the text has the option's form; if there is no `--address`, `--image` takes any text
 abbrev pub IsSpelled : List Row → ValueOption → Text → Type 0
 IsSpelled rows options.Address text = (address : List ℕ) × SpellsAddress text address
 IsSpelled rows options.Group text = (address : List ℕ) × SpellsGroup text address
@@ -189,21 +208,28 @@ IsSpelled rows options.Buffers text = (n : ℕ) × SpellsRingSize text n
 IsSpelled rows options.Expect text = (n : ℕ) × SpellsDecimal text n
 IsSpelled rows options.Idle text = (n : ℕ) × SpellsDecimal text n
 
--- the matches have this text for the option, and it isn't of the option's form, or it excludes another option that is given
+-- the matches have this text for the option, and it doesn't have the option's form, or it excludes another option that
+-- is given
 pub record IsInvalidIn (rows : List Row) (value : InvalidValue) : Type 0 where
   pub given : first_of (name_of value.option) rows ≡ Some value.text.now
   pub unspelled : ¬ IsSpelled rows value.option value.text.now
 
--- the same of an option alone, whose text the matches have
+-- the matches have a text for this option, and it doesn't have the option's form
 pub record IsMisspelled (rows : List Row) (option : ValueOption) : Type 0 where
   pub text : Text
   pub given : first_of (name_of option) rows ≡ Some text
   pub unspelled : ¬ IsSpelled rows option text
 
+-- the same of an option of the subcommand of this name
+abbrev pub IsMisspelledOf : Text → List Row → ValueOption → Type 0
+IsMisspelledOf name rows option = (has_option name option ≡ true) × IsMisspelled rows option
+
 -- clap takes the words, and the job is that of the subcommand that it finds in them
 abbrev pub IsAskedBy : List Text → Job → Type 0
 IsAskedBy words job = (refusals words ≡ []) × IsSomeAnd (found_in words) (λ found. IsJobOf found job)
 
--- clap takes the words, and the value is one that it finds in them, of another form than its option's
+-- clap takes the words, and this value that it finds in them doesn't have its option's form, which the subcommand has
 abbrev pub IsRefusedIn : List Text → InvalidValue → Type 0
-IsRefusedIn words value = (refusals words ≡ []) × IsSomeAnd (found_in words) (λ found. IsInvalidIn found.1 value)
+IsRefusedIn words value =
+    (refusals words ≡ [])
+    × IsSomeAnd (found_in words) (λ found. (has_option found.0 value.option ≡ true) × IsInvalidIn found.1 value)

@@ -65,7 +65,7 @@ program_app =
     (new_app (codes "nicbench")))
     pass_app.top) run_app.top) show_app.top) serve_app.top) drive_app.top
 
--- the kinds of error that clap answers the words with, none where it takes them
+-- the kinds of error that clap may return for the words; none if it takes the words
 unfoldable pub refusals : List Text → Kinds
 refusals words = fault_of program_app words
 

@@ -7,14 +7,14 @@ use Rattle.text.specs.Words.{Text}
 use Rattle.command_line.specs.declared.job.ServeLink.{ServeLink}
 use Rattle.command_line.specs.declared.job.ServeLink.TheVariants.{After, Never}
 
--- a group address has the first bit that goes out, the lowest of its first byte, set (IEEE 802.3 3.2.3)
+-- a group address has the lowest bit of its first byte set (IEEE 802.3 3.2.3)
 abbrev pub IsGroup : List ℕ → Type 0
 IsGroup address = IsBitSet (slice_index address 0) 0
 
 abbrev pub SpellsGroup : Text → List ℕ → Type 0
 SpellsGroup text address = SpellsAddress text address × IsGroup address
 
--- a number of 64 bits that decimal digits alone write
+-- a number of 64 bits, in decimal digits alone
 abbrev pub SpellsDecimal : Text → ℕ → Type 0
 SpellsDecimal text n = number_in 10 64 text ≡ Some n
 
@@ -22,7 +22,7 @@ SpellsDecimal text n = number_in 10 64 text ≡ Some n
 abbrev pub SpellsVlan : Text → ℕ → Type 0
 SpellsVlan text n = SpellsDecimal text n × (n ≤ 4095)
 
--- one that decimal digits write, or hexadecimal ones after 0x
+-- a number of 64 bits, in decimal digits, or in hexadecimal digits after 0x
 abbrev pub SpellsWord : Text → ℕ → Type 0
 SpellsWord text n = number_spelled text ≡ Some n
 

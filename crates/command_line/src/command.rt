@@ -2,7 +2,8 @@
 ghost use Rattle.std.specs.Prelude.{◌≡◌, IfOk, false, map};
 ghost use Rattle.clap.specs.Words.{app_of, rule_of};
 ghost use Rattle.clap.specs.declared.builder.command.Command.TheViews.{out-Command as fields_of};
-ghost use Rattle.command_line.specs.Arguments.{app_for, bare_app, rule_for, with_subcommands};
+ghost use Rattle.command_line.specs.Arguments.{action_of_form, app_for, bare_app, is_required_form, rule_for};
+ghost use Rattle.command_line.specs.Arguments.{with_subcommands};
 ghost use Rattle.command_line.specs.Shape.{program_app};
 
 use crate::help::{
@@ -43,22 +44,37 @@ struct Subcommand<'a> {
     arguments: &'a [Argument<'a>],
 }
 
+/// Whether an argument of this form must be there.
+fn is_required(form: Form<'_>) -> bool
+    ensures { result ≡ is_required_form form.entry }
+{
+    matches!(form, Form::Required(_) | Form::File)
+}
+
+/// What clap does at an argument of this form.
+fn action_of(form: Form<'_>) -> ArgAction
+    ensures { result ≡ action_of_form form.entry }
+{
+    match form {
+        Form::Flag => ArgAction::SetTrue,
+        Form::Value(_) | Form::Required(_) | Form::File => ArgAction::Set,
+    }
+}
+
 /// An argument as clap takes it.
 fn clap_argument<'a>(alloc: Global, argument: &Argument<'a>) -> Arg<'a>
     ensures rule { rule_of result ≡ rule_for argument.now }
     ensures local { result.global ≡ false }
 {
     let Argument(name, form, help) = *argument;
-    let arg = Arg::new(alloc, name).help(help);
+    let arg = Arg::new(alloc, name)
+        .help(help)
+        .required(is_required(form))
+        .action(action_of(form));
     match form {
-        Form::Value(value) => arg.long(name).value_name(value).action(ArgAction::Set),
-        Form::Required(value) => arg
-            .long(name)
-            .value_name(value)
-            .action(ArgAction::Set)
-            .required(true),
-        Form::Flag => arg.long(name).action(ArgAction::SetTrue),
-        Form::File => arg.required(true).action(ArgAction::Set),
+        Form::Value(value) | Form::Required(value) => arg.long(name).value_name(value),
+        Form::Flag => arg.long(name),
+        Form::File => arg,
     }
 }
 

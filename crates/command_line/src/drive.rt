@@ -1,7 +1,7 @@
 //! The job of `drive`, from what clap holds for its options.
-ghost use Rattle.std.specs.Prelude.{IfErr, IfOk};
+ghost use Rattle.std.specs.Prelude.{IfErr, IfOk, codes};
 ghost use Rattle.clap.specs.Words.{found_of, rows_of};
-ghost use Rattle.command_line.specs.Jobs.{AreSizesOf, HasTraces, IsDriveJobOf, IsMisspelled};
+ghost use Rattle.command_line.specs.Jobs.{AreSizesOf, HasTraces, IsDriveJobOf, IsMisspelledOf};
 
 use crate::values::{decimal, ring_size, word};
 use crate::{DEFAULT_MEMORY, DEFAULT_REGISTERS, DriveJob, ValueOption};
@@ -21,7 +21,7 @@ struct Sizes {
 
 fn sizes_of(matches: &ArgMatches<'_>) -> Result<Sizes, ValueOption>
     ensures sizes { IfOk result (AreSizesOf (rows_of (found_of matches.now))) }
-    ensures refused { IfErr result (IsMisspelled (rows_of (found_of matches.now))) }
+    ensures refused { IfErr result (IsMisspelledOf (codes "drive") (rows_of (found_of matches.now))) }
 {
     let rx = ring_size(matches, ValueOption::Rx, DEFAULT_RING)?;
     let tx = ring_size(matches, ValueOption::Tx, DEFAULT_RING)?;
@@ -33,7 +33,7 @@ fn sizes_of(matches: &ArgMatches<'_>) -> Result<Sizes, ValueOption>
 pub(crate) fn drive_job<'a>(matches: &ArgMatches<'a>) -> Result<DriveJob<'a>, ValueOption>
     requires { HasTraces (rows_of (found_of matches.now)) }
     ensures job { IfOk result (IsDriveJobOf (rows_of (found_of matches.now))) }
-    ensures refused { IfErr result (IsMisspelled (rows_of (found_of matches.now))) }
+    ensures refused { IfErr result (IsMisspelledOf (codes "drive") (rows_of (found_of matches.now))) }
 {
     let registers = word(matches, ValueOption::Registers, DEFAULT_REGISTERS)?;
     let memory = word(matches, ValueOption::Memory, DEFAULT_MEMORY)?;

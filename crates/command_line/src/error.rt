@@ -18,7 +18,8 @@ pub enum LineError<'a> {
     /// clap refused the words, or was asked for help or the version: its text is clap's.
     #[error("{0}")]
     Words(clap::Error),
-    /// clap took the words, and the value of an option isn't of its form, or can't be used with another option.
+    /// clap took the words, and the value of an option doesn't have the option's form, or can't be used with another
+    /// option.
     #[error("{0}")]
     Value(InvalidValue<'a>),
     /// A word isn't UTF-8. Only the caller that takes the words from the system returns this, never
@@ -37,7 +38,7 @@ Usage: nicbench <COMMAND>
 For more information, try '--help'.
 ";
 
-/// A value that isn't of its option's form, or can't be used with another option.
+/// A value that doesn't have its option's form, or can't be used with another option.
 #[derive(Clone, Copy, Debug)]
 pub struct InvalidValue<'a> {
     /// The option that it was given for.
@@ -94,8 +95,10 @@ impl fmt::Display for InvalidValue<'_> {
         let option = shown(self.option);
         let form = form_of(self.option);
         let text = self.text;
-        write!(f, "error: invalid value '{text}' for '{option}': {form}\n")?;
-        write!(f, "\nFor more information, try '--help'.\n")
+        write!(
+            f,
+            "error: invalid value '{text}' for '{option}': {form}\n\nFor more information, try '--help'.\n"
+        )
     }
 }
 

@@ -50,7 +50,7 @@ pub struct ShowJob<'a> {
     pub trace: &'a str,
 }
 
-/// The options of `pass`, each `None` where it isn't given. The default has none of them.
+/// The options of `pass`, each `None` if it isn't given. The default has none of them.
 #[derive(Clone, Copy, Default)]
 pub struct PassFilter {
     /// The adapter's own address (`--address`), the first byte first.
@@ -75,7 +75,7 @@ pub struct ServeJob<'a> {
     pub link: ServeLink,
     /// The kilobytes of the adapter's receive packet buffer, an even number from 2 to 48 (`--rxa`, 48).
     pub receive_kilobytes: u8,
-    /// What interleaved steps are drawn from (`--seed`, 0).
+    /// The seed from which interleaved steps are drawn (`--seed`, 0).
     pub seed: u64,
     /// The count of missed frames (MPC) that the adapter begins with (`--missed`, 0).
     pub missed: u32,

@@ -2,7 +2,7 @@
 ghost use Rattle.std.specs.Prelude.{◌≡◌, ◌≢◌, IfErr, IfOk, OnOk, [], map, true};
 ghost use Rattle.clap.specs.Words.{found_of, has_subcommand, rows_of, subcommand_rows_of};
 ghost use Rattle.command_line.specs.Errors.{IfValue, IfWords, IsRefusalOf, IsRefusedBy};
-ghost use Rattle.command_line.specs.Jobs.{HasBounds, IsAskedBy, IsJobOf, IsMisspelled};
+ghost use Rattle.command_line.specs.Jobs.{HasBounds, IsAskedBy, IsJobOf, IsMisspelledOf};
 ghost use Rattle.command_line.specs.Jobs.{IsRefusedIn, IsSubcommand};
 ghost use Rattle.command_line.specs.Shape.{found_in, refusals};
 ghost use Rattle.command_line.specs.declared.error.LineError.TheVariants.{NotUnicode};
@@ -24,7 +24,7 @@ fn job_of<'a>(name: &str, matches: &ArgMatches<'a>) -> Result<Job<'a>, ValueOpti
     requires { IsSubcommand name.now (rows_of (found_of matches.now)) }
     ensures bounds { IfOk result HasBounds }
     ensures job { IfOk result (IsJobOf (name.now, rows_of (found_of matches.now))) }
-    ensures refused { IfErr result (IsMisspelled (rows_of (found_of matches.now))) }
+    ensures refused { IfErr result (IsMisspelledOf name.now (rows_of (found_of matches.now))) }
 {
     match name {
         "pass" => Ok(Job::Pass(pass_job(matches)?)),
@@ -36,7 +36,7 @@ fn job_of<'a>(name: &str, matches: &ArgMatches<'a>) -> Result<Job<'a>, ValueOpti
     }
 }
 
-/// What clap finds in the words, a subcommand among it.
+/// What clap finds in the words, with the subcommand.
 fn matches_of<'a, S: AsStr>(alloc: Global, words: &'a [S]) -> Result<ArgMatches<'a>, LineError<'a>>
     ensures taken { OnOk result (refusals (map S.text words.entry.now) ≡ []) }
     ensures found { IfOk result (λ matches. has_subcommand matches ≡ true

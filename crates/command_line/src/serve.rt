@@ -1,7 +1,7 @@
 //! The job of `serve`, from what clap holds for its options.
 ghost use Rattle.std.specs.Prelude.{IfErr, IfOk, codes};
 ghost use Rattle.clap.specs.Words.{first_of, found_of, rows_of};
-ghost use Rattle.command_line.specs.Jobs.{IsAdapterOf, IsImageOf, IsMisspelled, IsServable, IsServeJobOf};
+ghost use Rattle.command_line.specs.Jobs.{IsAdapterOf, IsImageOf, IsMisspelledOf, IsServable, IsServeJobOf};
 ghost use Rattle.command_line.specs.Jobs.{IsValueOr};
 ghost use Rattle.command_line.specs.Spelling.{IsKilobytes, IsLink, SpellsCount, SpellsKilobytes, SpellsLink};
 ghost use Rattle.command_line.specs.declared.job.ServeLink.TheVariants.{After};
@@ -31,7 +31,7 @@ struct ServedAdapter<'a> {
 
 fn image<'a>(matches: &ArgMatches<'a>) -> Result<ServeImage<'a>, ValueOption>
     ensures value { IfOk result (IsImageOf (rows_of (found_of matches.now))) }
-    ensures refused { IfErr result (IsMisspelled (rows_of (found_of matches.now))) }
+    ensures refused { IfErr result (IsMisspelledOf (codes "serve") (rows_of (found_of matches.now))) }
 {
     let Some(path) = text_of(matches, ValueOption::Image) else {
         let address = address(matches, ValueOption::Address)?;
@@ -44,8 +44,9 @@ fn image<'a>(matches: &ArgMatches<'a>) -> Result<ServeImage<'a>, ValueOption>
 }
 
 fn link(matches: &ArgMatches<'_>) -> Result<ServeLink, ValueOption>
-    ensures value { IfOk result (IsValueOr SpellsLink (After 1) (first_of (codes "link") (rows_of (found_of matches.now)))) }
-    ensures refused { IfErr result (IsMisspelled (rows_of (found_of matches.now))) }
+    ensures value { IfOk result
+        (IsValueOr SpellsLink (After 1) (first_of (codes "link") (rows_of (found_of matches.now)))) }
+    ensures refused { IfErr result (IsMisspelledOf (codes "serve") (rows_of (found_of matches.now))) }
 {
     match text_of(matches, ValueOption::Link) {
         Some(text) => match link_of(text) {
@@ -57,8 +58,9 @@ fn link(matches: &ArgMatches<'_>) -> Result<ServeLink, ValueOption>
 }
 
 fn kilobytes(matches: &ArgMatches<'_>) -> Result<u8, ValueOption>
-    ensures value { IfOk result (IsValueOr SpellsKilobytes 48 (first_of (codes "rxa") (rows_of (found_of matches.now)))) }
-    ensures refused { IfErr result (IsMisspelled (rows_of (found_of matches.now))) }
+    ensures value { IfOk result
+        (IsValueOr SpellsKilobytes 48 (first_of (codes "rxa") (rows_of (found_of matches.now)))) }
+    ensures refused { IfErr result (IsMisspelledOf (codes "serve") (rows_of (found_of matches.now))) }
 {
     match text_of(matches, ValueOption::Rxa) {
         Some(text) => match kilobytes_of(text) {
@@ -71,7 +73,7 @@ fn kilobytes(matches: &ArgMatches<'_>) -> Result<u8, ValueOption>
 
 fn missed(matches: &ArgMatches<'_>) -> Result<u32, ValueOption>
     ensures value { IfOk result (IsValueOr SpellsCount 0 (first_of (codes "missed") (rows_of (found_of matches.now)))) }
-    ensures refused { IfErr result (IsMisspelled (rows_of (found_of matches.now))) }
+    ensures refused { IfErr result (IsMisspelledOf (codes "serve") (rows_of (found_of matches.now))) }
 {
     match text_of(matches, ValueOption::Missed) {
         Some(text) => match count_of(text) {
@@ -85,7 +87,7 @@ fn missed(matches: &ArgMatches<'_>) -> Result<u32, ValueOption>
 fn adapter<'a>(matches: &ArgMatches<'a>) -> Result<ServedAdapter<'a>, ValueOption>
     ensures bounds { IfOk result (λ adapter. IsKilobytes adapter.receive_kilobytes × IsLink adapter.link) }
     ensures adapter { IfOk result (IsAdapterOf (rows_of (found_of matches.now))) }
-    ensures refused { IfErr result (IsMisspelled (rows_of (found_of matches.now))) }
+    ensures refused { IfErr result (IsMisspelledOf (codes "serve") (rows_of (found_of matches.now))) }
 {
     let image = image(matches)?;
     let link = link(matches)?;
@@ -101,7 +103,7 @@ fn adapter<'a>(matches: &ArgMatches<'a>) -> Result<ServedAdapter<'a>, ValueOptio
 pub(crate) fn serve_job<'a>(matches: &ArgMatches<'a>) -> Result<ServeJob<'a>, ValueOption>
     ensures bounds { IfOk result IsServable }
     ensures job { IfOk result (IsServeJobOf (rows_of (found_of matches.now))) }
-    ensures refused { IfErr result (IsMisspelled (rows_of (found_of matches.now))) }
+    ensures refused { IfErr result (IsMisspelledOf (codes "serve") (rows_of (found_of matches.now))) }
 {
     let memory = word(matches, ValueOption::Memory, DEFAULT_MEMORY)?;
     let registers = word(matches, ValueOption::Registers, DEFAULT_REGISTERS)?;

@@ -16,13 +16,13 @@ const GROUP_BIT: u8 = 1;
 /// The highest VLAN identifier of 12 bits (IEEE 802.1Q 9.6).
 const HIGHEST_VLAN: u64 = 4095;
 
-/// The fewest and the most kilobytes of a receive packet buffer (manual 13.4.16, RXA).
+/// The smallest receive part of a packet buffer in kilobytes (manual 13.4.16, RXA).
 const LEAST_KILOBYTES: u64 = 2;
 
 const MOST_KILOBYTES: u64 = 48;
 
-/// The group address that a text spells: an address whose first byte is odd, as
-/// `01:00:5e:00:00:01`. `None` for any other text, an individual address among them.
+/// The group address that a text spells: an address whose first byte is odd, as `01:00:5e:00:00:01`. `None` for any
+/// other text, such as an individual address.
 pub(crate) fn group_of(text: &str) -> Option<[u8; 6]>
     ensures spelled { IfSome result (SpellsGroup text.now) }
     ensures refused { IfNone result ((address : List ℕ) → ¬ SpellsGroup text.now address) }
@@ -34,8 +34,8 @@ pub(crate) fn group_of(text: &str) -> Option<[u8; 6]>
     Some(address)
 }
 
-/// The VLAN identifier that a text spells: decimal digits alone, up to 4095, leading zeros or
-/// none. `None` for any other text, one with a sign among them.
+/// The VLAN identifier that a text spells: decimal digits alone, up to 4095, with or without leading zeros. `None` for
+/// any other text, such as one with a sign.
 pub(crate) fn vlan_of(text: &str) -> Option<u16>
     ensures spelled { IfSome result (SpellsVlan text.now) }
     ensures refused { IfNone result ((vlan : ℕ) → ¬ SpellsVlan text.now vlan) }
@@ -47,8 +47,8 @@ pub(crate) fn vlan_of(text: &str) -> Option<u16>
     Some(vlan as u16)
 }
 
-/// The number below 2^64 that a text spells in decimal digits alone, leading zeros or none. `None` for any other text,
-/// one with a sign among them.
+/// The number below 2^64 that a text spells in decimal digits alone, with or without leading zeros. `None` for any
+/// other text, such as one with a sign.
 pub(crate) fn decimal_of(text: &str) -> Option<u64>
     ensures { result ≡ number_in 10 64 text.now }
 {

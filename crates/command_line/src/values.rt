@@ -40,10 +40,11 @@ pub(crate) fn text_of<'a>(matches: &ArgMatches<'a>, option: ValueOption) -> Opti
     matches.get_str(name_of(option))
 }
 
-/// An option with its text, which isn't of its form.
+/// An option with its text, which doesn't have its form.
 pub(crate) fn invalid<'a>(matches: &ArgMatches<'a>, option: ValueOption) -> InvalidValue<'a>
     requires { IsMisspelled (rows_of (found_of matches.now)) option }
-    ensures { IsInvalidIn (rows_of (found_of matches.now)) result }
+    ensures option { result.option ≡ option }
+    ensures invalid { IsInvalidIn (rows_of (found_of matches.now)) result }
 {
     let text = text_of(matches, option).unwrap();
     InvalidValue { option, text }
@@ -54,9 +55,11 @@ pub(crate) fn address(
     matches: &ArgMatches<'_>,
     option: ValueOption,
 ) -> Result<Option<[u8; 6]>, ValueOption>
-    requires { (rows : List Row) (text : Text) → IsSpelled rows option text → (address : List ℕ) × SpellsAddress text address }
+    requires { (rows : List Row) (text : Text) → IsSpelled rows option text
+        → (address : List ℕ) × SpellsAddress text address }
     ensures value { IfOk result (IsValueOf SpellsAddress (first_of (name_of option) (rows_of (found_of matches.now)))) }
-    ensures refused { IfErr result (IsMisspelled (rows_of (found_of matches.now))) }
+    ensures refused { IfErr result
+        (λ refused. (refused ≡ option) × IsMisspelled (rows_of (found_of matches.now)) refused) }
 {
     match text_of(matches, option) {
         Some(text) => match address_of(text) {
@@ -74,7 +77,8 @@ pub(crate) fn decimal(
 ) -> Result<Option<u64>, ValueOption>
     requires { (rows : List Row) (text : Text) → IsSpelled rows option text → (n : ℕ) × SpellsDecimal text n }
     ensures value { IfOk result (IsValueOf SpellsDecimal (first_of (name_of option) (rows_of (found_of matches.now)))) }
-    ensures refused { IfErr result (IsMisspelled (rows_of (found_of matches.now))) }
+    ensures refused { IfErr result
+        (λ refused. (refused ≡ option) × IsMisspelled (rows_of (found_of matches.now)) refused) }
 {
     match text_of(matches, option) {
         Some(text) => match decimal_of(text) {
@@ -92,8 +96,10 @@ pub(crate) fn word(
     default: u64,
 ) -> Result<u64, ValueOption>
     requires { (rows : List Row) (text : Text) → IsSpelled rows option text → (n : ℕ) × SpellsWord text n }
-    ensures value { IfOk result (IsValueOr SpellsWord default (first_of (name_of option) (rows_of (found_of matches.now)))) }
-    ensures refused { IfErr result (IsMisspelled (rows_of (found_of matches.now))) }
+    ensures value { IfOk result
+        (IsValueOr SpellsWord default (first_of (name_of option) (rows_of (found_of matches.now)))) }
+    ensures refused { IfErr result
+        (λ refused. (refused ≡ option) × IsMisspelled (rows_of (found_of matches.now)) refused) }
 {
     match text_of(matches, option) {
         Some(text) => match number_of(text) {
@@ -111,8 +117,10 @@ pub(crate) fn ring_size(
     default: u16,
 ) -> Result<u16, ValueOption>
     requires { (rows : List Row) (text : Text) → IsSpelled rows option text → (n : ℕ) × SpellsRingSize text n }
-    ensures value { IfOk result (IsValueOr SpellsRingSize default (first_of (name_of option) (rows_of (found_of matches.now)))) }
-    ensures refused { IfErr result (IsMisspelled (rows_of (found_of matches.now))) }
+    ensures value { IfOk result
+        (IsValueOr SpellsRingSize default (first_of (name_of option) (rows_of (found_of matches.now)))) }
+    ensures refused { IfErr result
+        (λ refused. (refused ≡ option) × IsMisspelled (rows_of (found_of matches.now)) refused) }
 {
     match text_of(matches, option) {
         Some(text) => match ring_size_of(text) {

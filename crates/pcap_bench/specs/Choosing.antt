@@ -27,7 +27,7 @@ abbrev pub with_vlan : Option ℕ → FilterRegisters → FilterRegisters
 with_vlan None r = r
 with_vlan (Some number) r = record r { vfta = with_bit r.vfta number }
 
--- all of these, and VET
+-- the registers with address, group and VLAN, and VET
 abbrev pub with_tables : PassFilter → FilterRegisters → FilterRegisters
 with_tables options r = record (with_vlan options.vlan (with_group options.group (with_address options.address r))) { vet = VLAN_TYPE }
 

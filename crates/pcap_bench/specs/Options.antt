@@ -9,8 +9,9 @@ use Rattle.rx_engine.specs.declared.filter.TheConstants.{VLAN_TYPE}
 abbrev pub IsOpen : PassFilter → Type 0
 IsOpen options = (options.address ≡ None) × (options.group ≡ None)
 
--- The address is the one exact address, the group's number (of bits 47 to 36 of the address) the one number of the group table, the VLAN
--- the one VLAN; broadcast is accepted, and everything where neither an address nor a group is given.
+-- The address is the one exact address, the group's number (of bits 47 to 36 of the address) the one number of the
+-- group table, the VLAN the one VLAN; broadcast is accepted, and every address if neither an address nor a group is
+-- given.
 abbrev pub filter_for : PassFilter → ReceiveFilter
 filter_for options = record {
   addresses = λ address. options.address ≡ Some address;

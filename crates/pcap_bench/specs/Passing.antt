@@ -34,19 +34,19 @@ HaveFates keeps [] (t ∷ ts) = ⊥
 HaveFates keeps (f ∷ fs) [] = ⊥
 HaveFates keeps (f ∷ fs) (t ∷ ts) = IsFate keeps f t × HaveFates keeps fs ts
 
--- whether its size is illegal
+-- whether this is the fate of a frame of an illegal size
 abbrev pub is_illegal : Fate → Bool
 is_illegal illegal = true
 is_illegal filtered = false
 is_illegal kept = false
 
--- whether the filter rejects it
+-- whether this is the fate of a frame that the filter rejects
 abbrev pub is_filtered : Fate → Bool
 is_filtered illegal = false
 is_filtered filtered = true
 is_filtered kept = false
 
--- whether it is written
+-- whether this is the fate of a frame that is written
 abbrev pub is_kept : Fate → Bool
 is_kept illegal = false
 is_kept filtered = false
@@ -73,14 +73,14 @@ pub record WritesKept (unit : Unit) (keeps : Filter) (frames : List (List ℕ)) 
   pub went : Appends before after (written unit (kept_from 0 frames fates))
   -- all frames are counted
   pub read_is : counts.read ≡ length frames
-  -- and those of illegal sizes
+  -- the frames of illegal sizes are counted
   pub illegal_is : counts.illegal ≡ count_by is_illegal fates
-  -- and those that the filter rejects
+  -- the frames that the filter rejects are counted
   pub filtered_is : counts.filtered ≡ count_by is_filtered fates
-  -- and those written
+  -- the frames that are written are counted
   pub written_is : counts.written ≡ count_by is_kept fates
 
--- What was written is a beginning of the written form of the kept frames, among the first ones.
+-- The first frames had their fates, and a beginning of the written form of those kept was written.
 pub record StopsAmong (unit : Unit) (keeps : Filter) (frames : List (List ℕ)) (before after : Option (List ℕ)) : Type 0 where
   -- the number of frames whose fate was decided
   pub count : ℕ

@@ -1,4 +1,5 @@
--- What the program shows of a trace: a line for each frame, and one of what there was (our choice; a frame's parts: IEEE 802.3 clause 3.2)
+-- What the program shows of a trace: a line for each frame, and a line with the counts (our choice; a frame's parts:
+-- IEEE 802.3 clause 3.2)
 use Rattle.std.specs.Prelude.{◌+◌, ◌++◌, ℕ, List, [], ◌∷◌, length, slice_index, slice_range, codes, decimal, nat_lt, if◌then◌else◌}
 use Rattle.std.specs.List.{flat_map}
 use Rattle.hex.specs.Hex.{encode_lower}
@@ -26,7 +27,7 @@ source frame = slice_range frame 6 12
 abbrev pub type_text : List ℕ → List ℕ
 type_text frame = pair (slice_index frame 12) ++ pair (slice_index frame 13)
 
--- destination, source and type, where the frame has all 14 bytes of them
+-- destination, source and type, if the frame has all 14 bytes of them
 abbrev pub header_text : List ℕ → List ℕ
 header_text frame =
     if nat_lt (length frame) 14 then codes " short"

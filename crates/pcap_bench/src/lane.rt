@@ -28,7 +28,7 @@ use std::marker::Model;
 /// The address in the EEPROM. The exact filter has this address until a driver writes another one.
 const OWN_ADDRESS: [u8; 6] = [0x02, 0, 0, 0, 0, 0x01];
 
-/// The low word of an address.
+/// The mask of an address's low 32 bits.
 const LOW_WORD: u64 = 0xFFFF_FFFF;
 
 /// An adapter whose filter is set for a pass, the host's memory that it receives into, and the slot that its driver

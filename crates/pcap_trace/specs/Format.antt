@@ -64,7 +64,7 @@ pub record IsPacket (number : Order) (p : Packet) : Type 0 where
 abbrev pub packet_bytes : Packet → List ℕ
 packet_bytes p = p.header ++ p.captured
 
--- A truncated packet is skipped. All bytes of one that is longer than the original are taken. (our choice)
+-- A truncated packet is skipped. Of a packet that is longer than the original, all bytes are taken. (our choice)
 abbrev pub is_partial : Order → Packet → Bool
 is_partial number p = nat_lt (captured_length number p.header) (original_length number p.header)
 
@@ -113,7 +113,7 @@ ending_of false = complete
 abbrev pub IsTraceIn : Order → List ℕ → List (List ℕ) → ℕ → Bool → Type 0
 IsTraceIn number bytes frames skipped cut = IsFileHeader number bytes × IsBody number (drop 24 bytes) frames skipped (ending_of cut)
 
--- in one of the two byte orders
+-- These bytes are a trace of these frames, in one of the two byte orders.
 abbrev pub IsTrace : List ℕ → List (List ℕ) → ℕ → Bool → Type 0
 IsTrace bytes frames skipped cut = (order : Endianness) × IsTraceIn (number_in order) bytes frames skipped cut
 
@@ -129,7 +129,7 @@ pub record Timed : Type 0 where
 abbrev pub frame_of : Timed → List ℕ
 frame_of t = t.frame
 
--- a pair of the program
+-- a pair of a time and a frame, as the program has it
 abbrev pub timed : ℕ × List ℕ → Timed
 timed p = record { time = p.0; frame = p.1 }
 
@@ -143,12 +143,13 @@ abbrev pub fraction_of : Unit → ℕ → ℕ
 fraction_of Micros time = time % 1000000
 fraction_of Nanos time = time % 1000000 * 1000
 
--- little-endian, with times in this unit, version 2.4, snapshot length 65,535, Ethernet
+-- the file header of written traces: little-endian, with times in this unit, version 2.4, snapshot length 65,535,
+-- Ethernet
 unfoldable pub file_header : Unit → List ℕ
 file_header unit = little_bytes 4 (magic_of unit) ++ little_bytes 2 2 ++ little_bytes 2 4 ++ little_bytes 4 0 ++ little_bytes 4 0
     ++ little_bytes 4 65535 ++ little_bytes 4 1
 
--- seconds (their low 32 bits), the fraction in this unit, and the length twice
+-- the packet header of a written frame: seconds (their low 32 bits), the fraction in this unit, and the length twice
 unfoldable pub packet_header : Unit → ℕ → ℕ → List ℕ
 packet_header unit time len = little_bytes 4 (time / 1000000 % 2 ^ 32) ++ little_bytes 4 (fraction_of unit time) ++ little_bytes 4 len
     ++ little_bytes 4 len
@@ -168,7 +169,7 @@ IsShort t = length t.frame ≤ most_captured
 abbrev pub WrittenIsTrace : Type 0
 WrittenIsTrace = (unit : Unit) (ts : List Timed) → AllByRecursion IsShort ts → IsTrace (written unit ts) (map frame_of ts) 0 false
 
--- And it is a trace of no others.
+-- What is written is a trace of no other frames, and with no other values of `skipped` and `cut`.
 abbrev pub WrittenIsNoOther : Type 0
 WrittenIsNoOther =
     (unit : Unit) (ts : List Timed) (frames : List (List ℕ)) (skipped : ℕ) (cut : Bool)

@@ -1,4 +1,4 @@
--- Frames that lie in one buffer.
+-- Frames in one buffer, one after the other.
 use Rattle.std.specs.Prelude.{ℕ, List, [], ◌∷◌, take, drop}
 
 -- Bytes cut into pieces of these lengths. (our choice)

@@ -1,4 +1,4 @@
--- What may be answered to the bytes of a trace file.
+-- The results that a read of a trace file may have.
 use Rattle.std.specs.Prelude.{◌≡◌, ◌+◌, ◌==◌, ◌&&◌, ℕ, List, length, drop, Bool, true, false, not, nat_lt, if◌then◌else◌, Option, Some}
 use Rattle.std.specs.Prelude.{None, Result, Ok, Err, ⊤}
 use Rattle.pcap_trace.specs.declared.fault.ReadError.{ReadError}
@@ -17,7 +17,7 @@ header_fault number bytes =
     else (if not (number 4 (drop 20 bytes) == 1) then Some errors.LinkType
     else None)))
 
--- The fault in either byte order: no magic number in both of them, or another fault in one. (our choice)
+-- The fault in either byte order: no magic number in either, or another fault in one. (our choice)
 abbrev pub IsHeaderFault : List ℕ → ReadError → Type 0
 IsHeaderFault bytes errors.Magic = (order : Endianness) → header_fault (number_in order) bytes ≡ Some errors.Magic
 IsHeaderFault bytes e = (order : Endianness) × (header_fault (number_in order) bytes ≡ Some e)

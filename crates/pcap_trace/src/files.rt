@@ -59,7 +59,7 @@ impl<R: Read> Source for ReaderSource<R> {
     }
 }
 
-/// A writer as a sink. A write of bytes of which the writer takes none is a failure.
+/// A writer as a sink. A write of some bytes is a failure if the writer takes none of them.
 ///
 /// It never flushes the writer: the owner of a buffered writer must flush it.
 #[derive(Drop)]

@@ -23,7 +23,7 @@ fn is_magic(word: u32) -> bool
     word == MICROSECONDS_MAGIC || word == NANOSECONDS_MAGIC
 }
 
-/// Tests the file header at the front, whose numbers are in this byte order.
+/// Checks the file header that the bytes begin with; `T` is its byte order.
 fn check_header<T: ByteOrder>(bytes: &[u8]) -> Result<(), ReadError>
     ensures { MatchResult result (λ _. header_fault T.number_of bytes.now ≡ None)
         (λ e. header_fault T.number_of bytes.now ≡ Some e) }

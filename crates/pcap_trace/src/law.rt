@@ -1,8 +1,8 @@
 //! The law of the written form.
 ghost use Rattle.pcap_trace.specs.Format.{WrittenIsTrace, WrittenIsNoOther};
 
-/// The law of the written form: it is a trace of exactly the frames that were written, of at most 262,144 bytes each,
-/// with none skipped and not cut, and it is a trace of no others.
+/// The law of the written form: if each frame has at most 262,144 bytes, what is written is a trace of exactly these
+/// frames: none is skipped, and the end isn't cut off. It is a trace of no other frames.
 ///
 /// It does nothing: its contract is the law.
 pub fn written_is_trace()

@@ -1,6 +1,6 @@
 //! The unit of the times that a trace is written with.
 
-/// The unit in which the packets of a written trace have the fractions of their seconds. Times are microseconds in both.
+/// The unit of the fractions of a second in a written trace. Times are microseconds in both.
 #[derive(Clone, Copy, Debug, PartialEq, Eq)]
 pub enum Unit {
     /// Microseconds.

@@ -70,20 +70,20 @@ impl RecordWriter {
         Ok(RecordWriter { block, end })
     }
 
-    /// Begins another trace: the file header waits, and nothing else. What waited before is gone.
+    /// Begins another trace: the file header waits, and nothing else. Bytes that waited before are dropped.
     pub fn begin(&mut self, unit: Unit)
         ensures { self.new ≡ file_header unit }
     {
         self.end = put(self.block.as_mut_slice(), 0, &file_header(unit));
     }
 
-    /// Appends the packet of a frame of at most 1,518 bytes, at a time in microseconds. Where the block has no room
-    /// for it, what waits goes to the sink first.
+    /// Appends the packet of a frame of at most 1,518 bytes, at a time in microseconds. If the block has no room for
+    /// it, the bytes that wait go to the sink first.
     ///
     /// # Errors
     ///
-    /// E67 [`Write`](WriteError::Write) where the sink fails; then a beginning of what waited went out, and all of it
-    /// waits still, without this packet: a further flush would send that beginning again.
+    /// E67 [`Write`](WriteError::Write) if the sink fails. Then a beginning of the bytes that waited was written, and
+    /// all of them still wait, without this packet: another flush would write that beginning again.
     #[inline(always)]
     pub fn write<W: Sink>(
         &mut self,
@@ -121,12 +121,12 @@ impl RecordWriter {
         self.end = put(self.block.as_mut_slice(), end, frame);
     }
 
-    /// Writes what waits to the sink. What was appended since the last flush goes out only by this, so it ends a trace.
+    /// Writes the bytes that wait to the sink. A trace is complete only after a flush.
     ///
     /// # Errors
     ///
-    /// E67 [`Write`](WriteError::Write) where the sink fails; then a beginning of what waited went out, and all of it
-    /// waits still: a further flush would send that beginning again.
+    /// E67 [`Write`](WriteError::Write) if the sink fails. Then a beginning of the bytes that waited was written, and
+    /// all of them still wait: another flush would write that beginning again.
     pub fn flush<W: Sink>(&mut self, sink: &mut W) -> Result<(), WriteError>
         requires { W.failures sink.old < u64.MAX }
         ensures ok { OnOk result (Appends (W.taken sink.old) (W.taken sink.new) self.old) }

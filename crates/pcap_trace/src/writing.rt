@@ -15,7 +15,7 @@ use descriptors::Frame;
 ///
 /// # Errors
 ///
-/// E67 [`Write`](WriteError::Write) where the sink fails; then a beginning of the slice went out.
+/// E67 [`Write`](WriteError::Write) if the sink fails. Then a beginning of the slice was written.
 pub fn write_all<W: Sink>(sink: &mut W, bytes: &[u8]) -> Result<(), WriteError>
     requires { W.failures sink.old < u64.MAX }
     ensures ok { OnOk result (Appends (W.taken sink.old) (W.taken sink.new) bytes.now) }

@@ -97,7 +97,7 @@ pub fn read_trace<R: Files + Input + Watched + AllocGlobal>(
     Ok(trace)
 }
 
-/// Reads all bytes of an input. What a file grows by after it was opened isn't read.
+/// Reads all bytes of an input. Bytes that are appended after a file was opened aren't read.
 pub fn read_bytes<R: Files + Input + AllocGlobal>(
     rt: &R,
     path: &str,
@@ -178,7 +178,7 @@ pub fn find_folder<R: Files + AllocGlobal>(rt: &R, path: &str) -> Result<(), Fil
     }
 }
 
-/// Looks what an input or an output is. Links are followed.
+/// The kind and the size of an input or an output. Links are followed.
 fn metadata_of<R: Files>(rt: &R, path: &str) -> io::Result<Metadata> {
     if path == STANDARD_INPUT {
         return fs::metadata(rt, STANDARD_INPUT_FILE);

@@ -6,7 +6,7 @@ use std::io::{self, IsTerminal, Read};
 /// The shortest file whose progress is reported: 256 MiB.
 const LONG_FILE: u64 = 1 << 28;
 
-/// How often that is reported.
+/// The number of reports for a long file.
 const STEPS: u64 = 10;
 
 /// The smallest number of fed frames for which the start of a run is reported.
@@ -26,7 +26,7 @@ impl Watched for HostRuntime {
     }
 }
 
-/// A reader that reports how much of a long file was read, if that is watched.
+/// A reader that reports how much of a long file was read, if standard error is a terminal.
 #[derive(Drop)]
 pub(crate) struct ReportingReader<'a, R, F> {
     rt: &'a R,

@@ -93,7 +93,7 @@ impl<F: OpenFile + std::io::Write + Drop> WholeFile<F> {
         WholeFile { sink, part: None }
     }
 
-    /// All is written: the output gets the new bytes.
+    /// To call once all is written: the output gets the new bytes.
     ///
     /// # Errors
     ///
@@ -110,7 +110,7 @@ impl<F: OpenFile + std::io::Write + Drop> WholeFile<F> {
         Err(WriteError::Write)
     }
 
-    /// Not all is written: removes the part. An output that is written in place keeps the bytes that it has.
+    /// To call if not all is written: removes the part. An output that is written in place keeps the bytes that it has.
     pub fn abandon<R: Files>(self, rt: &R) {
         let WholeFile { sink: _, part } = self;
         if let Some(part) = part {
@@ -138,7 +138,7 @@ fn open_replaceable<R: Files + AllocGlobal>(
 
 /// Opens an output. A plain file with one name keeps its bytes until [`finish`](WholeFile::finish), and a new file gets
 /// its name then. Any other output is written in place, as by [`create`]: a link, a file with several names, a device
-/// or a pipe. So is a file for which no part with its owner and permissions can be made.
+/// or a pipe. A file for which no part with its owner and permissions can be made is written in place, too.
 pub fn create_whole<R: Files + AllocGlobal>(
     rt: &R,
     path: &str,

@@ -130,7 +130,7 @@ abbrev pub IsLineAnswer : SoFar → Text → Result (Unit {0}) Stop → SoFar �
 IsLineAnswer before line (Ok u) after = IsGoodLine before line × (after ≡ after_words before (words_of line))
 IsLineAnswer before line (Err stop) after = IfFault stop (IsFaultyLine before line)
 
--- what good lines add
+-- the hosts, commands and traces of good lines
 abbrev pub said_by : List Text → SoFar
 said_by lines = fold (λ before line. after_words before (words_of line)) nothing_read lines
 

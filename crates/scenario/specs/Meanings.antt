@@ -18,12 +18,18 @@ use Rattle.text.specs.Words.{words_after, words_before}
 use Rattle.scenario.specs.TickWords.{is_tick, tick_named}
 use Rattle.scenario.specs.Words.{Text, word}
 use Rattle.scenario.specs.declared.host_use.HostOptions.{HostOptions}
-use Rattle.scenario.specs.declared.line_kind.GroupChange.{GroupChange}
-use Rattle.scenario.specs.declared.line_kind.GroupChange.TheVariants as change
+use Rattle.scenario.specs.declared.event_line.Asked.{Asked}
+use Rattle.scenario.specs.declared.event_line.Asked.TheVariants as asked
+use Rattle.scenario.specs.declared.host_change.Item.{Item}
+use Rattle.scenario.specs.declared.host_change.Item.TheVariants as items
+use Rattle.scenario.specs.declared.line_kind.CallKind.{CallKind}
+use Rattle.scenario.specs.declared.line_kind.CallKind.TheVariants as call
+use Rattle.scenario.specs.declared.line_kind.ItemKind.{ItemKind}
+use Rattle.scenario.specs.declared.line_kind.ItemKind.TheVariants as item
 use Rattle.scenario.specs.declared.line_kind.LineKind.{LineKind}
 use Rattle.scenario.specs.declared.line_kind.LineKind.TheVariants as line
 
--- the maximum numbers of groups, VLANs and sockets of a host, and of events that a line draws
+-- the maximum number of groups of a host
 abbrev pub most_groups : ℕ
 most_groups = 32
 
@@ -36,7 +42,7 @@ most_sockets = 8
 abbrev pub most_events : ℕ
 most_events = 1000000
 
--- the words of a call and the words of its ticks: those before and those after the first lone slash
+-- the words of a call: those before the first lone slash
 abbrev pub call_words : List Text → List Text
 call_words words = words_before (codes "/") words
 
@@ -47,15 +53,15 @@ tick_words words = words_after (codes "/") words
 abbrev pub option_words : List Text → List Text
 option_words words = drop 4 words
 
--- a number of events to draw
+-- whether a word is a number of events to draw
 abbrev pub is_count : Text → Bool
 is_count text = is_number 10 64 text && nat_le (digits_value 10 text) most_events
 
--- each word spells a tick
+-- whether each word spells a tick
 abbrev pub are_ticks : List Text → Bool
 are_ticks words = list_all is_tick words
 
--- each word spells a tick at a known host
+-- whether each word spells a tick at a known host
 abbrev pub are_ticks_of : List Host → List Text → Bool
 are_ticks_of hosts words = list_all (λ one. is_some (tick_named hosts one)) words
 
@@ -68,33 +74,42 @@ pub record HasHostWords (words : List Text) : Type 0 where
   pub least : 4 ≤ length words
   pub options : AreCounted (uses_in (option_words words))
 
+-- the number of words of a call, without its ticks
+abbrev pub size_of_call : CallKind → ℕ
+size_of_call call.Interrupt = 2
+size_of_call call.Reset = 2
+size_of_call _ = 3
+
 -- A line has the right number of words.
 abbrev pub HasCount : LineKind → List Text → Type 0
 HasCount line.Host words = HasHostWords words
-HasCount line.Group words = length words ≡ 3
-HasCount line.Vlan words = length words ≡ 3
-HasCount line.Socket words = length words ≡ 3
-HasCount line.Send words = length (call_words words) ≡ 3
-HasCount line.Recv words = length (call_words words) ≡ 3
-HasCount line.Interrupt words = length (call_words words) ≡ 2
-HasCount line.Reset words = length (call_words words) ≡ 2
-HasCount (line.Membership one) words = length (call_words words) ≡ 3
+HasCount (line.Item one) words = length words ≡ 3
+HasCount (line.Call one) words = length (call_words words) ≡ size_of_call one
 HasCount line.Tick words = length words ≡ 2
 HasCount line.Feed words = length words ≡ 3
 HasCount line.Auto words = length words ≡ 3
 HasCount line.Drain words = length words ≡ 2
 
+-- A text has the form of an item.
+abbrev pub IsItem : ItemKind → Text → Type 0
+IsItem item.Group text = IsAddress text
+IsItem item.Vlan text = is_number 10 16 text ≡ true
+IsItem item.Socket text = IsSome (socket_in text)
+
+-- The words of a call have the form of what it asks.
+abbrev pub CanAsk : CallKind → List Text → Type 0
+CanAsk call.Send words = IsFrame (word 2 words)
+CanAsk call.Recv words = is_number 10 64 (word 2 words) ≡ true
+CanAsk call.Interrupt words = Unit {0}
+CanAsk call.Reset words = Unit {0}
+CanAsk call.Join words = IsAddress (word 2 words)
+CanAsk call.Leave words = IsAddress (word 2 words)
+
 -- Each word has the form for its place.
 abbrev pub HasValues : LineKind → List Text → Type 0
 HasValues line.Host words = IsAddress (word 2 words) × AreRead (uses_in (option_words words))
-HasValues line.Group words = IsAddress (word 2 words)
-HasValues line.Vlan words = is_number 10 16 (word 2 words) ≡ true
-HasValues line.Socket words = IsSome (socket_in (word 2 words))
-HasValues line.Send words = IsFrame (word 2 (call_words words)) × (are_ticks (tick_words words) ≡ true)
-HasValues line.Recv words = (is_number 10 64 (word 2 (call_words words)) ≡ true) × (are_ticks (tick_words words) ≡ true)
-HasValues line.Interrupt words = are_ticks (tick_words words) ≡ true
-HasValues line.Reset words = are_ticks (tick_words words) ≡ true
-HasValues (line.Membership one) words = IsAddress (word 2 (call_words words)) × (are_ticks (tick_words words) ≡ true)
+HasValues (line.Item one) words = IsItem one (word 2 words)
+HasValues (line.Call one) words = CanAsk one (call_words words) × (are_ticks (tick_words words) ≡ true)
 HasValues line.Tick words = is_tick (word 1 words) ≡ true
 HasValues line.Feed words = Unit {0}
 HasValues line.Auto words = (is_count (word 1 words) ≡ true) × (is_number 10 64 (word 2 words) ≡ true)
@@ -113,6 +128,30 @@ vlans_held host = length (vlans_of host.config.vlans)
 abbrev pub sockets_held : Host → ℕ
 sockets_held host = length host.sockets
 
+-- the items of this kind that a host has, and the most that it can have
+abbrev pub items_held : Item → Host → ℕ
+items_held (items.Group group) = groups_held
+items_held (items.Vlan vlan) = vlans_held
+items_held (items.Socket socket) = sockets_held
+
+abbrev pub most_items : Item → ℕ
+most_items (items.Group group) = most_groups
+most_items (items.Vlan vlan) = most_vlans
+most_items (items.Socket socket) = most_sockets
+
+abbrev pub number_read : Text → ℕ
+number_read text = digits_value 10 text
+
+-- the item that a text of its form spells
+abbrev pub item_in : ItemKind → Text → Item
+item_in item.Group text = items.Group (address_in text)
+item_in item.Vlan text = items.Vlan (number_read text)
+item_in item.Socket text = items.Socket (unwrap_or (socket_in text) socket.All)
+
+-- There is a host of this name, and it has room for this item.
+abbrev pub IsRoomFor : Text → Item → List Host → Type 0
+IsRoomFor name one hosts = IsRoomAt name (items_held one) (most_items one) hosts
+
 abbrev pub NamesHost : Text → List Host → Type 0
 NamesHost name hosts = IsSome (place_of name hosts)
 
@@ -124,25 +163,17 @@ pub record AreKnown (hosts : List Host) (name : Text) (ticks : List Text) : Type
 -- The names of hosts are known, the name of a new host isn't, and a host has room for a new item.
 abbrev pub HasHostNames : LineKind → List Host → List Text → Type 0
 HasHostNames line.Host hosts words = place_of (word 1 words) hosts ≡ None
-HasHostNames line.Group hosts words = IsRoomAt (word 1 words) groups_held most_groups hosts
-HasHostNames line.Vlan hosts words = IsRoomAt (word 1 words) vlans_held most_vlans hosts
-HasHostNames line.Socket hosts words = IsRoomAt (word 1 words) sockets_held most_sockets hosts
-HasHostNames line.Send hosts words = AreKnown hosts (word 1 (call_words words)) (tick_words words)
-HasHostNames line.Recv hosts words = AreKnown hosts (word 1 (call_words words)) (tick_words words)
-HasHostNames line.Interrupt hosts words = AreKnown hosts (word 1 (call_words words)) (tick_words words)
-HasHostNames line.Reset hosts words = AreKnown hosts (word 1 (call_words words)) (tick_words words)
-HasHostNames (line.Membership one) hosts words = AreKnown hosts (word 1 (call_words words)) (tick_words words)
+HasHostNames (line.Item one) hosts words = IsRoomFor (word 1 words) (item_in one (word 2 words)) hosts
+HasHostNames (line.Call one) hosts words = AreKnown hosts (word 1 (call_words words)) (tick_words words)
 HasHostNames line.Tick hosts words = IsSome (tick_named hosts (word 1 words))
 HasHostNames line.Feed hosts words = NamesHost (word 1 words) hosts
 HasHostNames line.Auto hosts words = Unit {0}
 HasHostNames line.Drain hosts words = NamesHost (word 1 words) hosts
 
--- Lines that set up come before the first event.
+-- Whether lines of this kind set up hosts. They must come before the first event.
 abbrev pub sets_up : LineKind → Bool
 sets_up line.Host = true
-sets_up line.Group = true
-sets_up line.Vlan = true
-sets_up line.Socket = true
+sets_up (line.Item one) = true
 sets_up _ = false
 
 abbrev pub HasOrder : LineKind → List Said → Type 0
@@ -182,7 +213,12 @@ with_vlan vlan host =
 abbrev pub with_socket : SocketKind → Host → Host
 with_socket kind host = record host { sockets = host.sockets ++ kind ∷ [] }
 
--- with the first host that passes changed
+abbrev pub with_item : Item → Host → Host
+with_item (items.Group group) = with_group group
+with_item (items.Vlan vlan) = with_vlan vlan
+with_item (items.Socket kind) = with_socket kind
+
+-- the list in which the first host that passes the test is changed
 abbrev pub changed_first : (Host → Bool) → (Host → Host) → List Host → List Host
 changed_first test change [] = []
 changed_first test change (host ∷ hosts) = if test host then change host ∷ hosts else host ∷ changed_first test change hosts
@@ -190,50 +226,48 @@ changed_first test change (host ∷ hosts) = if test host then change host ∷ h
 abbrev pub with_hosts : List Host → SoFar → SoFar
 with_hosts hosts before = record before { hosts = hosts }
 
--- with the host of this name changed
+-- the lines read so far, with the host of this name changed
 abbrev pub changing : Text → (Host → Host) → SoFar → SoFar
 changing name change before = with_hosts (changed_first (has_name name) change before.hosts) before
 
--- with one more command
+-- the lines read so far, with one more command
 abbrev pub saying : Said → SoFar → SoFar
 saying said before = record before { commands = before.commands ++ said ∷ [] }
 
--- a host joins or leaves a group
-abbrev pub changes_groups : GroupChange → (host : ℕ) (group : List ℕ) (ticks : List Tick) → Said
-changes_groups change.Join host group ticks = Joins host group ticks
-changes_groups change.Leave host group ticks = Leaves host group ticks
+-- the event in which a host is asked this, with these ticks inside
+abbrev pub said_asking : Asked → (host : ℕ) (ticks : List Tick) → Said
+said_asking (asked.Send frame) host ticks = Sends host frame.items ticks
+said_asking (asked.Recv socket) host ticks = Receives host socket ticks
+said_asking asked.Interrupt host ticks = Interrupts host ticks
+said_asking asked.Reset host ticks = Resets host ticks
+said_asking (asked.Join group) host ticks = Joins host group ticks
+said_asking (asked.Leave group) host ticks = Leaves host group ticks
+
+-- the event of a call with these words
+abbrev pub said_in_call : CallKind → (words : List Text) (host : ℕ) (ticks : List Tick) → Said
+said_in_call call.Send words host ticks = Sends host (frame_in (word 2 words)) ticks
+said_in_call call.Recv words host ticks = Receives host (number_read (word 2 words)) ticks
+said_in_call call.Interrupt words host ticks = Interrupts host ticks
+said_in_call call.Reset words host ticks = Resets host ticks
+said_in_call call.Join words host ticks = Joins host (address_in (word 2 words)) ticks
+said_in_call call.Leave words host ticks = Leaves host (address_in (word 2 words)) ticks
+
+-- The words of a call ask this.
+pub record IsAsked (kind : CallKind) (words : List Text) (one : Asked) : Type 0 where
+  pub form : CanAsk kind words
+  pub said : (host : ℕ) (ticks : List Tick) → said_asking one host ticks ≡ said_in_call kind words host ticks
 
 -- the number of the host of this name
 abbrev pub number_of : Text → List Host → ℕ
 number_of name hosts = unwrap_or (place_of name hosts) 0
 
-abbrev pub number_read : Text → ℕ
-number_read text = digits_value 10 text
-
 -- the hosts, commands and traces after a good line
 abbrev pub after_line : LineKind → SoFar → List Text → SoFar
 after_line line.Host before words = with_hosts (before.hosts ++ host_of_words words ∷ []) before
-after_line line.Group before words = changing (word 1 words) (with_group (address_in (word 2 words))) before
-after_line line.Vlan before words = changing (word 1 words) (with_vlan (number_read (word 2 words))) before
-after_line line.Socket before words =
-    changing (word 1 words) (with_socket (unwrap_or (socket_in (word 2 words)) socket.All)) before
-after_line line.Send before words =
+after_line (line.Item one) before words = changing (word 1 words) (with_item (item_in one (word 2 words))) before
+after_line (line.Call one) before words =
     saying
-    (Sends (number_of (word 1 (call_words words)) before.hosts) (frame_in (word 2 (call_words words)))
-    (ticks_in before.hosts (tick_words words)))
-    before
-after_line line.Recv before words =
-    saying
-    (Receives (number_of (word 1 (call_words words)) before.hosts) (number_read (word 2 (call_words words)))
-    (ticks_in before.hosts (tick_words words)))
-    before
-after_line line.Interrupt before words =
-    saying (Interrupts (number_of (word 1 (call_words words)) before.hosts) (ticks_in before.hosts (tick_words words))) before
-after_line line.Reset before words =
-    saying (Resets (number_of (word 1 (call_words words)) before.hosts) (ticks_in before.hosts (tick_words words))) before
-after_line (line.Membership one) before words =
-    saying
-    (changes_groups one (number_of (word 1 (call_words words)) before.hosts) (address_in (word 2 (call_words words)))
+    (said_in_call one (call_words words) (number_of (word 1 (call_words words)) before.hosts)
     (ticks_in before.hosts (tick_words words)))
     before
 after_line line.Tick before words = saying (Ticks (unwrap_or (tick_named before.hosts (word 1 words)) tick.Go)) before

@@ -14,7 +14,7 @@ use Rattle.scenario.specs.declared.command.Command.{Command}
 use Rattle.scenario.specs.declared.command.Command.TheVariants as command
 use Rattle.scenario.specs.declared.command.Scenario.{Scenario}
 
--- a host of the plan, without the places of its names in memory
+-- A host of the plan, with the bytes of its names.
 pub record Host : Type 0 where
   -- the host's name
   pub name : Text
@@ -40,7 +40,7 @@ host_of_plan plan = record {
   sockets = plan.sockets.items;
 }
 
--- a command, without the places of its frame and its ticks in memory
+-- A command, with the bytes of its frame and the list of its ticks.
 pub data Said : Type 0 where
   Sends : (host : ℕ) (frame : List ℕ) (ticks : List Tick) → Said
   Receives : (host socket : ℕ) (ticks : List Tick) → Said

@@ -19,7 +19,7 @@ byte_at text place = hexadecimal_value (slice_index text place) * 16 + hexadecim
 abbrev pub address_in : Text → List ℕ
 address_in text = map (byte_at text) (0 ∷ 3 ∷ 6 ∷ 9 ∷ 12 ∷ 15 ∷ [])
 
--- six pairs of hexadecimal digits joined by colons
+-- The text is six pairs of hexadecimal digits joined by colons.
 abbrev pub IsAddress : Text → Type 0
 IsAddress text = SpellsAddress text (address_in text)
 
@@ -35,7 +35,7 @@ bytes_or_none (Err fault) = []
 abbrev pub frame_in : Text → List ℕ
 frame_in text = bytes_or_none (decode_of text)
 
--- an even number of hexadecimal digits, at most 8,000
+-- The text is an even number of hexadecimal digits, at most 8,000.
 pub record IsFrame (text : Text) : Type 0 where
   pub size : length text ≤ most_frame_digits
   pub bytes : IsOk (decode_of text)
@@ -44,6 +44,6 @@ pub record IsFrame (text : Text) : Type 0 where
 abbrev pub ether_type_in : Text → Option ℕ
 ether_type_in text = if length text == 4 then number_in 16 16 text else None
 
--- all, or an EtherType
+-- the frames that a socket takes: all, or those of an EtherType
 abbrev pub socket_in : Text → Option SocketKind
 socket_in text = if bytes_eq text (codes "all") then Some socket.All else option_map socket.Ether (ether_type_in text)

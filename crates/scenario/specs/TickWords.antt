@@ -30,18 +30,18 @@ tick_kind_named word = value_in tick_kinds word
 abbrev pub is_colon : ℕ → Bool
 is_colon byte = byte == 0x3A
 
--- the parts of a word before and after its first colon
+-- the part of a word before its first colon
 abbrev pub kind_word : Text → Text
 kind_word word = before_first is_colon word
 
 abbrev pub host_word : Text → Text
 host_word word = after_first is_colon word
 
--- it has a colon
+-- whether a word has a colon
 abbrev pub has_colon : Text → Bool
 has_colon word = nat_lt (position_or_len is_colon word) (length word)
 
--- go, or a kind, a colon and any name
+-- whether a word spells a tick: go, or a kind, a colon and any name
 abbrev pub is_tick : Text → Bool
 is_tick word = bytes_eq word (codes "go") || (has_colon word && is_some (tick_kind_named (kind_word word)))
 

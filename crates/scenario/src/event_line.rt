@@ -1,18 +1,19 @@
 // The lines of events.
 
-ghost use Rattle.std.specs.Prelude.{◌≡◌, IfErr, IfOk, OnOk, true};
+ghost use Rattle.std.specs.Prelude.{◌≡◌, IfErr, IfOk, OnOk, length, true};
 ghost use Rattle.std.specs.Option.{SomeIff};
 ghost use Rattle.std.specs.Str.Parse.{digits_value};
 ghost use Rattle.scenario.specs.Answers.{AreTicks, IsAnswer, IsCall, IsFaultyCall};
 ghost use Rattle.scenario.specs.Meanings as meanings;
 ghost use Rattle.scenario.specs.SoFar.{event_of, hosts_of, said_of, so_far};
 ghost use Rattle.scenario.specs.Stops.{IfFault};
+ghost use Rattle.scenario.specs.Spellings.{IsAddress, address_in};
 ghost use Rattle.scenario.specs.Words.{texts};
 ghost use Rattle.scenario.specs.declared.line_kind.LineKind.TheVariants as line;
 ghost use Rattle.scenario.specs.declared.refusal.Fault.TheVariants as faults;
 
 use crate::command::{Command, Scenario};
-use crate::line_kind::GroupChange;
+use crate::line_kind::CallKind;
 use crate::refusal::{Fault, Stop};
 use crate::spelling::{address_of, frame_of, number_of};
 use crate::tick_word::{host_named, is_tick, tick_of};
@@ -86,115 +87,110 @@ fn say(scenario: &mut Scenario, command: Command) -> Result<(), AllocError>
     Ok(())
 }
 
-/// `send HOST HEX`, and ticks.
-pub(crate) fn read_send(alloc: Global, scenario: &mut Scenario, words: &[&str]) -> Result<(), Stop>
-    ensures { IsAnswer line.Send (so_far scenario.old) (texts words.now) result (so_far scenario.new) }
-{
-    let (call, ticks) = split_at_word(words, SLASH);
-    if call.len() != 3 {
-        return Err(Stop::Fault(Fault::Count));
-    }
-    let frame = frame_of(alloc, word_at(call, 2))?;
-    let hosts = scenario.plan.hosts.as_slice();
-    let (host, ticks) = call_of(alloc, hosts, word_at(call, 1), ticks)?;
-    let event = Event::Send { host, frame, ticks };
-    say(scenario, Command::Event(event))?;
-    Ok(())
+/// What a call asks of its host.
+#[derive(Drop)]
+enum Asked {
+    /// To send a frame.
+    Send(Vec<u8>),
+    /// For the oldest frame of the socket with this number.
+    Recv(usize),
+    /// To handle an interrupt.
+    Interrupt,
+    /// To reset its adapter.
+    Reset,
+    /// To join a group.
+    Join([u8; 6]),
+    /// To leave a group.
+    Leave([u8; 6]),
 }
 
-/// `recv HOST S`, and ticks.
-pub(crate) fn read_recv(alloc: Global, scenario: &mut Scenario, words: &[&str]) -> Result<(), Stop>
-    ensures { IsAnswer line.Recv (so_far scenario.old) (texts words.now) result (so_far scenario.new) }
-{
-    let (call, ticks) = split_at_word(words, SLASH);
-    if call.len() != 3 {
-        return Err(Stop::Fault(Fault::Count));
-    }
-    let Some(socket) = number_of(word_at(call, 2)) else {
-        return Err(Stop::Fault(Fault::Value));
-    };
-    let socket = socket as usize;
-    let hosts = scenario.plan.hosts.as_slice();
-    let (host, ticks) = call_of(alloc, hosts, word_at(call, 1), ticks)?;
-    let event = Event::Recv {
-        host,
-        socket,
-        ticks,
-    };
-    say(scenario, Command::Event(event))?;
-    Ok(())
-}
-
-/// `interrupt HOST`, and ticks.
-pub(crate) fn read_interrupt(
-    alloc: Global,
-    scenario: &mut Scenario,
-    words: &[&str],
-) -> Result<(), Stop>
-    ensures { IsAnswer line.Interrupt (so_far scenario.old) (texts words.now) result (so_far scenario.new) }
-{
-    let (call, ticks) = split_at_word(words, SLASH);
-    if call.len() != 2 {
-        return Err(Stop::Fault(Fault::Count));
-    }
-    let hosts = scenario.plan.hosts.as_slice();
-    let (host, ticks) = call_of(alloc, hosts, word_at(call, 1), ticks)?;
-    let event = Event::Interrupt { host, ticks };
-    say(scenario, Command::Event(event))?;
-    Ok(())
-}
-
-/// `reset HOST`, and ticks.
-pub(crate) fn read_reset(alloc: Global, scenario: &mut Scenario, words: &[&str]) -> Result<(), Stop>
-    ensures { IsAnswer line.Reset (so_far scenario.old) (texts words.now) result (so_far scenario.new) }
-{
-    let (call, ticks) = split_at_word(words, SLASH);
-    if call.len() != 2 {
-        return Err(Stop::Fault(Fault::Count));
-    }
-    let hosts = scenario.plan.hosts.as_slice();
-    let (host, ticks) = call_of(alloc, hosts, word_at(call, 1), ticks)?;
-    let event = Event::Reset { host, ticks };
-    say(scenario, Command::Event(event))?;
-    Ok(())
-}
-
-impl GroupChange {
-    /// The event in which a host joins or leaves a group.
-    fn event(self, host: usize, group: [u8; 6], ticks: Vec<Tick>) -> Event
-        ensures { event_of result ≡ meanings.changes_groups self host group ticks.items }
+impl Asked {
+    /// The event in which a host is asked this, with these ticks inside.
+    fn event(self, host: usize, ticks: Vec<Tick>) -> Event
+        ensures { event_of result ≡ meanings.said_asking self host ticks.items }
     {
         match self {
-            GroupChange::Join => Event::Join { host, group, ticks },
-            GroupChange::Leave => Event::Leave { host, group, ticks },
+            Asked::Send(frame) => Event::Send { host, frame, ticks },
+            Asked::Recv(socket) => Event::Recv {
+                host,
+                socket,
+                ticks,
+            },
+            Asked::Interrupt => Event::Interrupt { host, ticks },
+            Asked::Reset => Event::Reset { host, ticks },
+            Asked::Join(group) => Event::Join { host, group, ticks },
+            Asked::Leave(group) => Event::Leave { host, group, ticks },
         }
     }
 }
 
-/// `join HOST ADDRESS` and `leave HOST ADDRESS`, and ticks.
-pub(crate) fn read_membership(
+/// The number of words of a call, without its ticks.
+fn size_of_call(kind: CallKind) -> usize
+    ensures { result ≡ meanings.size_of_call kind }
+{
+    match kind {
+        CallKind::Interrupt | CallKind::Reset => 2,
+        CallKind::Send | CallKind::Recv | CallKind::Join | CallKind::Leave => 3,
+    }
+}
+
+/// The group that a word spells.
+fn group_of(word: &str) -> Result<[u8; 6], Fault>
+    ensures ok { IfOk result (λ group. IsAddress word.now × (group ≡ address_in word.now)) }
+    ensures err { IfErr result (λ fault. (fault ≡ faults.Value) × (¬ IsAddress word.now)) }
+{
+    match address_of(word) {
+        Some(group) => Ok(group),
+        None => Err(Fault::Value),
+    }
+}
+
+/// What the words of a call ask.
+///
+/// # Errors
+///
+/// [`Value`](Fault::Value) if a word doesn't have its form.
+fn asked_of(alloc: Global, kind: CallKind, call: &[&str]) -> Result<Asked, Stop>
+    requires { length call.now ≡ meanings.size_of_call kind }
+    ensures ok { IfOk result (meanings.IsAsked kind (texts call.now)) }
+    ensures err { IfErr result (λ stop. IfFault stop (λ fault.
+        (fault ≡ faults.Value) × (¬ meanings.CanAsk kind (texts call.now)))) }
+{
+    match kind {
+        CallKind::Send => Ok(Asked::Send(frame_of(alloc, word_at(call, 2))?)),
+        CallKind::Recv => match number_of(word_at(call, 2)) {
+            Some(socket) => Ok(Asked::Recv(socket as usize)),
+            None => Err(Stop::Fault(Fault::Value)),
+        },
+        CallKind::Interrupt => Ok(Asked::Interrupt),
+        CallKind::Reset => Ok(Asked::Reset),
+        CallKind::Join => Ok(Asked::Join(group_of(word_at(call, 2))?)),
+        CallKind::Leave => Ok(Asked::Leave(group_of(word_at(call, 2))?)),
+    }
+}
+
+/// `send HOST HEX`, `recv HOST S`, `interrupt HOST`, `reset HOST`, `join HOST ADDRESS` and `leave HOST ADDRESS`, each
+/// with ticks.
+pub(crate) fn read_call(
     alloc: Global,
     scenario: &mut Scenario,
-    change: GroupChange,
+    kind: CallKind,
     words: &[&str],
 ) -> Result<(), Stop>
-    ensures { IsAnswer (line.Membership change) (so_far scenario.old) (texts words.now) result (so_far scenario.new) }
+    ensures { IsAnswer (line.Call kind) (so_far scenario.old) (texts words.now) result (so_far scenario.new) }
 {
     let (call, ticks) = split_at_word(words, SLASH);
-    if call.len() != 3 {
+    if call.len() != size_of_call(kind) {
         return Err(Stop::Fault(Fault::Count));
     }
-    let Some(group) = address_of(word_at(call, 2)) else {
-        return Err(Stop::Fault(Fault::Value));
-    };
+    let asked = asked_of(alloc, kind, call)?;
     let hosts = scenario.plan.hosts.as_slice();
     let (host, ticks) = call_of(alloc, hosts, word_at(call, 1), ticks)?;
-    let event = change.event(host, group, ticks);
-    say(scenario, Command::Event(event))?;
+    say(scenario, Command::Event(asked.event(host, ticks)))?;
     Ok(())
 }
 
-/// `tick TICK`.
+/// Reads a line `tick TICK`.
 pub(crate) fn read_tick(scenario: &mut Scenario, words: &[&str]) -> Result<(), Stop>
     ensures { IsAnswer line.Tick (so_far scenario.old) (texts words.now) result (so_far scenario.new) }
 {
@@ -212,7 +208,7 @@ pub(crate) fn read_tick(scenario: &mut Scenario, words: &[&str]) -> Result<(), S
     Ok(())
 }
 
-/// `feed HOST FILE`.
+/// Reads a line `feed HOST FILE`.
 pub(crate) fn read_feed(alloc: Global, scenario: &mut Scenario, words: &[&str]) -> Result<(), Stop>
     ensures { IsAnswer line.Feed (so_far scenario.old) (texts words.now) result (so_far scenario.new) }
 {
@@ -240,7 +236,7 @@ fn count_of(text: &str) -> Option<u32>
     Some(count as u32)
 }
 
-/// `auto COUNT START`.
+/// Reads a line `auto COUNT START`.
 pub(crate) fn read_auto(scenario: &mut Scenario, words: &[&str]) -> Result<(), Stop>
     ensures { IsAnswer line.Auto (so_far scenario.old) (texts words.now) result (so_far scenario.new) }
 {
@@ -257,7 +253,7 @@ pub(crate) fn read_auto(scenario: &mut Scenario, words: &[&str]) -> Result<(), S
     Ok(())
 }
 
-/// `drain HOST`.
+/// Reads a line `drain HOST`.
 pub(crate) fn read_drain(scenario: &mut Scenario, words: &[&str]) -> Result<(), Stop>
     ensures { IsAnswer line.Drain (so_far scenario.old) (texts words.now) result (so_far scenario.new) }
 {

@@ -15,6 +15,17 @@ use network_plan::HostPlan;
 use packet_socket::SocketKind;
 use std::alloc::{AllocError, Global};
 
+/// An item that a host can have several of.
+#[derive(Clone, Copy)]
+pub(crate) enum Item {
+    /// The group with this address.
+    Group([u8; 6]),
+    /// The VLAN with this identifier.
+    Vlan(u16),
+    /// A socket.
+    Socket(SocketKind),
+}
+
 /// The host of a `host` line.
 pub(crate) fn new_host(
     alloc: Global,
@@ -81,38 +92,26 @@ fn push_socket(host: &mut HostPlan, kind: SocketKind) -> Result<(), Fault>
     Ok(())
 }
 
-/// Adds a group to the host with this name.
-#[tactic(auto, using(crate::proofs::Changes::no_room))]
-pub(crate) fn add_group(hosts: &mut [HostPlan], name: &str, group: [u8; 6]) -> Result<(), Fault>
-    ensures { IsChange name.now meanings.groups_held meanings.most_groups (meanings.with_group group)
-        (hosts_of hosts.old) result (hosts_of hosts.new) }
+/// Adds an item to a host.
+fn push_item(host: &mut HostPlan, item: Item) -> Result<(), Fault>
+    ensures { IsGrowth (meanings.items_held item) (meanings.most_items item) (meanings.with_item item)
+        (host_of_plan host.old) result (host_of_plan host.new) }
 {
-    let Some(place) = host_named(hosts, name) else {
-        return Err(Fault::Name);
-    };
-    push_group(&mut hosts[place], group)
+    match item {
+        Item::Group(group) => push_group(host, group),
+        Item::Vlan(vlan) => push_vlan(host, vlan),
+        Item::Socket(kind) => push_socket(host, kind),
+    }
 }
 
-/// Adds a VLAN to the host with this name.
+/// Adds an item to the host with this name.
 #[tactic(auto, using(crate::proofs::Changes::no_room))]
-pub(crate) fn add_vlan(hosts: &mut [HostPlan], name: &str, vlan: u16) -> Result<(), Fault>
-    ensures { IsChange name.now meanings.vlans_held meanings.most_vlans (meanings.with_vlan vlan)
+pub(crate) fn add_item(hosts: &mut [HostPlan], name: &str, item: Item) -> Result<(), Fault>
+    ensures { IsChange name.now (meanings.items_held item) (meanings.most_items item) (meanings.with_item item)
         (hosts_of hosts.old) result (hosts_of hosts.new) }
 {
     let Some(place) = host_named(hosts, name) else {
         return Err(Fault::Name);
     };
-    push_vlan(&mut hosts[place], vlan)
-}
-
-/// Adds a socket to the host with this name.
-#[tactic(auto, using(crate::proofs::Changes::no_room))]
-pub(crate) fn add_socket(hosts: &mut [HostPlan], name: &str, kind: SocketKind) -> Result<(), Fault>
-    ensures { IsChange name.now meanings.sockets_held meanings.most_sockets (meanings.with_socket kind)
-        (hosts_of hosts.old) result (hosts_of hosts.new) }
-{
-    let Some(place) = host_named(hosts, name) else {
-        return Err(Fault::Name);
-    };
-    push_socket(&mut hosts[place], kind)
+    push_item(&mut hosts[place], item)
 }

@@ -142,14 +142,14 @@ impl HostUse {
         }
     }
 
-    /// Whether it has its value, if it takes one.
+    /// Whether the option has its value, if it takes one.
     fn is_whole(&self) -> bool
         ensures { result ≡ options.is_whole self.now }
     {
         !matches!(self, HostUse::Lone(_))
     }
 
-    /// Whether it is an option, and its value has its form.
+    /// Whether the word is an option, and its value has its form.
     fn is_read(&self) -> bool
         ensures { result ≡ options.is_read self.now }
     {

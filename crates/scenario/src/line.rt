@@ -6,13 +6,10 @@ ghost use Rattle.scenario.specs.SoFar.{so_far};
 ghost use Rattle.scenario.specs.Words.{texts};
 
 use crate::command::Scenario;
-use crate::event_line::{
-    read_auto, read_drain, read_feed, read_interrupt, read_membership, read_recv, read_reset,
-    read_send, read_tick,
-};
+use crate::event_line::{read_auto, read_call, read_drain, read_feed, read_tick};
 use crate::line_kind::{LineKind, kind_of};
 use crate::refusal::{Fault, Stop};
-use crate::setup_line::{read_group, read_host, read_socket, read_vlan};
+use crate::setup_line::{read_host, read_item};
 use std::alloc::Global;
 use std::str;
 use text::words_in;
@@ -31,14 +28,8 @@ fn read_kind(
 {
     match kind {
         LineKind::Host => read_host(alloc, scenario, words),
-        LineKind::Group => read_group(scenario, words),
-        LineKind::Vlan => read_vlan(scenario, words),
-        LineKind::Socket => read_socket(scenario, words),
-        LineKind::Send => read_send(alloc, scenario, words),
-        LineKind::Recv => read_recv(alloc, scenario, words),
-        LineKind::Interrupt => read_interrupt(alloc, scenario, words),
-        LineKind::Reset => read_reset(alloc, scenario, words),
-        LineKind::Membership(change) => read_membership(alloc, scenario, change, words),
+        LineKind::Item(kind) => read_item(scenario, kind, words),
+        LineKind::Call(kind) => read_call(alloc, scenario, kind, words),
         LineKind::Tick => read_tick(scenario, words),
         LineKind::Feed => read_feed(alloc, scenario, words),
         LineKind::Auto => read_auto(scenario, words),

@@ -5,36 +5,43 @@ ghost use Rattle.scenario.specs.Kinds.{kind_named};
 
 use text::value_of;
 
-/// How a line changes the groups of a host in a run.
+/// The kinds of items that a host can have several of.
 #[derive(Clone, Copy)]
-pub(crate) enum GroupChange {
+pub(crate) enum ItemKind {
+    /// `group`: its adapter passes the frames of the group.
+    Group,
+    /// `vlan`: its adapter passes the frames of the VLAN.
+    Vlan,
+    /// `socket`: it has the socket.
+    Socket,
+}
+
+/// The kinds of calls of a host in a run.
+#[derive(Clone, Copy)]
+pub(crate) enum CallKind {
+    /// `send`: the host sends a frame.
+    Send,
+    /// `recv`: the host asks for the oldest frame of a socket.
+    Recv,
+    /// `interrupt`: the host handles an interrupt.
+    Interrupt,
+    /// `reset`: the host resets its adapter.
+    Reset,
     /// `join`: the host joins a group.
     Join,
     /// `leave`: the host leaves a group.
     Leave,
 }
 
-/// The kinds of lines. The first four set up, the others are events.
+/// The kinds of lines. The first two set up, the others are events.
 #[derive(Clone, Copy)]
 pub(crate) enum LineKind {
     /// `host`: a new host.
     Host,
-    /// `group`: a host's adapter passes the frames of a group.
-    Group,
-    /// `vlan`: a host's adapter passes the frames of a VLAN.
-    Vlan,
-    /// `socket`: a host gets a socket.
-    Socket,
-    /// `send`: a host sends a frame.
-    Send,
-    /// `recv`: a host asks for the oldest frame of a socket.
-    Recv,
-    /// `interrupt`: a host handles an interrupt.
-    Interrupt,
-    /// `reset`: a host resets its adapter.
-    Reset,
-    /// `join` or `leave`: a host joins or leaves a group.
-    Membership(GroupChange),
+    /// A host gets an item.
+    Item(ItemKind),
+    /// A host's call, with ticks inside it.
+    Call(CallKind),
     /// `tick`: a tick between calls.
     Tick,
     /// `feed`: a host sends the frames of a trace.
@@ -48,15 +55,15 @@ pub(crate) enum LineKind {
 /// The words that lines begin with, and the kinds of these lines.
 const KINDS: [(&str, LineKind); 14] = [
     ("host", LineKind::Host),
-    ("group", LineKind::Group),
-    ("vlan", LineKind::Vlan),
-    ("socket", LineKind::Socket),
-    ("send", LineKind::Send),
-    ("recv", LineKind::Recv),
-    ("interrupt", LineKind::Interrupt),
-    ("reset", LineKind::Reset),
-    ("join", LineKind::Membership(GroupChange::Join)),
-    ("leave", LineKind::Membership(GroupChange::Leave)),
+    ("group", LineKind::Item(ItemKind::Group)),
+    ("vlan", LineKind::Item(ItemKind::Vlan)),
+    ("socket", LineKind::Item(ItemKind::Socket)),
+    ("send", LineKind::Call(CallKind::Send)),
+    ("recv", LineKind::Call(CallKind::Recv)),
+    ("interrupt", LineKind::Call(CallKind::Interrupt)),
+    ("reset", LineKind::Call(CallKind::Reset)),
+    ("join", LineKind::Call(CallKind::Join)),
+    ("leave", LineKind::Call(CallKind::Leave)),
     ("tick", LineKind::Tick),
     ("feed", LineKind::Feed),
     ("auto", LineKind::Auto),

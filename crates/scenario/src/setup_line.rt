@@ -1,8 +1,10 @@
 // The lines that set up hosts, and their groups, VLANs and sockets.
 
 ghost use Rattle.std.specs.Prelude.{◌≡◌, ◌≤◌, IfErr, IfOk, OnOk, length};
+ghost use Rattle.std.specs.Option.{SomeIff};
 ghost use Rattle.scenario.specs.Answers.{IsAnswer, IsFaulty, IsGood, IsHostRead};
-ghost use Rattle.scenario.specs.Meanings.{HasCount, HasValues, host_of_words, option_words};
+ghost use Rattle.scenario.specs.HostOptions.{uses_in};
+ghost use Rattle.scenario.specs.Meanings.{HasCount, HasValues, IsItem, host_of_words, item_in, option_words};
 ghost use Rattle.scenario.specs.SoFar.{SoFar, host_of_plan, so_far};
 ghost use Rattle.scenario.specs.Stops.{IfFault};
 ghost use Rattle.scenario.specs.Words.{texts};
@@ -10,8 +12,9 @@ ghost use Rattle.scenario.specs.declared.line_kind.LineKind.TheVariants as line;
 ghost use Rattle.scenario.specs.declared.refusal.Fault.TheVariants as fault;
 
 use crate::command::Scenario;
-use crate::host_change::{add_group, add_socket, add_vlan, new_host};
-use crate::host_use::{HostOptions, are_counted, are_read, options_of, uses_of};
+use crate::host_change::{Item, add_item, new_host};
+use crate::host_use::{HostOptions, HostUse, are_counted, are_read, options_of, uses_of};
+use crate::line_kind::ItemKind;
 use crate::refusal::{Fault, Stop};
 use crate::spelling::{address_of, number16_of, socket_of};
 use crate::tick_word::host_named;
@@ -23,7 +26,7 @@ use text::word_at;
 const HOST_WORDS: usize = 4;
 
 /// The number of words of a `group`, a `vlan` and a `socket` line.
-const GIFT_WORDS: usize = 3;
+const ITEM_WORDS: usize = 3;
 
 /// The words of the options of a `host` line.
 fn option_words<'a, 'b>(words: &'b [&'a str]) -> &'b [&'a str]
@@ -46,6 +49,29 @@ fn check_order(scenario: &Scenario) -> Result<(), Fault>
     }
 }
 
+/// The address and the options of a `host` line with these uses of options.
+///
+/// # Errors
+///
+/// [`Count`](Fault::Count) and [`Value`](Fault::Value).
+fn values_in(words: &[&str], uses: &[HostUse]) -> Result<([u8; 6], HostOptions), Fault>
+    requires least { HOST_WORDS ≤ length words.now }
+    requires uses { uses.now ≡ uses_in (option_words (texts words.now)) }
+    ensures ok { IfOk result (λ read. IsHostRead (texts words.now) (read.0, read.1)) }
+    ensures err { (before : SoFar) → IfErr result (IsFaulty line.Host before (texts words.now)) }
+{
+    if !are_counted(uses) {
+        return Err(Fault::Count);
+    }
+    if !are_read(uses) {
+        return Err(Fault::Value);
+    }
+    match address_of(word_at(words, 2)) {
+        Some(address) => Ok((address, options_of(uses))),
+        None => Err(Fault::Value),
+    }
+}
+
 /// The address and the options of a `host` line.
 ///
 /// # Errors
@@ -60,17 +86,10 @@ fn host_values(alloc: Global, words: &[&str]) -> Result<([u8; 6], HostOptions), 
         return Err(Stop::Fault(Fault::Count));
     }
     let uses = uses_of(alloc, option_words(words))?;
-    let uses = uses.as_slice();
-    if !are_counted(uses) {
-        return Err(Stop::Fault(Fault::Count));
+    match values_in(words, uses.as_slice()) {
+        Ok(values) => Ok(values),
+        Err(fault) => Err(Stop::Fault(fault)),
     }
-    if !are_read(uses) {
-        return Err(Stop::Fault(Fault::Value));
-    }
-    let Some(address) = address_of(word_at(words, 2)) else {
-        return Err(Stop::Fault(Fault::Value));
-    };
-    Ok((address, options_of(uses)))
 }
 
 /// Checks that the name of a new host is free, and that no event comes before its line.
@@ -104,7 +123,7 @@ fn host_in(alloc: Global, scenario: &Scenario, words: &[&str]) -> Result<HostPla
     Ok(host)
 }
 
-/// `host NAME ADDRESS WIRE`, and options.
+/// Reads a line `host NAME ADDRESS WIRE`, and its options.
 pub(crate) fn read_host(alloc: Global, scenario: &mut Scenario, words: &[&str]) -> Result<(), Stop>
     ensures { IsAnswer line.Host (so_far scenario.old) (texts words.now) result (so_far scenario.new) }
 {
@@ -113,47 +132,28 @@ pub(crate) fn read_host(alloc: Global, scenario: &mut Scenario, words: &[&str]) 
     Ok(())
 }
 
-/// `group HOST ADDRESS`.
-pub(crate) fn read_group(scenario: &mut Scenario, words: &[&str]) -> Result<(), Stop>
-    ensures { IsAnswer line.Group (so_far scenario.old) (texts words.now) result (so_far scenario.new) }
+/// The item of this kind that a text spells.
+fn item_of(kind: ItemKind, text: &str) -> Option<Item>
+    ensures { SomeIff result (IsItem kind text.now) (item_in kind text.now) }
 {
-    if words.len() != GIFT_WORDS {
-        return Err(Stop::Fault(Fault::Count));
+    match kind {
+        ItemKind::Group => Some(Item::Group(address_of(text)?)),
+        ItemKind::Vlan => Some(Item::Vlan(number16_of(text)?)),
+        ItemKind::Socket => Some(Item::Socket(socket_of(text)?)),
     }
-    let Some(group) = address_of(word_at(words, 2)) else {
-        return Err(Stop::Fault(Fault::Value));
-    };
-    add_group(scenario.plan.hosts.as_mut_slice(), word_at(words, 1), group)?;
-    check_order(scenario)?;
-    Ok(())
 }
 
-/// `vlan HOST N`.
-pub(crate) fn read_vlan(scenario: &mut Scenario, words: &[&str]) -> Result<(), Stop>
-    ensures { IsAnswer line.Vlan (so_far scenario.old) (texts words.now) result (so_far scenario.new) }
+/// Reads a line `group HOST ADDRESS`, `vlan HOST N`, `socket HOST N` or `socket HOST all`.
+pub(crate) fn read_item(scenario: &mut Scenario, kind: ItemKind, words: &[&str]) -> Result<(), Stop>
+    ensures { IsAnswer (line.Item kind) (so_far scenario.old) (texts words.now) result (so_far scenario.new) }
 {
-    if words.len() != GIFT_WORDS {
+    if words.len() != ITEM_WORDS {
         return Err(Stop::Fault(Fault::Count));
     }
-    let Some(vlan) = number16_of(word_at(words, 2)) else {
+    let Some(item) = item_of(kind, word_at(words, 2)) else {
         return Err(Stop::Fault(Fault::Value));
     };
-    add_vlan(scenario.plan.hosts.as_mut_slice(), word_at(words, 1), vlan)?;
-    check_order(scenario)?;
-    Ok(())
-}
-
-/// `socket HOST N` and `socket HOST all`.
-pub(crate) fn read_socket(scenario: &mut Scenario, words: &[&str]) -> Result<(), Stop>
-    ensures { IsAnswer line.Socket (so_far scenario.old) (texts words.now) result (so_far scenario.new) }
-{
-    if words.len() != GIFT_WORDS {
-        return Err(Stop::Fault(Fault::Count));
-    }
-    let Some(kind) = socket_of(word_at(words, 2)) else {
-        return Err(Stop::Fault(Fault::Value));
-    };
-    add_socket(scenario.plan.hosts.as_mut_slice(), word_at(words, 1), kind)?;
+    add_item(scenario.plan.hosts.as_mut_slice(), word_at(words, 1), item)?;
     check_order(scenario)?;
     Ok(())
 }

@@ -31,14 +31,14 @@ pub(crate) fn number_of(text: &str) -> Option<u64>
     digits_of(text, DECIMAL)
 }
 
-/// The same with 16 bits.
+/// The number of 16 bits that decimal digits spell, if there is nothing else.
 pub(crate) fn number16_of(text: &str) -> Option<u16>
     ensures { result ≡ number_in 10 16 text.now }
 {
     u16::try_from(number_of(text)?).ok()
 }
 
-/// The same with 8 bits.
+/// The number of 8 bits that decimal digits spell, if there is nothing else.
 pub(crate) fn number8_of(text: &str) -> Option<u8>
     ensures { result ≡ number_in 10 8 text.now }
 {

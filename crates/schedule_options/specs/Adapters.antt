@@ -18,7 +18,7 @@ texts words = map (λ (word : Bor Text). word.now) words
 abbrev pub serve_words : List Text → List Text
 serve_words options = codes "nicbench" ∷ codes "serve" ∷ options
 
--- the same address, or the same path
+-- Both images are of the same address, or of the file with the same path.
 abbrev pub AreSameImage : ServeImage → ServeImage → Type 0
 AreSameImage (Address address) (Address other) = address ≡ other
 AreSameImage (File path) (File other) = path.now ≡ other.now

@@ -11,7 +11,7 @@ fn is_run_option(word: &str) -> bool
     word == "--schedule" || word == "--record" || word == "--seed"
 }
 
-/// Whether a word is such an option and its value, joined by `=`.
+/// Whether a word is an option of `serve` that isn't one of the adapter, and its value, joined by `=`.
 fn has_run_option(word: &str) -> bool
     ensures { result ≡ spec.has_run_option word.now }
 {

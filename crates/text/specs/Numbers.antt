@@ -14,7 +14,7 @@ is_digit radix byte = nat_lt (digit_value byte) radix
 abbrev pub is_number : (radix bits : ℕ) → Text → Bool
 is_number radix bits text = nat_lt 0 (length text) && list_all (is_digit radix) text && nat_lt (digits_value radix text) (2 ^ bits)
 
--- the number that they spell
+-- the number that one or more digits of this radix spell, if it has this many bits
 abbrev pub number_in : (radix bits : ℕ) → Text → Option ℕ
 number_in radix bits text = if is_number radix bits text then Some (digits_value radix text) else None
 
@@ -22,19 +22,19 @@ number_in radix bits text = if is_number radix bits text then Some (digits_value
 abbrev pub is_x : ℕ → Bool
 is_x byte = byte == 0x78
 
--- it has an x
+-- whether a text has an `x`
 abbrev pub has_x : Text → Bool
 has_x text = nat_lt (position_or_len is_x text) (length text)
 
--- the part before its first x is 0
+-- whether the part of a text before its first `x` is `0`
 abbrev pub begins_0x : Text → Bool
 begins_0x text = bytes_eq (before_first is_x text) (codes "0")
 
--- the part after it
+-- the part of a text after its first `x`
 abbrev pub behind_0x : Text → Text
 behind_0x text = after_first is_x text
 
--- decimal digits, or hexadecimal digits after 0x; a number of 64 bits
+-- the number of 64 bits that a text spells: decimal digits, or hexadecimal digits after 0x
 abbrev pub number_spelled : Text → Option ℕ
 number_spelled text =
     if has_x text then (if begins_0x text then number_in 16 64 (behind_0x text) else None)

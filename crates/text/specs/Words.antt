@@ -37,7 +37,7 @@ is_same mark word = bytes_eq word mark
 abbrev pub place_of : (mark : Text) → List Text → ℕ
 place_of mark words = position_or_len (is_same mark) words
 
--- the words before it, and those after it
+-- the words before the first word that is this one, or all if there is none
 abbrev pub words_before : (mark : Text) → List Text → List Text
 words_before mark words = take (place_of mark words) words
 

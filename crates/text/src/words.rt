@@ -24,7 +24,7 @@ pub fn word_at<'a>(words: &[&'a str], place: usize) -> &'a str
     words[place]
 }
 
-/// The place of a word, if it is among these.
+/// The place of the first word that is `mark`, if there is one.
 fn place_of(words: &[&str], mark: &str) -> Option<usize>
     ensures place { result ≡ position (is_same mark.now) (texts words.now) }
     ensures within { IfSome result (λ place. place < length words.now) }

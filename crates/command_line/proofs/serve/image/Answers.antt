@@ -18,11 +18,14 @@ returns-in_default-clause-value c = (
 )
 
 pub returns-in-Some-text_of-clause-refused : goal.returns-in-Some-text_of-clause-refused
-returns-in-Some-text_of-clause-refused c = record {
-  text = c.in-Some.path.now;
-  given = text_is _ _ c.text_of.ensures c.in-Some.is;
-  unspelled = not_none _ c.in-Some-text_of.field-0.now (text_is _ _ c.text_of-2.ensures c.in-Some-text_of.is);
-}
+returns-in-Some-text_of-clause-refused c = (
+  refl,
+  record {
+    text = c.in-Some.path.now;
+    given = text_is _ _ c.text_of.ensures c.in-Some.is;
+    unspelled = not_none _ c.in-Some-text_of.field-0.now (text_is _ _ c.text_of-2.ensures c.in-Some-text_of.is);
+  },
+)
 
 pub returns-in-None-clause-value : goal.returns-in-None-clause-value
 returns-in-None-clause-value c = (

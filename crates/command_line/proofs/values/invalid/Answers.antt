@@ -6,8 +6,8 @@ use Rattle.command_line.proofs.values.invalid.Goals as goal
 pub unwrap-text-requires : goal.unwrap-text-requires
 unwrap-text-requires c = is_there _ _ _ c.text_of.ensures c.requires.given
 
-pub returns : goal.returns
-returns c =
+pub returns-clause-invalid : goal.returns-clause-invalid
+returns-clause-invalid c =
     let rows = rows_of (found_of c.args.matches.now) in
     let first = first_of (name_of c.args.option) rows in
     let given = text_is first c.text_of.result c.text_of.ensures c.unwrap-text.ensures in

@@ -53,8 +53,8 @@ returns-clause-more g c =
     let same : length new ≡ moved.len =
     omega (arith, c.read_behind.auto.bytes, ap length c.as_mut_slice.ensures.value, c.as_mut_slice.ensures.len) in
     rw (← c.self.view_is)
-    (length_more c.self.inside.bytes.items (with_items moved new).items c.self.inside.start c.self.inside.end c.in_ok-count.count (omega arith)
-    (omega arith)
+    (length_more c.self.inside.bytes.items (with_items moved new).items c.self.inside.start c.self.inside.end c.in_ok-count.count
+    (omega arith) (omega arith)
     (omega (arith, c.in_ok-count.ensures.fits, c.read_behind.auto.bytes, ap length (with_items_is moved new same))))
 
 pub returns-in_err-count-clause-failures : goal.returns-in_err-count-clause-failures

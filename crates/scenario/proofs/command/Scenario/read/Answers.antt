@@ -9,7 +9,8 @@ pub loop-start-preserved : goal.loop-start-preserved
 loop-start-preserved c =
     read_more c.args.text.now c.loop-start.start c.loop-start.line c.first_line-taken.result.1 (so_far c.loop-start.scenario)
     (so_far c.read_numbered.new.scenario) c.first_line-taken.result.0.now c.split_at.result.1.now c.loop-start.invariant
-    c.split_at.ensures.back c.first_line-taken.ensures.first c.first_line-taken.ensures.taken c.first_line-taken.ensures.within c.in-Ok.ensures.0 c.in-Ok.ensures.1
+    c.split_at.ensures.back c.first_line-taken.ensures.first c.first_line-taken.ensures.taken c.first_line-taken.ensures.within
+    c.in-Ok.ensures.0 c.in-Ok.ensures.1
 
 pub returns-in-Err-clause-refused : goal.returns-in-Err-clause-refused
 returns-in-Err-clause-refused c =
