@@ -35,7 +35,8 @@ trace-of before mid after header waiting received is packets flush =
 pub drives-of : {B : Type 0} (bus : Ghosts B) → Composes bus.happened bus.lent_stays → (rings : DriveRings) (frames : List (List ℕ))
     (counts : DriveCounts)
     (before taken after : Option (List ℕ)) (header waiting : List ℕ) (old up end : B) (host last : HostState) (mid : ExchangeMoment B)
-    → Keeps bus old up → (bus.honest old → HostReady host (bus.world up)) → host.driver.layout ≡ counts_of rings → header ≡ file_header Micros
+    → Keeps bus old up → (bus.honest old → HostReady host (bus.world up)) → host.driver.layout ≡ counts_of rings
+    → header ≡ file_header Micros
     → SendsFront bus frames counts.sent counts.illegal (exchange_at up host (append_known before header) 0) mid
     → Exchanges bus [] mid (exchange_at end last (append_known taken waiting) counts.received)
     → Appends taken after waiting

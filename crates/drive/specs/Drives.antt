@@ -30,8 +30,8 @@ pub record DrivesLawfully {B : Type 0} (bus : Ghosts B) (rings : DriveRings) (ac
 -- The first frames of the list, `handed`, were handed to the driver, each once and in order. Some frames were received, and the trace of
 -- exactly these, in order, was written. The counts are right. Over a bus that obeys the law the driver accepted those of the frames handed
 -- that have 14 to 1,518 bytes, padded, and the socket returned the frames received.
-pub record Drives {B : Type 0} (bus : Ghosts B) (rings : DriveRings) (frames : List (List ℕ)) (counts : DriveCounts) (before after : Option (List ℕ))
-    (old new : B)
+pub record Drives {B : Type 0} (bus : Ghosts B) (rings : DriveRings) (frames : List (List ℕ)) (counts : DriveCounts)
+    (before after : Option (List ℕ)) (old new : B)
     : Type 0 where
   pub handed : List (List ℕ)
   pub left : List (List ℕ)

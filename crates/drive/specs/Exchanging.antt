@@ -15,7 +15,7 @@ use Rattle.drive.specs.Numbering.{number_after, packets_of}
 abbrev pub accepted_of : List ℕ → List (List ℕ)
 accepted_of frame = if is_sendable frame then padded frame ∷ [] else []
 
--- what is accepted of frames that are handed to it, in order
+-- what is accepted of frames that are handed to a driver, in order
 abbrev pub accepted_of_all : List (List ℕ) → List (List ℕ)
 accepted_of_all [] = []
 accepted_of_all (frame ∷ later) = accepted_of frame ++ accepted_of_all later
@@ -34,8 +34,9 @@ saturated n = min n (2 ^ 64 - 1)
 abbrev pub given_of : List ℕ → Given
 given_of frame = record { socket = 0; frame = frame }
 
--- An interval of a host's run over a bus that obeys the law. The driver accepted the frames `accepted`, and the socket returned the frames
--- `received`. `flows` says which of these the adapter put on the wire and stored: none is lost or duplicated, and each list is in order.
+-- An interval of a host's run over a bus that obeys the law. The driver accepted the frames `accepted`, and the socket
+-- returned the frames `received`. `flows` states which of these frames the adapter put on the wire and stored: none is
+-- lost or duplicated, and each list is in order.
 pub record HostFlows {B : Type 0} (bus : Ghosts B) (accepted received : List (List ℕ)) (old new : HostMoment B) : Type 0 where
   pub honest : bus.honest new.bus
   -- the frames that the driver took off the receive ring
@@ -80,6 +81,6 @@ pub record SendsUpTo {B : Type 0} (bus : Ghosts B) (frames left : List (List ℕ
     pub illegal_is : illegal ≡ saturated (count_by is_illegal handed)
     pub exchanges : Exchanges bus (accepted_of_all handed) old new
 
--- The same, whatever is left.
+-- The first frames of a list were handed to the driver, as in `SendsUpTo`, whatever is left.
 abbrev pub SendsFront : {B : Type 0} → Ghosts B → (frames : List (List ℕ)) → (sent illegal : ℕ) → (old new : ExchangeMoment B) → Type 0
 SendsFront bus frames sent illegal old new = (left : List (List ℕ)) × SendsUpTo bus frames left sent illegal old new

@@ -8,7 +8,7 @@ use Rattle.pcap_trace.specs.declared.unit.Unit.TheVariants.{Micros}
 abbrev pub next_number : ℕ → ℕ
 next_number n = min (n + 1) (2 ^ 64 - 1)
 
--- the number after those of these frames, from n on
+-- the number after these frames, if the first one has number n
 abbrev pub number_after : (n : ℕ) → (frames : List (List ℕ)) → ℕ
 number_after n [] = n
 number_after n (frame ∷ later) = number_after (next_number n) later
@@ -18,6 +18,6 @@ abbrev pub numbered : (n : ℕ) → (frames : List (List ℕ)) → List Timed
 numbered n [] = []
 numbered n (frame ∷ later) = record { time = n; frame = frame } ∷ numbered (next_number n) later
 
--- their packets, one after the other
+-- the packets of these frames, one after the other
 abbrev pub packets_of : (n : ℕ) → (frames : List (List ℕ)) → List ℕ
 packets_of n frames = flat_map (packet_of Micros) (numbered n frames)

@@ -25,7 +25,7 @@ pub struct DriveLimits {
 }
 
 impl DriveLimits {
-    /// Whether as many frames were received as are expected.
+    /// Whether the number of frames received is at least the number expected.
     pub(crate) fn are_met(&self, received: u64) -> bool {
         match self.expect {
             Some(expected) => received >= expected,
@@ -50,7 +50,7 @@ pub struct DriveCounts {
 }
 
 impl DriveCounts {
-    /// Whether this many frames were handed to the driver, and as many were received as are expected.
+    /// Whether this many frames were handed to the driver, and at least as many were received as are expected.
     pub fn is_all(&self, frames: u64, expect: Option<u64>) -> bool
         ensures { IsTrue result
             ↔ ((frames ≤ self.now.sent + self.now.illegal) × IfSome expect (λ n. n ≤ self.now.received)) }

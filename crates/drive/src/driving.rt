@@ -18,7 +18,7 @@ use pcap_trace::{Frames, RecordWriter, Sink, Unit};
 use qtest_bus::BusFault;
 use std::alloc::Global;
 
-/// These rings, and each frame passes the filter.
+/// The configuration of a driver with these rings, which accepts each frame.
 fn config(rings: &DriveRings) -> Config
     ensures { configured_counts result ≡ counts_of rings.now }
 {
@@ -62,7 +62,8 @@ fn reason(fault: Option<BusFault>, error: InitError) -> DriveError {
 }
 
 impl Exchange {
-    /// Has turns until enough frames were received, or until this many turns, one after the other, brought nothing.
+    /// Calls the handler until enough frames were received, or until this many calls, one after the other, received
+    /// nothing.
     fn wait<B: WatchedBus, S: Sink>(
         &mut self,
         bus: &mut B,
@@ -97,8 +98,8 @@ impl Exchange {
 ///
 /// # Errors
 ///
-/// E57 if memory was refused, E46 if the adapter wasn't initialized (E15 if these rings aren't allowed or don't fit), E67
-/// if `sink` failed, and the fault of the bus if it stopped. At an error a part of the trace may have been written.
+/// E57 if memory was refused, E46 if the adapter wasn't initialized (E15 if these rings aren't allowed or don't fit),
+/// E67 if `sink` failed, and the fault of the bus if it stopped. At an error a part of the trace may have been written.
 pub fn drive<B: WatchedBus, S: Sink>(
     alloc: Global,
     bus: &mut B,

@@ -21,9 +21,9 @@ const LONGEST: usize = 1518;
 /// The numbers of frames that were handed to the driver.
 #[derive(Clone, Copy)]
 pub(crate) struct Handed {
-    /// Those that it accepted.
+    /// The frames that the driver accepted.
     pub(crate) sent: u64,
-    /// Those that have fewer than 14 or more than 1,518 bytes.
+    /// The frames that have fewer than 14 or more than 1,518 bytes.
     pub(crate) illegal: u64,
 }
 
@@ -51,8 +51,8 @@ fn is_sendable(frame: &[u8]) -> bool
 }
 
 impl Exchange {
-    /// Hands a frame to the driver. Returns whether it is done with it: whether it accepted or refused it. Otherwise
-    /// its transmit ring is full.
+    /// Hands a frame to the driver. Returns whether the driver accepted or refused the frame. Otherwise its transmit
+    /// ring is full.
     fn hand<B: WatchedBus>(&mut self, bus: &mut B, frame: &[u8]) -> bool
         requires { size_of self.old.host.driver.layout ≤ B.Bus.extent bus.old }
         ensures keeps { Keeps B.Bus bus.old bus.new }
@@ -67,8 +67,8 @@ impl Exchange {
         error != SendError::RingFull
     }
 
-    /// Hands a frame to the driver, with turns while its transmit ring is full. Returns whether it was handed; it
-    /// wasn't if this many turns, one after the other, brought nothing.
+    /// Hands a frame to the driver, with turns while its transmit ring is full. Returns whether it was handed; it isn't
+    /// if this many turns, one after the other, received and sent nothing.
     fn send<B: WatchedBus, S: Sink>(
         &mut self,
         bus: &mut B,

@@ -14,7 +14,7 @@ abbrev pub link_of : ServeLink → Link
 link_of (asked.After ticks) = links.After ticks
 link_of asked.Never = links.Never
 
--- The image is that of the address. Of the words in a file nothing is said.
+-- The image is that of the address. For an image from a file it states nothing.
 abbrev pub IsImageFor : ServeImage → List ℕ → Type 0
 IsImageFor (images.Address address) image = image ≡ image_with address
 IsImageFor (images.File path) image = ⊤

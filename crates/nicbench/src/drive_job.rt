@@ -4,18 +4,17 @@ ghost use Rattle.std.specs.Prelude.{◌<◌};
 use crate::fault::Fault;
 use command_line::DriveJob;
 use drive::{DriveCounts, DriveLimits, DriveRings, drive};
-use pcap_bench::{Frames, Sink};
-use program_files::{FileError, Watched, create, read_trace};
+use pcap_bench::{Frames, Sink, Trace};
+use program_files::{FileError, create, read_trace};
 use qtest_bus::QtestBus;
-use std::io::{self, BufReader, Input};
-use std::rt::Files;
+use std::io::{self, BufReader};
 
 /// After how many turns without a frame a drive ends, unless the job says otherwise.
 const IDLE: u64 = 1_000;
 
-/// Sends frames to the adapter, whose answers come from standard input, and writes those that it gives.
-fn drive_adapter<R: Input + Print + AllocGlobal, S: Sink>(
-    rt: &R,
+/// Sends frames to the adapter, whose answers come from standard input, and writes the frames received to `sink`.
+fn drive_adapter<S: Sink>(
+    rt: &HostRuntime,
     job: &DriveJob<'_>,
     frames: &Frames,
     sink: &mut S,
@@ -41,26 +40,34 @@ fn drive_adapter<R: Input + Print + AllocGlobal, S: Sink>(
     }
 }
 
-/// Sends the frames of IN and writes OUT. Returns the counts, and whether all that was asked for was done.
-fn exchange<R: Files + Input + Print + Watched + AllocGlobal>(
-    rt: &R,
+/// Sends these frames and writes OUT. Returns the counts, and whether all that was asked for was done.
+fn exchange_frames(
+    rt: &HostRuntime,
     job: &DriveJob<'_>,
+    frames: &Frames,
 ) -> Result<(DriveCounts, bool), Fault> {
-    if job.send == "-" {
-        // Answers come from standard input.
-        return Err(Fault::from(FileError::open(rt.alloc(), job.send)));
-    }
-    let trace = read_trace(rt, job.send)?;
     let mut sink = create(rt, job.receive)?;
-    let counts = drive_adapter(rt, job, &trace.frames, &mut sink)?;
-    Ok((counts, counts.is_all(trace.frames.len() as u64, job.expect)))
+    let counts = drive_adapter(rt, job, frames, &mut sink)?;
+    Ok((counts, counts.is_all(frames.len() as u64, job.expect)))
 }
 
-/// Its counts go to standard error: requests go to standard output, and their answers come from standard input.
-pub(crate) fn run_drive<R: Files + Input + Print + Watched + AllocGlobal>(
-    rt: &R,
-    job: &DriveJob<'_>,
-) -> Result<(), Fault> {
+/// Reads a trace from a file. Standard input is refused, because answers come from it.
+fn read_file_trace(rt: &HostRuntime, path: &str) -> Result<Trace, FileError> {
+    if path == "-" {
+        Err(FileError::open(rt.alloc(), path))
+    } else {
+        read_trace(rt, path)
+    }
+}
+
+/// Sends the frames of IN and writes OUT. Returns the counts, and whether all that was asked for was done.
+fn exchange(rt: &HostRuntime, job: &DriveJob<'_>) -> Result<(DriveCounts, bool), Fault> {
+    let trace = read_file_trace(rt, job.send)?;
+    exchange_frames(rt, job, &trace.frames)
+}
+
+/// Runs `drive`. Its counts go to standard error, because requests go to standard output.
+pub(crate) fn run_drive(rt: &HostRuntime, job: &DriveJob<'_>) -> Result<(), Fault> {
     let (counts, is_all) = exchange(rt, job)?;
     let DriveCounts {
         sent,

@@ -9,10 +9,10 @@ use pcap_bench::Sink;
 use program_files::{FileSink, create, is_same_file};
 use scenario::Scenario;
 use std::alloc::AllocError;
-use std::rt::Files;
+use std::fs::File;
 
 /// Whether a path is that of a file that a run reads: its scenario, or one of these traces.
-fn is_read<R: Files>(rt: &R, path: &str, job: &RunJob<'_>, traces: &[String]) -> bool {
+fn is_read(rt: &HostRuntime, path: &str, job: &RunJob<'_>, traces: &[String]) -> bool {
     for trace in traces {
         if is_same_file(rt, path, trace.as_str()) {
             return true;
@@ -21,59 +21,110 @@ fn is_read<R: Files>(rt: &R, path: &str, job: &RunJob<'_>, traces: &[String]) ->
     is_same_file(rt, path, job.scenario)
 }
 
+/// Whether a path is that of the file with this name in a folder.
+fn is_file_in(
+    rt: &HostRuntime,
+    path: &str,
+    directory: &str,
+    name: &str,
+) -> Result<bool, AllocError> {
+    let other = format!(in rt.alloc(); "{directory}/{name}")?;
+    Ok(is_same_file(rt, path, other.as_str()))
+}
+
 /// Whether a path is that of one of the files with these names in a folder.
-fn is_in_folder<R: Files + AllocGlobal>(
-    rt: &R,
+fn is_in_folder(
+    rt: &HostRuntime,
     path: &str,
     directory: &str,
     names: &[String],
 ) -> Result<bool, AllocError> {
     for name in names {
-        let other = format!(in rt.alloc(); "{directory}/{name}")?;
-        if is_same_file(rt, path, other.as_str()) {
+        if is_file_in(rt, path, directory, name.as_str())? {
             return Ok(true);
         }
     }
     Ok(false)
 }
 
-/// Whether a path is that of a file that a run writes in OUTDIR.
-fn is_written<R: Files + AllocGlobal>(
-    rt: &R,
+/// Whether a path is that of the file of a socket in OUTDIR.
+fn is_socket_file(
+    rt: &HostRuntime,
     path: &str,
     job: &RunJob<'_>,
     plans: &[HostPlan],
 ) -> Result<bool, AllocError> {
-    let sockets = socket_files(rt.alloc(), plans)?;
-    if is_in_folder(rt, path, job.directory, sockets.as_slice())? {
-        return Ok(true);
-    }
-    if !job.wires {
-        return Ok(false);
-    }
-    let wires = wire_files(rt.alloc(), plans)?;
-    is_in_folder(rt, path, job.directory, wires.as_slice())
+    let names = socket_files(rt.alloc(), plans)?;
+    is_in_folder(rt, path, job.directory, names.as_slice())
 }
 
-/// The file of the lines of events, if they go to a file, which the run mustn't use otherwise. A file that is there
-/// keeps its bytes, and is empty if it is made.
-pub(crate) fn create_events_sink<R: Files + AllocGlobal>(
-    rt: &R,
+/// Whether a path is that of the file of a wire in OUTDIR, if the job asks for them.
+fn is_wire_file(
+    rt: &HostRuntime,
+    path: &str,
+    job: &RunJob<'_>,
+    plans: &[HostPlan],
+) -> Result<bool, AllocError> {
+    let names = wire_files(rt.alloc(), job, plans)?;
+    is_in_folder(rt, path, job.directory, names.as_slice())
+}
+
+/// Whether a path is that of a file that a run writes in OUTDIR.
+fn is_written(
+    rt: &HostRuntime,
+    path: &str,
+    job: &RunJob<'_>,
+    plans: &[HostPlan],
+) -> Result<bool, AllocError> {
+    if is_socket_file(rt, path, job, plans)? {
+        return Ok(true);
+    }
+    is_wire_file(rt, path, job, plans)
+}
+
+/// Refuses a path if it is that of a file that a run writes in OUTDIR.
+fn refuse_written(
+    rt: &HostRuntime,
+    path: &str,
+    job: &RunJob<'_>,
+    plans: &[HostPlan],
+) -> Result<(), Fault> {
+    if is_written(rt, path, job, plans)? {
+        Err(Fault::same_file(rt.alloc(), path))
+    } else {
+        Ok(())
+    }
+}
+
+/// The file at this path, which the run mustn't use otherwise.
+fn create_unused(
+    rt: &HostRuntime,
+    path: &str,
     job: &RunJob<'_>,
     scenario: &Scenario,
-) -> Result<Option<FileSink<R::File>>, Fault>
-    ensures { IfOk result (λ file. IfSome file (λ sink. ⟦<FileSink<R::File> as Sink>⟧.failures sink ≡ 0)) }
+) -> Result<FileSink<File>, Fault>
+    ensures { IfOk result (λ sink. ⟦<FileSink<File> as Sink>⟧.failures sink ≡ 0) }
 {
-    let Some(path) = job.events else {
-        return Ok(None);
-    };
     if is_read(rt, path, job, scenario.trace_names()) {
         return Err(Fault::same_file(rt.alloc(), path));
     }
     // A new file is made first, so that a path to it in OUTDIR is found.
     let sink = create(rt, path)?;
-    if is_written(rt, path, job, scenario.plan.hosts.as_slice())? {
-        return Err(Fault::same_file(rt.alloc(), path));
+    refuse_written(rt, path, job, scenario.plan.hosts.as_slice())?;
+    Ok(sink)
+}
+
+/// The file of the lines of events, if they go to a file, which the run mustn't use otherwise. A file that is there
+/// keeps its bytes, and is empty if it is made.
+pub(crate) fn create_events_sink(
+    rt: &HostRuntime,
+    job: &RunJob<'_>,
+    scenario: &Scenario,
+) -> Result<Option<FileSink<File>>, Fault>
+    ensures { IfOk result (λ file. IfSome file (λ sink. ⟦<FileSink<File> as Sink>⟧.failures sink ≡ 0)) }
+{
+    match job.events {
+        Some(path) => Ok(Some(create_unused(rt, path, job, scenario)?)),
+        None => Ok(None),
     }
-    Ok(Some(sink))
 }

@@ -13,7 +13,7 @@ use std::alloc::{AllocError, AllocFailed, Global};
 use std::fmt::{self, Display};
 use step_schedules::ScheduleError;
 
-/// The exit status where an image was refused.
+/// The exit status if an image was refused.
 const BAD_IMAGE: u8 = 1;
 
 /// The exit status if `--events` names a file that the run also uses otherwise.
@@ -22,13 +22,13 @@ const SAME_FILE: u8 = 3;
 /// The exit status if a schedule was refused, or wasn't met.
 const BAD_SCHEDULE: u8 = 1;
 
-/// The exit status where fewer frames came than were expected.
+/// The exit status if fewer frames came than were expected.
 const FEWER_FRAMES: u8 = 1;
 
 /// The exit status if standard input or a pipe has more bytes than are read.
 const LONG_PIPE: u8 = 3;
 
-/// The exit status where memory was refused.
+/// The exit status if memory was refused.
 const NO_MEMORY: u8 = 4;
 
 /// Why the program ended.
@@ -64,7 +64,21 @@ pub(crate) enum Fault {
     Memory,
 }
 
-/// Its text is what stands behind `nicbench: ` on standard error.
+impl Fault {
+    /// The text of a fault of which nothing else is told.
+    fn word(&self) -> &'static str {
+        match self {
+            Fault::Fewer => "E69 Fewer",
+            Fault::Image => "E58 Image",
+            Fault::Options => "E70 Schedule options",
+            Fault::Unmet => "E71 Unmet",
+            Fault::Pipe => "E72 Pipe",
+            _ => "E57 Memory",
+        }
+    }
+}
+
+/// The text that follows `nicbench: ` on standard error.
 impl Display for Fault {
     fn fmt<W: fmt::Write>(&self, f: &mut fmt::Formatter<W>) -> fmt::Result {
         match self {
@@ -76,12 +90,7 @@ impl Display for Fault {
             Fault::Serve(error) => error.fmt(f),
             Fault::Drive(error) => error.fmt(f),
             Fault::Schedule(error) => write!(f, "E70 Schedule {error}"),
-            Fault::Fewer => f.write_str("E69 Fewer"),
-            Fault::Image => f.write_str("E58 Image"),
-            Fault::Options => f.write_str("E70 Schedule options"),
-            Fault::Unmet => f.write_str("E71 Unmet"),
-            Fault::Pipe => f.write_str("E72 Pipe"),
-            Fault::Memory => f.write_str("E57 Memory"),
+            _ => f.write_str(self.word()),
         }
     }
 }
@@ -116,8 +125,8 @@ impl Fault {
         }
     }
 
-    /// Whether a run that ended for this has left the files in OUTDIR as they were. It writes them last, so it has,
-    /// unless a file or standard output failed (E67).
+    /// Whether a run that ended for this fault didn't change the files in OUTDIR. It writes them last, so it changed
+    /// them only if a file or standard output failed (E67).
     pub(crate) fn leaves_files(&self) -> bool {
         !matches!(
             self,

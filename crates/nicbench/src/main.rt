@@ -22,14 +22,12 @@ use crate::run::run_scenario;
 use crate::serve::run_serve;
 use crate::show::run_show;
 use command_line::{Job, LineError, line};
-use program_files::Watched;
 use std::env;
-use std::io::{ErrorKind, Input};
+use std::io::ErrorKind;
 use std::process::ExitCode;
-use std::rt::{Env, Files};
 
 /// The words that the program was called with.
-fn words<R: Env + AllocGlobal>(rt: &R) -> Result<Vec<String>, LineError<'static>> {
+fn words(rt: &HostRuntime) -> Result<Vec<String>, LineError<'static>> {
     match env::args(rt) {
         Ok(args) => Ok(args.collect(rt.alloc())?),
         Err(error) if error.kind() == ErrorKind::InvalidData => Err(LineError::NotUnicode),
@@ -37,8 +35,9 @@ fn words<R: Env + AllocGlobal>(rt: &R) -> Result<Vec<String>, LineError<'static>
     }
 }
 
-/// Reports on standard error why the words were refused: the text for words is whole, that for memory is a fault's.
-fn refuse<R: Eprint>(rt: &R, error: &LineError<'_>) -> ExitCode {
+/// Reports on standard error why the words were refused: clap's text is printed as it is, and the text for refused
+/// memory as that of a fault.
+fn refuse(rt: &HostRuntime, error: &LineError<'_>) -> ExitCode {
     let _ = match error {
         LineError::Memory => eprintln!(rt; "nicbench: {error}"),
         LineError::Words(_) | LineError::Value(_) | LineError::NotUnicode => {
@@ -49,7 +48,7 @@ fn refuse<R: Eprint>(rt: &R, error: &LineError<'_>) -> ExitCode {
 }
 
 /// Reports a fault of a job on standard error. The status is the fault's even if standard error accepts nothing.
-fn report<R: Eprint>(rt: &R, job: &Job<'_>, fault: &Fault) -> ExitCode {
+fn report(rt: &HostRuntime, job: &Job<'_>, fault: &Fault) -> ExitCode {
     let _ = eprintln!(rt; "nicbench: {fault}");
     if matches!(job, Job::Run(_)) && fault.leaves_files() {
         let _ = eprintln!(rt; "nicbench: existing files in OUTDIR are unchanged");
@@ -58,11 +57,7 @@ fn report<R: Eprint>(rt: &R, job: &Job<'_>, fault: &Fault) -> ExitCode {
 }
 
 /// Does what these words asked for: the job.
-fn obey<R: Files + Input + Print + Watched + AllocGlobal>(
-    rt: &R,
-    words: &[String],
-    job: &Job<'_>,
-) -> ExitCode
+fn obey(rt: &HostRuntime, words: &[String], job: &Job<'_>) -> ExitCode
     requires { HasBounds job.now }
 {
     let outcome = match job {

@@ -6,16 +6,16 @@ use crate::fault::Fault;
 use crate::unit::unit_of;
 use command_line::PassJob;
 use pcap_bench::{PassCounts, ProgramError, Sink, Trace, WriterSink, pass, print_pass};
-use program_files::{StandardError, Watched, create_whole, read_trace};
-use std::io::{self, Input};
-use std::rt::Files;
+use program_files::{StandardError, WholeFile, create_whole, read_trace};
+use std::fs::File;
+use std::io;
 
 /// The path that stands for standard output.
 const STANDARD_OUTPUT: &str = "-";
 
-/// Writes what passes of a trace to a sink.
-fn pass_trace<R: AllocGlobal, S: Sink>(
-    rt: &R,
+/// Writes the frames of a trace that pass to a sink.
+fn pass_trace<S: Sink>(
+    rt: &HostRuntime,
     job: &PassJob<'_>,
     trace: &Trace,
     sink: &mut S,
@@ -30,21 +30,26 @@ fn pass_trace<R: AllocGlobal, S: Sink>(
     }
 }
 
-/// Writes what passes of a trace to a file. Its line goes to standard output.
-fn pass_to_file<R: Files + Print + AllocGlobal>(
-    rt: &R,
-    job: &PassJob<'_>,
+/// Gives the file of what passed its name. Its line goes to standard output.
+fn finish_pass(
+    rt: &HostRuntime,
+    path: &str,
     trace: &Trace,
-) -> Result<(), Fault>
+    counts: &PassCounts,
+    file: WholeFile<File>,
+) -> Result<(), Fault> {
+    file.finish(rt, path)?;
+    print_pass(trace, counts, &mut WriterSink::new(io::writer(rt)))?;
+    Ok(())
+}
+
+/// Writes the frames of a trace that pass to a file. Its line goes to standard output.
+fn pass_to_file(rt: &HostRuntime, job: &PassJob<'_>, trace: &Trace) -> Result<(), Fault>
     requires { HasVlanNumber job.now.filter }
 {
     let mut file = create_whole(rt, job.output)?;
     match pass_trace(rt, job, trace, &mut file.sink) {
-        Ok(counts) => {
-            file.finish(rt, job.output)?;
-            print_pass(trace, &counts, &mut WriterSink::new(io::writer(rt)))?;
-            Ok(())
-        }
+        Ok(counts) => finish_pass(rt, job.output, trace, &counts, file),
         Err(fault) => {
             file.abandon(rt);
             Err(fault)
@@ -52,13 +57,9 @@ fn pass_to_file<R: Files + Print + AllocGlobal>(
     }
 }
 
-/// Writes what passes of a trace to standard output. Its line goes to standard error; the status is the same even if
-/// standard error accepts nothing.
-fn pass_to_standard_output<R: Print + Watched + AllocGlobal>(
-    rt: &R,
-    job: &PassJob<'_>,
-    trace: &Trace,
-) -> Result<(), Fault>
+/// Writes the frames of a trace that pass to standard output. Its line goes to standard error; the status is the same
+/// even if standard error accepts nothing.
+fn pass_to_standard_output(rt: &HostRuntime, job: &PassJob<'_>, trace: &Trace) -> Result<(), Fault>
     requires { HasVlanNumber job.now.filter }
 {
     let counts = pass_trace(rt, job, trace, &mut WriterSink::new(io::writer(rt)))?;
@@ -66,11 +67,8 @@ fn pass_to_standard_output<R: Print + Watched + AllocGlobal>(
     Ok(())
 }
 
-/// Reads IN, and writes what passes of it to OUT.
-pub(crate) fn run_pass<R: Files + Input + Print + Watched + AllocGlobal>(
-    rt: &R,
-    job: &PassJob<'_>,
-) -> Result<(), Fault>
+/// Reads IN, and writes the frames that pass to OUT.
+pub(crate) fn run_pass(rt: &HostRuntime, job: &PassJob<'_>) -> Result<(), Fault>
     requires { HasVlanNumber job.now.filter }
 {
     let trace = read_trace(rt, job.input)?;

@@ -1,5 +1,5 @@
 //! The command `run`.
-ghost use Rattle.std.specs.Prelude.{◌≡◌, ◌≤◌, ◌+◌, All, IfOk, IfSome, OnOk, length};
+ghost use Rattle.std.specs.Prelude.{◌≡◌, ◌<◌, ◌≤◌, ◌+◌, All, IfOk, IfSome, OnOk, length};
 ghost use Rattle.nicbench.specs.Sinks.{sockets_in, wires_in};
 
 use crate::events_file::create_events_sink;
@@ -7,41 +7,63 @@ use crate::fault::Fault;
 use crate::unit::unit_of;
 use command_line::RunJob;
 use network_plan::HostPlan;
-use pcap_bench::{Sink, Trace, WriterSink};
+use pcap_bench::{Sink, Trace, WriteError, WriterSink};
 use program_files::{
-    FileSink, StandardError, Watched, create_all, find_folder, read_bytes, read_trace, report_play,
+    FileSink, StandardError, create_all, find_folder, read_bytes, read_trace, report_play,
 };
 use scenario::Scenario;
 use scenario_bench::{Refusals, Summary, bench, print_summary, wires};
 use std::alloc::{AllocError, Global};
-use std::io::{self, Input};
-use std::rt::Files;
+use std::fs::File;
+use std::io;
 
 /// The path that stands for standard output.
 const STANDARD_OUTPUT: &str = "-";
 
+/// The scenario with this text.
+fn scenario_of(alloc: Global, text: &[u8]) -> Result<Scenario, Fault> {
+    Ok(Scenario::read(alloc, text)?)
+}
+
 /// Reads a scenario.
-fn read_scenario<R: Files + Input + AllocGlobal>(rt: &R, path: &str) -> Result<Scenario, Fault> {
+fn read_scenario(rt: &HostRuntime, path: &str) -> Result<Scenario, Fault> {
     let text = read_bytes(rt, path)?;
-    let scenario = Scenario::read(rt.alloc(), text.as_slice())?;
-    Ok(scenario)
+    scenario_of(rt.alloc(), text.as_slice())
+}
+
+/// Reads a trace, and appends it.
+fn push_trace(rt: &HostRuntime, name: &str, traces: &mut Vec<Trace>) -> Result<(), Fault>
+    ensures { OnOk result (length traces.new.items ≡ length traces.old.items + 1) }
+{
+    traces.push(read_trace(rt, name)?)?;
+    Ok(())
 }
 
 /// Reads the traces of these names, in order.
-fn read_traces<R: Files + Input + Watched + AllocGlobal>(
-    rt: &R,
-    names: &[String],
-) -> Result<Vec<Trace>, Fault>
+fn read_traces(rt: &HostRuntime, names: &[String]) -> Result<Vec<Trace>, Fault>
     ensures { IfOk result (λ traces. length traces.items ≡ length names.now) }
 {
     let mut traces = Vec::new(rt.alloc());
     for name in names {
-        traces.push(read_trace(rt, name.as_str())?)?;
+        push_trace(rt, name.as_str(), &mut traces)?;
     }
     Ok(traces)
 }
 
-/// Appends the names of the files of a host's sockets, `HOST.SOCKET.pcap`.
+/// Appends the name of the file of a host's socket, `HOST.SOCKET.pcap`.
+fn push_socket_file(
+    alloc: Global,
+    host: &str,
+    socket: usize,
+    names: &mut Vec<String>,
+) -> Result<(), AllocError>
+    ensures { OnOk result (length names.new.items ≡ length names.old.items + 1) }
+{
+    names.push(format!(in alloc; "{host}.{socket}.pcap")?)?;
+    Ok(())
+}
+
+/// Appends the names of the files of a host's sockets.
 fn push_socket_files(
     alloc: Global,
     plan: &HostPlan,
@@ -51,7 +73,7 @@ fn push_socket_files(
 {
     let host = plan.name.as_str();
     for socket in 0..plan.sockets.len() {
-        names.push(format!(in alloc; "{host}.{socket}.pcap")?)?;
+        push_socket_file(alloc, host, socket, names)?;
     }
     Ok(())
 }
@@ -67,28 +89,51 @@ pub(crate) fn socket_files(alloc: Global, plans: &[HostPlan]) -> Result<Vec<Stri
     Ok(names)
 }
 
-/// The name of the file of each wire, `WIRE.pcap`, in the order in which the hosts first name them. It is no socket's
-/// file: the name of a wire has no dot, and the name of a socket's file has a second one.
-pub(crate) fn wire_files(alloc: Global, plans: &[HostPlan]) -> Result<Vec<String>, AllocError>
-    ensures { IfOk result (λ names. length names.items ≡ wires_in plans.now) }
+/// Appends the name of the file of a wire, `WIRE.pcap`. It is no socket's file: the name of a wire has no dot, and the
+/// name of a socket's file has a second one.
+fn push_wire_file(alloc: Global, wire: &str, names: &mut Vec<String>) -> Result<(), AllocError>
+    ensures { OnOk result (length names.new.items ≡ length names.old.items + 1) }
 {
-    let found = wires(alloc, plans)?;
+    names.push(format!(in alloc; "{wire}.pcap")?)?;
+    Ok(())
+}
+
+/// The name of the file of each of these wires, in order.
+fn files_of_wires(alloc: Global, wires: &[&str]) -> Result<Vec<String>, AllocError>
+    ensures { IfOk result (λ names. length names.items ≡ length wires.now) }
+{
     let mut names = Vec::new(alloc);
-    for wire in found.as_slice() {
-        names.push(format!(in alloc; "{wire}.pcap")?)?;
+    for wire in wires {
+        push_wire_file(alloc, wire, &mut names)?;
     }
     Ok(names)
 }
 
-/// A file for each socket, in a folder that must be there.
-fn create_socket_sinks<R: Files + AllocGlobal>(
-    rt: &R,
+/// The name of the file of each wire, in the order in which the hosts first name them, or none if the job doesn't ask
+/// for them.
+pub(crate) fn wire_files(
+    alloc: Global,
+    job: &RunJob<'_>,
+    plans: &[HostPlan],
+) -> Result<Vec<String>, AllocError>
+    ensures { IfOk result (λ names. length names.items ≤ wires_in plans.now) }
+{
+    if !job.wires {
+        return Ok(Vec::new(alloc));
+    }
+    let found = wires(alloc, plans)?;
+    files_of_wires(alloc, found.as_slice())
+}
+
+/// A file for each socket, in a folder that must exist.
+fn create_socket_sinks(
+    rt: &HostRuntime,
     directory: &str,
     plans: &[HostPlan],
-) -> Result<Vec<FileSink<R::File>>, Fault>
+) -> Result<Vec<FileSink<File>>, Fault>
     ensures count { IfOk result (λ sinks. length sinks.items ≡ sockets_in plans.now) }
     ensures countable { IfOk result (λ sinks.
-        All (λ sink. ⟦<FileSink<R::File> as Sink>⟧.failures sink ≡ 0) sinks.items) }
+        All (λ sink. ⟦<FileSink<File> as Sink>⟧.failures sink ≡ 0) sinks.items) }
 {
     find_folder(rt, directory)?;
     let names = socket_files(rt.alloc(), plans)?;
@@ -97,53 +142,85 @@ fn create_socket_sinks<R: Files + AllocGlobal>(
 }
 
 /// A file for each wire, if the job asks for them.
-fn create_wire_sinks<R: Files + AllocGlobal>(
-    rt: &R,
+fn create_wire_sinks(
+    rt: &HostRuntime,
     job: &RunJob<'_>,
     plans: &[HostPlan],
-) -> Result<Vec<FileSink<R::File>>, Fault>
+) -> Result<Vec<FileSink<File>>, Fault>
     ensures count { IfOk result (λ sinks. length sinks.items ≤ wires_in plans.now) }
     ensures countable { IfOk result (λ sinks.
-        All (λ sink. ⟦<FileSink<R::File> as Sink>⟧.failures sink ≡ 0) sinks.items) }
+        All (λ sink. ⟦<FileSink<File> as Sink>⟧.failures sink ≡ 0) sinks.items) }
 {
-    if !job.wires {
-        return Ok(Vec::new(rt.alloc()));
-    }
-    let names = wire_files(rt.alloc(), plans)?;
+    let names = wire_files(rt.alloc(), job, plans)?;
     let sinks = create_all(rt, job.directory, names.as_slice())?;
     Ok(sinks)
 }
 
-/// Makes sure that the files in OUTDIR can be written, plays a scenario, and writes the files: those of the sockets,
-/// and then those of the wires, if the job asks for them.
-fn play<R: Files + Watched + AllocGlobal>(
-    rt: &R,
+/// Plays a scenario, and writes the traces to these sinks.
+fn play_to_sinks<W: Sink>(
+    rt: &HostRuntime,
     job: &RunJob<'_>,
     scenario: &Scenario,
     traces: &[Trace],
+    sinks: &mut [W],
+    wire_sinks: &mut [W],
 ) -> Result<Summary, Fault>
-    requires { length traces.now ≡ length scenario.now.traces.items }
+    requires traces { length traces.now ≡ length scenario.now.traces.items }
+    requires sinks { length sinks.old ≡ sockets_in scenario.now.plan.hosts.items }
+    requires wires { length wire_sinks.old ≤ wires_in scenario.now.plan.hosts.items }
+    requires countable { All (λ (sink : W). W.failures sink < u64.MAX) sinks.old }
+    requires wires_countable { All (λ (sink : W). W.failures sink < u64.MAX) wire_sinks.old }
 {
-    let plans = scenario.plan.hosts.as_slice();
-    let mut sinks = create_socket_sinks(rt, job.directory, plans)?;
-    let mut wire_sinks = create_wire_sinks(rt, job, plans)?;
     report_play(rt, traces);
+    let unit = unit_of(job.nanos);
+    let events = job.events.is_some();
     match bench(
         rt.alloc(),
         scenario,
         traces,
-        unit_of(job.nanos),
-        sinks.as_mut_slice(),
-        wire_sinks.as_mut_slice(),
-        job.events.is_some(),
+        unit,
+        sinks,
+        wire_sinks,
+        events,
     ) {
         Ok(summary) => Ok(summary),
         Err(error) => Err(Fault::Bench(error)),
     }
 }
 
+/// Makes sure that the files of wires can be written, if the job asks for them. Then it plays a scenario, and writes
+/// the traces.
+fn play_to_sockets(
+    rt: &HostRuntime,
+    job: &RunJob<'_>,
+    scenario: &Scenario,
+    traces: &[Trace],
+    sinks: &mut [FileSink<File>],
+) -> Result<Summary, Fault>
+    requires traces { length traces.now ≡ length scenario.now.traces.items }
+    requires sinks { length sinks.old ≡ sockets_in scenario.now.plan.hosts.items }
+    requires countable { All (λ sink. ⟦<FileSink<File> as Sink>⟧.failures sink ≡ 0) sinks.old }
+{
+    let mut wire_sinks = create_wire_sinks(rt, job, scenario.plan.hosts.as_slice())?;
+    play_to_sinks(rt, job, scenario, traces, sinks, wire_sinks.as_mut_slice())
+}
+
+/// Makes sure that the files in OUTDIR can be written, plays a scenario, and writes the files: those of the sockets,
+/// and then those of the wires, if the job asks for them.
+fn play(
+    rt: &HostRuntime,
+    job: &RunJob<'_>,
+    scenario: &Scenario,
+    traces: &[Trace],
+) -> Result<Summary, Fault>
+    requires { length traces.now ≡ length scenario.now.traces.items }
+{
+    let mut sinks = create_socket_sinks(rt, job.directory, scenario.plan.hosts.as_slice())?;
+    play_to_sockets(rt, job, scenario, traces, sinks.as_mut_slice())
+}
+
 /// Warns on standard error, once, if calls that the scenario asked for were refused. The status is the same.
-fn warn<R: Eprint>(rt: &R, summary: &Summary) {
+fn warn(rt: &HostRuntime, summary: &Summary) {
     let Refusals {
         sends,
         groups,
@@ -156,10 +233,20 @@ fn warn<R: Eprint>(rt: &R, summary: &Summary) {
     }
 }
 
-/// Plays a scenario, and writes the lines of events to standard output, and the lines of hosts to standard error. The
-/// status is the same even if standard error accepts nothing.
-fn play_to_standard_output<R: Files + Print + Watched + AllocGlobal>(
-    rt: &R,
+/// Writes the lines of events to standard output, and the lines of hosts to standard error. The status is the same even
+/// if standard error accepts nothing.
+fn print_to_standard_output(rt: &HostRuntime, summary: &Summary) -> Result<(), Fault> {
+    if let Some(events) = &summary.events {
+        events.write(&mut WriterSink::new(io::writer(rt)))?;
+    }
+    let _ = print_summary(summary, &mut WriterSink::new(StandardError::new(rt)));
+    warn(rt, summary);
+    Ok(())
+}
+
+/// Plays a scenario, and writes the lines of events to standard output, and the lines of hosts to standard error.
+fn play_to_standard_output(
+    rt: &HostRuntime,
     job: &RunJob<'_>,
     scenario: &Scenario,
     traces: &[Trace],
@@ -167,57 +254,93 @@ fn play_to_standard_output<R: Files + Print + Watched + AllocGlobal>(
     requires { length traces.now ≡ length scenario.now.traces.items }
 {
     let summary = play(rt, job, scenario, traces)?;
-    if let Some(events) = &summary.events {
-        events.write(&mut WriterSink::new(io::writer(rt)))?;
+    print_to_standard_output(rt, &summary)
+}
+
+/// Writes the lines of events to their file, if they were asked for.
+fn write_events<W: Sink>(summary: &Summary, file: &mut Option<W>) -> Result<(), WriteError>
+    requires { IfSome file.old (λ sink. W.failures sink < u64.MAX) }
+{
+    match (&summary.events, file) {
+        (Some(events), Some(sink)) => events.write(sink),
+        _ => Ok(()),
     }
-    let _ = print_summary(&summary, &mut WriterSink::new(StandardError::new(rt)));
-    warn(rt, &summary);
+}
+
+/// Writes the lines of hosts to standard output.
+fn print(rt: &HostRuntime, summary: &Summary) -> Result<(), Fault> {
+    print_summary(summary, &mut WriterSink::new(io::writer(rt)))?;
+    warn(rt, summary);
     Ok(())
 }
 
-/// Writes the lines of events to their file, which was opened before the run, if they were asked for. The lines of
-/// hosts go to standard output.
-fn print<R: Files + Print + Eprint>(
-    rt: &R,
+/// Writes the lines of events to a file, if they were asked for. The lines of hosts go to standard output.
+fn print_with_file<W: Sink>(
+    rt: &HostRuntime,
     summary: &Summary,
-    file: Option<FileSink<R::File>>,
+    file: &mut Option<W>,
 ) -> Result<(), Fault>
-    requires { IfSome file (λ sink. ⟦<FileSink<R::File> as Sink>⟧.failures sink ≡ 0) }
+    requires { IfSome file.old (λ sink. W.failures sink < u64.MAX) }
 {
-    if let (Some(events), Some(mut sink)) = (&summary.events, file) {
-        events.write(&mut sink)?;
-    }
-    print_summary(summary, &mut WriterSink::new(io::writer(rt)))?;
-    Ok(())
+    write_events(summary, file)?;
+    print(rt, summary)
+}
+
+/// Plays a scenario, and writes the lines of events to a file, which was opened before the run, if they were asked for.
+/// The lines of hosts go to standard output.
+fn play_with_file<W: Sink>(
+    rt: &HostRuntime,
+    job: &RunJob<'_>,
+    scenario: &Scenario,
+    traces: &[Trace],
+    file: &mut Option<W>,
+) -> Result<(), Fault>
+    requires traces { length traces.now ≡ length scenario.now.traces.items }
+    requires countable { IfSome file.old (λ sink. W.failures sink < u64.MAX) }
+{
+    let summary = play(rt, job, scenario, traces)?;
+    print_with_file(rt, &summary, file)
 }
 
 /// Plays a scenario, and writes the lines of events to their file, if the job asks for them, and the lines of hosts to
 /// standard output.
-fn play_to_file<R: Files + Input + Print + Watched + AllocGlobal>(
-    rt: &R,
+fn play_to_file(
+    rt: &HostRuntime,
     job: &RunJob<'_>,
     scenario: &Scenario,
     traces: &[Trace],
 ) -> Result<(), Fault>
     requires { length traces.now ≡ length scenario.now.traces.items }
 {
-    let file = create_events_sink(rt, job, scenario)?;
-    let summary = play(rt, job, scenario, traces)?;
-    print(rt, &summary, file)?;
-    warn(rt, &summary);
-    Ok(())
+    let mut file = create_events_sink(rt, job, scenario)?;
+    play_with_file(rt, job, scenario, traces, &mut file)
+}
+
+/// Plays a scenario with these traces, and prints what the job asks for.
+fn play_scenario(
+    rt: &HostRuntime,
+    job: &RunJob<'_>,
+    scenario: &Scenario,
+    traces: &[Trace],
+) -> Result<(), Fault>
+    requires { length traces.now ≡ length scenario.now.traces.items }
+{
+    if job.events == Some(STANDARD_OUTPUT) {
+        play_to_standard_output(rt, job, scenario, traces)
+    } else {
+        play_to_file(rt, job, scenario, traces)
+    }
+}
+
+/// Reads the traces that a scenario feeds, and plays it.
+fn read_and_play(rt: &HostRuntime, job: &RunJob<'_>, scenario: &Scenario) -> Result<(), Fault> {
+    let traces = read_traces(rt, scenario.trace_names())?;
+    play_scenario(rt, job, scenario, traces.as_slice())
 }
 
 /// Reads SCENARIO and the traces that it feeds, plays the scenario, writes its files, and prints a line for each host,
 /// on request also a line for each event.
-pub(crate) fn run_scenario<R: Files + Input + Print + Watched + AllocGlobal>(
-    rt: &R,
-    job: &RunJob<'_>,
-) -> Result<(), Fault> {
+pub(crate) fn run_scenario(rt: &HostRuntime, job: &RunJob<'_>) -> Result<(), Fault> {
     let scenario = read_scenario(rt, job.scenario)?;
-    let traces = read_traces(rt, scenario.trace_names())?;
-    if job.events == Some(STANDARD_OUTPUT) {
-        return play_to_standard_output(rt, job, &scenario, traces.as_slice());
-    }
-    play_to_file(rt, job, &scenario, traces.as_slice())
+    read_and_play(rt, job, &scenario)
 }

@@ -4,13 +4,11 @@ use crate::fault::Fault;
 use command_line::ServeJob;
 use pcap_bench::{ProgramError, WriteError};
 use program_files::{FileError, LateFile, create_file, read_bytes};
-use schedule_options::is_for;
-use schedule_player::Player;
-use std::alloc::Global;
-use std::fs::OpenFile;
-use std::io::{Input, Write};
-use std::rt::Files;
-use step_schedules::Schedule;
+use schedule_options::{adapter_options, is_for};
+use std::alloc::{AllocError, Global};
+use std::fs::{File, OpenFile};
+use std::io::Write;
+use step_schedules::{Player, Schedule};
 
 /// The path that stands for standard input, from which requests come.
 const STANDARD_INPUT: &str = "-";
@@ -18,64 +16,90 @@ const STANDARD_INPUT: &str = "-";
 /// The first line of a recorded schedule.
 const COMMENT: &[u8] = b"# recorded by nicbench serve\n";
 
-/// Reads the schedule at a path, which must be for the adapter of this job.
-fn read_schedule<R: Files + Input + AllocGlobal>(
-    rt: &R,
-    path: &str,
-    job: &ServeJob<'_>,
-) -> Result<Schedule, Fault> {
+/// Whether a schedule is for the adapter of this job.
+fn is_for_job(alloc: Global, schedule: &Schedule, job: &ServeJob<'_>) -> Result<bool, AllocError> {
+    match &schedule.options {
+        Some(options) => is_for(alloc, options.as_slice(), job),
+        None => Ok(true),
+    }
+}
+
+/// The schedule with this text, which must be for the adapter of this job.
+fn schedule_of(alloc: Global, text: &[u8], job: &ServeJob<'_>) -> Result<Schedule, Fault> {
+    let schedule = Schedule::parse(alloc, text)?;
+    if is_for_job(alloc, &schedule, job)? {
+        Ok(schedule)
+    } else {
+        Err(Fault::Options)
+    }
+}
+
+/// Reads the bytes of a file. Standard input is refused.
+fn read_file(rt: &HostRuntime, path: &str) -> Result<Vec<u8>, FileError> {
     if path == STANDARD_INPUT {
-        return Err(Fault::from(FileError::open(rt.alloc(), path)));
+        Err(FileError::open(rt.alloc(), path))
+    } else {
+        read_bytes(rt, path)
     }
-    let bytes = read_bytes(rt, path)?;
-    let schedule = Schedule::parse(rt.alloc(), bytes.as_slice())?;
-    if let Some(options) = &schedule.options
-        && !is_for(rt.alloc(), options.as_slice(), job)?
-    {
-        return Err(Fault::Options);
+}
+
+/// Reads the schedule at a path, which must be for the adapter of this job.
+fn read_schedule(rt: &HostRuntime, path: &str, job: &ServeJob<'_>) -> Result<Schedule, Fault> {
+    let bytes = read_file(rt, path)?;
+    schedule_of(rt.alloc(), bytes.as_slice(), job)
+}
+
+/// The player of the schedule at a path.
+fn playing(rt: &HostRuntime, path: &str, job: &ServeJob<'_>) -> Result<Player, Fault> {
+    let schedule = read_schedule(rt, path, job)?;
+    Ok(Player::playing(rt.alloc(), schedule)?)
+}
+
+/// The player that records, if the job needs one.
+fn recording(alloc: Global, job: &ServeJob<'_>) -> Option<Player> {
+    match job.record {
+        Some(_) => Some(Player::recording(alloc)),
+        None => None,
     }
-    Ok(schedule)
 }
 
 /// The player of a server, if the job needs one.
-pub(crate) fn player_of<R: Files + Input + AllocGlobal>(
-    rt: &R,
-    job: &ServeJob<'_>,
-) -> Result<Option<Player>, Fault> {
-    if let Some(path) = job.schedule {
-        let schedule = read_schedule(rt, path, job)?;
-        return Ok(Some(Player::playing(rt.alloc(), schedule)?));
+pub(crate) fn player_of(rt: &HostRuntime, job: &ServeJob<'_>) -> Result<Option<Player>, Fault> {
+    match job.schedule {
+        Some(path) => Ok(Some(playing(rt, path, job)?)),
+        None => Ok(recording(rt.alloc(), job)),
     }
-    Ok(match job.record {
-        Some(_) => Some(Player::recording(rt.alloc())),
-        None => None,
-    })
 }
 
 /// The file of a recorded schedule, if the job wants one. It keeps its bytes until the schedule is stored.
-pub(crate) fn record_of<R: Files + AllocGlobal>(
-    rt: &R,
+pub(crate) fn record_of(
+    rt: &HostRuntime,
     job: &ServeJob<'_>,
-) -> Result<Option<LateFile<R::File>>, Fault> {
+) -> Result<Option<LateFile<File>>, Fault> {
     Ok(match job.record {
         Some(path) => Some(create_file(rt, path)?),
         None => None,
     })
 }
 
-/// Stores what was played, after the options of the adapter.
+/// The text of what was played, after the options of the adapter in these words.
+fn recorded(alloc: Global, words: &[String], player: &Player) -> Result<String, AllocError> {
+    let options = adapter_options(alloc, words)?;
+    if options.is_empty() {
+        player.recorded(alloc, None)
+    } else {
+        player.recorded(alloc, Some(options))
+    }
+}
+
+/// Stores what was played, after the options of the adapter in these words.
 pub(crate) fn store<F: OpenFile + Write>(
     alloc: Global,
     file: &mut LateFile<F>,
-    options: Vec<String>,
+    words: &[String],
     player: &Player,
 ) -> Result<(), Fault> {
-    let options = if options.is_empty() {
-        None
-    } else {
-        Some(options)
-    };
-    let text = player.recorded(alloc, options)?;
+    let text = recorded(alloc, words, player)?;
     if file.write_all(COMMENT).is_err() || file.write_all(text.as_bytes()).is_err() {
         return Err(Fault::Program(ProgramError::Write(WriteError::Write)));
     }
@@ -83,7 +107,7 @@ pub(crate) fn store<F: OpenFile + Write>(
 }
 
 /// Reports the deviations that weren't met.
-pub(crate) fn report_unmet<R: Eprint + AllocGlobal>(rt: &R, player: &Player) -> Result<(), Fault> {
+pub(crate) fn report_unmet(rt: &HostRuntime, player: &Player) -> Result<(), Fault> {
     let unmet = player.unmet(rt.alloc())?;
     if unmet.is_empty() {
         return Ok(());

@@ -8,16 +8,15 @@ use adapter_server::{ServeOptions, serve};
 use command_line::{ServeImage, ServeJob, ServeLink};
 use eeprom::{Image, WORDS};
 use mdic_phy::Link;
-use program_files::read_front;
-use schedule_options::adapter_options;
-use schedule_player::Player;
-use std::io::{self, BufReader, BufWriter, Input};
-use std::rt::Files;
+use program_files::{LateFile, read_front};
+use std::fs::File;
+use std::io::{self, BufReader, BufWriter};
+use step_schedules::Player;
 
 /// The number of bytes of a file with the words of an EEPROM.
 const IMAGE_BYTES: usize = 128;
 
-/// When the link comes up.
+/// The setting of the link that the options give.
 fn link_of(link: ServeLink) -> Link
     ensures { result ≡ link_of link }
 {
@@ -40,7 +39,7 @@ fn image_in(bytes: &[u8]) -> Option<Image> {
 }
 
 /// The contents of the EEPROM.
-fn image_of<R: Files + Input + AllocGlobal>(rt: &R, image: ServeImage<'_>) -> Result<Image, Fault>
+fn image_of(rt: &HostRuntime, image: ServeImage<'_>) -> Result<Image, Fault>
     ensures { IfOk result (IsImageFor image.entry) }
 {
     let path = match image {
@@ -54,7 +53,7 @@ fn image_of<R: Files + Input + AllocGlobal>(rt: &R, image: ServeImage<'_>) -> Re
     }
 }
 
-/// What is served.
+/// The options of the server, as the job gives them.
 fn options_of(job: &ServeJob<'_>, image: Image) -> ServeOptions
     ensures { result ≡ options_of job.now image }
 {
@@ -70,8 +69,8 @@ fn options_of(job: &ServeJob<'_>, image: Image) -> ServeOptions
 }
 
 /// Serves: requests come from standard input, and their answers go to standard output. Returns the player after that.
-fn serve_input<R: Input + Print + AllocGlobal>(
-    rt: &R,
+fn serve_input(
+    rt: &HostRuntime,
     options: &ServeOptions,
     player: Option<Player>,
 ) -> Result<Option<Player>, Fault> {
@@ -88,26 +87,53 @@ fn serve_input<R: Input + Print + AllocGlobal>(
     }
 }
 
+/// Stores the schedule that was recorded, and reports the deviations that weren't met.
+fn finish(
+    rt: &HostRuntime,
+    words: &[String],
+    record: &mut Option<LateFile<File>>,
+    player: &Player,
+) -> Result<(), Fault> {
+    if let Some(file) = record {
+        store(rt.alloc(), file, words, player)?;
+    }
+    report_unmet(rt, player)
+}
+
+/// Serves with this player, and stores what it recorded.
+fn serve_and_store(
+    rt: &HostRuntime,
+    words: &[String],
+    options: &ServeOptions,
+    player: Option<Player>,
+    record: &mut Option<LateFile<File>>,
+) -> Result<(), Fault> {
+    match serve_input(rt, options, player)? {
+        Some(player) => finish(rt, words, record, &player),
+        None => Ok(()),
+    }
+}
+
+/// Serves with this player. The file of its schedule is opened before.
+fn serve_with(
+    rt: &HostRuntime,
+    words: &[String],
+    job: &ServeJob<'_>,
+    options: &ServeOptions,
+    player: Option<Player>,
+) -> Result<(), Fault> {
+    let mut record = record_of(rt, job)?;
+    serve_and_store(rt, words, options, player, &mut record)
+}
+
 /// The words of the program are those of the job. A schedule that was recorded is stored at the end, and deviations
 /// that weren't met are reported.
-pub(crate) fn run_serve<R: Files + Input + Print + Eprint + AllocGlobal>(
-    rt: &R,
+pub(crate) fn run_serve(
+    rt: &HostRuntime,
     words: &[String],
     job: &ServeJob<'_>,
 ) -> Result<(), Fault> {
-    let image = image_of(rt, job.image)?;
+    let options = options_of(job, image_of(rt, job.image)?);
     let player = player_of(rt, job)?;
-    let mut record = record_of(rt, job)?;
-    let Some(player) = serve_input(rt, &options_of(job, image), player)? else {
-        return Ok(());
-    };
-    if let Some(file) = &mut record {
-        store(
-            rt.alloc(),
-            file,
-            adapter_options(rt.alloc(), words)?,
-            &player,
-        )?;
-    }
-    report_unmet(rt, &player)
+    serve_with(rt, words, job, &options, player)
 }

@@ -3,15 +3,11 @@
 use crate::fault::Fault;
 use command_line::ShowJob;
 use pcap_bench::{WriterSink, show};
-use program_files::{Watched, read_trace};
-use std::io::{self, Input};
-use std::rt::Files;
+use program_files::read_trace;
+use std::io;
 
-/// Its lines go to standard output.
-pub(crate) fn run_show<R: Files + Input + Print + Watched + AllocGlobal>(
-    rt: &R,
-    job: &ShowJob<'_>,
-) -> Result<(), Fault> {
+/// Runs `show`. Its lines go to standard output.
+pub(crate) fn run_show(rt: &HostRuntime, job: &ShowJob<'_>) -> Result<(), Fault> {
     let trace = read_trace(rt, job.trace)?;
     show(&trace, &mut WriterSink::new(io::writer(rt)))?;
     Ok(())

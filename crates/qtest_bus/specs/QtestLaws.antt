@@ -32,7 +32,7 @@ asks_on a b c one two = record {
       (subst (λ (r : ℕ). Appends b.written c.written (requests_of r two.accesses)) one.same.registers (two.asked none)));
 }
 
--- One access is some accesses.
+-- One access is a list of one access.
 pub asks_one : (access : Access) (a b : QtestState) → Asks access a b → AsksAll a b
 asks_one access a b one = record {
   same = one.same;

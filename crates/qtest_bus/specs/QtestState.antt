@@ -10,11 +10,11 @@ pub record QtestState : Type 0 where
   pub registers : ℕ
   -- the number of bytes of memory, which begins at address 0
   pub memory : ℕ
-  -- the interrupt line, as the last line about it reported it
+  -- whether the interrupt line is asserted, by the last line that reported it
   pub asserted : Bool
-  -- why it stopped, if it did
+  -- why the bus stopped, if it did
   pub fault : Option BusFault
-  -- the bytes that were written to the program, where the writer tells them
+  -- the bytes that were written to the program, if contracts know them
   pub written : Option (List ℕ)
 
 abbrev pub memory_size : QtestState → ℕ
@@ -24,7 +24,7 @@ memory_size bus = bus.memory
 abbrev pub is_never : QtestState → Type 0
 is_never bus = ⊥
 
--- It is the same bus, and a fault stays.
+-- The registers, the memory and the program are the same, and a fault stays.
 pub record IsSameBus (old new : QtestState) : Type 0 where
   pub registers : new.registers ≡ old.registers
   pub memory : new.memory ≡ old.memory

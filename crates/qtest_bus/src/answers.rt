@@ -26,7 +26,7 @@ pub(crate) struct Answers<R> {
     pub(crate) asserted: bool,
 }
 
-/// What a line is.
+/// The kind of a line.
 enum Line {
     /// The interrupt line was asserted, or deasserted.
     Interrupt(bool),
@@ -36,7 +36,7 @@ enum Line {
     Answer,
 }
 
-/// What a line is.
+/// The kind of a line.
 fn kind_of(line: &[u8]) -> Line {
     if line.starts_with(b"IRQ raise ") {
         Line::Interrupt(true)

@@ -18,8 +18,8 @@ use std::marker::Model;
 /// A bus to an adapter in another program, which answers requests of QEMU's qtest protocol, one a line.
 ///
 /// Each access is one request: `readl` or `writel` for a register, `read` or `write` for bytes of memory. Lines before
-/// an answer that are none (`IRQ ..`, `frame ..`, `# ..`) are skipped; those with `IRQ` tell the interrupt line. At the
-/// first fault it stops: the access that failed and all later ones read zeros, and nothing more is written.
+/// an answer that are none (`IRQ ..`, `frame ..`, `# ..`) are skipped; those with `IRQ` report the interrupt line. At
+/// the first fault it stops: the access that failed and all later ones read zeros, and nothing more is written.
 #[derive(Drop)]
 pub struct QtestBus<R: BufRead, W: Write> {
     requests: Requests<W>,
@@ -204,7 +204,7 @@ impl<R: BufRead, W: Write> Bus for QtestBus<R, W> {
 
     ghost happened = { λ a b past. ⊤ };
 
-    // What was lent is the other program. Nothing but requests for accesses reaches it.
+    // The value that was lent is the connection to the other program. Only requests for accesses are written to it.
     ghost lent_stays = { AsksAll };
 
     ghost composes = { record {

@@ -196,7 +196,8 @@ same_events hosts said scenario traces hosts_are said_is =
     ap (λ (hs : List HostPlan). all_events (hosts_of hs) traces (map said_of said)) hosts_are
     ∙ ap (λ (cs : List Command). all_events (hosts_of scenario.plan.hosts.items) traces (map said_of cs)) said_is
 
-pub stops_as : (all said : List Said) (a b : Play) (error : BenchError) → all ≡ said → StopsWithin all a b error → StopsWithin said a b error
+pub stops_as : (all said : List Said) (a b : Play) (error : BenchError) → all ≡ said → StopsWithin all a b error
+    → StopsWithin said a b error
 stops_as all said a b error is stops = subst (λ (events : List Said). StopsWithin events a b error) is stops
 
 pub tells_as : (hosts plans : List HostPlan) (b : Play) (told : List HostSummary) → hosts ≡ plans → TellTallies (length hosts) hosts b told

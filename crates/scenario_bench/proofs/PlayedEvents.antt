@@ -14,6 +14,7 @@ use Rattle.scenario.specs.declared.command.Command.{Command}
 use Rattle.scenario.specs.declared.command.Command.TheVariants as command
 use Rattle.scenario_bench.specs.EventLists.{all_events, behind_send, events_of, fed, pieces_for, words_from}
 use Rattle.network_plan.specs.declared.event.Event.{Event}
+use Rattle.network_plan.specs.declared.event.Event.TheVariants as event
 use Rattle.network_plan.specs.declared.reply.Reply.{Reply}
 use Rattle.stations.specs.Stations.{world_at}
 use Rattle.wire.specs.DrainedNetworks.{NetworkDrains}
@@ -244,42 +245,32 @@ draw_stops event words left word generator later said a b c error has some is sa
     ∙ ap (λ (s : Said). map event has.done ++ s ∷ map event (words_from (left - 1) later)) (sym said_is)) has.played stops
 
 -- a frame was sent, and what follows was run
-pub one_sent : (hosts : List Host) (sender : ℕ) (frame : List ℕ) (event : Event) (behind played : List Event)
-    (all rest later : List (List ℕ)) (a b m c : Play)
-    → HasFed (List ℕ) (fed hosts sender) all rest a b → rest ≡ frame ∷ later → event_of event ≡ Sends sender frame []
-    → HasPlayed (map event_of (event ∷ [])) b m → map event_of behind ≡ behind_send hosts sender (pieces_for (length frame))
-    → played ≡ behind
-    → HasPlayed (map event_of played) m c → HasFed (List ℕ) (fed hosts sender) all later a c
-one_sent hosts sender frame event behind played all rest later a b m c has is sent first follows same second =
-    let said : map event_of (event ∷ []) ++ map event_of played ≡ fed hosts sender frame =
-    ap (λ (s : Said). s ∷ map event_of played) sent
-    ∙ ap (λ (s : List Said). Sends sender frame [] ∷ s) (ap (map event_of) same ∙ follows) in
-    one_fed (List ℕ) (fed hosts sender) all rest later frame (map event_of (event ∷ []) ++ map event_of played) a b c has is said
-    (played_join (map event_of (event ∷ [])) (map event_of played) b m c first second)
+pub sent : (hosts : List Host) (sender : ℕ) (frame : List ℕ) (one : Said) (events : List Event) (a b c : Play)
+    → one ≡ Sends sender frame [] → HasPlayed (one ∷ []) a b
+    → map event_of events ≡ behind_send hosts sender (pieces_for (length frame)) → HasPlayed (map event_of events) b c
+    → HasPlayed (fed hosts sender frame) a c
+sent hosts sender frame one events a b c is first follows second =
+    subst (λ (said : List Said). HasPlayed said a c)
+    (ap (λ (s : Said). s ∷ map event_of events) is ∙ ap (λ (s : List Said). Sends sender frame [] ∷ s) follows)
+    (played_join (one ∷ []) (map event_of events) a b c first second)
 
 -- memory was refused at the send of a frame
-pub send_stops : (hosts : List Host) (sender : ℕ) (frame : List ℕ) (event : Event) (all rest later : List (List ℕ)) (a b c : Play)
-    (error : BenchError) → HasFed (List ℕ) (fed hosts sender) all rest a b → rest ≡ frame ∷ later
-    → event_of event ≡ Sends sender frame [] → StopsWithin (map event_of (event ∷ [])) b c error
-    → StopsWithin (flat_map (fed hosts sender) all) a c error
-send_stops hosts sender frame event all rest later a b c error has is sent stops =
+pub send_stops : (hosts : List Host) (sender : ℕ) (frame : List ℕ) (one : Said) (a b : Play) (error : BenchError)
+    → one ≡ Sends sender frame [] → StopsWithin (one ∷ []) a b error → StopsWithin (fed hosts sender frame) a b error
+send_stops hosts sender frame one a b error is stops =
     let behind = behind_send hosts sender (pieces_for (length frame)) in
-    fed_stops (List ℕ) (fed hosts sender) all rest later frame a b c error has is
-    (stops_behind (fed hosts sender frame) [] (event_of event ∷ []) behind b b c error (ap (λ (s : Said). s ∷ behind) (sym sent))
-    (played_none b) stops)
+    stops_behind (fed hosts sender frame) [] (one ∷ []) behind a a b error (ap (λ (s : Said). s ∷ behind) (sym is)) (played_none a)
+    stops
 
 -- memory was refused in what follows
-pub behind_stops : (hosts : List Host) (sender : ℕ) (frame : List ℕ) (event : Event) (behind played : List Event)
-    (all rest later : List (List ℕ)) (a b m c : Play) (error : BenchError)
-    → HasFed (List ℕ) (fed hosts sender) all rest a b → rest ≡ frame ∷ later → event_of event ≡ Sends sender frame []
-    → HasPlayed (map event_of (event ∷ [])) b m → map event_of behind ≡ behind_send hosts sender (pieces_for (length frame))
-    → played ≡ behind
-    → StopsWithin (map event_of played) m c error → StopsWithin (flat_map (fed hosts sender) all) a c error
-behind_stops hosts sender frame event behind played all rest later a b m c error has is sent first follows same stops =
-    fed_stops (List ℕ) (fed hosts sender) all rest later frame a b c error has is
-    (stops_behind (fed hosts sender frame) (event_of event ∷ []) (map event_of played) [] b m c error
-    (ap (λ (s : List Said). Sends sender frame [] ∷ s) (sym (ap (map event_of) same ∙ follows) ∙ sym (append-nil (map event_of played)))
-    ∙ ap (λ (s : Said). s ∷ (map event_of played ++ [])) (sym sent)) first stops)
+pub behind_stops : (hosts : List Host) (sender : ℕ) (frame : List ℕ) (one : Said) (events : List Event) (a b c : Play)
+    (error : BenchError) → one ≡ Sends sender frame [] → HasPlayed (one ∷ []) a b
+    → map event_of events ≡ behind_send hosts sender (pieces_for (length frame)) → StopsWithin (map event_of events) b c error
+    → StopsWithin (fed hosts sender frame) a c error
+behind_stops hosts sender frame one events a b c error is first follows stops =
+    stops_behind (fed hosts sender frame) (one ∷ []) (map event_of events) [] a b c error
+    (ap (λ (s : List Said). Sends sender frame [] ∷ s) (sym follows ∙ sym (append-nil (map event_of events)))
+    ∙ ap (λ (s : Said). s ∷ (map event_of events ++ [])) (sym is)) first stops
 
 -- Commands.
 
@@ -287,6 +278,24 @@ fed-frames : (hosts : List Host) (sender : ℕ) (traces : List Trace) (place : �
     → unwrap_or (slice_get (map frames_of traces) place) [] ≡ unwrap_or (option_map frames_of found) []
 fed-frames hosts sender traces place found is =
     ap (λ (o : Option (List (List ℕ))). unwrap_or o []) (slice_get-map frames_of traces place ∙ ap (option_map frames_of) is)
+
+-- what holds of these events holds of the command that has them
+as-event : (hosts : List Host) (traces : List (List (List ℕ))) (one : Event)
+    → event_of one ∷ [] ≡ events_of hosts traces (event_of one)
+as-event hosts traces (event.Send host frame ticks) = refl
+as-event hosts traces (event.Recv host socket ticks) = refl
+as-event hosts traces (event.Interrupt host ticks) = refl
+as-event hosts traces (event.Reset host ticks) = refl
+as-event hosts traces (event.Join host group ticks) = refl
+as-event hosts traces (event.Leave host group ticks) = refl
+as-event hosts traces (event.Tick tick) = refl
+
+pub of_event : (Holds : List Said → Type 0) (hosts : List Host) (traces : List (List (List ℕ))) (one : Command) (event : Event)
+    (list : List Event) → one ≡ command.Event event → list ≡ event ∷ [] → Holds (map event_of list)
+    → Holds (events_of hosts traces (said_of one))
+of_event Holds hosts traces one event list is same holds =
+    subst Holds (ap (map event_of) same ∙ as-event hosts traces event
+    ∙ sym (ap (λ (c : Command). events_of hosts traces (said_of c)) is)) holds
 
 pub of_no_feed : (hosts : List Host) (traces : List Trace) (one : Command) (host place : ℕ) (a : Play)
     → one ≡ command.Feed host place → length traces ≤ place

@@ -59,10 +59,10 @@ ActsRun old (act ∷ acts) new = (middle : NetworkState) × ActRuns old act midd
 
 -- These acts were done in order.
 pub record ActsLead (old : NetworkState) (acts : List Act) (new : NetworkState) : Type 0 where
-  -- from each state to the next by one act
+  -- each act leads from one state to the next
   pub states : ActsRun old acts new
   -- there are as many hosts as before
   pub hosts : length new.hosts ≡ length old.hosts
-  -- the equations of delivery, over all of them
+  -- the equations of delivery hold of each host over all acts
   pub delivers : (k : ℕ) (h h' : HostState) → IsHost old k h → IsHost new k h'
       → Delivers k (history acts) old.stations new.stations h h'

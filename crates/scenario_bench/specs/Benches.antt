@@ -22,11 +22,11 @@ use Rattle.scenario_bench.specs.Summaries.{TellsAnswers, TellsHosts, as_told}
 pub record PlaysEvents (scenario : Scenario) (said : List Said) : Type 0 where
   -- the network that was made
   pub made : NetworkState
-  -- it is as the plan says
+  -- the network is the one of the plan
   pub by_plan : IsLanAnswer scenario.plan.hosts.items (Ok made)
   -- what was done, with its answers
   pub acts : List Act
-  -- these are the events and drains
+  -- these acts are the events and drains
   pub are : map act_of acts ≡ said
   -- the network afterwards
   pub behind : NetworkState
@@ -37,19 +37,20 @@ pub record PlaysEvents (scenario : Scenario) (said : List Said) : Type 0 where
 abbrev pub scenario_events : Scenario → (traces : List (List (List ℕ))) → List Said
 scenario_events scenario traces = all_events (hosts_of scenario.plan.hosts.items) traces (map said_of scenario.commands.items)
 
--- All of them were done.
+-- All events and drains of the scenario were done.
 abbrev pub PlaysScenario : Scenario → (traces : List (List (List ℕ))) → Type 0
 PlaysScenario scenario traces = PlaysEvents scenario (scenario_events scenario traces)
 
--- Only those before one of these events and drains were done. `done` is their number, up to the greatest of 64 bits.
+-- Of these events and drains, only those before one of them were done. `done` is their number, up to the greatest of 64
+-- bits.
 pub record StopsBefore (scenario : Scenario) (said : List Said) (done : ℕ) : Type 0 where
   -- how many were done
   pub first : ℕ
   -- at least one was left
   pub left : first < length said
-  -- the number that is told
+  -- the number in the error
   pub number : done ≡ as_told first
-  -- those before it were done
+  -- the events and drains before it were done
   pub plays : PlaysEvents scenario (take first said)
 
 -- the frames of each socket, hosts in order and their sockets in order
@@ -66,29 +67,29 @@ wire_texts_of {scenario} played =
 
 -- What was written to sinks.
 
--- the bytes that a sink has taken, if it shows them to contracts, and the number of its failures
+-- the bytes that a sink has taken, if contracts know them, and the number of its failures
 pub record SinkState : Type 0 where
-  -- the bytes that it has taken, if it shows them
+  -- the bytes that the sink has taken, if contracts know them
   pub taken : Option (List ℕ)
-  -- how often it failed
+  -- how often the sink failed
   pub failures : ℕ
 
 -- the states of sinks
 abbrev pub states_of : {S : Type 0} → (taken : S → Option (List ℕ)) → (failures : S → ℕ) → List S → List SinkState
 states_of {S} taken failures sinks = map (λ (sink : S). record { taken = taken sink; failures = failures sink }) sinks
 
--- It has also taken this text, with times in this unit.
+-- The sink has also taken this text, with times in this unit.
 pub record TakesText (unit : Unit) (text : List Timed) (old new : SinkState) : Type 0 where
   -- the text was appended
   pub taken : Appends old.taken new.taken (written unit text)
-  -- it didn't fail
+  -- the sink didn't fail
   pub failures : new.failures ≡ old.failures
 
--- It has also taken a beginning of this text, and failed.
+-- The sink has also taken a beginning of this text, and failed.
 pub record FailsAmong (unit : Unit) (text : List Timed) (old new : SinkState) : Type 0 where
   -- a beginning of the text was appended
   pub taken : AppendsFront old.taken new.taken (written unit text)
-  -- it failed once
+  -- the sink failed once
   pub failures : new.failures ≡ old.failures + 1
 
 -- The first sinks, this many, have also taken their whole text; the others have taken nothing.
@@ -102,25 +103,27 @@ pub record AreWritten (unit : Unit) (count : ℕ) (texts : List (List Timed)) (o
   -- the others are unchanged
   pub others : (k : ℕ) → count ≤ k → slice_get new k ≡ slice_get old k
 
--- The sinks before this one have also taken their whole text, it has taken a beginning of its own, and those after it have taken nothing.
+-- The sinks before this one have also taken their whole text, this sink has taken a beginning of its own text, and
+-- those after it have taken nothing.
 pub record AreWrittenUpTo (unit : Unit) (failed : ℕ) (texts : List (List Timed)) (old new : List SinkState) : Type 0 where
   -- there are as many sinks as before
   pub sinks : length new ≡ length old
-  -- this one is there
+  -- the sink that failed exists
   pub sink : failed < length old
-  -- it has a text
+  -- this sink has a text
   pub there : failed < length texts
-  -- those before it have taken their text
+  -- the sinks before it have taken their text
   pub whole : (k : ℕ) (text : List Timed) (before after : SinkState) → k < failed → slice_get texts k ≡ Some text
       → slice_get old k ≡ Some before
       → slice_get new k ≡ Some after → TakesText unit text before after
-  -- it failed
+  -- this sink failed
   pub fails : (text : List Timed) (before after : SinkState) → slice_get texts failed ≡ Some text → slice_get old failed ≡ Some before
       → slice_get new failed ≡ Some after → FailsAmong unit text before after
-  -- those after it are unchanged
+  -- the sinks after it are unchanged
   pub others : (k : ℕ) → failed < k → slice_get new k ≡ slice_get old k
 
--- what the summary tells of the answers of a run: the numbers of the scenario's lines are those that the reader of scenarios gave
+-- The summary has the refused calls and, on request, the lines of the events of the run. Lines have the numbers that
+-- the reader of scenarios gave.
 pub record TellsRun {scenario : Scenario} {said : List Said} (events : Bool) (played : PlaysEvents scenario said) (summary : Summary)
     : Type 0 where
   -- each act with the number of its line
@@ -142,7 +145,8 @@ pub record BenchSinks : Type 0 where
   pub wires_new : List SinkState
 
 -- the states of these sinks
-abbrev pub sinks_of : {S : Type 0} → (taken : S → Option (List ℕ)) → (failures : S → ℕ) → (old new wires_old wires_new : List S) → BenchSinks
+abbrev pub sinks_of : {S : Type 0} → (taken : S → Option (List ℕ)) → (failures : S → ℕ) → (old new wires_old wires_new : List S)
+    → BenchSinks
 sinks_of taken failures old new wires_old wires_new = record {
   old = states_of taken failures old;
   new = states_of taken failures new;
@@ -184,7 +188,7 @@ pub record Benches (unit : Unit) (scenario : Scenario) (traces : List (List (Lis
   pub plays : PlaysScenario scenario traces
   -- each sink has the frames of its socket or of its wire
   pub texts : AreAllWritten unit (texts_of plays) (wire_texts_of plays) sinks
-  -- the lines of the hosts
+  -- the summaries of the hosts
   pub tells : TellsHosts (hosts_of scenario.plan.hosts.items) (history plays.acts) plays.behind summary.hosts.items
   -- the counts of refused calls, and the lines of events
   pub answers : TellsRun events plays summary

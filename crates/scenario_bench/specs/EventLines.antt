@@ -11,17 +11,23 @@ use Rattle.wire.specs.RunObservers.{played_ticks}
 use Rattle.scenario_bench.specs.Acts.{Act, Drained, Ran}
 use Rattle.scenario_bench.specs.EventTexts.{answer_text, event_text, name_at, numbered, told_text}
 use Rattle.scenario_bench.specs.Given.{next_number}
-use Rattle.scenario_bench.specs.declared.event_log.Place.{Place}
 
--- what came of a tick
+-- the text of a tick and its outcome
 abbrev pub text_of : (names : List (List ℕ)) → TickTold → List ℕ
 text_of names told = told_text names told.tick told.accesses told.outcome
+
+-- where an event stands: its number in the run, and the number of its line in the scenario
+pub record Place : Type 0 where
+  -- the number of the event
+  pub number : ℕ
+  -- the number of its line
+  pub line : ℕ
 
 -- `EVENT line LINE`
 abbrev pub place_text : Place → List ℕ
 place_text place = numbered [] place.number ++ numbered (codes " line ") place.line
 
--- `EVENT line LINE CALL ANSWER accesses N`, and what came of the event's ticks
+-- `EVENT line LINE CALL ANSWER accesses N`, and the event's ticks with their outcomes
 abbrev pub event_line : (names : List (List ℕ)) → Place → Event → (accesses : ℕ) → FrameAnswer → (outcomes : List ℕ) → List ℕ
 event_line names place event accesses answer outcomes =
     place_text place ++ event_text names event ++ answer_text answer ++ numbered (codes " accesses ") accesses ++ outcomes ++ codes "\n"
@@ -59,11 +65,12 @@ lines_from names number (entry ∷ entries) =
 
 -- A log.
 
--- the names of the hosts, what came of the ticks of the event that is played, and the lines of the events before it
+-- the names of the hosts, the texts of the ticks of the event that is played, with their outcomes, and the lines of the
+-- events before it
 pub record LogState : Type 0 where
   -- the names of the hosts
   pub names : List (List ℕ)
-  -- what came of the ticks of the event that is played
+  -- the outcomes of the ticks of the event that is played
   pub outcomes : List ℕ
   -- the lines of the events before it
   pub text : List ℕ

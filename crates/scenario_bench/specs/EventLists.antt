@@ -20,19 +20,19 @@ use Rattle.scenario.specs.SoFar.{Host, Said, Draws, Feeds, Interrupts, Receives,
 abbrev pub pieces_for : (size : ℕ) → ℕ
 pieces_for size = if nat_le size longest_frame then div_ceil (max size shortest_frame) receive_buffer_bytes else 1
 
--- so many pieces of a frame are moved to a host's memory
+-- A host moves this number of pieces of a frame to its memory.
 abbrev pub moves_at : (host pieces : ℕ) → List Said
 moves_at host zero = []
 moves_at host (suc pieces) = Ticks (Step host RxData) ∷ Ticks (Step host RxDone) ∷ moves_at host pieces
 
--- A frame at a host's end of the wire is delivered and received in so many pieces, its interrupt is handled, and each socket is asked once,
--- in order.
+-- A frame at a host's end of the wire is delivered and received in this number of pieces, its interrupt is handled, and
+-- each socket is asked once, in order.
 abbrev pub arrival_at : (pieces host sockets : ℕ) → List Said
 arrival_at pieces host sockets =
     Ticks (Deliver host) ∷ moves_at host pieces
     ++ Interrupts host [] ∷ map (λ socket. Receives host socket []) (range_with_len 0 sockets)
 
--- The same at each other host on this wire. The first of these hosts has this number.
+-- The arrivals of a frame at each other host on the sender's wire. The first of these hosts has this number.
 abbrev pub arrivals_from : (pieces number sender : ℕ) (wire : List ℕ) → List Host → List Said
 arrivals_from pieces number sender wire [] = []
 arrivals_from pieces number sender wire (host ∷ hosts) =

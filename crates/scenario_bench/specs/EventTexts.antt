@@ -67,7 +67,7 @@ outcome_text outcome.Ticked = codes " ticked"
 outcome_text outcome.Nothing = codes " nothing"
 outcome_text outcome.Fault = codes " fault"
 
--- `@N TICK OUTCOME`: a tick that was played after so many accesses of its call
+-- `@N TICK OUTCOME`: a tick that was played after N accesses of its call
 abbrev pub told_text : (names : List (List ℕ)) → Tick → (accesses : ℕ) → FrameOutcome → List ℕ
 told_text names tick accesses one = numbered (codes " @") accesses ++ tick_text names tick ++ outcome_text one
 
@@ -90,7 +90,7 @@ sent_word (Err send.TooShort) = codes " E20 TooShort"
 sent_word (Err send.TooLong) = codes " E21 TooLong"
 sent_word (Err send.RingFull) = codes " E22 RingFull"
 
--- why no frame was received
+-- the word for a recv that returned no frame, by the reason
 abbrev pub recv_word : RecvError → List ℕ
 recv_word recv.Empty = codes " E30 Empty"
 recv_word recv.NoSocket = codes " E31 NoSocket"
@@ -103,7 +103,7 @@ group_word (Err group.GroupsFull) = codes " E24 GroupsFull"
 group_word (Err group.NotJoined) = codes " E25 NotJoined"
 group_word (Err group.Joined) = codes " E26 Joined"
 
--- what an interrupt handler did
+-- the text of what an interrupt handler returned
 abbrev pub handled_text : Handled → List ℕ
 handled_text handled.NotMine = codes " notmine"
 handled_text (handled.Handled taken) = numbered (codes " handled ") taken

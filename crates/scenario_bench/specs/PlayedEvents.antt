@@ -1,6 +1,6 @@
 -- Events and drains that were played and recorded (our choice).
 use Rattle.std.specs.Prelude.{◌≡◌, ◌↔◌, ◌<◌, ◌++◌, [], ⊤, ℕ, List, Err, IsTrue, None, Ok, Option, Some, length, map, replicate, slice_get}
-use Rattle.std.specs.Prelude.{string_bytes, unwrap_or}
+use Rattle.std.specs.Prelude.{IfSome, string_bytes, unwrap_or}
 use Rattle.adapter.specs.World.{World}
 use Rattle.packet_socket.specs.HostState.{HostState}
 use Rattle.stations.specs.Stations.{world_at}
@@ -12,16 +12,18 @@ use Rattle.network_plan.specs.declared.plan.HostPlan.{HostPlan}
 use Rattle.pcap_trace.specs.Format.{Timed}
 use Rattle.pcap_trace.specs.declared.trace.Trace.{Trace}
 use Rattle.wire.specs.NewNetworks.{IsLanAnswer}
-use Rattle.scenario.specs.SoFar.{Said, hosts_of}
+use Rattle.scenario.specs.SoFar.{Host, Said, event_of, hosts_of}
 use Rattle.scenario.specs.declared.command.Scenario.{Scenario}
 use Rattle.scenario_bench.specs.Acts.{Act, ActsLead, act_of}
 use Rattle.scenario_bench.specs.Benches.{scenario_events}
+use Rattle.scenario_bench.specs.EventLists.{behind_send}
 use Rattle.scenario_bench.specs.Given.{sockets_from}
 use Rattle.scenario_bench.specs.Puts.{PutFrame, wire_names, wire_texts}
 use Rattle.scenario_bench.specs.SocketLists.{frames_given}
 use Rattle.scenario_bench.specs.Tallies.{AreNoted, empty_sockets, no_tally, resets_in}
 use Rattle.scenario_bench.specs.declared.bench_error.BenchError.{BenchError}
 use Rattle.scenario_bench.specs.declared.bench_error.BenchError.TheVariants as errors
+use Rattle.scenario_bench.specs.declared.play.EventsAfterSend.{EventsAfterSend}
 use Rattle.scenario_bench.specs.declared.play.Play.{Play}
 
 -- These events and drains were done on the network and recorded.
@@ -60,6 +62,10 @@ StopsWithin said old new (errors.Run stopped) = HasPlayedFront said old new × (
 StopsWithin said old new errors.Memory = Unit {0}
 StopsWithin said old new (errors.Write error) = ⊥
 
+-- The events after a send, if they are made, are those after a send of this host.
+abbrev pub AreOfSender : List Host → (sender : ℕ) → EventsAfterSend → Type 0
+AreOfSender hosts sender behind = IfSome behind.pieces (λ made. map event_of behind.list.items ≡ behind_send hosts sender made)
+
 -- the frames of a trace
 abbrev pub frames_of : Trace → List (List ℕ)
 frames_of trace = trace.frames
@@ -85,7 +91,8 @@ pub record TellTallies (first : ℕ) (plans : List HostPlan) (play : Play) (told
 -- A scenario.
 
 -- Its commands were played, and these are the summaries of its hosts.
-pub record HasPlayedScenario (scenario : Scenario) (traces : List (List (List ℕ))) (old new : Play) (hosts : List HostSummary) : Type 0 where
+pub record HasPlayedScenario (scenario : Scenario) (traces : List (List (List ℕ))) (old new : Play) (hosts : List HostSummary)
+    : Type 0 where
   pub played : HasPlayed (scenario_events scenario traces) old new
   pub tells : TellTallies (length scenario.plan.hosts.items) scenario.plan.hosts.items new hosts
 

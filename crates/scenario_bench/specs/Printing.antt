@@ -9,12 +9,12 @@ use Rattle.scenario_bench.specs.declared.summary.Summary.{Summary}
 abbrev pub field : List ℕ → ℕ → List ℕ
 field label number = label ++ decimal number
 
--- whether the number of missed frames is exact, or there were more
+-- the word for whether the number of missed frames is exact
 abbrev pub exact_word : Bool → List ℕ
 exact_word true = codes " exact"
 exact_word false = codes " atleast"
 
--- what resets gave up and dropped, if there was one
+-- what resets gave up and dropped, if there was a reset
 abbrev pub resets_text : Option GivenUp → List ℕ
 resets_text None = []
 resets_text (Some told) = field (codes " givenup ") told.sending ++ field (codes " ") told.holding ++ field (codes " off ") told.off
@@ -30,6 +30,6 @@ host_fields host =
 abbrev pub host_line : HostSummary → List ℕ
 host_line host = string_bytes host.name ++ host_fields host
 
--- a line a host
+-- the lines of a run, one a host
 abbrev pub summary_text : Summary → List ℕ
 summary_text summary = flat_map host_line summary.hosts.items

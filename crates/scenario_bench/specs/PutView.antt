@@ -1,4 +1,5 @@
--- How the frames that were put are stored: what is known of each in one list, and in another the bytes of all, one frame after the other.
+-- How the frames that were put are stored: the host, the number and the length of each in one list, and in another the
+-- bytes of all, one frame after the other.
 use Rattle.std.specs.Prelude.{◌≡◌, ◌≤◌, ◌∷◌, [], ℕ, List, drop, length, sum_by, take}
 use Rattle.std.specs.List.{AllByRecursion}
 use Rattle.descriptors.specs.Frames.{longest_frame}

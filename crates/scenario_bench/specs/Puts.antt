@@ -38,13 +38,13 @@ put_from number (act ∷ acts) = put_frames_in number (said_in act) ++ put_from 
 
 -- Wires.
 
--- those of these frames that hosts on this wire put
+-- the frames among these that hosts on this wire put
 abbrev pub frames_on_wire : List Host → (wire : List ℕ) → List PutFrame → List Timed
 frames_on_wire hosts wire [] = []
 frames_on_wire hosts wire (one ∷ others) =
     (if bytes_eq (wire_name_of hosts one.host) wire then one.frame ∷ [] else []) ++ frames_on_wire hosts wire others
 
--- for each of these wires, those of these frames that hosts on it put, in order
+-- for each of these wires, the frames among these that hosts on it put, in order
 abbrev pub wire_texts : List Host → List PutFrame → (wires : List (List ℕ)) → List (List Timed)
 wire_texts hosts puts wires = map (λ (wire : List ℕ). frames_on_wire hosts wire puts) wires
 
@@ -63,6 +63,6 @@ abbrev pub is_put : {F : Type 0} → Outcome F → Bool
 is_put (outcome.Put frame) = true
 is_put one = false
 
--- If such frames are recorded, these are recorded after the others.
+-- If a record has a list of frames that were put, these are appended to it.
 abbrev pub PutsGrow : List PutFrame → (old new : Option (List PutFrame)) → Type 0
 PutsGrow more old new = new ≡ option_map (λ (puts : List PutFrame). puts ++ more) old

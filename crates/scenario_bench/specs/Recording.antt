@@ -16,7 +16,7 @@ use Rattle.scenario_bench.specs.RunLogs.{log_ended, log_heard}
 use Rattle.scenario_bench.specs.Tallies.{AreNoted, GetsSaid, TalliesGrow, given_up_of}
 use Rattle.scenario_bench.specs.declared.record.Record.{Record}
 
--- The outcomes of these ticks are recorded, and their frames that were put, unless memory was refused for one.
+-- The outcomes of these ticks are recorded, and the frames that they put, unless memory was refused for a frame.
 pub record HearsTicks (old new : Record) (ticks : List TickTold) : Type 0 where
   pub before : new.failed ≡ false → old.failed ≡ false
   pub number : new.number ≡ old.number
@@ -25,14 +25,14 @@ pub record HearsTicks (old new : Record) (ticks : List TickTold) : Type 0 where
   pub puts : new.failed ≡ false → PutsGrow (put_frames_in old.number (flat_map happened_of ticks)) old.puts new.puts
   pub log : new.failed ≡ false → new.log ≡ fold log_heard old.log ticks
 
--- what happens to a frame by the answer of an event
+-- the happenings that an event's answer reports: frames accepted, returned or given up
 abbrev pub answered : Event → FrameAnswer → List Happening
 answered (event.Send host frame ticks) answer = accepted_of host frame.items answer
 answered (event.Recv host socket ticks) answer = given_of host socket answer
 answered (event.Reset host ticks) answer = given_up_of host answer
 answered one answer = []
 
--- This is recorded, unless memory was refused.
+-- These happenings are recorded, unless memory was refused.
 pub record NotesAnswer (happened : List Happening) (old new : Record) : Type 0 where
   pub number : new.number ≡ old.number
   pub puts : new.puts ≡ old.puts
@@ -50,7 +50,7 @@ pub record NotesLine (event : Event) (accesses : ℕ) (answer : FrameAnswer) (ol
   pub before : new.failed ≡ false → old.failed ≡ false
   pub log : new.failed ≡ false → new.log ≡ log_ended (place_at old.number old.line) event accesses answer old.log
 
--- What the ticks of a reset tell, in the order of the ticks, and what the reset says: between these parts stands what it did itself. So the
+-- What a reset reports: the happenings of its ticks, in order, and between them those of the reset itself. So the
 -- numbers of its outcomes don't decrease.
 pub record TellsReset (host : ℕ) (given_up ticked happened : List Happening) : Type 0 where
   pub early : List Happening
@@ -60,7 +60,7 @@ pub record TellsReset (host : ℕ) (given_up ticked happened : List Happening) :
   pub ticks : ticked ≡ early ++ (stopping ++ (resting ++ later))
   pub all : happened ≡ early ++ Disabled host ∷ (stopping ++ (given_up ++ (resting ++ Enabled host ∷ later)))
 
--- A reply tells its outcomes in order. Only of a reset of a host that is there this says something.
+-- A reply has its outcomes in order. This is a condition only for a reset of a host that exists.
 abbrev pub IsInOrder : Event → Reply → Type 0
 IsInOrder (event.Reset host ticks) reply =
     ((said (event.Reset host ticks) reply ≡ told ticks.items reply.outcomes.list) × (given_up_of host reply.answer ≡ []))
@@ -72,7 +72,7 @@ AreInOrder [] replies = Unit {0}
 AreInOrder (event ∷ events) [] = Unit {0}
 AreInOrder (event ∷ events) (reply ∷ replies) = IsInOrder event reply × AreInOrder events replies
 
--- Events and their replies are recorded, and memory wasn't refused before.
+-- Events and their replies are recorded, and memory wasn't refused.
 pub record RecordsRun (events : List Event) (replies : List Reply) (old new : Record) : Type 0 where
   pub before : old.failed ≡ false
   pub noted : AreNoted (ran events replies) old new

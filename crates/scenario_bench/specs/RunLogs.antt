@@ -9,9 +9,8 @@ use Rattle.packet_socket.specs.declared.receive.RecvError.TheVariants as recv
 use Rattle.scenario.specs.SoFar.{Draws, Said}
 use Rattle.stations.specs.ToldTicks.{TickTold}
 use Rattle.scenario_bench.specs.Acts.{Act, Drained, Ran}
-use Rattle.scenario_bench.specs.EventLines.{LogState, drain_logged, end_logged, no_lines, place_at, tick_logged, told_in}
+use Rattle.scenario_bench.specs.EventLines.{LogState, Place, drain_logged, end_logged, no_lines, place_at, tick_logged, told_in}
 use Rattle.scenario_bench.specs.Given.{greatest_number, next_number}
-use Rattle.scenario_bench.specs.declared.event_log.Place.{Place}
 use Rattle.scenario_bench.specs.declared.record.Record.{Record}
 use Rattle.scenario_bench.specs.declared.run_log.RunLog.{RunLog}
 use Rattle.scenario_bench.specs.declared.summary.Refusals.{Refusals}
@@ -20,7 +19,8 @@ use Rattle.scenario_bench.specs.declared.summary.Refusals.{Refusals}
 abbrev pub no_refusals : Refusals
 no_refusals = record { sends = 0; groups = 0; sockets = 0 }
 
--- A send, a join or a leave was refused, or there is no such socket.
+-- The counts of refused calls after an answer: a send, a join or a leave that was refused, or a socket that doesn't
+-- exist.
 abbrev pub refusals_behind : Refusals → FrameAnswer → Refusals
 refusals_behind count (answer.Sent (Err error)) = record count { sends = next_number count.sends }
 refusals_behind count (answer.Joined (Err error)) = record count { groups = next_number count.groups }
@@ -33,7 +33,7 @@ abbrev pub refusals_by : Refusals → Act → Refusals
 refusals_by count (Ran event reply) = refusals_behind count reply.answer
 refusals_by count (Drained host buffered given) = count
 
--- earlier refusals, and those between two counts
+-- these refused calls, and those between two later counts
 abbrev pub with_later : (earlier before after : Refusals) → Refusals
 with_later earlier before after = record {
   sends = min (earlier.sends + (after.sends - before.sends)) greatest_number;
@@ -41,14 +41,14 @@ with_later earlier before after = record {
   sockets = min (earlier.sockets + (after.sockets - before.sockets)) greatest_number;
 }
 
--- The refusals that commands asked for, after this one. Events of `auto` are drawn.
+-- The refused calls that commands asked for, after this command. The events of `auto` are drawn, so theirs don't count.
 abbrev pub asked_after : (asked : Refusals) → Said → (before after : Refusals) → Refusals
 asked_after asked (Draws count start) before after = asked
 asked_after asked said before after = with_later asked before after
 
 -- A record of them.
 
--- before the first event
+-- the log before the first event
 abbrev pub new_log : (names : List (List ℕ)) → (events : Bool) → RunLog
 new_log names events = record { refusals = no_refusals; lines = if events then Some (no_lines names) else None }
 

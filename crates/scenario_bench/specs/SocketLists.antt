@@ -10,11 +10,11 @@ pub record SocketFrames : Type 0 where
 abbrev pub no_frames : (host socket : ℕ) → SocketFrames
 no_frames host socket = record { host = host; socket = socket; frames = [] }
 
--- with these frames appended
+-- the frames of a socket, with these appended
 abbrev pub with_socket_frames : List Timed → SocketFrames → SocketFrames
 with_socket_frames frames socket = record socket { frames = socket.frames ++ frames }
 
--- with the frames that a socket returned appended, if it is this socket
+-- the frames of a socket, with these appended if this socket returned them
 abbrev pub with_given : (host socket : ℕ) → List Timed → SocketFrames → SocketFrames
 with_given host socket frames one = with_socket_frames (if (one.host == host) && (one.socket == socket) then frames else []) one
 

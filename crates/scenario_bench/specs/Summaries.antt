@@ -42,7 +42,7 @@ abbrev pub resets : ℕ → Happening → Bool
 resets k (GivenUp host sending holding) = k == host
 resets k one = false
 
--- The numbers of frames that resets of the k-th host gave up and dropped, if there was one.
+-- The numbers of frames that resets of the k-th host gave up and dropped, if there was a reset.
 abbrev pub resets_told : (k : ℕ) → List Happening → Option ResetsTold
 resets_told k happened =
     if list_any (resets k) happened then Some (record {
@@ -51,7 +51,8 @@ resets_told k happened =
       off = as_told (length (flat_map (off_by k) happened));
     }) else None
 
--- The numbers of frames in the summary of the k-th host: that it accepted, put, that reached it, that it stored and returned.
+-- The numbers of frames in the summary of the k-th host: frames accepted, put, reached, stored, returned, and given up
+-- by resets.
 pub record TellsFrames (k : ℕ) (happened : List Happening) (told : HostSummary) : Type 0 where
   -- the frames that the host accepted
   pub accepted : told.accepted ≡ as_told (length (accepted k happened))

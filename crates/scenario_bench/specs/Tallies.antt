@@ -32,7 +32,7 @@ counted_once passage.Off tally = record tally { reached = next_number tally.reac
 counted_once passage.Stored tally = record tally { reached = next_number tally.reached; stored = next_number tally.stored }
 counted_once passage.Given tally = record tally { given = next_number tally.given }
 
--- a passage at a host, if it is this one
+-- the counts of the k-th host after a passage at a host
 abbrev pub counted_at : (k host : ℕ) → Passage → Tally → Tally
 counted_at k host one tally = if k == host then counted_once one tally else tally
 
@@ -45,16 +45,16 @@ passage_by _ = passage.Reached
 abbrev pub grown_by : (more : ℕ) → ℕ → ℕ
 grown_by more number = min (number + more) greatest_number
 
--- a reset gave up so many frames
+-- the counts after a reset that gave up these numbers of frames
 abbrev pub tally_given_up : (sending holding : ℕ) → Tally → Tally
 tally_given_up sending holding tally =
     record tally { sending = grown_by sending tally.sending; holding = grown_by holding tally.holding; is_reset = true }
 
--- at a host, if it is this one
+-- the counts of the k-th host after a reset of a host
 abbrev pub given_up_at : (k host sending holding : ℕ) → Tally → Tally
 given_up_at k host sending holding tally = if k == host then tally_given_up sending holding tally else tally
 
--- what resets gave up, if there was one
+-- what resets gave up, if there was a reset
 abbrev pub resets_in : Tally → Option GivenUp
 resets_in tally =
     if tally.is_reset then Some (record { sending = tally.sending; holding = tally.holding; off = tally.off }) else None
@@ -116,11 +116,11 @@ pub record AreNoted (acts : List Act) (old new : Record) : Type 0 where
 
 -- What the parts of an act add.
 
--- one passage at a host
+-- one passage at a host is counted
 abbrev pub TallyCounts : (host : ℕ) → Passage → (old new : List Tally) → Type 0
 TallyCounts host one old new = (k : ℕ) → slice_get new k ≡ option_map (counted_at k host one) (slice_get old k)
 
--- a reset of a host gave up so many frames
+-- a reset of a host gave up these numbers of frames
 abbrev pub TallyGivesUp : (host sending holding : ℕ) → (old new : List Tally) → Type 0
 TallyGivesUp host sending holding old new =
     (k : ℕ) → slice_get new k ≡ option_map (given_up_at k host sending holding) (slice_get old k)

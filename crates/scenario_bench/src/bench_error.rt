@@ -25,14 +25,14 @@ pub enum BenchError {
     Plan(PlanError),
     /// Before an event, memory was refused for the frames that it may return or put on wires. Nothing was written.
     /// `done` is the number of events and drains of the scenario before this event, up to the greatest `u64`. They were
-    /// done, and this event was not. So `done` is the time that the event's frames would have in the traces.
+    /// done, and this event was not. So `done` is the time that frames of this event would have in the traces.
     #[error("{0}")]
     Run(Stopped),
     /// Memory was refused elsewhere. Nothing was written.
     #[error("E57 Memory")]
     Memory,
-    /// A sink failed. The sinks before it have their whole text, it has a beginning of its own, and those after it
-    /// have nothing.
+    /// A sink failed. The sinks before it have their whole text, this sink has a beginning of its own text, and the
+    /// sinks after it have nothing.
     #[error("{0}")]
     Write(WriteError),
 }

@@ -16,16 +16,9 @@ const LONGEST_TOLD: usize = 96;
 /// Room for the rest of a line, in bytes.
 const LONGEST_REST: usize = 192;
 
-/// Where an event stands: its number in the run, and the number of its line in the scenario.
-#[derive(Clone, Copy)]
-pub(crate) struct Place {
-    pub(crate) number: u64,
-    pub(crate) line: u64,
-}
-
-/// A line for each event that was played, in order. Before the end of an event, also what came of its ticks so far.
+/// A line for each event that was played, in order. Before the end of an event, also the outcomes of its ticks so far.
 ///
-/// In contracts it is the names of the hosts and these texts, a `LogState`.
+/// In contracts it is a `LogState`: the names of the hosts, and these texts.
 #[derive(Drop)]
 pub struct EventLog {
     names: Vec<String>,
@@ -61,10 +54,10 @@ impl EventLog {
     ghost use Rattle.network_plan.specs.Answers.{answer_with};
     ghost use Rattle.pcap_trace.specs.Devices.{AppendsFront, CountsFailures};
     ghost use Rattle.stations.specs.ToldTicks.{tick_told};
-    ghost use Rattle.scenario_bench.specs.EventLines.{drain_logged, end_logged, no_lines, tick_logged};
+    ghost use Rattle.scenario_bench.specs.EventLines.{drain_logged, end_logged, no_lines, place_at, tick_logged};
     ghost use Rattle.scenario_bench.specs.EventLogView.{plan_name};
 
-    /// No line yet, of these hosts.
+    /// A log of these hosts without lines.
     pub(crate) fn new(alloc: Global, plans: &[HostPlan]) -> Result<EventLog, AllocError>
         ensures { IfOk result (λ log. log ≡ no_lines (map plan_name plans.now)) }
     {
@@ -85,7 +78,7 @@ impl EventLog {
         self.text.reserve(outcomes.saturating_add(LONGEST_REST))
     }
 
-    /// Records what came of a tick.
+    /// Records the outcome of a tick.
     #[inline(never)]
     pub(crate) fn note(
         &mut self,
@@ -107,21 +100,23 @@ impl EventLog {
         )
     }
 
-    /// Ends the line of an event.
+    /// Ends the line of the event with this number. `line` is the number of its line in the scenario.
     #[inline(never)]
     pub(crate) fn end(
         &mut self,
-        place: Place,
+        number: u64,
+        line: u64,
         event: &Event,
         accesses: u64,
         answer: &Answer<()>,
         frame: &[u8],
     ) -> Result<(), AllocError>
         ensures { OnOk result
-            (self.new ≡ end_logged place event.now accesses (answer_with frame.now answer.now) self.old) }
+            (self.new
+            ≡ end_logged (place_at number line) event.now accesses (answer_with frame.now answer.now) self.old) }
     {
-        push_number(&mut self.text, b"", place.number)?;
-        push_number(&mut self.text, b" line ", place.line)?;
+        push_number(&mut self.text, b"", number)?;
+        push_number(&mut self.text, b" line ", line)?;
         push_event(&mut self.text, self.names.as_slice(), event)?;
         push_answer(&mut self.text, answer, frame)?;
         push_number(&mut self.text, b" accesses ", accesses)?;
@@ -131,24 +126,25 @@ impl EventLog {
         Ok(())
     }
 
-    /// Records a drain of a host, which returned this many frames.
+    /// Records the drain with this number, of a host, which returned this many frames.
     pub(crate) fn drain(
         &mut self,
-        place: Place,
+        number: u64,
+        line: u64,
         host: usize,
         count: usize,
     ) -> Result<(), AllocError>
-        ensures { OnOk result (self.new ≡ drain_logged place host count self.old) }
+        ensures { OnOk result (self.new ≡ drain_logged (place_at number line) host count self.old) }
     {
-        push_number(&mut self.text, b"", place.number)?;
-        push_number(&mut self.text, b" line ", place.line)?;
+        push_number(&mut self.text, b"", number)?;
+        push_number(&mut self.text, b" line ", line)?;
         push_host(&mut self.text, b" drain ", self.names.as_slice(), host)?;
         push_number(&mut self.text, b" ok ", count as u64)?;
         self.text.extend_from_slice(b"\n")
     }
 
-    /// Writes the lines to a sink: `EVENT line LINE CALL ANSWER accesses N`, and for each tick ` @N TICK OUTCOME`, where N
-    /// is the number of accesses before it. Allocates no memory.
+    /// Writes the lines to a sink: `EVENT line LINE CALL ANSWER accesses N`, and for each tick ` @N TICK OUTCOME`: N is
+    /// the number of accesses before the tick. Allocates no memory.
     ///
     /// # Errors
     ///

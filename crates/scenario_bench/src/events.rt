@@ -58,7 +58,7 @@ fn push_moves(host: usize, pieces: usize, events: &mut Vec<Event>) -> Result<(),
     Ok(())
 }
 
-/// Appends the events that bring a frame from a host's end of the wire to its sockets, in so many pieces.
+/// Appends the events that bring a frame from a host's end of the wire to its sockets, in this number of pieces.
 fn push_arrival(
     alloc: Global,
     pieces: usize,
@@ -92,7 +92,8 @@ pub(crate) fn wire_of(plans: &[HostPlan], host: usize) -> &str
 }
 
 /// Appends the events by which a sender's frame comes to each other host on its wire, in order: at each the delivery,
-/// the steps that move its pieces, an interrupt, and a recv of each socket. If memory is refused, some may be there.
+/// the steps that move its pieces, an interrupt, and a recv of each socket. If memory is refused, some of the events
+/// may be appended.
 fn push_arrivals(
     alloc: Global,
     plans: &[HostPlan],
@@ -112,8 +113,8 @@ fn push_arrivals(
     Ok(())
 }
 
-/// Replaces the events by those after the send of a fed frame: it is put onto the wire, and arrives in so many pieces
-/// at each other host.
+/// Replaces the events by those after the send of a fed frame: it is put onto the wire, and arrives in this number of
+/// pieces at each other host.
 pub(crate) fn set_behind_send(
     alloc: Global,
     plans: &[HostPlan],
@@ -143,13 +144,13 @@ fn broadcast_of(image: &Image) -> [u8; HEADER]
 /// Memory for events that are run one at a time. The next event uses the memory of the event before it.
 #[derive(Drop)]
 pub(crate) struct EventMemory {
-    alloc: Global,
+    pub(crate) alloc: Global,
     frame: Vec<u8>,
     ticks: Vec<Tick>,
 }
 
 impl EventMemory {
-    /// No memory yet.
+    /// An empty memory, which allocates nothing.
     pub(crate) fn new(alloc: Global) -> EventMemory {
         EventMemory {
             alloc,
@@ -158,17 +159,13 @@ impl EventMemory {
         }
     }
 
-    /// Takes back the memory of an event that was run.
+    /// Takes the memory of an event that was run.
     #[inline(always)]
-    pub(crate) fn take_back(&mut self, event: Event) {
+    pub(crate) fn take_back(&mut self, event: &mut Event) {
         match event {
-            Event::Send { frame, .. } => self.frame = frame,
-            Event::Interrupt { ticks, .. } => self.ticks = ticks,
-            Event::Recv { .. }
-            | Event::Reset { .. }
-            | Event::Join { .. }
-            | Event::Leave { .. }
-            | Event::Tick(_) => {}
+            Event::Send { frame, .. } => std::mem::swap(&mut self.frame, frame),
+            Event::Interrupt { ticks, .. } => std::mem::swap(&mut self.ticks, ticks),
+            _ => {}
         }
     }
 
@@ -208,7 +205,7 @@ impl EventMemory {
     }
 
     /// The event of one of the eight kinds that `auto` draws, at a host with this EEPROM. The last kind is any number
-    /// from 7 on. Only this memory changes: an event that needs some takes it.
+    /// from 7 on. Only this memory changes: an event that needs memory takes it from here.
     fn event_of_kind(&mut self, kind: u32, host: usize, image: &Image) -> Result<Event, AllocError>
         ensures { IfOk result (λ event. event_of event ≡ lists.event_of_kind kind host (address_bytes image.now)) }
     {

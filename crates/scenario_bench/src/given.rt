@@ -36,7 +36,7 @@ impl GivenFrames {
     ghost use Rattle.scenario_bench.specs.Given.{numbered_frame};
     ghost use Rattle.scenario_bench.specs.SocketLists.{no_frames, with_given};
 
-    /// No frame of this socket.
+    /// An empty list for this socket.
     pub(crate) fn new(alloc: Global, host: usize, socket: usize) -> Self
         ensures { result ≡ no_frames host socket }
     {
@@ -48,7 +48,7 @@ impl GivenFrames {
         }
     }
 
-    /// Makes room for a frame that a socket returns, if it is this socket. The frames stay.
+    /// Makes room for a frame that a socket returns, if the frames are those of this socket. They don't change.
     ///
     /// # Errors
     ///
@@ -63,7 +63,7 @@ impl GivenFrames {
         self.frames.reserve(LONGEST_LEGAL)
     }
 
-    /// Appends a frame that a socket returned, if it is this socket.
+    /// Appends a frame that a socket returned, if the frames are those of this socket.
     #[tactic(auto, using(crate::proofs::Gives::gives))]
     pub(crate) fn note(
         &mut self,
@@ -85,7 +85,7 @@ impl GivenFrames {
         Ok(())
     }
 
-    /// Writes them as a trace, with times in this unit. The number of each is its time in microseconds.
+    /// Writes the frames as a trace, with times in this unit. The number of each is its time in microseconds.
     pub(crate) fn write<W: Sink>(
         &self,
         writer: &mut RecordWriter,

@@ -1,19 +1,21 @@
 //! Plays a scenario.
 ghost use Rattle.std.specs.Prelude.{◌≡◌, ◌<◌, ◌≤◌, ◌∷◌, [], ℕ, All, Bool, Some, length, map, slice_get};
-ghost use Rattle.std.specs.Prelude.{IfErr, IfOk, IfSome, None, OnErr, OnOk};
+ghost use Rattle.std.specs.Prelude.{IfErr, IfOk, None, OnErr, OnOk};
 ghost use Rattle.std.specs.List.{flat_map};
 ghost use Rattle.packet_socket.specs.HostState.{HostState};
 ghost use Rattle.scenario.specs.SoFar.{Drains, event_of, hosts_of, said_of};
 ghost use Rattle.scenario_bench.specs.Benches.{AreAllWritten, AreWritten, AreWrittenUpTo, Benches, Stops, StopsWriting};
-ghost use Rattle.scenario_bench.specs.Benches.{scenario_events, sinks_of, states_of};
+ghost use Rattle.scenario_bench.specs.Benches.{IsFailedSink, scenario_events, sinks_of, states_of};
 ghost use Rattle.scenario_bench.specs.EventLists as lists;
 ghost use Rattle.scenario_bench.specs.EventLogView.{plan_name};
 ghost use Rattle.scenario_bench.specs.Given.{sockets_from};
-ghost use Rattle.scenario_bench.specs.PlayedEvents.{AreRecorded, Begins, HasPlayed, HasPlayedScenario, IsNewRecord};
+ghost use Rattle.scenario_bench.specs.PlayedEvents.{AreOfSender, AreRecorded, Begins, HasPlayed, HasPlayedScenario};
+ghost use Rattle.scenario_bench.specs.PlayedEvents.{IsNewRecord};
 ghost use Rattle.scenario_bench.specs.PlayedEvents.{StopsAtPlan, StopsWithin, TellTallies, TellsTally, frames_of};
 ghost use Rattle.scenario_bench.specs.PlayedEvents.{socket_texts, wire_texts_in};
 ghost use Rattle.scenario_bench.specs.Puts.{wire_names};
 ghost use Rattle.scenario_bench.specs.RunLogs.{asked_after, new_log};
+ghost use Rattle.scenario_bench.specs.WireLists.{names_in};
 ghost use Rattle.scenario_bench.specs.declared.tally.Tally.{Tally};
 ghost use Rattle.stations.specs.Stations.{world_at};
 ghost use Rattle.host_calls.specs.Networks.{IsHost};
@@ -42,46 +44,42 @@ fn line_at(lines: &[u64], place: usize) -> u64 {
     }
 }
 
-/// The events after the send of a fed frame from one host. They are made again only for a frame that arrives in another
-/// number of pieces.
+/// The events after the send of a fed frame from one host. They are made again only if a frame arrives in another
+/// number of pieces than the frame before it.
 #[derive(Drop)]
 struct EventsAfterSend {
-    /// The number of pieces for which `list` is made; `None` before the first frame.
+    alloc: Global,
+    /// The number of pieces for which `list` is made; `None` if it isn't made.
     pieces: Option<usize>,
     list: Vec<Event>,
 }
 
 impl EventsAfterSend {
-    /// No events.
+    /// A list without events.
     fn new(alloc: Global) -> EventsAfterSend
         ensures { result.pieces ≡ None }
     {
         EventsAfterSend {
+            alloc,
             pieces: None,
             list: Vec::new(alloc),
         }
     }
 
     /// Makes the events after the send of a frame that arrives in this number of pieces.
-    fn make(
-        &mut self,
-        alloc: Global,
-        plans: &[HostPlan],
-        sender: usize,
-        pieces: usize,
-    ) -> Result<(), AllocError>
-        requires before { IfSome self.old.pieces (λ made.
-            map event_of self.old.list.items ≡ lists.behind_send (hosts_of plans.now) sender made) }
+    fn make(&mut self, plans: &[HostPlan], sender: usize, pieces: usize) -> Result<(), AllocError>
+        requires before { AreOfSender (hosts_of plans.now) sender self.old }
         ensures events { OnOk result
             (map event_of self.new.list.items ≡ lists.behind_send (hosts_of plans.now) sender pieces) }
-        ensures made { OnOk result (self.new.pieces ≡ Some pieces) }
+        ensures kept { AreOfSender (hosts_of plans.now) sender self.new }
     {
         if let Some(made) = self.pieces
             && made == pieces
         {
             return Ok(());
         }
-        set_behind_send(alloc, plans, sender, pieces, &mut self.list)?;
+        self.pieces = None;
+        set_behind_send(self.alloc, plans, sender, pieces, &mut self.list)?;
         self.pieces = Some(pieces);
         Ok(())
     }
@@ -93,11 +91,12 @@ struct Play {
     lan: Lan,
     record: Record,
     drained: DrainedFrames,
-    /// The calls of the commands so far that were refused, except those of events that were drawn.
+    /// The refused calls so far that commands asked for; those of events that were drawn don't count.
     asked: Refusals,
 }
 
-/// The refusals that commands asked for, after this one. `before` and `after` are all refusals before and after it.
+/// The refused calls that commands asked for, after this command. `before` and `after` are all refused calls before and
+/// after it.
 fn asked_after(asked: Refusals, command: &Command, before: Refusals, after: Refusals) -> Refusals
     ensures { result ≡ asked_after asked (said_of command.now) before after }
 {
@@ -128,8 +127,8 @@ impl Play {
         })
     }
 
-    /// Runs these events, and records what comes of them. If memory is refused before an event, the error has the
-    /// number of events and drains that are recorded.
+    /// Runs these events, and records their outcomes and answers. If memory is refused before an event, the error has
+    /// the number of events and drains that are recorded.
     #[inline(always)]
     fn run(&mut self, events: &[Event]) -> Result<(), BenchError>
         ensures ok { OnOk result (HasPlayed (map event_of events.now) self.old self.new) }
@@ -160,11 +159,43 @@ impl Play {
         Ok(())
     }
 
+    /// Runs an event, and takes its memory.
+    #[inline(always)]
+    fn run_one(&mut self, memory: &mut EventMemory, event: Event) -> Result<(), BenchError>
+        ensures ok { OnOk result (HasPlayed (event_of event ∷ []) self.old self.new) }
+        ensures err { IfErr result (StopsWithin (event_of event ∷ []) self.old self.new) }
+    {
+        let mut event = event;
+        let ran = self.run(std::slice::from_ref(&event));
+        memory.take_back(&mut event);
+        ran
+    }
+
+    /// Sends a frame from a host, and lets it arrive at the others on its wire.
+    fn feed_frame(
+        &mut self,
+        memory: &mut EventMemory,
+        behind: &mut EventsAfterSend,
+        plans: &[HostPlan],
+        host: usize,
+        frame: &[u8],
+    ) -> Result<(), BenchError>
+        requires before { AreOfSender (hosts_of plans.now) host behind.old }
+        ensures ok { OnOk result (HasPlayed (lists.fed (hosts_of plans.now) host frame.now) self.old self.new) }
+        ensures err { IfErr result (StopsWithin (lists.fed (hosts_of plans.now) host frame.now) self.old self.new) }
+        ensures kept { AreOfSender (hosts_of plans.now) host behind.new }
+    {
+        let event = memory.send_event(host, frame)?;
+        self.run_one(memory, event)?;
+        behind.make(plans, host, pieces_of(frame.len()))?;
+        self.run(behind.list.as_slice())
+    }
+
     /// Sends each frame of a trace from a host, and lets it arrive at the others on its wire.
     #[tactic(auto, using(crate::proofs::PlayedEvents::all_fed))]
     fn feed(
         &mut self,
-        alloc: Global,
+        memory: &mut EventMemory,
         plans: &[HostPlan],
         host: usize,
         trace: &Trace,
@@ -174,15 +205,9 @@ impl Play {
         ensures err { IfErr result (StopsWithin
             (flat_map (lists.fed (hosts_of plans.now) host) trace.now.frames) self.old self.new) }
     {
-        let mut memory = EventMemory::new(alloc);
-        let mut behind = EventsAfterSend::new(alloc);
+        let mut behind = EventsAfterSend::new(memory.alloc);
         for frame in trace.frames.iter() {
-            let events = [memory.send_event(host, frame)?];
-            self.run(&events)?;
-            let [event] = events;
-            memory.take_back(event);
-            behind.make(alloc, plans, host, pieces_of(frame.len()))?;
-            self.run(behind.list.as_slice())?;
+            self.feed_frame(memory, &mut behind, plans, host, frame)?;
         }
         Ok(())
     }
@@ -191,7 +216,7 @@ impl Play {
     #[tactic(auto, using(crate::proofs::PlayedEvents::all_drawn, crate::proofs::PlayedEvents::none_drawn))]
     fn draw(
         &mut self,
-        alloc: Global,
+        memory: &mut EventMemory,
         plans: &[HostPlan],
         count: u32,
         start: u64,
@@ -202,14 +227,11 @@ impl Play {
         ensures err { IfErr result (StopsWithin
             (map (lists.event_drawn (hosts_of plans.now)) (lists.words_drawn count start)) self.old self.new) }
     {
-        let mut memory = EventMemory::new(alloc);
         let mut generator = Lcg64Xsh32::seed_from_u64(start);
         let mut left = count;
         while left > 0 {
-            let events = [memory.drawn(plans, generator.next_word())?];
-            self.run(&events)?;
-            let [event] = events;
-            memory.take_back(event);
+            let event = memory.drawn(plans, generator.next_word())?;
+            self.run_one(memory, event)?;
             left -= 1;
         }
         Ok(())
@@ -218,7 +240,7 @@ impl Play {
     /// Runs the events of a command, or its drain.
     fn command(
         &mut self,
-        alloc: Global,
+        memory: &mut EventMemory,
         plans: &[HostPlan],
         traces: &[Trace],
         command: &Command,
@@ -234,10 +256,10 @@ impl Play {
         match command {
             Command::Event(event) => self.run(std::slice::from_ref(event)),
             Command::Feed { host, trace } => match traces.get(*trace) {
-                Some(trace) => self.feed(alloc, plans, *host, trace),
+                Some(trace) => self.feed(memory, plans, *host, trace),
                 None => Ok(()),
             },
-            Command::Auto { count, start } => self.draw(alloc, plans, *count, *start),
+            Command::Auto { count, start } => self.draw(memory, plans, *count, *start),
             Command::Drain { host } => self.drain(*host),
         }
     }
@@ -258,11 +280,12 @@ impl Play {
         ensures err { IfErr result (StopsWithin (lists.all_events (hosts_of plans.now) (map frames_of traces.now)
             (map said_of commands.now)) self.old self.new) }
     {
+        let mut memory = EventMemory::new(alloc);
         let mut left = commands;
         while let Some((command, later)) = left.split_first() {
             self.record.line = line_at(lines, commands.len().saturating_sub(left.len()));
             let before = self.record.log.refusals;
-            self.command(alloc, plans, traces, command)?;
+            self.command(&mut memory, plans, traces, command)?;
             self.asked = asked_after(self.asked, command, before, self.record.log.refusals);
             left = later;
         }
@@ -316,7 +339,7 @@ impl Play {
         Ok(hosts)
     }
 
-    /// The summary of the run, with these of the hosts. It takes the lines of events.
+    /// The summary of the run, with these summaries of its hosts. It takes the lines of events out of the record.
     fn summary(&mut self, hosts: Vec<HostSummary>) -> Summary
         ensures hosts { result.hosts ≡ hosts }
         ensures refusals { result.refusals ≡ self.old.record.log.refusals }
@@ -373,6 +396,40 @@ impl Play {
     }
 
     /// Writes to each sink the frames of its socket, and then to each of `wire_sinks` those that were put on its wire.
+    /// `names` are those of the wires.
+    fn write_traces<W: Sink>(
+        &self,
+        plan: &Plan,
+        names: &[&str],
+        writer: &mut RecordWriter,
+        unit: Unit,
+        sinks: &mut [W],
+        wire_sinks: &mut [W],
+    ) -> Result<(), WriteError>
+        requires names { names_in names.now ≡ wire_names (hosts_of plan.now.hosts.items) }
+        requires sinks { length sinks.old ≡ length self.now.record.sockets.items }
+        requires wires { length wire_sinks.old ≤ length names.now }
+        requires recorded { AreRecorded (length wire_sinks.old) self.now.record.puts }
+        requires countable { All (λ (sink : W). W.failures sink < u64.MAX) sinks.old }
+        requires wires_countable { All (λ (sink : W). W.failures sink < u64.MAX) wire_sinks.old }
+        ensures ok { OnOk result
+            (AreAllWritten unit (socket_texts self.now) (wire_texts_in plan.now.hosts.items self.now)
+            (sinks_of W.taken W.failures sinks.old sinks.new wire_sinks.old wire_sinks.new)) }
+        ensures err { OnErr result
+            (IsFailedSink unit (socket_texts self.now) (wire_texts_in plan.now.hosts.items self.now)
+            (sinks_of W.taken W.failures sinks.old sinks.new wire_sinks.old wire_sinks.new)) }
+    {
+        self.write_sockets(writer, unit, sinks)?;
+        match &self.record.puts {
+            Some(puts) => {
+                let plans = plan.hosts.as_slice();
+                puts.write_wires(plans, names, writer, unit, wire_sinks)
+            }
+            None => Ok(()),
+        }
+    }
+
+    /// Writes to each sink the frames of its socket, and then to each of `wire_sinks` those that were put on its wire.
     fn write<W: Sink>(
         &self,
         alloc: Global,
@@ -386,20 +443,17 @@ impl Play {
         requires recorded { AreRecorded (length wire_sinks.old) self.now.record.puts }
         requires countable { All (λ (sink : W). W.failures sink < u64.MAX) sinks.old }
         requires wires_countable { All (λ (sink : W). W.failures sink < u64.MAX) wire_sinks.old }
-        ensures ok { OnOk result (AreAllWritten unit (socket_texts self.now) (wire_texts_in plan.now.hosts.items self.now)
+        ensures ok { OnOk result
+            (AreAllWritten unit (socket_texts self.now) (wire_texts_in plan.now.hosts.items self.now)
             (sinks_of W.taken W.failures sinks.old sinks.new wire_sinks.old wire_sinks.new)) }
         ensures err { IfErr result (λ error.
             StopsWriting unit (socket_texts self.now) (wire_texts_in plan.now.hosts.items self.now) error
             (sinks_of W.taken W.failures sinks.old sinks.new wire_sinks.old wire_sinks.new)) }
     {
-        let plans = plan.hosts.as_slice();
-        let names = wires(alloc, plans)?;
+        let names = wires(alloc, plan.hosts.as_slice())?;
+        let names = names.as_slice();
         let mut writer = RecordWriter::new(alloc, unit)?;
-        self.write_sockets(&mut writer, unit, sinks)?;
-        let Some(puts) = &self.record.puts else {
-            return Ok(());
-        };
-        puts.write_wires(plans, names.as_slice(), &mut writer, unit, wire_sinks)?;
+        self.write_traces(plan, names, &mut writer, unit, sinks, wire_sinks)?;
         Ok(())
     }
 
@@ -447,9 +501,9 @@ fn new_puts(alloc: Global, wires: usize) -> Option<PutFrames>
 /// frames that were put on its wire. The time of a frame is the number of its event or drain, in microseconds, which is
 /// written in `unit`. Events and drains are numbered from 0, up to the greatest `u64`.
 ///
-/// Pass a trace for each name of [`Scenario::trace_names`], a sink for each socket of [`sockets`](crate::sockets), and a
-/// sink for each wire of [`wires`](crate::wires) or none, in the same order. If `events` is true, the summary has a line
-/// for each event and drain.
+/// Pass a trace for each name of [`Scenario::trace_names`], a sink for each socket of [`sockets`](crate::sockets), and
+/// a sink for each wire of [`wires`](crate::wires) or none, in the same order. If `events` is true, the summary has a
+/// line for each event and drain.
 ///
 /// # Errors
 ///
@@ -457,8 +511,8 @@ fn new_puts(alloc: Global, wires: usize) -> Option<PutFrames>
 /// before an event, also for the frames that it may put if there are sinks of wires: `done` is the number of events and
 /// drains before it, which were done. As the numbers of events, it is at most the greatest `u64`.
 /// [`Memory`](BenchError::Memory) (E57) if memory is refused elsewhere. At these nothing was written.
-/// [`Write`](BenchError::Write) (E67) if a sink failed: the sinks before it have their whole text, it has a beginning of
-/// its own, and those after it have nothing. The sinks of sockets come before those of wires.
+/// [`Write`](BenchError::Write) (E67) if a sink failed: the sinks before it have their whole text, it has a beginning
+/// of its own, and those after it have nothing. The sinks of sockets come before those of wires.
 pub fn bench<W: Sink>(
     alloc: Global,
     scenario: &Scenario,

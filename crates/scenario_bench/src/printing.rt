@@ -38,7 +38,7 @@ fn push_exact(line: &mut Line, exact: bool)
     line.try_extend_from_slice(word).unwrap();
 }
 
-/// Appends what resets gave up, if there was one.
+/// Appends what resets gave up, if there was a reset.
 fn push_resets(line: &mut Line, given_up: Option<GivenUp>)
     requires room { length line.old.items + 180 ≤ 700 }
     ensures text { line.new.items ≡ line.old.items ++ resets_text given_up }
@@ -82,9 +82,8 @@ fn print_host<W: Sink>(host: &HostSummary, sink: &mut W) -> Result<(), WriteErro
 }
 
 /// Writes the program's lines of a run to a sink, one a host: `NAME accepted A put P reached R stored S missed M exact
-/// given G unclaimed U`, with `atleast` for `exact` if more were missed, and ` givenup T R off O` behind it if the host
-/// was reset. Each ends with a line feed. Allocates no
-/// memory.
+/// given G unclaimed U`, with `atleast` for `exact` if more were missed, and with ` givenup T R off O` at its end if
+/// the host was reset. Each ends with a line feed. Allocates no memory.
 ///
 /// # Errors
 ///

@@ -7,7 +7,7 @@ use pcap_trace::{RecordWriter, Sink, Unit, WriteError};
 use std::alloc::{AllocError, Global};
 use std::marker::Model;
 
-/// What is known of a frame beside its bytes.
+/// A frame without its bytes: its host, its number and its length.
 #[derive(Clone, Copy)]
 struct PutInfo {
     /// The host whose adapter put it on its wire.
@@ -51,7 +51,7 @@ impl PutFrames {
     ghost use Rattle.scenario_bench.specs.Puts.{frames_on_wire, put_frame, wire_texts};
     ghost use Rattle.scenario_bench.specs.WireLists.{names_in};
 
-    /// No frame yet. Allocates no memory.
+    /// An empty list. Allocates no memory.
     pub(crate) fn new(alloc: Global) -> Self
         ensures { result ≡ [] }
     {
@@ -61,7 +61,7 @@ impl PutFrames {
         }
     }
 
-    /// Makes room for this many more frames. The frames stay.
+    /// Makes room for this many more frames. The frames don't change.
     ///
     /// # Errors
     ///
@@ -94,7 +94,7 @@ impl PutFrames {
         Ok(())
     }
 
-    /// Writes those of hosts on this wire as a trace. The number of each is its time in microseconds.
+    /// Writes the frames of hosts on this wire as a trace. The time of each in microseconds is the number of its event.
     ///
     /// # Errors
     ///
@@ -127,12 +127,12 @@ impl PutFrames {
         writer.flush(sink)
     }
 
-    /// Writes to each sink those of hosts on its wire, as a trace.
+    /// Writes to each sink the frames of hosts on its wire, as a trace.
     ///
     /// # Errors
     ///
-    /// E67 [`Write`](WriteError::Write) if a sink fails: those before it have their whole trace, it has a beginning of
-    /// its own, and those after it have nothing.
+    /// E67 [`Write`](WriteError::Write) if a sink fails: the sinks before it have their whole trace, this sink has a
+    /// beginning of its own, and the sinks after it have nothing.
     #[tactic(auto, using(crate::proofs::Writing::none_written))]
     pub(crate) fn write_wires<W: Sink>(
         &self,

@@ -8,7 +8,6 @@ ghost use Rattle.scenario_bench.specs.Acts.{Drained};
 ghost use Rattle.scenario_bench.specs.DrainedView.{drained_frame};
 ghost use Rattle.scenario_bench.specs.Given.{numbered_frame, sockets_from};
 ghost use Rattle.scenario_bench.specs.Puts.{PutsGrow, is_put, put_frames_in};
-ghost use Rattle.scenario_bench.specs.EventLines.{place_at};
 ghost use Rattle.scenario_bench.specs.EventLogView.{plan_name};
 ghost use Rattle.scenario_bench.specs.Recording.{NotesAnswer, NotesLine, answered};
 ghost use Rattle.scenario_bench.specs.RunLogs.{new_log};
@@ -19,7 +18,6 @@ ghost use Rattle.wire.specs.DrainedNetworks.{said_of_drain};
 ghost use Rattle.wire.specs.Runs.{accepted_of, given_of};
 
 use crate::drained::DrainedFrame;
-use crate::event_log::Place;
 use crate::given::GivenFrames;
 use crate::put::PutFrames;
 use crate::run_log::RunLog;
@@ -36,7 +34,7 @@ use wire::RunObserver;
 pub(crate) struct Record {
     /// The number of the next event or drain, up to the greatest.
     pub(crate) number: u64,
-    /// The number of its line in the scenario, from 1.
+    /// The number of the line in the scenario of the next event or drain, from 1.
     pub(crate) line: u64,
     /// The counts of each host.
     pub(crate) hosts: Vec<Tally>,
@@ -216,9 +214,9 @@ fn reserve_frame(sockets: &mut [GivenFrames], host: usize, socket: usize) -> Res
 
 /// Records the answer to a send.
 #[tactic(auto, using(crate::specs::RecordingLaws::grows_not))]
-fn note_sent(hosts: &mut [Tally], host: usize, answer: Answer<()>)
+fn note_sent(hosts: &mut [Tally], host: usize, answer: &Answer<()>)
     ensures { (frame given : List ℕ)
-        → TalliesGrow (accepted_of host frame (answer_with given answer)) hosts.old hosts.new }
+        → TalliesGrow (accepted_of host frame (answer_with given answer.now)) hosts.old hosts.new }
 {
     if let Answer::Sent(Ok(())) = answer {
         count(hosts, host, Passage::Accepted);
@@ -228,8 +226,8 @@ fn note_sent(hosts: &mut [Tally], host: usize, answer: Answer<()>)
 /// Records the frames that a reset gave up.
 #[tactic(auto, using(crate::specs::RecordingLaws::grows_not))]
 #[inline(never)]
-fn note_reset(hosts: &mut [Tally], host: usize, answer: Answer<()>)
-    ensures { (frame : List ℕ) → TalliesGrow (given_up_of host (answer_with frame answer)) hosts.old hosts.new }
+fn note_reset(hosts: &mut [Tally], host: usize, answer: &Answer<()>)
+    ensures { (frame : List ℕ) → TalliesGrow (given_up_of host (answer_with frame answer.now)) hosts.old hosts.new }
 {
     if let Answer::Reset {
         sending,
@@ -262,8 +260,8 @@ fn note_drained(
 }
 
 impl Record {
-    /// The record of these hosts before a run. Frames that are put on wires are recorded after these, if there are any.
-    /// `events` is whether there is to be a line for each event.
+    /// The record of these hosts before a run. If there is a list for frames that are put on wires, they are appended
+    /// to it. `events` is whether there is to be a line for each event.
     pub(crate) fn new(
         alloc: Global,
         plans: &[HostPlan],
@@ -291,32 +289,24 @@ impl Record {
         })
     }
 
-    /// Where the next event stands.
-    fn place(&self) -> Place
-        ensures { result ≡ place_at self.now.number self.now.line }
-    {
-        Place {
-            number: self.number,
-            line: self.line,
-        }
-    }
-
     /// Records the line of an event.
     #[inline(always)]
     fn note_line(&mut self, event: &Event, accesses: u64, answer: &Answer<()>, frame: &[u8])
         ensures { NotesLine event.now accesses (answer_with frame.now answer.now) self.old self.new }
     {
-        let place = self.place();
-        if self.log.end(place, event, accesses, answer, frame).is_err() {
+        let ended = self
+            .log
+            .end(self.number, self.line, event, accesses, answer, frame);
+        if ended.is_err() {
             self.failed = true;
         }
     }
 
     /// Records the answer of a socket, with its frame.
     #[inline(always)]
-    fn note_received(&mut self, host: usize, socket: usize, answer: Answer<()>, frame: &[u8])
+    fn note_received(&mut self, host: usize, socket: usize, answer: &Answer<()>, frame: &[u8])
         requires fits { length frame.now ≤ 1518 }
-        ensures { NotesAnswer (given_of host socket (answer_with frame.now answer)) self.old self.new }
+        ensures { NotesAnswer (given_of host socket (answer_with frame.now answer.now)) self.old self.new }
     {
         if let Answer::Received(Ok(())) = answer {
             count(self.hosts.as_mut_slice(), host, Passage::Given);
@@ -329,9 +319,9 @@ impl Record {
 
     /// Records the answer of an event, with the frame that a socket returned. Joins and leaves aren't counted.
     #[inline(always)]
-    fn note_answer(&mut self, event: &Event, answer: Answer<()>, frame: &[u8])
+    fn note_answer(&mut self, event: &Event, answer: &Answer<()>, frame: &[u8])
         requires fits { length frame.now ≤ 1518 }
-        ensures { NotesAnswer (answered event.now (answer_with frame.now answer)) self.old self.new }
+        ensures { NotesAnswer (answered event.now (answer_with frame.now answer.now)) self.old self.new }
     {
         match event {
             Event::Send { host, .. } => note_sent(self.hosts.as_mut_slice(), *host, answer),
@@ -353,8 +343,7 @@ impl Record {
         ensures { OnOk result
             (AreNoted (Drained host 0 (map drained_frame given.now) ∷ []) self.old self.new) }
     {
-        let place = self.place();
-        self.log.drain(place, host, given.len())?;
+        self.log.drain(self.number, self.line, host, given.len())?;
         let hosts = self.hosts.as_mut_slice();
         note_drained(hosts, self.sockets.as_mut_slice(), host, self.number, given)?;
         self.number = self.number.saturating_add(1);
@@ -414,12 +403,11 @@ impl RunObserver for Record {
         }
     }
 
-    // Only the record changes: as `NotesLine` of `note_line` and `NotesAnswer` of `note_answer` say, and the number of
-    // the next event is one more.
+    // Only the record changes: as `NotesLine` and `NotesAnswer` state, and the number of the next event is one more.
     #[inline(always)]
     fn answer(&mut self, event: &Event, accesses: u64, answer: Answer<()>, frame: &[u8]) {
         self.note_line(event, accesses, &answer, frame);
-        self.note_answer(event, answer, frame);
+        self.note_answer(event, &answer, frame);
         self.number = self.number.saturating_add(1);
     }
 }

@@ -3,10 +3,11 @@ ghost use Rattle.std.specs.Prelude.{◌≡◌, ℕ, List, IfOk, OnOk, map};
 ghost use Rattle.adapter.specs.Outcomes.{with_frame};
 ghost use Rattle.network_plan.specs.Answers.{answer_with};
 ghost use Rattle.stations.specs.ToldTicks.{tick_told};
+ghost use Rattle.scenario_bench.specs.EventLines.{place_at};
 ghost use Rattle.scenario_bench.specs.EventLogView.{plan_name};
 ghost use Rattle.scenario_bench.specs.RunLogs.{act_drained, answered_log, log_ended, log_heard, new_log};
 
-use crate::event_log::{EventLog, Place};
+use crate::event_log::EventLog;
 use crate::summary::Refusals;
 use adapter::Outcome;
 use network_plan::{Answer, Event, HostPlan};
@@ -24,7 +25,7 @@ pub(crate) struct RunLog {
 }
 
 impl RunLog {
-    /// No answer yet. `events` is whether there is to be a line for each event.
+    /// A log without answers. `events` is whether there is to be a line for each event.
     pub(crate) fn new(alloc: Global, plans: &[HostPlan], events: bool) -> Result<RunLog, AllocError>
         ensures { IfOk result (λ log. log ≡ new_log (map plan_name plans.now) events) }
     {
@@ -50,7 +51,7 @@ impl RunLog {
         }
     }
 
-    /// Records what came of a tick.
+    /// Records the outcome of a tick.
     #[inline(always)]
     pub(crate) fn note(
         &mut self,
@@ -86,37 +87,40 @@ impl RunLog {
         }
     }
 
-    /// Records the end of an event.
+    /// Records the end of the event with this number. `line` is the number of its line in the scenario.
     #[inline(always)]
     pub(crate) fn end(
         &mut self,
-        place: Place,
+        number: u64,
+        line: u64,
         event: &Event,
         accesses: u64,
         answer: &Answer<()>,
         frame: &[u8],
     ) -> Result<(), AllocError>
         ensures { OnOk result
-            (self.new ≡ log_ended place event.now accesses (answer_with frame.now answer.now) self.old) }
+            (self.new
+            ≡ log_ended (place_at number line) event.now accesses (answer_with frame.now answer.now) self.old) }
     {
         self.count(answer);
         match &mut self.lines {
-            Some(lines) => lines.end(place, event, accesses, answer, frame),
+            Some(lines) => lines.end(number, line, event, accesses, answer, frame),
             None => Ok(()),
         }
     }
 
-    /// Records a drain of a host, which returned this many frames.
+    /// Records the drain with this number, of a host, which returned this many frames.
     pub(crate) fn drain(
         &mut self,
-        place: Place,
+        number: u64,
+        line: u64,
         host: usize,
         count: usize,
     ) -> Result<(), AllocError>
-        ensures { OnOk result (self.new ≡ act_drained place host count self.old) }
+        ensures { OnOk result (self.new ≡ act_drained (place_at number line) host count self.old) }
     {
         match &mut self.lines {
-            Some(lines) => lines.drain(place, host, count),
+            Some(lines) => lines.drain(number, line, host, count),
             None => Ok(()),
         }
     }

@@ -6,9 +6,8 @@ ghost use Rattle.scenario_bench.specs.Given.{sockets_from, sockets_of_host};
 use network_plan::HostPlan;
 use std::alloc::{AllocError, Global};
 
-/// Appends a pair of numbers for each socket of a host: the host's and the socket's. If memory is refused, some may be
-/// there.
-#[tactic(auto, using(crate::proofs::EmptySockets::pair_more, crate::proofs::EmptySockets::no_pair))]
+/// Appends a pair of numbers for each socket of a host: the host's and the socket's. If memory is refused, some of the
+/// pairs may be appended.
 fn push_sockets(
     host: usize,
     count: usize,

@@ -7,7 +7,7 @@ use crate::event_log::EventLog;
 /// The summary of a host. Each number saturates at the greatest `u64`.
 #[derive(Drop)]
 pub struct HostSummary {
-    /// Its name in the plan.
+    /// The name of the host in the plan.
     pub name: String,
     /// The number of frames that its sends accepted.
     pub accepted: u64,
@@ -20,7 +20,7 @@ pub struct HostSummary {
     /// The number of frames that its adapter missed because the receive packet buffer was full, as its driver counts
     /// them.
     pub missed: u64,
-    /// Whether this number is exact; otherwise more frames were missed.
+    /// Whether `missed` is exact; otherwise more frames were missed.
     pub exact: bool,
     /// The number of frames that its sockets returned.
     pub given: u64,
@@ -53,7 +53,7 @@ pub struct Refusals {
 }
 
 impl Refusals {
-    /// These, and those that came between two earlier counts.
+    /// These refused calls, and those between two later counts.
     pub(crate) fn with_later(self, before: Refusals, after: Refusals) -> Refusals
         ensures { result ≡ with_later self before after }
     {
@@ -78,8 +78,8 @@ pub struct Summary {
     pub hosts: Vec<HostSummary>,
     /// The calls that were refused.
     pub refusals: Refusals,
-    /// Those of them that lines of the scenario asked for. The others are of events that were drawn.
+    /// The refused calls that lines of the scenario asked for. The others are of events that were drawn.
     pub asked: Refusals,
-    /// A line for each event, if they were asked for.
+    /// A line for each event, if such lines were asked for.
     pub events: Option<EventLog>,
 }

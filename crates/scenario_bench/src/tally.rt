@@ -16,9 +16,9 @@ pub(crate) struct Tally {
     pub(crate) sending: u64,
     /// Frames that resets gave up while they were held.
     pub(crate) holding: u64,
-    /// Frames that reached it while a reset had disabled its receive side.
+    /// Frames that reached the host while a reset had disabled its receive side.
     pub(crate) off: u64,
-    /// Whether it was reset.
+    /// Whether the host was reset.
     pub(crate) is_reset: bool,
 }
 
@@ -62,7 +62,7 @@ impl Tally {
         tally
     }
 
-    /// These counts after a reset, which gave up so many frames.
+    /// These counts after a reset, which gave up these numbers of frames.
     pub(crate) fn given_up(self, sending: u64, holding: u64) -> Tally
         ensures { result ≡ tally_given_up sending holding self }
     {
@@ -74,7 +74,7 @@ impl Tally {
         }
     }
 
-    /// What the resets gave up, if there was one.
+    /// What the resets gave up, if there was a reset.
     pub(crate) fn resets(self) -> Option<GivenUp>
         ensures { result ≡ resets_in self }
     {

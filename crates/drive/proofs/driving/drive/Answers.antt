@@ -19,7 +19,8 @@ returns g c =
     (g.S.Sink.taken c.wait.new.sink) (g.S.Sink.taken c.flush.new.sink) c.in_ok-writer.writer c.wait.new.self.writer c.args.bus.now
     c.bring_up.new.bus c.wait.new.bus c.in_ok-host.host c.wait.new.self.host
     (exchange_at sent.bus sent.self.host (append_known (g.S.Sink.taken sent.sink) sent.self.writer) sent.self.received)
-    up.keeps up.ready up.layout c.in_ok-writer.ensures c.in_ok-handed.ensures.sends c.in_ok-wait.ensures.exchanges c.in_ok-flush.ensures.ok in
+    up.keeps up.ready up.layout c.in_ok-writer.ensures c.in_ok-handed.ensures.sends c.in_ok-wait.ensures.exchanges
+    c.in_ok-flush.ensures.ok in
     record {
       keeps = keeps-three g.B.Bus g.met.B.Bus.composes c.args.bus.now c.bring_up.new.bus c.send_all.new.bus c.wait.new.bus
           c.bring_up.ensures.keeps c.send_all.ensures.keeps c.wait.ensures.keeps;

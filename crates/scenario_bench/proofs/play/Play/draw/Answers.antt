@@ -7,12 +7,12 @@ use Rattle.scenario_bench.proofs.play.Play.draw.Goals as goal
 
 pub loop-left-preserved : goal.loop-left-preserved
 loop-left-preserved c = one_drawn (event_drawn (hosts_of c.args.plans.now)) (words_drawn c.args.count c.args.start) c.loop-left.left
-    c.next_word.result c.loop-left.generator c.next_word.new.self (event_of c.in_ok-drawn.field-0) c.args.self.now c.loop-left.self
-    c.run.new.self c.loop-left.invariant (omega arith) c.next_word.ensures c.in_ok-drawn.ensures c.in_ok-run.ensures.ok
+    c.next_word.result c.loop-left.generator c.next_word.new.self (event_of c.in_ok-event.event) c.args.self.now c.loop-left.self
+    c.run_one.new.self c.loop-left.invariant (omega arith) c.next_word.ensures c.in_ok-event.ensures c.in_ok-run_one.ensures.ok
 
-pub returns-in_err-run-clause-err : goal.returns-in_err-run-clause-err
-returns-in_err-run-clause-err c =
-    let p = err_from_is_err_and c.from_residual-in_err-run.result c.from_residual-in_err-run.ensures.1 in
+pub returns-in_err-run_one-clause-err : goal.returns-in_err-run_one-clause-err
+returns-in_err-run_one-clause-err c =
+    let p = err_from_is_err_and c.from_residual-in_err-run_one.result c.from_residual-in_err-run_one.ensures.1 in
     rw (p.1, p.2) (draw_stops (event_drawn (hosts_of c.args.plans.now)) (words_drawn c.args.count c.args.start) c.loop-left.left
-    c.next_word.result c.loop-left.generator c.next_word.new.self (event_of c.in_ok-drawn.field-0) c.args.self.now c.loop-left.self
-    c.run.new.self _ c.loop-left.invariant (omega arith) c.next_word.ensures c.in_ok-drawn.ensures c.in_err-run.ensures.err)
+    c.next_word.result c.loop-left.generator c.next_word.new.self (event_of c.in_ok-event.event) c.args.self.now c.loop-left.self
+    c.run_one.new.self _ c.loop-left.invariant (omega arith) c.next_word.ensures c.in_ok-event.ensures c.in_err-run_one.ensures.err)

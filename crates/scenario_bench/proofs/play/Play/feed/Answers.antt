@@ -1,9 +1,9 @@
-use Rattle.std.proofs.Common.{◌≡◌, ◌∙◌, ℕ, List, Option, ap, map, rules, subst, sym}
+use Rattle.std.proofs.Common.{◌≡◌, ℕ, List, Option, map, refl, rules, subst, sym}
 use Rattle.std.specs.Prelude.{IfSome}
 use Rattle.std.proofs.lemmas.Result.{err_from_is_err_and}
 use Rattle.scenario.specs.SoFar.{event_of, hosts_of}
 use Rattle.scenario_bench.specs.EventLists.{behind_send, fed}
-use Rattle.scenario_bench.proofs.PlayedEvents.{HasFed, behind_stops, none_fed, one_sent, send_stops}
+use Rattle.scenario_bench.proofs.PlayedEvents.{HasFed, fed_stops, none_fed, one_fed}
 use Rattle.scenario_bench.proofs.play.Play.feed.Goals as goal
 
 pub loop-frame-init : goal.loop-frame-init
@@ -19,31 +19,15 @@ loop-frame-init c =
 
 pub loop-frame-preserved : goal.loop-frame-preserved
 loop-frame-preserved c = (
-  one_sent (hosts_of c.args.plans.now) c.args.host c.in-Some.frame.now c.in_ok-send_event.field-0
-      c.make.new.self.list.items c.as_slice.result.now c.args.trace.now.frames c.loop-frame.frame-iterator
-      c.next.new.self c.args.self.now c.loop-frame.self
-      c.run.new.self c.run-in-loop-frame.new.self c.loop-frame.invariant.0 c.in-Some.ensures.steps c.in_ok-send_event.ensures
-      c.in_ok-run.ensures.ok
-      (c.in_ok-make.ensures.events ∙ ap (behind_send (hosts_of c.args.plans.now) c.args.host) c.pieces_of.ensures)
-      c.as_slice.ensures.value c.in_ok-run-2.ensures.ok,
-  subst (λ (pieces : Option ℕ). IfSome pieces (λ made. map event_of c.make.new.self.list.items
-      ≡ behind_send (hosts_of c.args.plans.now) c.args.host made)) (sym c.in_ok-make.ensures.made) c.in_ok-make.ensures.events,
+  one_fed (List ℕ) (fed (hosts_of c.args.plans.now) c.args.host) c.args.trace.now.frames c.loop-frame.frame-iterator c.next.new.self
+      c.in-Some.frame.now (fed (hosts_of c.args.plans.now) c.args.host c.in-Some.frame.now) c.args.self.now c.loop-frame.self
+      c.feed_frame.new.self c.loop-frame.invariant.0 c.in-Some.ensures.steps refl c.in_ok-feed_frame.ensures.ok,
+  c.feed_frame.ensures.kept,
 )
 
-pub returns-in_err-run-clause-err : goal.returns-in_err-run-clause-err
-returns-in_err-run-clause-err c =
-    let p = err_from_is_err_and c.from_residual-in_err-run.result c.from_residual-in_err-run.ensures.1 in
-    rw (p.1, p.2) (send_stops (hosts_of c.args.plans.now) c.args.host c.in-Some.frame.now c.in_ok-send_event.field-0
-    c.args.trace.now.frames c.loop-frame.frame-iterator c.next.new.self c.args.self.now c.loop-frame.self c.run.new.self _
-    c.loop-frame.invariant.0 c.in-Some.ensures.steps c.in_ok-send_event.ensures c.in_err-run.ensures.err)
-
-pub returns-in_err-run-2-clause-err : goal.returns-in_err-run-2-clause-err
-returns-in_err-run-2-clause-err c =
-    let p = err_from_is_err_and c.from_residual-in_err-run-2.result c.from_residual-in_err-run-2.ensures.1 in
-    rw (p.1, p.2) (behind_stops (hosts_of c.args.plans.now) c.args.host c.in-Some.frame.now c.in_ok-send_event.field-0
-    c.make.new.self.list.items c.as_slice.result.now c.args.trace.now.frames c.loop-frame.frame-iterator
-    c.next.new.self c.args.self.now c.loop-frame.self
-    c.run.new.self c.run-in-loop-frame.new.self _ c.loop-frame.invariant.0 c.in-Some.ensures.steps c.in_ok-send_event.ensures
-    c.in_ok-run.ensures.ok
-    (c.in_ok-make.ensures.events ∙ ap (behind_send (hosts_of c.args.plans.now) c.args.host) c.pieces_of.ensures)
-    c.as_slice.ensures.value c.in_err-run-2.ensures.err)
+pub returns-in_err-feed_frame-clause-err : goal.returns-in_err-feed_frame-clause-err
+returns-in_err-feed_frame-clause-err c =
+    let p = err_from_is_err_and c.from_residual.result c.from_residual.ensures.1 in
+    rw (p.1, p.2) (fed_stops (List ℕ) (fed (hosts_of c.args.plans.now) c.args.host) c.args.trace.now.frames
+    c.loop-frame.frame-iterator c.next.new.self c.in-Some.frame.now c.args.self.now c.loop-frame.self c.feed_frame.new.self _
+    c.loop-frame.invariant.0 c.in-Some.ensures.steps c.in_err-feed_frame.ensures.err)

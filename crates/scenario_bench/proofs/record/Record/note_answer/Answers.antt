@@ -10,7 +10,7 @@ use Rattle.scenario_bench.proofs.record.Record.note_answer.Goals as goal
 
 pub returns-in-Send : goal.returns-in-Send
 returns-in-Send c =
-    let given = answer_with c.args.frame.now c.args.answer in
+    let given = answer_with c.args.frame.now c.args.answer.now in
     let before : c.args.self.now.hosts.items ≡ c.as_mut_slice.result.now = search rules in
     let after : (with_items c.args.self.now.hosts c.note_sent.new.hosts).items ≡ c.note_sent.new.hosts =
     with_items_is c.args.self.now.hosts c.note_sent.new.hosts (search (rules, arith)) in
@@ -23,7 +23,7 @@ returns-in-Send c =
 
 pub returns-in-Reset : goal.returns-in-Reset
 returns-in-Reset c =
-    let given = answer_with c.args.frame.now c.args.answer in
+    let given = answer_with c.args.frame.now c.args.answer.now in
     let before : c.args.self.now.hosts.items ≡ c.as_mut_slice-in-Reset.result.now = search rules in
     let after : (with_items c.args.self.now.hosts c.note_reset.new.hosts).items ≡ c.note_reset.new.hosts =
     with_items_is c.args.self.now.hosts c.note_reset.new.hosts (search (rules, arith)) in

@@ -7,7 +7,6 @@ use Rattle.scenario_bench.specs.EventLines.{place_at}
 use Rattle.scenario_bench.specs.RunLogs.{act_drained}
 use Rattle.scenario_bench.specs.SocketLists.{SocketFrames}
 use Rattle.scenario_bench.specs.Tallies.{GetsSaid, TalliesGrow}
-use Rattle.scenario_bench.specs.declared.event_log.Place.{Place}
 use Rattle.scenario_bench.specs.declared.tally.Tally.{Tally}
 use Rattle.scenario_bench.proofs.NotedEvents.{drain_noted}
 use Rattle.scenario_bench.proofs.record.Record.note_drain.Goals as goal
@@ -31,6 +30,5 @@ returns c =
     (subst (λ (b : List SocketFrames). GetsSaid old.number happened c.as_mut_slice.result.now b) (sym sockets_after)
     c.in_ok-note_drained.ensures.sockets)) refl
     (c.in_ok-drain.ensures
-    ∙ ap (λ (place : Place). act_drained place c.args.host (length c.args.given.now) old.log) c.place-place.ensures
     ∙ ap (λ (n : ℕ). act_drained (place_at old.number old.line) c.args.host n old.log)
     (sym (length-map c.args.given.now drained_frame)))

@@ -1,5 +1,5 @@
 use Rattle.std.proofs.Common.{◌≡◌, length}
-use Rattle.nicbench.proofs.run.wire_files.Given as goal
+use Rattle.nicbench.proofs.run.files_of_wires.Given as goal
 
 abbrev pub invariant-loop-wire : goal.invariant-loop-wire
 invariant-loop-wire l = length l.names.items ≡ l.wire-index
