@@ -16,6 +16,7 @@ import tempfile
 
 sys.dont_write_bytecode = True
 from bench import Bench  # noqa: E402
+from explorer_results import check_results  # noqa: E402
 
 TOP = os.path.dirname(os.path.dirname(os.path.abspath(__file__)))
 EXPLORER, EXAMPLES = os.path.join(TOP, "bindings", "c", "explore"), os.path.join(TOP, "examples", "explore")
@@ -191,7 +192,7 @@ class Explorer(Bench):
     def run(self, *words, env=None, data=None):
         """The exit status of a program, its output and its errors."""
         env = {**os.environ, **(env or {})}
-        ran = subprocess.run(words, cwd=self.folder, capture_output=True, text=True, timeout=LIMIT, env=env, input=data)
+        ran = subprocess.run(words, cwd=self.folder, capture_output=True, text=True, errors="replace", timeout=LIMIT, env=env, input=data)
         return ran.returncode, ran.stdout, ran.stderr
 
     def none_of(self, *words):
@@ -285,7 +286,7 @@ def drawn(bench, stages):
     status, out, _ = bench.run(stages, "length", "--check", "--runs", "50")
     bench.check("drawn: the smallest of --check", (status, "\n4.8 rxdone before read rx[1]+12\n" in out), (FOUND, True))
     status, out, _ = bench.run(stages, "right", "--states", "10", "--runs", "20")
-    bench.check("drawn: too many states", (status, "none of" in out), (NOT_RUN, False))
+    bench.check("drawn: too many states", (status, bool(re.match(r"ended by --states 10, after \d+ states and \d+ schedules?: none of these fails\n", out))), (NOT_RUN, True))
     for name in RIGHT:
         bench.check(f"drawn: {name}", bench.run(stages, name, "--runs", "300")[::2], (PASSES, ""))
     forgets = bench.build("forgets", bench.source("forgets.c", FORGETS))
@@ -333,6 +334,7 @@ def ends(bench):
     for words in ([], ["--explore", "2"], ["--explore", "every"]):
         status, out, _ = bench.run(empty, *words)
         bench.check(f"ends: nothing {words}", (status, out.splitlines()[-1]), (NOTHING, "nothing was searched: in no run did a deviation do anything"))
+    return empty
 
 
 def arguments(bench, stages):
@@ -347,7 +349,7 @@ def arguments(bench, stages):
     served = bench.run(stages, "right", "--replay", "/dev/null", "--serve", "nonesuch")
     bench.check("arguments: no program", served, (PASSES, "The test passes.\nnonesuch serve can't play it: it can't be started\n", ""))
     got = bench.run(stages, "right", "--explore", "every", "--all")
-    bench.check("arguments: all of every", got, (USAGE, "", "explore: --all: with --explore, it needs a number\nFor more information, try '--help'.\n"))
+    bench.check("arguments: all of every", got, (USAGE, "", "explore: --all: with --explore, it needs a number: of every schedule, more may fail than can be listed\nFor more information, try '--help'.\n"))
     other = bench.source("other.txt", "4.6 rxdone before read RDH\n999.1 rx before read ICR\n")
     status, out, _ = bench.run(stages, "right", "--replay", other)
     bench.check("arguments: another access", (status, out.splitlines()[0]), (FOUND, "4.6 rxdone before read RDH: at this place, the test makes another access: read rx[1]+8"))
@@ -425,7 +427,7 @@ def main():
         for part in (counts, bugs, all_that_fail, by_priorities, races, drawn, logs, arguments):
             part(bench, stages)
         left_behind(bench)
-        ends(bench)
+        check_results(bench, stages, ends(bench))
         pointers(bench)
         rust(bench)
         lab(bench)

@@ -3,10 +3,29 @@
 import json
 import os
 import re
+import subprocess
+import sys
 
 from race_finder import ASK, FOUND, NOT_RUN, PASSES, SMALL, SMALLEST, UNSEARCHED, UNSEARCHED_TOLD, USAGE, find, replay, without_rate, without_reached
 from race_finder_output import FAILS, FAULT, script
+from server import LIMIT
+from server_pages import TOP
 
+# Groups schedules that fail.
+GROUPS = """
+import sys
+sys.dont_write_bytecode = True
+sys.path.insert(0, sys.argv[1])
+from race_finder.kinds import Kinds
+from race_finder.schedule import parse
+
+for texts in ["2.1 tx before write TDT|3.1 rx before read ICR", "3.1 rx before read ICR", "4.1 rx before read ICR", "3.1 rx before read ICR|3.2 rx before read rx[1]"], [
+        "2.1 tx before write TDT|3.1 rx before read ICR", "2.1 rx before write 0x10|3.1 rx before read ICR", "2.2 rx before write 0x20|3.1 rx before read ICR"]:
+    kinds = Kinds()
+    for text in texts:
+        kinds.add(parse(text.replace("|", chr(10)))[1])
+    print(*kinds.lines(), sep=chr(10))
+"""
 MORE = "\nFor more information, try '--help'.\n"
 # Explores a test that isn't run. In each run, there are the same places, and a step that was played isn't possible again.
 FAKE = """
@@ -252,6 +271,15 @@ def options(server):
     server.check("options: none are refused", find(server, "--server", "./ends", command=["true"]), wanted)
 
 
+def groups(server):
+    """A schedule that contains the actions of a smaller one belongs to it. What all groups have in common comes first."""
+    ran = subprocess.run([sys.executable, "-S", "-c", GROUPS, os.path.join(TOP, "tools")], capture_output=True, text=True, timeout=LIMIT)
+    wanted = ["2 of rx before read ICR, such as 3.1 rx before read ICR; 2 with others, too", "all have rx before read ICR",
+              "2 of rx before write memory; rx before read ICR, such as 2.1 rx before write 0x10; 3.1 rx before read ICR",
+              "1 of tx before write TDT; rx before read ICR, such as 2.1 tx before write TDT; 3.1 rx before read ICR"]
+    server.check("groups: of schedules that fail", (ran.stdout.splitlines(), ran.stderr), (wanted, ""))
+
+
 def all_cases(server):
-    for part in [drawn, explored, windows, round_zero, empty, same, searched, arguments, options]:
+    for part in [groups, drawn, explored, windows, round_zero, empty, same, searched, arguments, options]:
         part(server)

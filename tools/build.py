@@ -83,9 +83,9 @@ def build_proved(crates, checksum):
 
 def build_quick(crates, checksum):
     """Makes the quick build, or the proved one if that fails."""
-    tell("making a quick build without proof, in about two minutes")
+    tell("making a quick build without proof: about three minutes on an idle machine")
     try:
-        quick.build(shutil.which(RT), QUICK, quick.Steps(tell, len(crates)))
+        quick.build(shutil.which(RT), QUICK, quick.Steps(tell, len(crates), 3))
     except quick.QuickBuildFailed as error:
         tell(f"there is no quick build: {error}")
         build_proved(crates, checksum)

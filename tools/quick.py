@@ -1,4 +1,4 @@
-"""Builds the program without proof and with run-time checks, in about two minutes.
+"""Builds the program without proof and with run-time checks, in about three minutes on an idle machine.
 
 This depends on how `rt try` works inside: it compiles a program for a test run and keeps nothing. So it is run from a
 folder of links to the toolchain in which `clang` is a script of ours. That script keeps the bitcode of the program and
@@ -37,17 +37,22 @@ class QuickBuildFailed(Exception):
 
 
 class Steps:
-    """Runs the commands of a build, and prints every ten seconds which one runs, and the time since the start."""
+    """Runs the commands of a build, and prints every ten seconds which of its parts runs, and the time since the start."""
 
-    def __init__(self, tell, crates):
+    def __init__(self, tell, crates, parts):
         self.tell, self.crates, self.begun = tell, crates, time.monotonic()
+        self.parts, self.part = parts, 0  # how many parts the build has, and the number of the one that runs
 
-    def seconds(self):
-        return f"{time.monotonic() - self.begun:.0f} s"
+    def show(self, what):
+        self.tell(f"part {self.part} of {self.parts}: {what}, {time.monotonic() - self.begun:.0f} s")
+
+    def begin(self, what):
+        self.part += 1
+        self.show(what)
 
     def run(self, what, words, log, cwd, env=None):
         """Runs a command, and returns whether it succeeded."""
-        self.tell(f"{what}, {self.seconds()}")
+        self.begin(what)
         with open(log, "ab") as file:
             process = subprocess.Popen(words, cwd=cwd, env=env, stdin=subprocess.DEVNULL, stdout=file, stderr=file)
         try:
@@ -55,7 +60,7 @@ class Steps:
                 try:
                     return process.wait(QUIET_SECONDS) == 0
                 except subprocess.TimeoutExpired:
-                    self.tell(f"{what}, {self.seconds()}")
+                    self.show(what)
         except BaseException:
             process.terminate()
             process.wait()

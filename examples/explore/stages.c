@@ -2,8 +2,9 @@
  *
  * usage: stages DRIVER | TEST:DRIVER [OPTION..]
  *
- * With a digit before it, such as 2cuts:right, the test is repeated; with a comma, such as 2,cuts:right, driver and
- * adapter are initialized each time.
+ * With a digit before it, such as 2cuts:right, the test is repeated. With a comma, such as 2,cuts:right, driver and
+ * adapter are initialized each time. With a dot, such as 2.cuts:right, frames are received and sent in between, until
+ * both rings are at slot 0 again.
  */
 #include "driver.h"
 #include <stdio.h>
@@ -386,11 +387,29 @@ static void begin(void)
     bring_up();
 }
 
+/* All runs come to the same slots, and to the same number of free ones: the driver takes back what it has sent. */
+static void meet(void)
+{
+    x_handler(NULL);
+    t->receiver = NULL;
+    while (t->receive_at && is_ok()) {
+        arrive(1);
+        x_settle();
+        finish();
+    }
+    do {
+        send_at_last(1);
+        x_settle();
+        finish();
+    } while (t->transmit_at && is_ok());
+    t->number = 0;
+}
+
 static const char *test(void *word)
 {
     const char *name = word, *driver;
     int times = *name > '0' && *name <= '9' ? *name++ - '0' : 1;
-    bool begins_again = *name == ',' && name++;
+    bool begins_again = *name == ',' && name++, meets = *name == '.' && name++;
 
     driver = strchr(name, ':') ? strchr(name, ':') + 1 : name;
     t = x_memory(sizeof *t);
@@ -405,6 +424,8 @@ static const char *test(void *word)
             break;
         if (begins_again && is_ok())
             begin();
+        if (meets && is_ok())
+            meet();
     }
     return t->fault;
 }

@@ -90,6 +90,8 @@ def of_event(row, head):
         return ChartRow({"adapter": f"fault {words[1]}[{words[2]}] {' '.join(words[3:])}"})
     if words[0] == "frame":
         return ChartRow({"wire": frame_text(words[1])}, ("adapter", "wire"))
+    if words[1] == "mark":
+        return ChartRow({"driver": " ".join(words[2:])})
     if words[1] == "step":
         return None if words[4] == "nothing" else of_step(row, head)
     if words[1] == "arrive":
@@ -157,10 +159,11 @@ def cut(rows):
     first = stars[0] - BEFORE if stars else len(rows) - ALONE
     near = {at for star in stars for at in (*range(star - BEFORE, star + AFTER), *later_rows(rows, star))}
     near.update(last_rows(rows) if stars else range(first, len(rows)))
-    shown, last = [], None
+    shown, last, hint = [], None, {"memory": "--rows all shows them"}
     for at in sorted(at for at in near if max(0, first) <= at < len(rows)):
         if last is not None and at > last + 2:
-            shown.append(ChartRow({"place": "..", "driver": f"{at - last - 1} rows"}))
+            shown.append(ChartRow({"place": "..", "driver": f"{at - last - 1} rows", **hint}))
+            hint = {}
         shown += rows[at - 1:at + 1] if last is not None and at == last + 2 else [rows[at]]
         last = at
     return shown

@@ -141,6 +141,9 @@ class Play(Talk):
     def take(self, request):
         """A request of the test that isn't an access."""
         words = words_of(text_of(request[:-1]))
+        if words[:1] == ["mark"]:
+            self.mark_row(words)
+            return
         is_round = begins_round(request, words)
         if self.places and not is_round:
             self.cut()
@@ -179,6 +182,13 @@ class Play(Talk):
             self.queue(request, TEST)
             if words[:1] == ["pace"] and len(words) == 2 and number_of(words[1]):
                 self.reached |= PACE
+
+    def mark_row(self, words):
+        """A row of the chart that the test asks for. The server doesn't get this request."""
+        self.flush()
+        self.out.append(b"OK")
+        if self.has_rows:
+            self.rows.append(Row(f"# {' '.join(words)}", TEST))
 
     def cut(self):
         """Before another request, which may change what a step does: none before the last access commutes with it."""

@@ -146,7 +146,7 @@ class Target:
     def run_command(self, play, errors):
         try:
             test = subprocess.Popen(self.command, stdin=subprocess.PIPE, stdout=subprocess.PIPE, stderr=errors,
-                                    bufsize=0, start_new_session=True)
+                                    bufsize=0, start_new_session=True, env={**os.environ, "NIC_MARKS": "on"})
         except OSError as error:
             raise CannotRun(f"{self.command[0]}: {error.strerror}") from None
         end = time.monotonic() + self.seconds

@@ -13,7 +13,7 @@ struct nic82540em_options x_options = NIC82540EM_DEFAULTS;
 static const char *(*the_test)(void *);
 static void *the_argument;
 static bool is_deviation; /* whether a deviation is played now */
-bool xi_compares, xi_has_touched;
+bool xi_compares, xi_has_touched, xi_has_handler;
 static const int order[] = { NIC_TXTAKE, NIC_TXPUT, NIC_RXDATA, NIC_RXDONE, NIC_EEPROM, NIC_PHY };
 
 void xi_set_test(const char *(*test)(void *), void *argument)
@@ -73,7 +73,7 @@ void xi_next_place(void)
     B->last = 0, B->stage = B->event < ARRIVE ? 0 : STAGES;
 }
 
-/* Answers are compared by --check, and at the start of a search. */
+/* What a run writes and is answered is compared by --check, and at the start of a search. */
 uint64_t xi_answer(uint64_t value)
 {
     if (xi_compares)
@@ -94,6 +94,19 @@ static void answer_bytes(const uint8_t *at, size_t count)
     while (count--)
         hash = (hash ^ *at++) * 1099511628211u;
     xi_answer(hash);
+}
+
+/* What a run that has ended has shown */
+struct outcome xi_outcome(void)
+{
+    struct outcome outcome = { .fails = S->fault };
+
+    if (S->fault) {
+        snprintf(outcome.fault, sizeof outcome.fault, "%s", S->fault);
+        answer_bytes((const uint8_t *)S->fault, strlen(S->fault));
+    }
+    outcome.history = B->history;
+    return outcome;
 }
 
 /* Frames */
@@ -228,11 +241,14 @@ bool xi_deviate(int action)
 
 /* The calls of the test */
 
-static void cut_in(void)
+/* The handler cuts in while the line is asserted, if it may. */
+void xi_cut_in(void)
 {
     while (S->handler && !S->takes_none && x_line()) {
         S->takes_none = true;
+        xi_log_handler(true);
         S->handler();
+        xi_log_handler(false);
         S->takes_none = false;
     }
 }
@@ -260,7 +276,7 @@ uint32_t x_read(uint32_t offset)
     value = (uint32_t)xi_answer(nic82540em_read(&S->nic, offset));
     change();
     xi_log_value(value);
-    cut_in();
+    xi_cut_in();
     return value;
 }
 
@@ -274,10 +290,11 @@ void x_write(uint32_t offset, uint32_t value)
     if (offset == NIC_CTRL && value & NIC_CTRL_RST)
         xi_clear_dead(); /* afterwards, the rings aren't known */
     nic82540em_write(&S->nic, offset, value);
+    xi_answer(value);
     change();
     know(offset, value);
     xi_log_value(value);
-    cut_in();
+    xi_cut_in();
 }
 
 void x_load(uint64_t address, void *into, size_t count)
@@ -292,7 +309,7 @@ void x_load(uint64_t address, void *into, size_t count)
         end("the driver loads bytes outside of memory");
     answer_bytes(into, count);
     xi_log_bytes(into, count);
-    cut_in();
+    xi_cut_in();
 }
 
 void x_store(uint64_t address, const void *bytes, size_t count)
@@ -305,8 +322,9 @@ void x_store(uint64_t address, const void *bytes, size_t count)
     if (!nic82540em_store(&S->nic, address, bytes, count))
         end("the driver stores bytes outside of memory");
     xi_dead_written(address, count);
+    answer_bytes(bytes, count);
     xi_log_bytes(bytes, count);
-    cut_in();
+    xi_cut_in();
 }
 
 void x_touch(bool is_store, uint64_t address)
@@ -316,7 +334,7 @@ void x_touch(bool is_store, uint64_t address)
     xi_has_touched = true;
     at_place(is_store ? STORE : LOAD, address);
     xi_log_touch(address);
-    cut_in();
+    xi_cut_in();
 }
 
 uint8_t *x_host(uint64_t *size)
@@ -337,7 +355,7 @@ uint32_t x_arrive(const void *frame, size_t count)
     at_place(ARRIVE, 0);
     fate = (uint32_t)xi_answer(deliver(frame, count));
     xi_log_request(xi_fates[fate]);
-    cut_in();
+    xi_cut_in();
     return fate;
 }
 
@@ -352,7 +370,7 @@ void x_offer(const void *frame, size_t count)
         xi_die("x_offer: a frame has more than 1,518 bytes");
     add(&S->offers, frame, count, 0);
     xi_log_request(NULL);
-    cut_in();
+    xi_cut_in();
 }
 
 uint32_t x_step(uint32_t kind)
@@ -364,7 +382,7 @@ uint32_t x_step(uint32_t kind)
     at_place(STEP, 0);
     xi_log_request(NULL);
     outcome = (uint32_t)xi_answer(xi_play(kind));
-    cut_in();
+    xi_cut_in();
     return outcome;
 }
 
@@ -386,7 +404,7 @@ uint64_t x_settle(void)
         }
     } while (count != before);
     xi_answer(count);
-    cut_in();
+    xi_cut_in();
     return count;
 }
 
@@ -426,6 +444,7 @@ void x_forget(void)
 void x_handler(void (*handler)(void))
 {
     S->handler = handler;
+    xi_has_handler |= handler != NULL;
 }
 
 bool x_interrupts(bool is_on)
@@ -433,6 +452,6 @@ bool x_interrupts(bool is_on)
     bool was_on = !S->takes_none;
 
     S->takes_none = !is_on;
-    cut_in();
+    xi_cut_in();
     return was_on;
 }

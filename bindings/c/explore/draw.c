@@ -9,7 +9,7 @@
 enum { MOST_IN_BURST = 64, ROUND = 8 };
 static struct saved first_round; /* before the request that begins round 1 */
 static uint64_t random_state;
-static unsigned pct_depth, pct_events;
+struct pct xi_pct;
 static const int steps[] = { NIC_TXTAKE, NIC_TXPUT, NIC_RXDATA, NIC_RXDONE, ARRIVAL };
 
 static uint64_t draw(void)
@@ -108,8 +108,8 @@ static void to_first_round(bool with_holds)
             xi_tick();
 }
 
-/* From now on, runs are drawn by PCT. Returns the number of events of a run without deviations, from round 1 on. */
-unsigned xi_set_pct(unsigned depth)
+/* From now on, runs are drawn by PCT. */
+void xi_set_pct(unsigned depth)
 {
     unsigned before;
 
@@ -117,8 +117,7 @@ unsigned xi_set_pct(unsigned depth)
     to_first_round(false);
     for (before = B->places + B->moves; B->event != ENDED; xi_next_place())
         xi_tick();
-    pct_depth = depth, pct_events = B->places + B->moves - before;
-    return pct_events;
+    xi_pct = (struct pct){ depth, PCT_ACTORS - !S->offers.count, B->places + B->moves - before };
 }
 
 /* Plays the run of a seed: by even ones, steps are drawn before each access, and by odd ones, bursts before few. */
@@ -133,13 +132,13 @@ void xi_draw(uint64_t seed, bool with_holds, bool is_new)
         if (xi_saves && !is_new && !with_holds)
             xi_save(&first_round);
     }
-    if (pct_depth)
-        xi_pct_begin(pct_depth, pct_events);
+    if (xi_pct.depth)
+        xi_pct_begin(xi_pct.depth, xi_pct.events);
     for (; B->event != ENDED; xi_next_place()) {
         if (with_holds)
             draw_holds();
         xi_tick();
-        if (pct_depth)
+        if (xi_pct.depth)
             xi_pct_here();
         else
             draw_here(seed);
@@ -199,8 +198,18 @@ void xi_replay(const struct deviation *path, unsigned count, bool is_new, char *
     }
 }
 
-/* Leaves out deviations of a schedule that fails, as long as it fails without them. */
-void xi_shrink(struct found *found)
+/* Keeps a schedule if it fails, and is shorter. */
+static bool keep_shorter(struct found *found, const struct deviation *path, unsigned count)
+{
+    xi_replay(path, count, false, NULL, 0);
+    if (!S->fault || B->path_count >= found->count)
+        return false;
+    xi_keep(found);
+    return true;
+}
+
+/* Leaves out deviations, as long as the schedule fails without them. */
+static void leave_out(struct found *found)
 {
     static struct deviation less[MOST_PATH];
 
@@ -209,10 +218,48 @@ void xi_shrink(struct found *found)
             unsigned end = at + part < found->count ? at + part : found->count;
             memcpy(less, found->path, at * sizeof *less);
             memcpy(less + at, found->path + end, (found->count - end) * sizeof *less);
-            xi_replay(less, found->count - (end - at), false, NULL, 0);
-            if (S->fault && B->path_count < found->count)
-                xi_keep(found);
-            else
+            if (!keep_shorter(found, less, found->count - (end - at)))
                 at = end;
         }
+}
+
+/* Plays two deviations as one of their pair, at the place of the first or of the second. Returns whether it is kept. */
+static bool join(struct found *found, unsigned first, unsigned second, int pair)
+{
+    static struct deviation less[MOST_PATH];
+
+    for (int is_second = 0; is_second < 2; is_second++) {
+        unsigned gone = is_second ? first : second, kept = is_second ? second : first;
+        memcpy(less, found->path, found->count * sizeof *less);
+        less[kept].action = pair;
+        memmove(less + gone, less + gone + 1, (found->count - gone - 1) * sizeof *less);
+        if (keep_shorter(found, less, found->count - 1))
+            return true;
+    }
+    return false;
+}
+
+/* Joins a step and the next one that belongs to it to their pair, also if they are at different places. Returns whether
+ * the schedule is shorter. */
+static bool join_one(struct found *found)
+{
+    static const int pairs[][3] = { { NIC_TXTAKE, NIC_TXPUT, TX }, { NIC_RXDATA, NIC_RXDONE, RX } };
+
+    for (unsigned first = 0; first < found->count; first++) {
+        int kind = found->path[first].action == NIC_TXTAKE ? 0 : found->path[first].action == NIC_RXDATA ? 1 : 2;
+        unsigned second = first + 1;
+        while (kind < 2 && second < found->count && found->path[second].action != pairs[kind][1])
+            second++;
+        if (kind < 2 && second < found->count && join(found, first, second, pairs[kind][2]))
+            return true;
+    }
+    return false;
+}
+
+/* Makes a schedule that fails shorter. */
+void xi_shrink(struct found *found)
+{
+    do
+        leave_out(found);
+    while (join_one(found));
 }

@@ -3,6 +3,7 @@
 #define NIC82540EM_EXPLORE_INSIDE_H
 
 #include "nic82540em_explore.h"
+#include <stdio.h>
 
 enum { PAGE = 4096, MOST_AREAS = 128, MOST_FRAMES = 256, MOST_BYTES = 1 << 17, MOST_PATH = 1024, LONGEST = 1518, MOST_OPTIONS = 8,
        MOST_PLACES = 100000 };
@@ -81,14 +82,20 @@ struct saved {
     void *top;
 };
 
+/* What a run has shown */
+struct outcome {
+    uint64_t history; /* a hash of its accesses, of all answers, and of what is wrong */
+    bool fails;
+    char fault[128];
+};
+
 extern struct book *const xi_book;
 extern struct state *const xi_state;
 extern bool xi_saves; /* whether states can be saved: else each run begins from nothing */
 extern bool xi_compares; /* whether answers are noted, to be compared */
-extern bool xi_has_touched; /* whether the driver has accessed memory by a pointer */
+extern bool xi_has_touched; /* whether the driver has said by x_touch that it accesses memory */
+extern bool xi_has_handler; /* whether the test has given a handler that cuts in */
 
-/* nic82540em_explore.c: whether a signal has asked for an end */
-bool xi_stopped(void);
 _Noreturn void xi_die(const char *why);
 
 /* states.c: the arena, saved states and digests */
@@ -120,6 +127,8 @@ struct digest xi_adapter(void);
 bool xi_deviate(int action);
 void xi_tick(void);
 uint64_t xi_answer(uint64_t value);
+void xi_cut_in(void);
+struct outcome xi_outcome(void);
 
 /* dead.c: what nobody uses again */
 extern bool xi_reads_dead; /* whether a run has read some of it, or may have: then nothing is cleared */
@@ -136,7 +145,7 @@ extern const char *const xi_actions[ACTIONS];
 struct place xi_place(void);
 void xi_name(char *into, size_t room, const struct place *place);
 void xi_text(char *into, size_t room, const struct deviation *one);
-void xi_print(void *file, const struct deviation *path, unsigned count);
+void xi_print(FILE *file, const struct deviation *path, unsigned count);
 int xi_read_schedule(const char *path, struct deviation *into);
 
 extern const char *const xi_outcomes[9], *const xi_fates[5];
@@ -146,24 +155,27 @@ void xi_log_value(uint32_t value);
 void xi_log_bytes(const void *bytes, size_t count);
 void xi_log_touch(uint64_t address);
 void xi_log_request(const char *result);
+void xi_log_handler(bool begins);
 void xi_log_step(const char *action, const char *result, bool is_deviation);
 
 /* search.c and draw.c */
 enum { EVERY = -1, DEEPEST = 16 };
 struct found { /* what a search has shown */
     bool fails;
-    double schedules; /* that pass */
+    double schedules, tried[DEEPEST + 1]; /* that were tried: all, and by their numbers of deviations */
     size_t states;
     bool is_complete; /* all schedules were tried */
     unsigned count;
-    bool is_silent;
     struct deviation path[MOST_PATH];
     char fault[128];
 };
 void xi_explore(int depth, bool with_holds, bool finds_all, size_t most_states, struct found *found);
 void xi_keep(struct found *found);
 unsigned xi_below(unsigned end);
-unsigned xi_set_pct(unsigned depth);
+extern struct pct {
+    unsigned depth, actors, events; /* of PCT, or 0; events of a run without deviations, from round 1 on */
+} xi_pct;
+void xi_set_pct(unsigned depth);
 void xi_draw(uint64_t seed, bool with_holds, bool is_new);
 void xi_replay(const struct deviation *path, unsigned count, bool is_new, char *lack, size_t room);
 void xi_shrink(struct found *found);
@@ -182,13 +194,45 @@ void xi_take_words(int count, char **words);
 
 /* pct.c: draws by priorities */
 enum { PCT_ACTORS = 5 };
+double xi_bound(void);
 void xi_pct_begin(unsigned depth, unsigned events);
 void xi_pct_here(void);
 
-/* kinds.c: schedules that fail, by kinds */
-void xi_add_failed(const struct deviation *path, unsigned count, const char *fault, bool is_silent);
+/* fresh.c: runs in memory as it was before the first run */
+void xi_fresh_begin(void);
+struct outcome xi_fresh_play(const struct deviation *path, unsigned count);
+struct outcome xi_fresh_draw(uint64_t seed);
+
+/* kinds.c: schedules and seeds that fail */
+void xi_add_failed(const struct deviation *path, unsigned count, const char *fault);
+void xi_add_seed(uint64_t seed, const char *fault);
 void xi_print_kinds(void);
+void xi_print_failed(void);
 uint64_t xi_failed(void);
+
+/* result.c: the result of the command */
+enum { NONE = -1 };
+extern struct result {
+    uint64_t runs, states, seed; /* drawn runs; of the last search; of the first run that fails, or 0 */
+    int is_complete, is_smallest; /* or NONE */
+    double first, schedules, tried[DEEPEST + 1]; /* schedules: before drawing, or NONE; of the last search */
+    unsigned widths; /* of `tried` */
+    struct found found;
+} xi_result;
+void xi_show(void);
+void xi_confirm_found(void);
+int xi_finish(const char *result, int status);
+
+/* tell.c: what is printed, and signals */
+void xi_say(const char *format, ...) __attribute__((format(printf, 1, 2)));
+void xi_progress(const char *format, ...) __attribute__((format(printf, 1, 2)));
+bool xi_is_time(void);
+const char *xi_number(double number);
+void xi_print_string(FILE *file, const char *text);
+void xi_print_lines(FILE *file, const struct deviation *path, unsigned count);
+void xi_listen(void);
+int xi_stopped(void);
+const char *xi_why(void);
 
 /* confirm.c: schedules that are played by `nicbench serve` */
 const char *xi_confirm(const char *program, const struct deviation *path, unsigned count, char *fault, size_t room);
@@ -202,5 +246,6 @@ void xi_pipe_load(uint64_t address, void *into, size_t count);
 void xi_pipe_store(uint64_t address, const void *bytes, size_t count);
 uint32_t xi_pipe_request(enum event event, uint32_t kind, const void *frame, size_t count);
 bool xi_pipe_line(void);
+void xi_pipe_mark(const char *text);
 
 #endif

@@ -1,5 +1,5 @@
-/* The log of a run that is replayed: a line for each access, request and step that does something, and for each change
- * of the interrupt line. A star marks deviations.
+/* The log of a run that is replayed: a line for each access, request and step that does something, for each change of
+ * the interrupt line, and where the handler cuts in. A star marks deviations.
  */
 #include "inside.h"
 #include <stdio.h>
@@ -77,6 +77,15 @@ void xi_log_request(const char *result)
     begin();
     printf("%s%s\n", result ? ": " : "", result ? result : "");
     log_line();
+}
+
+/* The handler cuts in, or returns. */
+void xi_log_handler(bool begins)
+{
+    if (xi_is_piped)
+        xi_pipe_mark(begins ? "the handler cuts in" : "the handler returns");
+    else if (xi_given.log)
+        printf("         the handler %s\n", begins ? "cuts in" : "returns");
 }
 
 /* The adapter has taken a step, or a frame has arrived. */

@@ -81,7 +81,7 @@ void xi_text(char *into, size_t room, const struct deviation *one)
     snprintf(into, room, "%u.%u %s before %s", one->round, one->access, xi_actions[one->action], name);
 }
 
-void xi_print(void *file, const struct deviation *path, unsigned count)
+void xi_print(FILE *file, const struct deviation *path, unsigned count)
 {
     for (unsigned n = 0; n < count; n++) {
         char text[80];
@@ -115,6 +115,13 @@ static const char *read_deviation(char *line, struct deviation *into)
     return NULL;
 }
 
+/* Skips the rest of a line: a long one is a comment. */
+static void skip_line(FILE *file)
+{
+    for (int c = fgetc(file); c != EOF && c != '\n';)
+        c = fgetc(file);
+}
+
 /* Reads the deviations of a schedule. Returns their number. A wrong text ends the program. */
 int xi_read_schedule(const char *path, struct deviation *into)
 {
@@ -129,6 +136,8 @@ int xi_read_schedule(const char *path, struct deviation *into)
     for (unsigned number = 1; fgets(line, sizeof line, file); number++) {
         char *comment = line[0] == '#' ? line : strstr(line, " #");
         const char *wrong;
+        if (!strchr(line, '\n'))
+            skip_line(file);
         if (comment)
             *comment = 0;
         for (size_t size = strlen(line); size && (unsigned char)line[size - 1] <= ' ';)

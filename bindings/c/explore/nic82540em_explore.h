@@ -10,9 +10,12 @@
  * Rules for the test and its driver:
  *   - All that they change and use again is on the stack of the test, or in memory of x_memory, and not in a static
  *     variable. A static pointer is right if the test sets it at its start, such as `t = x_memory(sizeof *t)`: by it, a
- *     handler finds the driver. A search first compares the answers of some runs, to find what is kept elsewhere.
+ *     handler finds the driver. A search first compares some runs with those of new processes, to find what is kept
+ *     elsewhere, such as a counter.
  *   - They use no clock, no threads, no random numbers, and no input.
  *   - The test passes without deviations, so it calls x_step and x_settle itself.
+ *   - A driver that shares variables with its handler calls x_touch before it uses one: without x_touch, the handler cuts
+ *     in only after accesses and requests, and no race between two variables is found.
  *   - Only the test calls the functions from x_arrive on.
  */
 #ifndef NIC82540EM_EXPLORE_H
@@ -39,8 +42,8 @@ void x_write(uint32_t offset, uint32_t value);
 void x_load(uint64_t address, void *into, size_t count);
 void x_store(uint64_t address, const void *bytes, size_t count);
 
-/* The driver is about to access memory by a pointer: a place as before x_load and x_store. x_host is the host's
- * memory. */
+/* The driver is about to access memory by a pointer, or a variable that it shares with its handler (address 0): a place
+ * as before x_load and x_store. x_host is the host's memory. */
 void x_touch(bool is_store, uint64_t address);
 uint8_t *x_host(uint64_t *size);
 
@@ -64,8 +67,9 @@ size_t x_arrived(unsigned number, uint32_t *fate, void *into, size_t room);
  * same frames in another order come to the same state, and a run may have more than 256 frames. */
 void x_forget(void);
 
-/* From now on, this handler cuts in after each access and request that leaves the line asserted, but not on itself;
- * with NULL, none does. x_interrupts keeps it out or lets it in again, and returns whether it was let in before. */
+/* From now on, this handler cuts in after each access, request and x_touch that leaves the line asserted, but not on
+ * itself; with NULL, none does. If the line is still asserted when it returns, it runs again. x_interrupts keeps it out
+ * or lets it in again, and returns whether it was let in before. */
 void x_handler(void (*handler)(void));
 bool x_interrupts(bool is_on);
 

@@ -48,6 +48,16 @@ static bool polls(void)
     return reads && reads % PATIENCE == 0;
 }
 
+/* What PCT promises: each run finds a race of this depth with a probability of at least 1 by this number. */
+double xi_bound(void)
+{
+    double bound = xi_pct.actors;
+
+    for (unsigned n = 1; n < xi_pct.depth; n++)
+        bound *= xi_pct.events;
+    return bound;
+}
+
 /* Begins a run of this depth, which has about so many events. */
 void xi_pct_begin(unsigned depth, unsigned most_events)
 {

@@ -75,15 +75,6 @@ static const char *answer(void)
     exit(FOUND);
 }
 
-static void cut_in(void)
-{
-    while (S->handler && !S->takes_none && is_raised) {
-        S->takes_none = true;
-        S->handler();
-        S->takes_none = false;
-    }
-}
-
 static const char *ask(const char *format, ...)
 {
     va_list words;
@@ -92,6 +83,13 @@ static const char *ask(const char *format, ...)
     vprintf(format, words);
     va_end(words);
     return answer();
+}
+
+/* A row of the chart, if tools/races is the server */
+void xi_pipe_mark(const char *text)
+{
+    if (getenv("NIC_MARKS"))
+        ask("mark %s\n", text);
 }
 
 static void print_hex(const void *bytes, size_t count)
@@ -105,20 +103,20 @@ uint32_t xi_pipe_read(uint32_t offset)
 {
     uint32_t value = (uint32_t)strtoull(ask("readl %#x\n", REGISTERS + offset), NULL, 16);
 
-    cut_in();
+    xi_cut_in();
     return value;
 }
 
 void xi_pipe_write(uint32_t offset, uint32_t value)
 {
     ask("writel %#x %#x\n", REGISTERS + offset, value);
-    cut_in();
+    xi_cut_in();
 }
 
 void xi_pipe_load(uint64_t address, void *into, size_t count)
 {
     bytes_of(ask("read %#llx %zu\n", (unsigned long long)address, count) + 2, into, count);
-    cut_in();
+    xi_cut_in();
 }
 
 void xi_pipe_store(uint64_t address, const void *bytes, size_t count)
@@ -126,7 +124,7 @@ void xi_pipe_store(uint64_t address, const void *bytes, size_t count)
     printf("write %#llx %zu 0x", (unsigned long long)address, count);
     print_hex(bytes, count);
     answer();
-    cut_in();
+    xi_cut_in();
 }
 
 static uint32_t outcome_of(const char *text)
@@ -154,7 +152,7 @@ uint32_t xi_pipe_request(enum event event, uint32_t kind, const void *frame, siz
         memcpy(all->bytes + at, frame, count <= LONGEST ? count : LONGEST);
         all->fate[all->count++] = (uint8_t)result, all->begin[all->count] = at + (uint32_t)count;
     }
-    cut_in();
+    xi_cut_in();
     return result;
 }
 

@@ -32,6 +32,7 @@ static struct schedule_search search;
 static struct schedule_choice path[MOST_CHOICES];
 static struct extra extras[MOST_CHOICES];
 static bool is_every, has_holds, goes_on;
+static double failing[DEEPEST + 1]; /* schedules that fail, by their numbers of deviations */
 static struct schedule_known *table;
 static double *table_counts; /* for each entry of the table, the numbers of schedules below it */
 static size_t room, known_count;
@@ -191,10 +192,11 @@ static bool fail(struct found *found, double *counts)
 {
     memset(counts, 0, width() * sizeof *counts);
     schedule_search_fail(&search);
-    if (!found->fails)
+    failing[is_every ? 0 : B->path_count]++;
+    if (!found->fails || B->path_count < found->count)
         xi_keep(found);
     if (goes_on)
-        xi_add_failed(B->path, B->path_count, S->fault, found->is_silent);
+        xi_add_failed(B->path, B->path_count, S->fault);
     return goes_on;
 }
 
@@ -308,27 +310,59 @@ void xi_keep(struct found *found)
     snprintf(found->fault, sizeof found->fault, "%s", S->fault);
 }
 
+/* How many schedules were tried so far: those that fail, and those that pass below each choice of the path */
+static void count_tried(struct found *found)
+{
+    memcpy(found->tried, failing, sizeof found->tried);
+    for (size_t n = 0; n < search.count; n++) {
+        size_t by = is_every ? 0 : search.depth - path[n].left;
+        for (size_t m = 0; m + by < width(); m++)
+            found->tried[m + by] += extras[n].counts[m];
+    }
+}
+
+static void show_progress(int depth)
+{
+    struct found now;
+
+    if (!xi_is_time())
+        return;
+    now.schedules = 0, count_tried(&now);
+    for (size_t n = 0; n < width(); n++)
+        now.schedules += now.tried[n];
+    if (is_every)
+        xi_progress("%zu states, %s schedules so far", known_count + search.count, xi_number(now.schedules));
+    else
+        xi_progress("up to %d deviations: %zu states, %s schedules so far", depth, known_count + search.count,
+                    xi_number(now.schedules));
+}
+
 static void search_all(int depth, size_t most_states, struct found *found)
 {
-    double counts[DEEPEST + 1];
+    double counts[DEEPEST + 1] = { 0 };
 
-    memset(found, 0, offsetof(struct found, is_silent));
+    memset(found, 0, offsetof(struct found, path)), memset(failing, 0, sizeof failing);
     begin(depth);
     xi_begin(false);
     xi_next_place();
-    while (forward(found, counts) && known_count + search.count <= most_states && !xi_stopped())
+    while (forward(found, counts) && known_count + search.count <= most_states && !xi_stopped()) {
+        show_progress(depth);
         if (!backward(counts)) {
-            for (size_t n = 0; n < width(); n++)
-                found->schedules += counts[n];
             found->is_complete = true;
             break;
         }
+    }
+    if (search.count)
+        add(counts), memset(counts, 0, sizeof counts);
+    count_tried(found);
+    for (size_t n = 0; n < width(); n++)
+        found->tried[n] += counts[n], found->schedules += found->tried[n];
     found->states = known_count + search.count;
 }
 
 /* Tries all schedules of up to this number of deviations, or EVERY schedule, up to one that fails, or until there are
- * more states than `most_states`: then `schedules` is 0. With `finds_all`, goes on after one that fails. If a run
- * has read what dead.c has cleared, begins again, and clears nothing. */
+ * more states than `most_states`. With `finds_all`, goes on after one that fails. If a run has read what dead.c has
+ * cleared, begins again, and clears nothing. */
 void xi_explore(int depth, bool with_holds, bool finds_all, size_t most_states, struct found *found)
 {
     bool kept;

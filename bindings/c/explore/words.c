@@ -15,7 +15,7 @@ static const char help[] =
     "  --seed N             the seed of the first one (default 1)\n"
     "  --pct N              draws by priorities (PCT): the actor with the highest one goes first, and N - 1 times,\n"
     "                       that of an event gets the lowest one\n"
-    "  --all                goes on after a schedule that fails, and prints all that fail, with --explore by kinds\n"
+    "  --all                goes on after a schedule that fails, and prints all that fail, with --explore N by kinds\n"
     "  --holds              also leaves out steps of the EEPROM and the PHY\n"
     "  --states N           ends a search that has more states (default 20000000)\n"
     "  --replay FILE        plays one schedule; with --log, prints each access and each step\n"
@@ -30,7 +30,8 @@ static const char help[] =
     "\n"
     "Without options, NIC_EXPLORE (N, every or draw:N), NIC_REPLAY, NIC_OUT and NIC_SERVE are used. Words before\n"
     "the first option belong to the test. Exit status: 0 if no schedule fails, 1 if one fails, 2 if a word or a\n"
-    "schedule is invalid, 3 if the search can't go on, 4 if nothing was searched, 130 after Ctrl-C.\n";
+    "schedule is invalid, 3 if the search can't go on, 4 if nothing was searched. If a signal ends the search, 128 and\n"
+    "its number: 130 after Ctrl-C, 143 after SIGTERM.\n";
 
 struct given xi_given = { .depth = DRAWN, .runs = 1000, .seed = 1, .states = 20000000 };
 char xi_command[1024];
@@ -120,6 +121,11 @@ void xi_take_words(int count, char **words)
     size_t size = 0;
     int n = 0;
 
+    for (int m = 1; m < count; m++)
+        if (!strcmp(words[m], "--help") || !strcmp(words[m], "-h")) {
+            fputs(help, stdout);
+            exit(PASSES);
+        }
     while (n < count && strncmp(words[n], "--", 2)) {
         size += (size_t)snprintf(xi_command + size, sizeof xi_command - size, "%s%s", n ? " " : "", words[n]);
         if (size >= sizeof xi_command)
@@ -129,15 +135,11 @@ void xi_take_words(int count, char **words)
     if (n == count)
         from_variables();
     for (; n < count; n++) {
-        if (!strcmp(words[n], "--help")) {
-            fputs(help, stdout);
-            exit(PASSES);
-        }
         if (!is_flag(words[n]))
             take_value(words[n], n + 1 < count ? words[n + 1] : NULL), n++;
     }
     if (xi_given.log && (!xi_given.replay || xi_given.json))
         refuse("--log", "it needs --replay, and goes without --json");
     if (xi_given.all && xi_given.depth == EVERY)
-        refuse("--all", "with --explore, it needs a number");
+        refuse("--all", "with --explore, it needs a number: of every schedule, more may fail than can be listed");
 }

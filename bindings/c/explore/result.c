@@ -1,0 +1,147 @@
+/* The result of the command: the schedule that fails, as it is printed and stored, and one JSON object. */
+#define _GNU_SOURCE
+#include "inside.h"
+#include <stdlib.h>
+#include <string.h>
+#include <sys/stat.h>
+
+struct result xi_result = { .is_complete = NONE, .is_smallest = NONE, .first = NONE };
+static const char *served = "null"; /* whether `nicbench serve` has played the schedule with the same result */
+
+#define R xi_result
+
+/* The schedule */
+
+/* Prints a text as a comment. */
+static void print_comment(FILE *file, const char *text)
+{
+    fputs("# ", file);
+    for (; *text; text++)
+        fprintf(file, *text == '\n' || *text == '\r' ? "%c# " : "%c", *text == '\r' ? '\n' : *text);
+    fputc('\n', file);
+}
+
+static void print_schedule(FILE *file)
+{
+    print_comment(file, xi_command);
+    print_comment(file, R.found.fault);
+    xi_print(file, R.found.path, R.found.count);
+}
+
+/* Stores the schedule, if this is wanted. Returns the path of the file, or NULL. */
+static const char *stored(void)
+{
+    static char path[4096];
+    size_t size = xi_given.out ? strlen(xi_given.out) : 0;
+    FILE *file;
+
+    if (!size)
+        return NULL;
+    if (xi_given.out[size - 1] == '/')
+        mkdir(xi_given.out, 0777);
+    snprintf(path, sizeof path, "%s%s", xi_given.out, xi_given.out[size - 1] == '/' ? "schedule.txt" : "");
+    file = fopen(path, "w");
+    if (!file)
+        xi_die("the schedule can't be stored");
+    print_schedule(file);
+    fclose(file);
+    return path;
+}
+
+/* Prints the schedule that was found, and the commands that play it again. */
+void xi_show(void)
+{
+    const char *path = stored();
+
+    xi_say("\nThe schedule:\n");
+    if (!xi_given.json)
+        print_schedule(stdout);
+    xi_say("\nTo play it again:   ");
+    if (!path && R.found.count) {
+        xi_say("printf '");
+        for (unsigned n = 0; n < R.found.count; n++) {
+            char text[80];
+            xi_text(text, sizeof text, &R.found.path[n]);
+            xi_say("%s\\n", text);
+        }
+        xi_say("' | ");
+    }
+    xi_say("%s --replay %s\n", xi_command, path ? path : R.found.count ? "/dev/stdin" : "/dev/null");
+    xi_say("For each access:    the same with --log\n");
+    if (xi_has_touched)
+        return;
+    path = path || R.found.count ? path : "/dev/null";
+    xi_say("For its chart:      tools/races --replay %s -- %s --pipe   (after ./nicbench --build%s)\n",
+           path ? path : "FILE", xi_command, path ? "" : "; --out FILE stores the schedule");
+}
+
+/* Plays the schedule that was found by `nicbench serve`. */
+void xi_confirm_found(void)
+{
+    char fault[sizeof R.found.fault];
+    const char *lack;
+
+    if (!xi_given.serve)
+        return;
+    lack = xi_confirm(xi_given.serve, R.found.path, R.found.count, fault, sizeof fault);
+    served = lack || strcmp(fault, R.found.fault) ? "false" : "true";
+    if (lack)
+        xi_say("%s serve can't play it: %s\n", xi_given.serve, lack);
+    else if (!strcmp(fault, R.found.fault))
+        xi_say("%s serve plays it, with the same result\n", xi_given.serve);
+    else
+        xi_say("%s serve plays it, with another result: %s\n", xi_given.serve, fault[0] ? fault : "The test passes.");
+}
+
+/* JSON */
+
+static const char *truth(int value)
+{
+    return value == NONE ? "null" : value ? "true" : "false";
+}
+
+static void print_count(const char *key, double count)
+{
+    if (count < 0)
+        printf("\"%s\": null", key);
+    else
+        printf("\"%s\": %.17g", key, count < 1e300 ? count : 1e300);
+}
+
+static void print_search(void)
+{
+    printf("{\"complete\": %s, \"tried\": [", truth(R.is_complete));
+    for (unsigned n = 0; n < R.widths; n++)
+        printf("%s%.17g", n ? ", " : "", R.tried[n]);
+    printf("], \"smallest\": %s, \"holds\": %s, ", truth(R.is_smallest), truth(xi_given.holds));
+    print_count("first", R.first), printf(", ");
+    print_count("schedules", R.schedules);
+    printf(", \"states\": %llu, \"depth\": ", (unsigned long long)R.states);
+    printf(xi_given.depth == EVERY ? "\"every\"" : xi_given.depth == DRAWN ? "null" : "%d", xi_given.depth);
+    if (xi_given.all)
+        printf(", \"failed\": "), xi_print_failed();
+    printf("}");
+}
+
+/* Prints the JSON object, if it is wanted, and returns the exit status. */
+int xi_finish(const char *result, int status)
+{
+    if (!xi_given.json)
+        return status;
+    printf("{\"result\": \"%s\", \"seed\": ", result);
+    printf(R.seed ? "%llu" : "null", (unsigned long long)R.seed);
+    printf(", \"fault\": ");
+    if (R.found.fault[0])
+        xi_print_string(stdout, R.found.fault);
+    else
+        printf("null");
+    printf(", \"schedule\": "), xi_print_lines(stdout, R.found.path, R.found.count);
+    if (xi_pct.events)
+        printf(", \"pct\": {\"depth\": %u, \"actors\": %u, \"events\": %u, \"bound\": %.17g}", xi_pct.depth,
+               xi_pct.actors, xi_pct.events, 1 / xi_bound());
+    printf(", \"runs\": %llu, \"search\": ", (unsigned long long)R.runs);
+    print_search();
+    printf(", \"served\": %s}\n", served);
+    fflush(stdout);
+    return status;
+}

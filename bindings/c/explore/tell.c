@@ -1,0 +1,153 @@
+/* What is printed: text or JSON, and what a search has done so far on a terminal; and the signals that end a search. */
+#define _GNU_SOURCE
+#include "inside.h"
+#include <signal.h>
+#include <stdarg.h>
+#include <stdio.h>
+#include <string.h>
+#include <time.h>
+#include <unistd.h>
+
+enum { PATIENCE = 1, QUIET = 5 }; /* seconds */
+static volatile sig_atomic_t stopped;
+static struct timespec stopped_at;
+static bool has_progress; /* whether a line of progress is on the terminal */
+
+static double seconds_since(const struct timespec *then)
+{
+    struct timespec now;
+
+    clock_gettime(CLOCK_MONOTONIC, &now);
+    return (double)(now.tv_sec - then->tv_sec) + (double)(now.tv_nsec - then->tv_nsec) / 1e9;
+}
+
+/* Signals */
+
+/* The first signal ends the search; one that comes later than a second after it ends the program. */
+static void on_signal(int number)
+{
+    if (!stopped)
+        clock_gettime(CLOCK_MONOTONIC, &stopped_at);
+    else if (seconds_since(&stopped_at) > PATIENCE)
+        _exit(128 + number);
+    stopped = number;
+}
+
+void xi_listen(void)
+{
+    static const int numbers[] = { SIGINT, SIGTERM, SIGHUP };
+
+    for (size_t n = 0; n < sizeof numbers / sizeof *numbers; n++)
+        if (signal(numbers[n], on_signal) == SIG_IGN)
+            signal(numbers[n], SIG_IGN);
+}
+
+/* The number of the signal that has asked for an end, or 0 */
+int xi_stopped(void)
+{
+    return stopped;
+}
+
+/* Why a search has ended before its end */
+const char *xi_why(void)
+{
+    static char text[64];
+
+    if (stopped)
+        snprintf(text, sizeof text, "ended by SIG%s", sigabbrev_np(stopped));
+    else
+        snprintf(text, sizeof text, "ended by --states %llu", (unsigned long long)xi_given.states);
+    return text;
+}
+
+/* Text */
+
+void xi_say(const char *format, ...)
+{
+    va_list words;
+
+    if (xi_given.json)
+        return;
+    if (has_progress)
+        fputs("\r\033[K", stderr);
+    has_progress = false;
+    va_start(words, format);
+    vprintf(format, words);
+    va_end(words);
+    fflush(stdout);
+}
+
+/* Whether it is time for a line of progress: each five seconds, on a terminal */
+bool xi_is_time(void)
+{
+    static struct timespec last;
+    static int is_shown = -1;
+    static unsigned turn;
+
+    if (is_shown < 0)
+        is_shown = isatty(2), clock_gettime(CLOCK_MONOTONIC, &last);
+    if (!is_shown || ++turn % 64 || seconds_since(&last) < QUIET)
+        return false;
+    clock_gettime(CLOCK_MONOTONIC, &last);
+    return true;
+}
+
+/* Shows a line on the terminal until the next one is printed. */
+void xi_progress(const char *format, ...)
+{
+    va_list words;
+
+    va_start(words, format);
+    fputc('\r', stderr), vfprintf(stderr, format, words), fputs("\033[K\r", stderr);
+    va_end(words);
+    has_progress = true;
+}
+
+const char *xi_number(double number)
+{
+    static char text[64];
+
+    snprintf(text, sizeof text, number < 1e15 ? "%.0f" : number < 1e300 ? "%.2e" : "more than 1e300", number);
+    return text;
+}
+
+/* The number of bytes of the character of UTF-8 at the beginning of a text; 0 if there is none */
+static int character_size(const unsigned char *at)
+{
+    int size = *at < 0x80 ? 1 : *at < 0xC2 ? 0 : *at < 0xE0 ? 2 : *at < 0xF0 ? 3 : *at < 0xF5 ? 4 : 0;
+    bool is_long = *at == 0xE0 ? at[1] >= 0xA0 : *at == 0xF0 ? at[1] >= 0x90 : true;
+    bool is_short = *at == 0xED ? at[1] < 0xA0 : *at == 0xF4 ? at[1] < 0x90 : true;
+
+    for (int n = 1; n < size; n++)
+        if ((at[n] & 0xC0) != 0x80)
+            return 0;
+    return is_long && is_short ? size : 0;
+}
+
+/* Prints a text as a string of JSON. A byte that is no character is shown by its code. */
+void xi_print_string(FILE *file, const char *text)
+{
+    const unsigned char *at = (const unsigned char *)text;
+
+    fputc('"', file);
+    for (int size; *at; at += size ? size : 1) {
+        size = character_size(at);
+        if (*at < ' ' || *at == 0x7F || !size)
+            fprintf(file, "\\u%04x", *at);
+        else
+            fprintf(file, *at == '"' || *at == '\\' ? "\\%.*s" : "%.*s", size, at);
+    }
+    fputc('"', file);
+}
+
+/* Prints deviations as a list of JSON. */
+void xi_print_lines(FILE *file, const struct deviation *path, unsigned count)
+{
+    fputc('[', file);
+    for (unsigned n = 0; n < count; n++) {
+        char text[80];
+        xi_text(text, sizeof text, &path[n]);
+        fputs(n ? ", " : "", file), xi_print_string(file, text);
+    }
+    fputc(']', file);
+}
