@@ -7,7 +7,7 @@ import re
 from urllib.parse import unquote
 
 TOP = os.path.dirname(os.path.dirname(os.path.abspath(__file__)))
-PAGES = ["README.md", "docs/*.md", "examples/README.md", "examples/*/README.md", "bench/README.md",
+PAGES = ["README.md", "docs/*.md", "examples/*.md", "examples/*/README.md", "bench/README.md",
          "crates/*/README.md", "tools/*/README.md"]
 
 
@@ -101,7 +101,8 @@ class Site:
     def links(self, page, text=None):
         """The targets of the links of a page, or of a part of it."""
         for link in set(re.findall(r'\s(?:href|src)="([^"]*)"', self.texts[page] if text is None else text)):
-            yield link, self.target(page, link)
+            if not re.match(r"\w+://", link):
+                yield link, self.target(page, link)
 
     def dead_links(self):
         """The number of links, and those without a target."""

@@ -5,6 +5,7 @@ import re
 from urllib.parse import quote
 
 from .definitions import KINDS
+from .doc_pages import edits_link
 from .prose import Prose
 
 GHOSTS = {"Value": "What it is in contracts.", "view": "How its fields give this value.",
@@ -139,17 +140,18 @@ class Blocks:
             here = [edit for edit, clause in edits if keyword == "ensures" and clause == (name or keyword) or only]
             placed += here
             out.append(row(label, self.site.code(page, dedent(tokens)), " field clause",
-                           below=after(tokens) + self.edit_list(page, function, here, "Shown")))
+                           below=after(tokens) + self.edit_list(page, function, here, "Tested")))
         page.skip = set()
         others = [edit for edit, _ in edits if edit not in placed]
-        out.append(self.edit_list(page, function, others, "Also shown" if placed else "The contract is shown"))
+        out.append(self.edit_list(page, function, others, "Also tested" if placed else "The contract is tested"))
         return "".join(out) + self.outcome(page, function)
 
     def outcome(self, page, function) -> str:
         """The functions that make a call twice, and so prove that its contract determines its outcome."""
         links = [f'<a href="{page.relative(one.url)}"><code>{one.crate}::{html.escape(one.name)}</code></a>'
                  for one in self.site.twice_of.get(function, [])]
-        return f'<p class="outcome">What two calls from equal states have in common: {", ".join(links)}.</p>' if links else ""
+        shown = edits_link(page, "A contract that determines the outcome", "What two calls from equal states have in common")
+        return f'<p class="outcome">{shown}: {", ".join(links)}.</p>' if links else ""
 
     def function_section(self, page, function) -> str:
         """The block of a function."""
@@ -159,13 +161,14 @@ class Blocks:
             kind = f"of the trait {html.escape(of)}"
         return self.section(page, function, kind, self.function_rows(page, function, function.comment))
 
-    def edit_list(self, page, definition, edits: list, shown: str = "The contract is shown") -> str:
-        """The edits of a contract, or of a clause, that the prover refuses."""
+    def edit_list(self, page, definition, edits: list, tested: str = "The contract is tested") -> str:
+        """The edits of a contract, or of a clause, that the prover rejects."""
         if not edits:
             return ""
         rows = "".join(self.edit_row(page, definition, edit) for edit in edits)
         many = "s" if len(edits) > 1 else ""
-        return f'<div class="edits"><p>{shown} by {len(edits)} edit{many} that the prover refuses:</p>{rows}</div>'
+        link = edits_link(page, "What a rejection shows", f"{len(edits)} edit{many} that the prover rejects")
+        return f'<div class="edits"><p>{tested} by {link}:</p>{rows}</div>'
 
     def edit_row(self, page, definition, edit) -> str:
         """The rule of an edit; its changes unfold."""
@@ -177,7 +180,7 @@ class Blocks:
             last = file
         rule = re.sub(r"\[([^\]]*)\]\([^)]*\)", r"\1", edit.rule)
         said = self.prose.inline(page, rule, definition.scope or definition.module.scope)
-        return (f"<details><summary>{said} <small><code>{edit.name}</code></small></summary>"
+        return (f"<details><summary>{said} <small><code>{edit.crate}/{edit.name}</code></small></summary>"
                 f'<div class="diff">{diff}</div></details>')
 
     # Types and constants
@@ -193,6 +196,16 @@ class Blocks:
             if member.kind in ("field", "variant"):
                 out += row(self.prose.block(page, member.comment, scope, item), code(member), " field",
                            member.id if ids and member.id else "")
+        return out if ids or item.kind != "trait" else out + self.trait_rows(page, item)
+
+    def trait_rows(self, page, item) -> str:
+        """The members of a trait: what each means, and its type or its signature."""
+        out = ""
+        for member in item.members.values():
+            if member.kind in ("ghost", "fn") and member.module is item.module:
+                linked = self.site.linked(member)
+                said = self.prose.block(page, member.comment, member.scope or item.module.scope, item)
+                out += row(said, self.site.code(page, dedent(linked if member.kind == "ghost" else linked[0])), " field")
         return out
 
     def item_section(self, page, item) -> str:

@@ -7,6 +7,7 @@ import subprocess
 import sys
 
 from .blocks import Blocks
+from .doc_pages import DocPages
 from .file_pages import FilePages
 from .overview_pages import OverviewPages
 from .repository import Repository
@@ -39,11 +40,13 @@ def make_site(out: str, kit: str) -> Site:
     site.link_all()
     blocks = Blocks(site)
     files, overview, statements = FilePages(site, blocks), OverviewPages(site, blocks), StatementPages(site, blocks)
+    docs = DocPages(site, blocks)
     for module in site.shown():
         files.make(module)
     for crate in repository.crates:
         overview.crate_page(crate)
-    overview.first_page([statements.make(*statement) for statement in STATEMENTS])
+    docs.make()
+    overview.first_page([statements.make(*statement) for statement in STATEMENTS], docs)
     overview.names_page()
     overview.notation_page()
     for name in ("style.css", "search.js"):

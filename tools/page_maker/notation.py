@@ -12,7 +12,8 @@ def read_notation(root: str) -> str:
 
 def table_rows(block: str) -> list[list[str]]:
     """The cells of the rows of a table."""
-    return [line.strip("| ").split(" | ") for line in block.split("\n") if not line.startswith("|---")]
+    return [[cell.replace("\\|", "|") for cell in line.strip("| ").split(" | ")]
+            for line in block.split("\n") if not line.startswith("|---")]
 
 
 def meanings(section: str) -> dict[str, str]:

@@ -45,7 +45,7 @@ class OverviewPages:
         uses = self.repository.uses_of(crate)
         users = [name for name in self.repository.crates if crate in self.repository.uses_of(name)]
         body.append(f'<p class="facts">Uses {self.crate_links(page, uses)}.<br>'
-                    f"Used by {self.crate_links(page, users)}.</p>")
+                    f'Used by {self.crate_links(page, users)}. <a href="README.html">README</a></p>')
         body += [self.calls(page, crate), self.words(page, crate), self.files(page, crate)]
         self.site.write(page, crate, [(HOME, "index.html"), (crate, None)], "".join(body))
 
@@ -106,19 +106,20 @@ class OverviewPages:
 
     # The first page
 
-    def first_page(self, statements: list):
-        """The statements, and the crates by layer. `statements`: the address, the call, the title and the number of
-        definitions of each."""
+    def first_page(self, statements: list, docs):
+        """The statements, what isn't proved, the pages, and the crates by layer. `statements`: the address, the call, the
+        title and the number of definitions of each."""
         page = Page("index.html")
         body = ['<h1>nicbench</h1><p class="sentence">A driver, a model of the Intel 82540EM, and networks of them. '
                 "Every function is proved. Each word of a contract here is a link to its definition.</p>",
+                f'<p class="toc">{self.page_links(page, docs)}</p>',
                 "<h2>Statements</h2>", '<div class="cards">']
         for url, function, title, count in statements:
             plain = re.sub(r"\[([^\]]*)\](\([^)]*\))?", r"\1", first_paragraph(function.comment))
             said = re.sub(r"`([^`]*)`", r"<code>\1</code>", html.escape(plain))
             body.append(f'<a class="card" href="{url}"><b>{html.escape(title)}</b><p>{said}</p>'
                         f"<small>{html.escape(function.full())} · {count} definitions</small></a>")
-        body.append("</div><h2>Crates</h2>")
+        body.append(f'</div><h2>What isn\'t proved</h2><div class="intro page">{docs.limits(page)}</div><h2>Crates</h2>')
         for layer, crates in self.repository.layers:
             body.append(f"<h3>{html.escape(layer)}</h3>" if layer else "")
             body.append('<dl class="crates">')
@@ -128,6 +129,13 @@ class OverviewPages:
                 body.append(f'<dt><a href="{crate}/index.html">{crate}</a></dt><dd>{said}</dd>')
             body.append("</dl>")
         self.site.write(page, HOME, [(HOME, None)], "".join(body))
+
+    def page_links(self, page, docs) -> str:
+        """Links to the pages of docs, and to the list of all pages."""
+        shown = [path for path in docs.paths if path.startswith("docs/") or path == "README.md"]
+        links = [f'<a href="{page.relative(docs.target(path))}">{path.removeprefix("docs/").removesuffix(".md")}</a>'
+                 for path in shown]
+        return " ".join(links + ['<a href="pages.html">all pages</a>'])
 
     # Notation and names
 

@@ -1,0 +1,167 @@
+"""The Markdown pages of the repository as pages of the site, with links between them and to words."""
+
+import glob
+import html
+import os
+import re
+import shutil
+
+from .markdown import COMMENT, Markdown, anchor
+from .site import HOME, Page
+from .texts import first_sentence
+
+# The pages, by their places in the repository.
+PATTERNS = ["README.md", "CHANGELOG.md", "docs/*.md", "crates/*/README.md", "examples/*.md", "examples/*/README.md",
+            "bench/README.md", "machines/README.md", "tools/*/README.md"]
+EDITS = "docs/EDITS.md"
+# What the first page shows of README: the paragraph that begins in this way, and the list after it.
+LIMITS = "The proofs hold only"
+
+
+def address(path: str) -> str:
+    """The address of a Markdown page: a crate's page is in its folder."""
+    return re.sub(r"^crates/", "", path).removesuffix(".md") + ".html"
+
+
+class DocPages:
+    """Makes these pages."""
+
+    def __init__(self, site, blocks):
+        self.site, self.repository, self.prose = site, site.repository, blocks.prose
+        root = self.repository.root
+        self.paths = [path for pattern in PATTERNS
+                      for path in sorted(os.path.relpath(one, root) for one in glob.glob(os.path.join(root, pattern)))]
+        self.texts = {path: self.read(path) for path in self.paths}
+        self.modules = {os.path.relpath(one.file, root): one for one in self.repository.own()}
+
+    def read(self, path: str) -> str:
+        """The text of a page."""
+        with open(os.path.join(self.repository.root, path), encoding="utf-8") as file:
+            return file.read()
+
+    # Links
+
+    def target(self, path: str) -> str:
+        """The address of what a link to a file or a folder leads to; empty if it isn't on the site."""
+        if path in self.texts:
+            return address(path)
+        inside = os.path.join(path, "README.md")
+        if re.fullmatch(r"crates/\w+", path) and path.split("/")[1] in self.repository.crates:
+            return f"{path.split('/')[1]}/index.html"
+        if inside in self.texts:
+            return address(inside)
+        module = self.modules.get(path)
+        return module.url if module is not None else ""
+
+    def link(self, page, path: str, target: str, shown: str) -> str:
+        """A link of a page at a path; plain text if it leads to a file that isn't on the site."""
+        if "://" in target:
+            return f'<a href="{html.escape(target, True)}">{shown}</a>'
+        file, _, place = target.partition("#")
+        file = os.path.normpath(os.path.join(os.path.dirname(path), file)) if file else path
+        url = self.target(file)
+        if not url:
+            return f'<span title="{html.escape(file, True)} in the repository">{shown}</span>'
+        return f'<a href="{page.relative(url + (f"#{place}" if place else ""))}">{shown}</a>'
+
+    def word(self, text: str, crate: str):
+        """The definition that a name in backticks means, or None: one of the page's crate or below, else the only
+        public one of this name."""
+        name = text.rstrip("()").replace(".", "::") if re.fullmatch(r"[A-Z]\w*\.\w+", text) else text.rstrip("()")
+        if not re.fullmatch(r"[\w:]+", name) or not (re.search(r"[a-z]", name) and re.search(r"[A-Z_]", name)):
+            return None
+        if "::" in name:
+            return self.prose.member_named(name)
+        found = self.prose.only_one(name, crate) if crate else None
+        if found is None:
+            known = [one for one in self.repository.by_name.get(name, []) if one.url and not one.kit]
+            for every in ([one for one in known if one.public and one.owner is None],
+                          [one for one in known if one.kind == "variant"]):
+                found = every[0] if found is None and len(every) == 1 else found
+        return found
+
+    def file(self, text: str):
+        """The file of a crate that a text names, such as `driver/src/init.rt`, `driver/specs/Looks` or `driver/Looks`, or
+        None."""
+        crate, _, rest = text.partition("/")
+        found = [self.modules.get(f"crates/{crate}/{path}") for path in (rest, f"{rest}.antt", f"specs/{rest}.antt")]
+        return next((module for module in found if module is not None), None) if rest else None
+
+    def word_in_row(self, text: str, row: str):
+        """The word that a name means in a row of a table that also names its file, or None."""
+        for path in re.findall(r"`(\w+/[\w/.]+)`", row):
+            module = self.file(path)
+            if module is not None and text in module.defs:
+                return module.defs[text]
+        return None
+
+    def code(self, page, text: str, crate: str, row: str = "") -> str:
+        """A text in backticks: a link if it is the name of a word, a call, a crate or a file of a crate."""
+        file = self.file(text)
+        url = f"{text}/index.html" if text in self.repository.crates else file.url if file is not None else ""
+        if url:
+            return f'<a href="{page.relative(url)}"><code>{html.escape(text)}</code></a>'
+        found = self.word_in_row(text, row) or self.word(text, crate)
+        if found is not None and found.url and not found.kit:
+            return f"<code>{self.site.anchor(page, found, text)}</code>"
+        return f"<code>{html.escape(text, False)}</code>"
+
+    def html_of(self, page, path: str, text: str) -> str:
+        """HTML of a page, or of a part of it."""
+        crate = path.split("/")[1] if path.startswith("crates/") else ""
+        return Markdown(lambda said, row: self.code(page, said, crate, row),
+                        lambda target, shown: self.link(page, path, target, shown)).page(text)
+
+    # Pages
+
+    def title(self, path: str) -> str:
+        """The heading of a page."""
+        found = re.search(r"^# (.*)$", self.texts[path], re.M)
+        return re.sub(r"`", "", found[1]) if found else path
+
+    def make(self):
+        """Makes all pages."""
+        for path in self.paths:
+            page = Page(address(path))
+            body = f'<article class="page">{self.html_of(page, path, self.texts[path])}</article>'
+            body = re.sub(r'<img src="(?!\w+:)', self.picture(page, path), body)
+            crumbs = [(HOME, "index.html")]
+            if path.startswith("crates/"):
+                crumbs.append((path.split("/")[1], f"{path.split('/')[1]}/index.html"))
+            else:
+                crumbs.append(("pages", "pages.html"))
+            self.site.write(page, self.title(path), crumbs + [(os.path.basename(path), None)], body)
+        self.list_page()
+
+    def picture(self, page, path: str) -> str:
+        """The beginning of a picture's tag, with the way from a page to the pictures of its folder."""
+        folder = os.path.dirname(path)
+        for name in re.findall(r"!\[[^\]]*\]\(([^)\s]+)\)", self.texts[path]):
+            source = os.path.normpath(os.path.join(folder, name))
+            target = os.path.join(self.site.out, source)
+            os.makedirs(os.path.dirname(target), exist_ok=True)
+            shutil.copyfile(os.path.join(self.repository.root, source), target)
+        return f'<img src="{page.relative(folder + "/" if folder else "")}'
+
+    def list_page(self):
+        """The list of all pages but those of crates, each with its first sentence."""
+        page, rows = Page("pages.html"), []
+        for path in (path for path in self.paths if not path.startswith("crates/")):
+            rest = re.sub(r"^```.*?^```$", "", COMMENT.sub("", self.texts[path]), flags=re.M | re.S)
+            rest = re.sub(r"^#.*$", "", rest, flags=re.M)
+            said = next((block for block in re.split(r"\n\s*\n", rest.strip()) if re.match(r"[\w`[]", block)), "")
+            said = first_sentence(re.sub(r"\[([^\]]+)\]\([^)]*\)", r"\1", said))
+            rows.append(f'<dt><a href="{address(path)}">{path.removesuffix(".md")}</a></dt>'
+                        f"<dd><b>{html.escape(self.title(path))}</b>: {self.html_of(page, path, said)[3:-4]}</dd>")
+        self.site.write(page, "Pages", [(HOME, "index.html"), ("pages", None)],
+                        f'<h1>Pages</h1><dl class="crates">{"".join(rows)}</dl>')
+
+    def limits(self, page) -> str:
+        """What isn't proved: a paragraph of README, and the list after it."""
+        begin = self.texts["README.md"].index(LIMITS)
+        return self.html_of(page, "README.md", self.texts["README.md"][begin:].partition("\n## ")[0])
+
+
+def edits_link(page, heading: str, shown: str) -> str:
+    """A link to a section of the page about edits."""
+    return f'<a href="{page.relative(f"{address(EDITS)}#{anchor(heading)}")}">{shown}</a>'
