@@ -4,7 +4,7 @@ use Rattle.std.specs.Int.Bits.{or_zero_r}
 use Rattle.registers.specs.Bits.{union}
 use Rattle.registers.specs.Kept.{causes_of}
 use Rattle.registers.specs.Places.{alone, rxdmt0}
-use Rattle.rx_engine.specs.Moving.{IfMoved, IsMoved, IsPartMoved, engine_after_data, is_half_free, memory_after_data, ring_after_data}
+use Rattle.rx_engine.specs.Moving.{IfMoved, IsMoved, IsPartMoved, engine_after_data, is_half_offered, memory_after_data, ring_after_data}
 use Rattle.rx_engine.specs.declared.data.Data.{Data}
 use Rattle.rx_engine.specs.declared.data.Data.TheVariants.{Nothing, Part, Moved, Fault}
 use Rattle.adapter.specs.DataOutcomes.{causes_of_answer, outcome_of}
@@ -21,7 +21,7 @@ half-causes false false same = refl
 half-causes true false same = cc
 half-causes false true same = cc
 
--- no cause more is recorded
+-- no further cause is recorded
 none_recorded : (state : AdapterState) → record state { causes = record state.causes { recorded = union state.causes.recorded 0 } } ≡ state
 none_recorded state =
     ap (λ (causes : ℕ). record state { causes = record state.causes { recorded = causes } }) (or_zero_r state.causes.recorded)
@@ -35,7 +35,7 @@ left_by answer state = record state {
 }
 
 pub left_by-state : (F : Type 0) (answer : Data) (state : AdapterState)
-    → IfMoved answer (λ low. low ≡ is_half_free (ring_after_data answer (ring_of state.receive_ring)))
+    → IfMoved answer (λ low. low ≡ is_half_offered (ring_after_data answer (ring_of state.receive_ring)))
     → left_by answer state ≡ after_data (framed {F = F} (outcome_of {F = F} answer) state) state
 left_by-state F Nothing state half = none_recorded state
 left_by-state F (Part low) state half =
@@ -43,13 +43,13 @@ left_by-state F (Part low) state half =
       receiver = engine_after_data (Part low) state.filter.rctl (ring_of state.receive_ring) state.receiver;
       receive_ring = moved_on state.receive_ring;
       causes = record state.causes { recorded = union state.causes.recorded causes };
-    }) (half-causes low (is_half_free (ring_of (moved_on state.receive_ring))) half)
+    }) (half-causes low (is_half_offered (ring_of (moved_on state.receive_ring))) half)
 left_by-state F (Moved low) state half =
     ap (λ (causes : ℕ). record state {
       receiver = engine_after_data (Moved low) state.filter.rctl (ring_of state.receive_ring) state.receiver;
       receive_ring = moved_on state.receive_ring;
       causes = record state.causes { recorded = union state.causes.recorded causes };
-    }) (half-causes low (is_half_free (ring_of (moved_on state.receive_ring))) half)
+    }) (half-causes low (is_half_offered (ring_of (moved_on state.receive_ring))) half)
 left_by-state F Fault state half =
     none_recorded (record state { receiver = engine_after_data Fault state.filter.rctl (ring_of state.receive_ring) state.receiver })
 

@@ -1,8 +1,4 @@
 mod Words
-mod SlotsBelow
-mod PiecesInTurn
 mod DataSteps
-mod FinishedWalk
-mod QueuedWalk
 mod TakenFrames
 mod SlotsRead

@@ -9,13 +9,13 @@ use Rattle.rx_engine.specs.declared.engine.Work.{Work}
 use Rattle.tx_engine.specs.Transmitter.{Queued}
 use Rattle.tx_engine.specs.Fetching.{frame_at}
 use Rattle.tx_engine.specs.ToSend.{to_send}
-use Rattle.adapter.specs.FinishedSlots.{finished_in}
+use Rattle.rx_engine.specs.FinishedSlots.{finished_in}
+use Rattle.rx_engine.specs.JoinedLaws.{alone-one, back-short, front-short}
+use Rattle.rx_engine.specs.JoinedPieces.{AreShort, alone}
+use Rattle.rx_engine.specs.PieceLaws.{frames-append}
+use Rattle.tx_engine.specs.QueuedFrames.{queued_in}
 use Rattle.adapter.specs.HostFrames.{finished_pieces, frames_to_send, pieces_in_slots}
-use Rattle.adapter.specs.JoinedPieces.{AreShort, alone}
-use Rattle.adapter.specs.QueuedFrames.{queued_in}
 use Rattle.adapter.specs.World.{World, receive_ring, transmit_ring}
-use Rattle.adapter.proofs.FinishedWalk.{alone-one}
-use Rattle.adapter.proofs.PiecesInTurn.{back-short, frames-append, front-short}
 
 -- What was read of the finished slots: the ring is the receive ring, and nothing was begun before.
 pub record ReadsSlots (world : World) (read : Ring) (begun : List ℕ) : Type 0 where

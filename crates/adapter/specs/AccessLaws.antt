@@ -1,4 +1,4 @@
--- What reads and writes do to one another, by the table: the laws that `offsets_by_table` and `accesses_by_table` promise.
+-- The effect of writes on later reads, by the table: the laws that `offsets_by_table` and `accesses_by_table` state.
 use Rattle.std.specs.Prelude.{◌≡◌, ◌≢◌, ◌%◌, ◌<◌, ◌&&◌, ℕ, true, false, List, Some, bit_and, if◌then◌else◌}
 use Rattle.mdic_phy.specs.declared.phy.Link.{Link}
 use Rattle.mdic_phy.specs.Phy.{link_is_up}
@@ -11,20 +11,20 @@ use Rattle.adapter.specs.State.{AdapterState, HasRegisters}
 use Rattle.adapter.specs.Table.{IsInTable, StandsAt, register_at, row_of}
 use Rattle.registers.specs.Places.{ctrl_slu}
 
--- Each register of the table is at its offset, and no other register is.
+-- Each register of the table is at its offset, and no other register is at this offset.
 pub record OffsetsByTable : Type 0 where
   pub there : (register : Register) → IsInTable register → register_at (row_of register).offset ≡ Some register
   pub only : (offset : ℕ) (register : Register) → register_at offset ≡ Some register → StandsAt offset register
   pub multiple_of_four : (register : Register) → (row_of register).offset % 4 ≡ 0
   pub below : (register : Register) → IsInTable register → (row_of register).offset < 0x5800
 
--- An access at an offset is one of the register that is there.
+-- An access at an offset is an access of the register at this offset.
 pub record AccessesByRegister (offset : ℕ) (register : Register) (state : AdapterState) : Type 0 where
   pub answered : answer_at offset state ≡ answer register state
   pub read : after_read offset state ≡ read_of register state
   pub written : (value : ℕ) → after_write offset value state ≡ write_of register value state
 
--- If no register is at the offset, a read answers 0, and nothing changes.
+-- If no register is at the offset, a read returns 0, and nothing changes.
 pub record IgnoresAccesses (offset : ℕ) (state : AdapterState) : Type 0 where
   pub answered : answer_at offset state ≡ 0
   pub read : after_read offset state ≡ state
@@ -38,7 +38,7 @@ abbrev pub OutsideIsIgnored : Type 0
 OutsideIsIgnored = (offset : ℕ) (state : AdapterState) → ((register : Register) → ¬ (StandsAt offset register))
     → IgnoresAccesses offset state
 
--- A register whose kept bits are its rule reads these bits of what was last written.
+-- A register whose kept bits are its whole rule reads these bits of the value last written.
 abbrev pub PlainReadsBack : Type 0
 PlainReadsBack =
     (register : Register) (kept value : ℕ) (state : AdapterState)
@@ -52,26 +52,26 @@ pub data Touches : Register → Register → Type 0 where
   causes_set : Touches Ics Icr
   mask_cleared : Touches Imc Ims
 
--- Except for these (`Touches`) and for a reset, a write of one register doesn't change what another reads.
+-- Except for `Touches` and for a reset, a write of one register doesn't change what another register reads.
 abbrev pub OthersStayAtWrite : Type 0
 OthersStayAtWrite =
     (written other : Register) (value : ℕ) (state : AdapterState)
     → written ≢ other → ¬ (Touches written other) → is_reset written value ≡ false
     → answer other (write_of written value state) ≡ answer other state
 
--- A read of one register doesn't change what another reads.
+-- A read of one register doesn't change what another register reads.
 abbrev pub OthersStayAtRead : Type 0
 OthersStayAtRead =
     (read other : Register) (state : AdapterState) → read ≢ other → answer other (read_of read state) ≡ answer other state
 
--- What STATUS, ICR and IMS read after a write of CTRL, ICS and IMC.
+-- The values of STATUS, ICR and IMS after a write of CTRL, ICS or IMC.
 pub record TouchedRead (value : ℕ) (state : AdapterState) : Type 0 where
   -- After a write of CTRL that is no reset, STATUS shows the link if SLU, bit 6, was written as 1.
   pub link_shown : is_reset Ctrl value ≡ false
       → answer Status (write_of Ctrl value state) ≡ (if link_is_up state.phy && is_set value ctrl_slu then status_of_link_up else 0)
-  -- After a write of ICS, ICR also reads the causes written.
+  -- After a write of ICS, ICR also reads the written causes.
   pub causes_set : answer Icr (write_of Ics value state) ≡ union (answer Icr state) (causes_of value)
-  -- After a write of IMC, IMS reads the mask without the causes written.
+  -- After a write of IMC, IMS reads the mask without the written causes.
   pub mask_cleared : answer Ims (write_of Imc value state) ≡ difference (answer Ims state) (causes_of value)
 
 abbrev pub TouchedByWrites : Type 0
@@ -79,9 +79,9 @@ TouchedByWrites = (value : ℕ) (state : AdapterState) → TouchedRead value sta
 
 -- The registers after a write of CTRL with RST.
 pub record IsReset (before after : AdapterState) : Type 0 where
-  -- Each register but PBA reads its reset value of the table.
+  -- Each register except PBA reads its reset value of the table.
   pub registers : (register : Register) → IsInTable register → register ≢ Pba → answer register after ≡ (row_of register).reset before.image
-  -- PBA, the PHY and the EEPROM stay.
+  -- PBA, the PHY and the EEPROM don't change.
   pub allocation : answer Pba after ≡ answer Pba before
   pub phy : after.phy ≡ before.phy
   pub image : after.image ≡ before.image
@@ -89,7 +89,7 @@ pub record IsReset (before after : AdapterState) : Type 0 where
 abbrev pub ResetByTable : Type 0
 ResetByTable = (value : ℕ) (state : AdapterState) → is_reset Ctrl value ≡ true → IsReset state (write_of Ctrl value state)
 
--- After power-on each register, PBA too, reads its reset value of the table.
+-- After power-on, each register, including PBA, reads its reset value of the table.
 abbrev pub PowerOnByTable : Type 0
 PowerOnByTable =
     (register : Register) (words : List ℕ) (link : Link) → IsInTable register

@@ -1,4 +1,4 @@
--- Every access, step and arrival leaves an adapter's registers as those of an adapter.
+-- Lemmas: every access, step and arrival preserves the invariant of an adapter's registers.
 use Rattle.std.proofs.Common.{◌≡◌, ◌%◌, ◌==◌, ◌≤◌, ℕ, Bool, true, false, List, [], ◌∷◌, length, Option, Some, None, refl, ◌∙◌}
 use Rattle.std.proofs.Common.{if◌then◌else◌, arith, length-set}
 use Rattle.std.proofs.lemmas.Bool.{and_parts, eqb-true, leb-true}
@@ -19,7 +19,7 @@ use Rattle.adapter.specs.declared.step.StepKind.TheVariants.{TxTake, TxPut, RxDa
 use Rattle.adapter.specs.Outcomes.{FrameOutcome}
 use Rattle.adapter.specs.declared.outcome.Outcome.TheVariants.{Took, Put, Part, Moved, Done, Fault}
 use Rattle.adapter.specs.History.{AdapterEvent, Read, Write, Step, Arrive, after_event, after_events}
-use Rattle.adapter.specs.PacketBuffer.{IsAllocation, allocation_written, is_allocation}
+use Rattle.registers.specs.PacketBuffer.{IsAllocation, allocation_written, is_allocation}
 use Rattle.adapter.specs.Registers.{after_reset, answer, by_row, is_reset, left_by_read, left_by_write, new_adapter, read_of, write_of}
 use Rattle.adapter.specs.State.{AdapterState, CausesAlone, CountersFit, HasTables, HasRegisters}
 use Rattle.adapter.specs.Receiving.{after_arrive, after_data, after_done, causes_of_finishing, causes_of_moving, is_ending}
@@ -46,8 +46,6 @@ no_counts = record { missed = omega arith; received = omega arith; transmitted =
 
 no_causes : CausesAlone 0 0
 no_causes = record { recorded_causes = refl; masked_causes = refl }
-
--- By parts.
 
 of-parts : {state : AdapterState} → HasTables state.filter.ral state.filter.rah state.filter.mta state.filter.vfta
     → IsAllocation state.receive_kilobytes → CausesAlone state.causes.recorded state.causes.mask
@@ -144,7 +142,7 @@ HasRegisters-read Rnbc state adapter =
     of-parts adapter.tables adapter.allocation adapter.causes (of-counters c.missed c.received c.transmitted (omega arith))
 HasRegisters-read _ state adapter = of-parts adapter.tables adapter.allocation adapter.causes adapter.counters
 
--- what a tick reports are causes
+-- The causes that a tick records are causes of the adapter.
 causes_told-alone : (ticked : Ticked) → IsSubset (causes_told ticked) all_causes
 causes_told-alone ticked = by_tests ticked.link_changed ticked.access_complete
   where
@@ -154,7 +152,7 @@ causes_told-alone ticked = by_tests ticked.link_changed ticked.access_complete
     by_tests false true = refl
     by_tests false false = refl
 
--- With more causes recorded, an adapter's registers are those of an adapter.
+-- If more causes are recorded, the registers still have values that an adapter can have.
 HasRegisters-with_causes : (causes : ℕ) (state : AdapterState) → IsSubset causes all_causes → HasRegisters state
     → HasRegisters (with_causes causes state)
 HasRegisters-with_causes causes state alone adapter =
@@ -167,7 +165,7 @@ HasRegisters-told (Some ticked) state adapter =
     (of-parts adapter.tables adapter.allocation adapter.causes adapter.counters)
 HasRegisters-told None state adapter = adapter
 
--- a cause of a test, among all causes
+-- A cause that is recorded only if a test passes is a cause of the adapter.
 cause-alone : (test : Bool) (cause : ℕ) → IsSubset cause all_causes → IsSubset (if test then cause else 0) all_causes
 cause-alone true cause alone = alone
 cause-alone false cause alone = refl

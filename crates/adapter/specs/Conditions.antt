@@ -1,4 +1,4 @@
--- The conditions under which a driver and its adapter share memory: without them no frame can be told from another (our choice).
+-- The conditions under which a driver and its adapter share memory (our choice).
 use Rattle.std.specs.Prelude.{◌≡◌, ◌≤◌, ◌<◌, ◌++◌, ℕ, true, All, length, map}
 use Rattle.descriptors.specs.Frames.{IsLegal, longest_frame}
 use Rattle.dma_memory.specs.Areas.{AreSeparate}
@@ -14,41 +14,41 @@ use Rattle.adapter.specs.HostFrames.{finished_pieces, named, pieces_in_slots}
 use Rattle.adapter.specs.Slots.{IsDealt, buffered, finished, in_work, offered}
 use Rattle.adapter.specs.World.{World, receive_ring, transmit_ring}
 
--- a frame's descriptor asks for a report, RS
+-- The descriptor of a frame asks for a report: RS is set.
 abbrev pub Reports : Queued → Type 0
 Reports queued = queued.report ≡ true
 
--- The conditions, if these slots are the oldest that the driver counts in its rings.
+-- The conditions on a world, if these slots are the oldest that the driver counts in its rings.
 pub record Sound (oldest_receive oldest_transmit : ℕ) (world : World) : Type 0 where
-  -- In the receive ring, finished slots come first, then the one in progress, then the offered ones.
+  -- In the receive ring, finished slots come first, then the slot in progress, then the offered slots.
   pub receive_slots : IsDealt world.memory (receive_ring world) oldest_receive (in_work world)
-  -- In the transmit ring, finished slots come first, then those of the frames in the packet buffer, then the offered ones.
+  -- In the transmit ring, finished slots come first, then the slots of the frames in the packet buffer, then the offered slots.
   pub transmit_slots : IsDealt world.memory (transmit_ring world) oldest_transmit (buffered world)
   -- Both rings, and the data and buffers of their slots, are inside memory and don't overlap.
   pub separate : AreSeparate world.memory (areas oldest_receive world)
-  -- every frame to be sent asks for a report
+  -- Every frame to be sent asks for a report.
   pub reports : All Reports (world.adapter.transmitter.buffer ++ map (fetched true world.memory) (offered (transmit_ring world)))
-  -- The slots contain, after the last EOP, the bytes of the packet buffer's oldest frame that were moved.
+  -- After the last EOP, the slots contain the moved bytes of the packet buffer's oldest frame.
   pub begun : HasBegun world.memory (finished_pieces oldest_receive world) world.adapter.receiver
   -- If TDH isn't TDT, TCTL.PSP is set.
   pub pads : ¬ (world.adapter.transmit_ring.head ≡ world.adapter.transmit_ring.tail) → HasBit world.adapter.transmit_control tctl_psp
 
--- The finished slots, and the one in progress, contain frames as this adapter cuts them into receive buffers of this size.
+-- The finished slots and the slot in progress contain frames that are cut into receive buffers of this size, as the adapter cuts them.
 pub record AreCut (size oldest_receive : ℕ) (world : World) : Type 0 where
-  -- If RCTL.EN is set, RCTL.BSIZE names this size.
+  -- If RCTL.EN is set, RCTL.BSIZE selects this size.
   pub sized : HasBit world.adapter.filter.rctl rctl_en → buffer_size world ≡ size
   -- No finished descriptor reports an error.
   pub have_no_errors : All (λ slot. (descriptor_at world.memory slot).errors ≡ 0) (finished oldest_receive world)
   -- Each piece fills its buffer, unless it is the last of its frame.
   pub cut : All (IsCut size) (pieces_in_slots oldest_receive world)
-  -- Each frame that ends in them is legal.
+  -- Each frame that ends in these slots is legal.
   pub legal : All IsLegal (frames_of (pieces_in_slots oldest_receive world))
-  -- The frame that doesn't end yet is so far shorter than the longest legal frame.
+  -- The bytes after the last EOP are fewer than the bytes of the longest legal frame.
   pub short : length (begun_of (pieces_in_slots oldest_receive world)) < longest_frame
 
--- Receive buffers of this size have room for each finished piece, for the one in progress, and for those to come.
+-- Receive buffers of this size have room for each finished piece, for the piece in progress, and for later pieces.
 pub record FitBuffers (size oldest_receive : ℕ) (world : World) : Type 0 where
-  -- If RCTL.EN is set, RCTL.BSIZE names no larger size.
+  -- If RCTL.EN is set, RCTL.BSIZE selects no larger size.
   pub large : HasBit world.adapter.filter.rctl rctl_en → buffer_size world ≤ size
   -- Each finished piece has at most this size.
   pub finished_fit : All (λ slot. (named world.memory slot).size ≤ size) (finished oldest_receive world)

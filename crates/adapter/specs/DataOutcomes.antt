@@ -6,14 +6,14 @@ use Rattle.rx_engine.specs.declared.data.Data.TheVariants as answers
 use Rattle.adapter.specs.declared.outcome.Outcome.{Outcome}
 use Rattle.adapter.specs.declared.outcome.Outcome.TheVariants.{Part, Moved, Nothing, Fault}
 
--- the outcome of a data step with this answer
+-- The outcome of a data step with this answer.
 abbrev pub outcome_of : {F : Type 0} → Data → Outcome F
 outcome_of answers.Nothing = Nothing
 outcome_of (answers.Part low) = Part
 outcome_of (answers.Moved low) = Moved
 outcome_of answers.Fault = Fault
 
--- the causes that a data step with this answer records: RXDMT0, bit 4, if the free descriptors have become half the ring
+-- The causes that a data step with this answer records: RXDMT0, bit 4, if the free descriptors are now half the ring.
 abbrev pub causes_of_answer : Data → ℕ
 causes_of_answer answers.Nothing = 0
 causes_of_answer (answers.Part low) = if low then alone rxdmt0 else 0

@@ -1,4 +1,4 @@
--- What steps and arrivals do to the frames of an adapter, proved.
+-- Proofs of the effect of steps and arrivals on the frames of an adapter.
 use Rattle.std.proofs.Common.{◌≡◌, ◌∷◌, [], ℕ, List, All, drop, refl, sym, ap, ◌∙◌, inr}
 use Rattle.std.proofs.lemmas.List.{append-nil}
 use Rattle.dma_memory.specs.Areas.{area_at}
@@ -7,7 +7,7 @@ use Rattle.descriptors.specs.Ring.{address_of, offered_places}
 use Rattle.rx_engine.specs.Arriving.{kept}
 use Rattle.rx_engine.specs.Held.{held}
 use Rattle.rx_engine.specs.Laws.{held-after_arrival, held-after_data, held-after_done}
-use Rattle.rx_engine.specs.Moving.{is_half_free}
+use Rattle.rx_engine.specs.Moving.{is_half_offered}
 use Rattle.rx_engine.specs.declared.arrival.Fate.{Fate}
 use Rattle.rx_engine.specs.declared.arrival.Fate.TheVariants.{Stored}
 use Rattle.rx_engine.specs.declared.data.Data.TheVariants as answers
@@ -51,11 +51,11 @@ putting_takes_first wire_free memory state frame told apart = by_buffer state.tr
 pub data_leaves_frames : DataLeavesFrames
 data_leaves_frames finished memory state Part begun told apart =
     held-after_data state.filter.rctl (ring_of state.receive_ring) state.receiver memory finished
-    (answers.Part (is_half_free (ring_of (moved_on state.receive_ring)))) begun
+    (answers.Part (is_half_offered (ring_of (moved_on state.receive_ring)))) begun
     (record { has = told.0; can = told.1; last_is = told.2; apart = apart })
 data_leaves_frames finished memory state Moved begun told apart =
     held-after_data state.filter.rctl (ring_of state.receive_ring) state.receiver memory finished
-    (answers.Moved (is_half_free (ring_of (moved_on state.receive_ring)))) begun
+    (answers.Moved (is_half_offered (ring_of (moved_on state.receive_ring)))) begun
     (record { has = told.0; can = told.1; last_is = told.2; apart = apart })
 data_leaves_frames finished memory state _ begun told apart =
     record { frames = sym (append-nil (held memory finished state.receiver)); begun = begun }

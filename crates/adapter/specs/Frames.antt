@@ -1,4 +1,5 @@
--- The frames that an adapter holds, and what its steps and arrivals do to them (our choice): what the engines' laws are of an adapter.
+-- The frames that an adapter holds, and the effect of its steps and arrivals on them (our choice): the engines' laws, applied to an
+-- adapter.
 use Rattle.std.specs.Prelude.{◌≡◌, ◌∷◌, [], ℕ, List, All, Bool, Some}
 use Rattle.dma_memory.specs.Areas.{AreApart, area_at, descriptor_area}
 use Rattle.dma_memory.specs.HostMemory.{LiesIn}
@@ -21,12 +22,12 @@ use Rattle.adapter.specs.Rings.{ring_of}
 use Rattle.adapter.specs.State.{AdapterState}
 use Rattle.adapter.specs.Transmitting.{PutAnswers, TakeAnswers, after_put, after_take, memory_after_put}
 
--- the frames still to be sent: those in the transmit packet buffer, then those that the descriptors from TDH to TDT name, as they go onto
--- the wire
+-- The frames still to be sent: first those in the transmit packet buffer, then those that the descriptors from TDH to TDT name. They are
+-- padded if TCTL.PSP is set.
 abbrev pub frames_to_send : List ℕ → AdapterState → List (List ℕ)
 frames_to_send memory state = to_send memory (ring_of state.transmit_ring) (pads state.transmit_control) state.transmitter.buffer
 
--- A step that takes doesn't change the frames to be sent, whatever its outcome.
+-- A take step doesn't change the frames to be sent, whatever its outcome.
 abbrev pub TakingLeavesFrames : Type 0
 TakingLeavesFrames =
     (memory : List ℕ) (state : AdapterState) (answer : FrameOutcome) → TakeAnswers memory state answer
@@ -39,34 +40,33 @@ ReportStandsApart memory state =
     All (λ slot. IsAwayFrom memory (area_at (status_place queued) 1) (address_of (ring_of state.transmit_ring) slot))
     (offered_places (ring_of state.transmit_ring)))
 
--- A step that puts a frame takes the first of the frames to be sent.
+-- A put step removes the first of the frames to be sent.
 abbrev pub PuttingTakesFirst : Type 0
 PuttingTakesFirst =
     (wire_free : Bool) (memory : List ℕ) (state : AdapterState) (frame : List ℕ) → PutAnswers wire_free state (Put frame)
     → ReportStandsApart memory state
     → frames_to_send memory state ≡ frame ∷ frames_to_send (memory_after_put (Put frame) memory state) (after_put (Put frame) state)
 
--- The bytes that the next piece goes to are apart from the descriptor at RDH, which names them.
+-- The bytes to which the next piece is written are apart from the descriptor at RDH, which names them.
 abbrev pub PlaceStandsApart : List ℕ → AdapterState → Type 0
 PlaceStandsApart memory state =
     let descriptor = address_of (ring_of state.receive_ring) state.receive_ring.head in
     AreApart (area_at (named_address memory descriptor) (piece_size state)) (descriptor_area descriptor)
 
--- After a step or an arrival the frames held are those from before, and then `more`; `finished` are the pieces in
--- finished slots.
+-- After a step or an arrival, the frames held are those from before, followed by `more`. `finished` are the pieces in finished slots.
 abbrev pub HoldsThen : (more : List (List ℕ)) → (finished : List Piece) → (memory memory' : List ℕ) → (state state' : AdapterState) → Type 0
 HoldsThen more finished memory memory' state state' =
     Holds (held memory finished state.receiver) (held memory' finished state'.receiver) more memory' finished state'.receiver
 
--- A data step doesn't change the frames held, whatever its outcome: the next piece of the packet buffer's oldest frame
--- is then the one in progress.
+-- A data step doesn't change the frames held, whatever its outcome: the next piece of the packet buffer's oldest frame becomes the piece in
+-- progress.
 abbrev pub DataLeavesFrames : Type 0
 DataLeavesFrames =
     (finished : List Piece) (memory : List ℕ) (state : AdapterState) (answer : FrameOutcome)
     → HasBegun memory finished state.receiver → DataAnswers memory state answer → PlaceStandsApart memory state
     → HoldsThen [] finished memory (memory_after_data_step answer memory state) state (after_data answer state)
 
--- A done step makes the piece in progress a finished one at its descriptor, if it is apart from that.
+-- A done step makes the piece in progress a finished one at its descriptor, if the piece is apart from the descriptor.
 abbrev pub DoneFinishesPiece : Type 0
 DoneFinishesPiece =
     (finished : List Piece) (memory : List ℕ) (state : AdapterState) (work : Work)
@@ -74,7 +74,7 @@ DoneFinishesPiece =
     → LiesIn memory work.descriptor 16 → StandsApart memory work.descriptor work.length
     → Finishes memory finished state.receiver work
 
--- A frame that is stored is after the frames held; any other fate doesn't change them.
+-- A stored frame is added after the frames held. Any other fate doesn't change them.
 abbrev pub ArrivalGrowsFrames : Type 0
 ArrivalGrowsFrames =
     (finished : List Piece) (memory frame : List ℕ) (state : AdapterState) (fate : Fate)

@@ -1,4 +1,4 @@
--- What a register reads, said of the list of all that came to an adapter since power-on.
+-- The value of a register, from the list of all events at an adapter since power-on.
 use Rattle.std.specs.Prelude.{◌≡◌, ◌==◌, ◌&&◌, ◌||◌, ℕ, Bool, true, false, List, [], ◌∷◌, ◌++◌, Some, bit_and}
 use Rattle.std.specs.List.{list_any}
 use Rattle.mdic_phy.specs.declared.phy.Link.{Link}
@@ -16,8 +16,8 @@ use Rattle.adapter.specs.State.{AdapterState}
 use Rattle.adapter.specs.Steps.{after_step}
 use Rattle.adapter.specs.Table.{IsInTable, row_of}
 
--- What may come to an adapter: a read at an offset, a write of a word at an offset, a step of its own, with its answer and the memory that
--- it was given, and a frame from the wire, with its fate.
+-- An event at an adapter: a read at an offset, a write of a word at an offset, a step of the adapter, or a frame from the wire. A step
+-- contains its outcome and the memory before it, and a frame its fate.
 pub data AdapterEvent : Type 0 where
   Read : ℕ → AdapterEvent
   Write : ℕ → ℕ → AdapterEvent
@@ -31,7 +31,7 @@ after_event (Write offset value) state = after_write offset value state
 after_event (Step kind answer memory) state = after_step kind answer memory state
 after_event (Arrive fate frame) state = after_arrive fate frame state
 
--- The adapter after a list of events, the oldest first, one after another.
+-- The adapter after a list of events, the oldest first.
 abbrev pub after_events : List AdapterEvent → AdapterState → AdapterState
 after_events [] state = state
 after_events (event ∷ later) state = after_events later (after_event event state)
@@ -43,14 +43,14 @@ is_reset_event (Write offset value) = offset == (row_of Ctrl).offset && is_reset
 is_reset_event (Step kind answer memory) = false
 is_reset_event (Arrive fate frame) = false
 
--- A step of this kind with this answer moves the head of a ring on, which is at this offset.
+-- A step of this kind with this outcome advances the head of a ring, and the head register is at this offset.
 abbrev pub moves_head : ℕ → StepKind → FrameOutcome → Bool
 moves_head place TxTake Took = place == (row_of (Transmit Head)).offset
 moves_head place RxData Part = place == (row_of (Receive Head)).offset
 moves_head place RxData Moved = place == (row_of (Receive Head)).offset
 moves_head place kind answer = false
 
--- The register at this offset is written, moved on by a step, or reset.
+-- The event sets the register at this offset: by a write, by a step that advances a head, or by a reset.
 abbrev pub sets_register : ℕ → AdapterEvent → Bool
 sets_register place (Read offset) = false
 sets_register place (Write offset value) = offset == place || is_reset_event (Write offset value)
@@ -65,22 +65,22 @@ NoneSets place events = list_any (sets_register place) events ≡ false
 abbrev pub reads : List ℕ → Link → List AdapterEvent → ℕ → ℕ
 reads words link events offset = answer_at offset (after_events events (new_adapter words link))
 
--- A register whose kept bits are its rule follows from the last write to it and the last reset, whatever else was read and
--- written, at any offset, and whatever steps came between.
+-- The value of a register whose kept bits are its whole rule depends only on the last write to it and on the last reset. Other reads,
+-- writes and steps don't matter.
 pub record ReadsByHistory (register : Register) (kept : ℕ) (words : List ℕ) (link : Link) : Type 0 where
-  -- If it was never written, it reads its reset value.
+  -- If no event has set the register, it reads its reset value.
   pub never_written : (all : List AdapterEvent) → NoneSets (row_of register).offset all
       → reads words link all (row_of register).offset ≡ (row_of register).reset words
-  -- If no reset came after the last write to it, it reads the kept bits of the value written.
+  -- If no event has set the register after a write, it reads the kept bits of the written value.
   pub written : (before : List AdapterEvent) (value : ℕ) (after : List AdapterEvent)
       → is_reset_event (Write (row_of register).offset value) ≡ false → NoneSets (row_of register).offset after
       → reads words link (before ++ Write (row_of register).offset value ∷ after) (row_of register).offset ≡ bit_and value kept
-  -- If no write to it came after the last reset, it reads its reset value.
+  -- If no event has set the register after a reset, it reads its reset value.
   pub reset : (before : List AdapterEvent) (event : AdapterEvent) (after : List AdapterEvent)
       → is_reset_event event ≡ true → NoneSets (row_of register).offset after
       → reads words link (before ++ event ∷ after) (row_of register).offset ≡ (row_of register).reset words
 
--- Each register whose kept bits are its rule reads by its history.
+-- The law of the history, for each register whose kept bits are its whole rule.
 abbrev pub PlainByHistory : Type 0
 PlainByHistory =
     (register : Register) (kept : ℕ) (words : List ℕ) (link : Link)

@@ -1,4 +1,4 @@
--- The law of a register's history, proved.
+-- Proofs of the law of a register's history.
 use Rattle.std.proofs.Common.{◌≡◌, ◌≢◌, ◌==◌, ◌&&◌, ℕ, Bool, true, false, List, [], ◌∷◌, ◌++◌, Option, Some, None, refl, sym, ◌∙◌, ap}
 use Rattle.std.proofs.Common.{subst, if◌then◌else◌}
 use Rattle.std.specs.List.{list_any}
@@ -30,8 +30,6 @@ use Rattle.adapter.specs.Steps.{after_eeprom_tick, after_phy_told, after_step}
 use Rattle.adapter.specs.Transmitting.{after_put, after_take}
 use Rattle.adapter.specs.Table.{StandsAt, register_at, row_of}
 use Rattle.adapter.specs.TableLaws.{register_at-only, register_at-there}
-
--- The EEPROM's words don't change.
 
 image-by_row : (register : Register) (value : ℕ) (state : AdapterState)
     → (by_row (row_of register).kept register value state).image ≡ state.image
@@ -114,8 +112,6 @@ pub image-after_events : (events : List AdapterEvent) (state : AdapterState) →
 image-after_events [] state = refl
 image-after_events (event ∷ later) state = image-after_events later (after_event event state) ∙ image-after_event event state
 
--- Of a register whose kept bits are its rule: what leaves it as it is.
-
 plain-untouched : (written register : Register) (kept : ℕ) → (row_of register).kept ≡ Some kept → ¬ (Touches written register)
 plain-untouched _ _ kept plain link_shown = cc
 plain-untouched _ _ kept plain causes_set = cc
@@ -143,7 +139,7 @@ plain-eeprom : (register : Register) (kept : ℕ) (state : AdapterState) → (ro
 plain-eeprom Eerd kept state plain = cc
 plain-eeprom _ kept state plain = refl
 
--- A place that isn't one's own.
+-- The test whether a number is equal to itself passes.
 elsewhere : (place : ℕ) → ¬ ((place == place) ≡ false)
 elsewhere place none = false≢true (sym none ∙ eq-eqb place place refl)
 
@@ -215,7 +211,7 @@ plain-stepped register RxDone answered memory kept state plain none = plain-done
 plain-stepped register EepromTick answered memory kept state plain none = plain-eeprom register kept state plain
 plain-stepped register PhyTick answered memory kept state plain none = plain-told register (mdi.told state.mdic state.phy) kept state plain
 
--- a register other than CTRL, or a word without RST, is no reset
+-- If the event of a write is no reset, the write of its register is no reset.
 pub no_reset : (offset value : ℕ) (register : Register) → (row_of register).offset ≡ offset → is_reset_event (Write offset value) ≡ false
     → is_reset register value ≡ false
 no_reset offset value Ctrl there none = by_test (is_reset Ctrl value)
@@ -242,7 +238,7 @@ plain-written offset value register kept state plain none =
         (no_reset offset value written there parts.1)
     by_case None stands = refl
 
--- an event that doesn't set a register doesn't change what it reads
+-- An event that doesn't set a register doesn't change what the register reads.
 plain-event : (event : AdapterEvent) (register : Register) (kept : ℕ) (state : AdapterState) → (row_of register).kept ≡ Some kept
     → sets_register (row_of register).offset event ≡ false
     → answer register (after_event event state) ≡ answer register state
@@ -255,7 +251,7 @@ plain-event (Write offset value) register kept state plain none = plain-written 
 plain-event (Step kind answered memory) register kept state plain none = plain-stepped register kind answered memory kept state plain none
 plain-event (Arrive fate frame) register kept state plain none = plain-arrived register fate frame kept state plain
 
--- a list of events that don't set a register doesn't change what it reads
+-- If no event of a list sets a register, the list doesn't change what the register reads.
 pub plain-events : (events : List AdapterEvent) (register : Register) (kept : ℕ) (state : AdapterState) → (row_of register).kept ≡ Some kept
     → NoneSets (row_of register).offset events
     → answer register (after_events events state) ≡ answer register state
@@ -264,19 +260,19 @@ plain-events (event ∷ later) register kept state plain none =
     let parts = or_parts (sets_register (row_of register).offset event) (list_any (sets_register (row_of register).offset) later) none in
     plain-events later register kept (after_event event state) plain parts.1 ∙ plain-event event register kept state plain parts.0
 
--- one list of events after another
+-- The adapter after two lists of events, one after the other.
 pub after_events-append : (before after : List AdapterEvent) (state : AdapterState)
     → after_events (before ++ after) state ≡ after_events after (after_events before state)
 after_events-append [] after state = refl
 after_events-append (event ∷ before) after state = after_events-append before after (after_event event state)
 
--- a plain register isn't PBA
+-- A register whose kept bits are its whole rule isn't PBA.
 plain-not_pba : (register : Register) (kept : ℕ) → (row_of register).kept ≡ Some kept → register ≢ Pba
 plain-not_pba register kept plain same =
     let ruled : (row_of register).kept ≡ None = ap (λ (r : Register). (row_of r).kept) same in
     cc
 
--- the state after a reset event
+-- The state after a reset event.
 pub reset-event : (event : AdapterEvent) (state : AdapterState) → is_reset_event event ≡ true → after_event event state ≡ after_reset state
 reset-event (Read offset) state resets = absurd (false≢true resets)
 reset-event (Step kind answer memory) state resets = absurd (false≢true resets)

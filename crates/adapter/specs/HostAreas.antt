@@ -13,42 +13,42 @@ use Rattle.adapter.specs.HostFrames.{named}
 use Rattle.adapter.specs.Slots.{buffered, finished, in_work, offered}
 use Rattle.adapter.specs.World.{World, receive_ring, transmit_ring}
 
--- a ring's descriptors
+-- The area of a ring's descriptors.
 abbrev pub ring_area : Ring → Area
 ring_area ring = record { address = ring.base; size = 16 * count_of ring }
 
--- the bytes of the piece in progress, if any
+-- The bytes of the piece in progress, if any.
 abbrev pub work_areas : List ℕ → Option Work → List Area
 work_areas memory None = []
 work_areas memory (Some work) = record { address = receive.named_address memory work.descriptor; size = work.length } ∷ []
 
--- the size of each receive buffer in bytes, by RCTL.BSIZE
+-- The size of each receive buffer in bytes, by RCTL.BSIZE.
 abbrev pub buffer_size : World → ℕ
 buffer_size world = buffer_size_of (field world.adapter.filter.rctl rctl_bsize 2)
 
--- the buffer that a receive descriptor names
+-- The buffer that a receive descriptor names.
 abbrev pub buffer_of : World → ℕ → Area
 buffer_of world descriptor = record {
   address = receive.named_address world.memory descriptor;
   size = buffer_size world;
 }
 
--- whether RCTL.EN is set
+-- Whether RCTL.EN is set.
 abbrev pub receives : World → Bool
 receives world = is_set world.adapter.filter.rctl rctl_en
 
--- the buffers of the offered slots if RCTL.EN is set, else none
+-- The buffers of the offered slots if RCTL.EN is set, else none.
 abbrev pub offered_buffers : World → List Area
 offered_buffers world = if receives world then map (buffer_of world) (offered (receive_ring world)) else []
 
--- the data of a transmit descriptor
+-- The area of the data that a transmit descriptor names.
 abbrev pub data_of : List ℕ → ℕ → Area
 data_of memory descriptor = record {
   address = (transmit.descriptor_at memory descriptor).address;
   size = (transmit.descriptor_at memory descriptor).length;
 }
 
--- the data of the descriptors from TDH to TDT, the bytes of finished slots and of the piece in progress, and the buffers of offered slots
+-- The data of the descriptors from TDH to TDT, the bytes of finished slots and of the piece in progress, and the buffers of offered slots.
 abbrev pub frame_areas : ℕ → World → List Area
 frame_areas oldest world =
     map (data_of world.memory) (offered (transmit_ring world))
@@ -56,27 +56,26 @@ frame_areas oldest world =
     ++ (work_areas world.memory world.adapter.receiver.work
     ++ offered_buffers world))
 
--- the two rings, and all areas of their frames
+-- The two rings, and all areas of their frames.
 abbrev pub areas : ℕ → World → List Area
 areas oldest world = ring_area (receive_ring world) ∷ ring_area (transmit_ring world) ∷ frame_areas oldest world
 
--- What the adapter may write.
-
--- bytes 8 to 15 of a receive descriptor
+-- Bytes 8 to 15 of a receive descriptor.
 abbrev pub reported_half : ℕ → Area
 reported_half descriptor = record { address = descriptor + 8; size = 8 }
 
--- byte 12 of a transmit descriptor
+-- Byte 12 of a transmit descriptor.
 abbrev pub status_byte : ℕ → Area
 status_byte descriptor = record { address = descriptor + 12; size = 1 }
 
--- what the adapter may write: of the slots that it has taken or is offered the bytes that it reports in, and the offered buffers
+-- The areas that the adapter may write. Of taken and offered slots, they are bytes 8 to 15 of receive descriptors and byte 12 of transmit
+-- descriptors. The offered buffers are such areas, too.
 abbrev pub writable : World → List Area
 writable world =
     map reported_half (in_work world ++ offered (receive_ring world))
     ++ (map status_byte (buffered world ++ offered (transmit_ring world))
     ++ offered_buffers world)
 
--- an area that is apart from all that the adapter may write
+-- An area that is apart from all areas that the adapter may write.
 abbrev pub IsForeign : World → Area → Type 0
 IsForeign world area = All (AreApart area) (writable world)

@@ -1,6 +1,6 @@
 pub mod Rings
 pub mod KnownRing
-pub mod PacketBuffer
+pub use Rattle.registers.specs.PacketBuffer
 pub mod State
 pub mod Table
 pub mod Registers
@@ -28,7 +28,7 @@ pub mod HostAreas
 pub mod Conditions
 pub mod DataOutcomes
 pub mod Running
-pub mod JoinedPieces
-pub mod FinishedSlots
-pub mod QueuedFrames
+pub use Rattle.rx_engine.specs.JoinedPieces
+pub use Rattle.rx_engine.specs.FinishedSlots
+pub use Rattle.tx_engine.specs.QueuedFrames
 pub mod Pending

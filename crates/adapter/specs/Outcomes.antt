@@ -1,20 +1,20 @@
--- Outcomes of steps, with the frame that a step put (our choice).
+-- Outcomes of steps, with the frame that a step put on the wire (our choice).
 use Rattle.std.specs.Prelude.{ℕ, List, [], ◌∷◌}
 use Rattle.tx_engine.specs.Transmitter.{Queued}
 use Rattle.adapter.specs.State.{AdapterState}
 use Rattle.adapter.specs.declared.outcome.Outcome.{Outcome}
 use Rattle.adapter.specs.declared.outcome.Outcome.TheVariants.{Took, Put, WireFull, Part, Moved, Done, Delivered, Ticked, Nothing, Fault}
 
--- an outcome with the bytes of its frame
+-- An outcome that contains the bytes of its frame.
 abbrev pub FrameOutcome : Type 0
 FrameOutcome = Outcome (List ℕ)
 
--- the oldest frame of a packet buffer
+-- The oldest frame of a packet buffer, or no bytes if the buffer is empty.
 abbrev pub oldest : List Queued → List ℕ
 oldest [] = []
 oldest (queued ∷ later) = queued.frame
 
--- the same outcome, with this frame if it has one
+-- The same outcome, with this frame if the outcome contains a frame.
 abbrev pub with_frame : {F G : Type 0} → G → Outcome F → Outcome G
 with_frame frame Took = Took
 with_frame frame (Put old) = Put frame
@@ -27,11 +27,12 @@ with_frame frame Ticked = Ticked
 with_frame frame Nothing = Nothing
 with_frame frame Fault = Fault
 
--- the outcome of a step of the adapter in this state, with the frame that it put: the oldest of the transmit packet buffer
+-- The outcome of a step of the adapter in this state, with the frame that the step put. This frame is the oldest one in the transmit packet
+-- buffer.
 abbrev pub framed : {F : Type 0} → Outcome F → AdapterState → FrameOutcome
 framed outcome state = with_frame (oldest state.transmitter.buffer) outcome
 
--- the frame that a step put
+-- The frame that a step put, as a list: empty if the outcome isn't `Put`.
 abbrev pub put_by : FrameOutcome → List (List ℕ)
 put_by (Put frame) = frame ∷ []
 put_by outcome = []

@@ -1,4 +1,4 @@
--- What comes to EERD, MDIC and the PHY, proved.
+-- Proofs about the operations on EERD, MDIC and the PHY.
 use Rattle.std.proofs.Common.{◌≡◌, ℕ, Bool, true, false, List, [], ◌∷◌, ◌++◌, Option, Some, None, refl, sym, ◌∙◌, ap, if◌then◌else◌}
 use Rattle.std.specs.List.{list_any}
 use Rattle.std.specs.Option.{is_some}
@@ -34,13 +34,13 @@ use Rattle.adapter.specs.TableLaws.{register_at-only, register_at-there}
 abbrev both_of : AdapterState → MdicAndPhy
 both_of state = record { mdic = state.mdic; phy = state.phy }
 
--- A tick with no command pending doesn't change MDIC.
+-- If no command is pending, a tick doesn't change MDIC.
 mdic-idle : (pending : Option Operation) (value : ℕ) (state : PhyState) → is_some pending ≡ false
     → mdic_after_tick (record { value = value; pending = pending }) state ≡ record { value = value; pending = pending }
 mdic-idle (Some operation) value state none = absurd (true≢false none)
 mdic-idle None value state none = refl
 
--- A tick with no count running doesn't change the PHY.
+-- If no count is running, a tick doesn't change the PHY.
 negotiation-still : (negotiation : Negotiation) → is_running negotiation ≡ false → counted negotiation ≡ negotiation
 negotiation-still NotStarted still = refl
 negotiation-still (Running left) still = absurd (true≢false still)
@@ -52,7 +52,7 @@ phy-idle (Some operation) value state none still = absurd (true≢false none)
 phy-idle None value state none still =
     ap (λ (negotiation : Negotiation). record state { negotiation = negotiation }) (negotiation-still state.negotiation still)
 
--- a tick of the adapter is one of MDIC, also if it has nothing to do
+-- A tick of the PHY at the adapter is a tick of MDIC, even if it has nothing to do.
 both-ticked : (state : AdapterState)
     → both_of (after_phy_tick state) ≡ after_mdic_events (Rattle.mdic_phy.specs.MdicHistory.Tick ∷ []) (both_of state)
 both-ticked state = by_test (mdi.has_work state.mdic state.phy) (λ none. none)
@@ -89,7 +89,7 @@ both-read : (register : Register) (state : AdapterState) → both_of (read_of re
 both-read Icr state = refl
 both-read _ state = refl
 
--- the engines change neither MDIC nor the PHY
+-- The engines change neither MDIC nor the PHY.
 both-left : (before after : AdapterState) → LeavesParts before after → both_of after ≡ both_of before
 both-left before after left = rw (left.mdic, left.phy) refl
 
@@ -121,8 +121,6 @@ both-events (event ∷ later) state =
     both-events later (after_event event state)
     ∙ ap (after_mdic_events (mdic_events later)) (both-event event state)
     ∙ sym (after_mdic_events-append (mdic_event event) (mdic_events later) (both_of state))
-
--- EERD.
 
 eerd-by_row : (register : Register) (value : ℕ) (state : AdapterState)
     → (by_row (row_of register).kept register value state).eerd ≡ eerd.after_all state.image (eerd_written (Some register) value) state.eerd

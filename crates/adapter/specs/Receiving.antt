@@ -1,5 +1,5 @@
--- The ways of a frame from the wire into memory ("3.2 Packet Reception"): it arrives, data steps move it to memory piece by piece, and a
--- done step after each writes the descriptor back.
+-- The reception of a frame ("3.2 Packet Reception"). The frame arrives, and data steps move it to memory piece by piece. After each data
+-- step, a done step writes back the descriptor.
 use Rattle.std.specs.Prelude.{◌≡◌, ◌+◌, ◌*◌, ◌==◌}
 use Rattle.std.specs.Prelude.{ℕ, Bool, true, false, List, Option, None, Some, length, if◌then◌else◌}
 use Rattle.dma_memory.specs.Areas.{ChangesOnly, area_at}
@@ -10,7 +10,7 @@ use Rattle.registers.specs.Places.{alone, rctl_en, rxdmt0, rxo, rxt0}
 use Rattle.rx_engine.specs.Arriving.{IsAccepted, after_arrival}
 use Rattle.rx_engine.specs.Descriptors.{named_address}
 use Rattle.rx_engine.specs.Finishing.{engine_after_done, memory_after_done}
-use Rattle.rx_engine.specs.Moving.{HasFrameToMove, CanMove, engine_after_data, is_half_free, is_last, memory_after_data, next_piece}
+use Rattle.rx_engine.specs.Moving.{HasFrameToMove, CanMove, engine_after_data, is_half_offered, is_last, memory_after_data, next_piece}
 use Rattle.rx_engine.specs.declared.arrival.Fate.{Fate}
 use Rattle.rx_engine.specs.declared.data.Data.{Data}
 use Rattle.rx_engine.specs.declared.arrival.Fate.TheVariants.{Off, Illegal, Filtered, Missed, Stored}
@@ -27,17 +27,15 @@ use Rattle.adapter.specs.Rings.{ring_of}
 use Rattle.adapter.specs.State.{AdapterState}
 use Rattle.adapter.specs.Transmitting.{moved_on}
 
--- Arrivals.
-
--- the size of the receive packet buffer in bytes: the kilobytes of PBA.RXA (13.4.16)
+-- The size of the receive packet buffer in bytes: the kilobytes of PBA.RXA (13.4.16).
 abbrev pub room : AdapterState → ℕ
 room state = state.receive_kilobytes * 1024
 
--- whether a frame is stored depends on the room in the packet buffer alone
+-- A frame that is stored if the packet buffer has room for it, and missed otherwise.
 abbrev pub GetsIn : AdapterState → List ℕ → Type 0
 GetsIn state frame = IsAccepted state.filter frame
 
--- which fate a frame has, by the adapter before it: the first that applies
+-- Which fate a frame has, by the adapter before the arrival: the first fate that applies.
 abbrev pub IsFate : AdapterState → List ℕ → Fate → Type 0
 IsFate state frame Off = ¬ (HasBit state.filter.rctl rctl_en)
 IsFate state frame Illegal = HasBit state.filter.rctl rctl_en × (¬ (IsLegal frame))
@@ -45,13 +43,13 @@ IsFate state frame Filtered = HasBit state.filter.rctl rctl_en × IsLegal frame 
 IsFate state frame Missed = GetsIn state frame × LacksRoomFor (room state) state.receiver.buffer frame
 IsFate state frame Stored = GetsIn state frame × HasRoomFor (room state) state.receiver.buffer frame
 
--- a frame that is stored or missed while RDH equals RDT is counted by RNBC (our choice)
+-- RNBC after a frame is stored or missed: it counts the frame if RDH equals RDT (our choice).
 abbrev pub no_buffers_counted : AdapterState → ℕ
 no_buffers_counted state = if state.receive_ring.head == state.receive_ring.tail then one_more state.no_receive_buffers
     else state.no_receive_buffers
 
--- The adapter after a frame with this fate: a stored frame is the last one in the packet buffer; MPC counts a missed frame, and RXO, bit 6,
--- is recorded for it.
+-- The adapter after a frame with this fate. A stored frame is the last one in the packet buffer. MPC counts a missed frame, and RXO, bit 6,
+-- is recorded.
 abbrev pub after_arrive : Fate → List ℕ → AdapterState → AdapterState
 after_arrive Off frame state = state
 after_arrive Illegal frame state = state
@@ -61,25 +59,23 @@ after_arrive Missed frame state =
 after_arrive Stored frame state =
     record state { receiver = after_arrival Stored frame state.receiver; no_receive_buffers = no_buffers_counted state }
 
--- Data steps.
-
--- there is a frame to move, and a descriptor for it
+-- There is a frame to move, and a descriptor for its next piece.
 abbrev pub HasFrameAndDescriptor : AdapterState → Type 0
 HasFrameAndDescriptor state = HasFrameToMove state.filter.rctl (ring_of state.receive_ring) state.receiver
 
--- how many bytes the next piece of the oldest frame has: what is left of the frame, at most a buffer's size by RCTL.BSIZE
+-- The size of the next piece of the oldest frame: the rest of the frame, at most the buffer size that RCTL.BSIZE selects.
 abbrev pub piece_size : AdapterState → ℕ
 piece_size state = length (next_piece state.filter.rctl state.receiver)
 
--- whether the next piece of the oldest frame is the frame's last one
+-- Whether the next piece of the oldest frame is the frame's last one.
 abbrev pub is_last_piece : AdapterState → Bool
 is_last_piece state = is_last state.filter.rctl state.receiver
 
--- the next piece of the oldest frame can be moved to the buffer that the descriptor at RDH names
+-- The next piece of the oldest frame can be moved to the buffer that the descriptor at RDH names.
 abbrev pub CanMovePiece : List ℕ → AdapterState → Type 0
 CanMovePiece memory state = CanMove state.filter.rctl (ring_of state.receive_ring) memory (piece_size state)
 
--- which outcome a data step has, by the adapter and the memory before it
+-- Which outcome a data step has, by the adapter and the memory before it.
 abbrev pub DataAnswers : List ℕ → AdapterState → FrameOutcome → Type 0
 DataAnswers memory state Nothing = ¬ (HasFrameAndDescriptor state)
 DataAnswers memory state Fault = HasFrameAndDescriptor state × (¬ (CanMovePiece memory state))
@@ -87,11 +83,11 @@ DataAnswers memory state Part = HasFrameAndDescriptor state × CanMovePiece memo
 DataAnswers memory state Moved = HasFrameAndDescriptor state × CanMovePiece memory state × (is_last_piece state ≡ true)
 DataAnswers memory state _ = ⊥
 
--- the causes that a data step records: RXDMT0, bit 4, if the free descriptors become half the ring (13.4.17; 13.4.22, RDMTS 00)
+-- The causes that a data step records: RXDMT0, bit 4, if the free descriptors are then half the ring (13.4.17; 13.4.22, RDMTS 00).
 abbrev pub causes_of_moving : RingRegisters → ℕ
-causes_of_moving ring = if is_half_free (ring_of (moved_on ring)) then alone rxdmt0 else 0
+causes_of_moving ring = if is_half_offered (ring_of (moved_on ring)) then alone rxdmt0 else 0
 
--- the adapter after a step of the receive engine with this answer, which took the descriptor at RDH
+-- The adapter after a data step with this answer of the engine, which used the descriptor at RDH.
 abbrev pub after_move : Data → AdapterState → AdapterState
 after_move answer state =
     with_causes (causes_of_moving state.receive_ring) (record state {
@@ -99,50 +95,48 @@ after_move answer state =
       receive_ring = moved_on state.receive_ring;
     })
 
--- The adapter after a data step with this outcome: after `Part` or `Moved` a piece of the oldest frame is in progress and RDH has moved on;
--- after `Moved` the frame has left the packet buffer; a fault stops the step.
+-- The adapter after a data step with this outcome. After `Part` or `Moved`, a piece of the oldest frame is in progress, and RDH has
+-- advanced. After `Moved`, the frame is removed from the packet buffer. A fault stops the step.
 abbrev pub after_data : FrameOutcome → AdapterState → AdapterState
-after_data Part state = after_move (answers.Part (is_half_free (ring_of (moved_on state.receive_ring)))) state
-after_data Moved state = after_move (answers.Moved (is_half_free (ring_of (moved_on state.receive_ring)))) state
+after_data Part state = after_move (answers.Part (is_half_offered (ring_of (moved_on state.receive_ring)))) state
+after_data Moved state = after_move (answers.Moved (is_half_offered (ring_of (moved_on state.receive_ring)))) state
 after_data Fault state =
     record state { receiver = engine_after_data answers.Fault state.filter.rctl (ring_of state.receive_ring) state.receiver }
 after_data _ state = state
 
--- The memory after a data step with this outcome: the piece moved is in the buffer that the descriptor at RDH names.
+-- The memory after a data step with this outcome: a moved piece is in the buffer that the descriptor at RDH names.
 abbrev pub memory_after_data_step : FrameOutcome → List ℕ → AdapterState → List ℕ
 memory_after_data_step Part memory state =
-    memory_after_data (answers.Part (is_half_free (ring_of (moved_on state.receive_ring))))
+    memory_after_data (answers.Part (is_half_offered (ring_of (moved_on state.receive_ring))))
     state.filter.rctl (ring_of state.receive_ring) state.receiver memory
 memory_after_data_step Moved memory state =
-    memory_after_data (answers.Moved (is_half_free (ring_of (moved_on state.receive_ring))))
+    memory_after_data (answers.Moved (is_half_offered (ring_of (moved_on state.receive_ring))))
     state.filter.rctl (ring_of state.receive_ring) state.receiver memory
 memory_after_data_step _ memory state = memory
 
--- A data step changes at most the piece's bytes of the buffer that the descriptor at RDH names.
+-- A data step changes memory at most in the bytes of the piece, in the buffer that the descriptor at RDH names.
 abbrev pub DataChangesOnly : AdapterState → List ℕ → List ℕ → Type 0
 DataChangesOnly state memory memory' =
     ChangesOnly memory memory'
     (area_at (named_address memory (address_of (ring_of state.receive_ring) state.receive_ring.head))
     (piece_size state))
 
--- Done steps.
-
--- which outcome a done step has, by the adapter before it
+-- Which outcome a done step has, by the adapter before it.
 abbrev pub DoneAnswers : AdapterState → FrameOutcome → Type 0
 DoneAnswers state Nothing = state.receiver.work ≡ None
 DoneAnswers state Done = ¬ (state.receiver.work ≡ None)
 DoneAnswers state _ = ⊥
 
--- the piece in progress is the last of its frame
+-- Whether the piece in progress is the last piece of its frame.
 abbrev pub is_ending : Option Work → Bool
 is_ending None = false
 is_ending (Some work) = work.ends
 
--- the causes that a done step records: RXT0, bit 7, if the piece in progress is the last of its frame (13.4.17)
+-- The causes that a done step records: RXT0, bit 7, if the piece in progress is the last of its frame (13.4.17).
 abbrev pub causes_of_finishing : Option Work → ℕ
 causes_of_finishing work = if is_ending work then alone rxt0 else 0
 
--- GPRC after a done step: it counts a frame when the descriptor of its last piece is written back (our choice)
+-- GPRC after a done step: it counts a frame when the descriptor of its last piece is written back (our choice).
 abbrev pub received_counted : AdapterState → ℕ
 received_counted state = if is_ending state.receiver.work then one_more state.received_packets else state.received_packets
 
@@ -157,7 +151,7 @@ after_done _ state = state
 abbrev pub memory_after_done_step : List ℕ → AdapterState → List ℕ
 memory_after_done_step memory state = memory_after_done state.receiver.work memory
 
--- With a piece in progress, at most bytes 8 to 15 of its descriptor differ; with none, no byte.
+-- If a piece is in progress, memory differs at most in bytes 8 to 15 of its descriptor. Otherwise no byte differs.
 abbrev pub ChangesDescriptorOf : Option Work → List ℕ → List ℕ → Type 0
 ChangesDescriptorOf None memory memory' = memory' ≡ memory
 ChangesDescriptorOf (Some work) memory memory' = ChangesOnly memory memory' (area_at (work.descriptor + 8) 8)

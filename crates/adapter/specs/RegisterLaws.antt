@@ -1,4 +1,4 @@
--- What reads and writes do to one another, proved.
+-- Proofs of the effect of writes on later reads.
 use Rattle.std.proofs.Common.{◌≡◌, ◌≢◌, ◌/◌, ◌%◌, ◌^◌, ◌<◌, ◌==◌, ◌&&◌, ℕ, zero, suc, Bool, true, false, List, ◌∷◌, Option, Some, bit_and}
 use Rattle.std.proofs.Common.{replicate, slice_index, refl, sym, ◌∙◌, ap, subst, if◌then◌else◌, arith}
 use Rattle.std.proofs.lemmas.Bool.{ne_eqb}
@@ -19,12 +19,10 @@ use Rattle.adapter.specs.Rings.{new_ring, ring_answer, with_ring}
 use Rattle.adapter.specs.State.{AdapterState, HasRegisters}
 use Rattle.adapter.specs.Table.{IsInTable, row_of}
 
--- A write that is no reset goes by the table's row.
+-- A write that is no reset has the effect of the table's row.
 pub write_of-row : (register : Register) (value : ℕ) (state : AdapterState) → is_reset register value ≡ false
     → write_of register value state ≡ by_row (row_of register).kept register value state
 write_of-row register value state none = rw none refl
-
--- Of a ring's registers.
 
 ring-same : (register : RingRegister) (number : ℕ) (ring : RingRegisters) → ring_answer register (with_ring register number ring) ≡ number
 ring-same BaseLow number ring = refl
@@ -49,7 +47,7 @@ ring-new Length = refl
 ring-new Head = refl
 ring-new Tail = refl
 
--- A register whose kept bits are its rule reads the number that was set.
+-- A register whose kept bits are its whole rule reads the number that was set.
 pub with_register-same : (register : Register) (kept number : ℕ) (state : AdapterState)
     → HasRegisters state → IsInTable register → (row_of register).kept ≡ Some kept
     → answer register (with_register register number state) ≡ number
@@ -74,8 +72,6 @@ plain_reads_back register kept value state adapter within plain none =
     ap (answer register) (write_of-row register value state none)
     ∙ ap (λ (row : Option ℕ). answer register (by_row row register value state)) plain
     ∙ with_register-same register kept (bit_and value kept) state adapter within plain
-
--- A write doesn't change what other registers read, register by register.
 
 ctrl-others : (other : Register) (number : ℕ) (state : AdapterState) → Ctrl ≢ other → ¬ (Touches Ctrl other)
     → answer other (record state { device_control = number }) ≡ answer other state
@@ -122,7 +118,7 @@ others_stay_at_read Gptc Gptc state differ = absurd (differ refl)
 others_stay_at_read Rnbc Rnbc state differ = absurd (differ refl)
 others_stay_at_read _ _ state differ = refl
 
--- SLU is among the bits that CTRL keeps
+-- CTRL stores SLU.
 slu-kept : (value : ℕ) → bit_and value 0x40000061 / 2 ^ 6 % 2 ≡ value / 2 ^ 6 % 2
 slu-kept value =
     let both = bit_at_and value 0x40000061 6 in
@@ -138,21 +134,19 @@ touched_by_writes value state = record {
   mask_cleared = refl;
 }
 
--- After a reset.
-
--- an entry of 16, of which the first is given and the others are 0
+-- The entry of an array of 16 entries, of which the first is given and the others are 0.
 entry-at_reset : (first entry : ℕ) → entry < 16 → slice_index (first ∷ replicate 15 0) entry ≡ (if entry == 0 then first else 0)
 entry-at_reset first zero within = refl
 entry-at_reset first (suc entry) within =
     let other : (suc entry == 0) ≡ false = ne_eqb (suc entry) 0 (λ same. omega arith) in
     get_or-replicate 15 entry 0 0 (omega arith) ∙ ap (λ (test : Bool). if test then first else 0) (sym other)
 
--- STATUS shows no link unless the link is up and CTRL.SLU is set
+-- STATUS shows no link while CTRL.SLU is 0.
 no_link : (up : Bool) → (if up && false then status_of_link_up else 0) ≡ 0
 no_link true = refl
 no_link false = refl
 
--- each register but PBA reads its reset value of the table
+-- Each register except PBA reads its reset value of the table.
 pub answer-at_reset : (register : Register) (words : List ℕ) (phy : PhyState) (kilobytes : ℕ) → IsInTable register → register ≢ Pba
     → answer register (adapter_at_reset words phy kilobytes) ≡ (row_of register).reset words
 answer-at_reset Status words phy kilobytes within differ = no_link (link_is_up phy)
@@ -165,7 +159,7 @@ answer-at_reset (Rah entry) words phy kilobytes within differ = entry-at_reset _
 answer-at_reset (Vfta word) words phy kilobytes within differ = get_or-replicate 128 word 0 0 within
 answer-at_reset _ words phy kilobytes within differ = refl
 
--- the registers after a reset
+-- What a reset does to the registers.
 is_reset-after : (before after : AdapterState) → after ≡ after_reset before → IsReset before after
 is_reset-after before after same =
     subst (λ (state : AdapterState). IsReset before state) (sym same) (record {

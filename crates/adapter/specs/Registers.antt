@@ -1,4 +1,4 @@
--- What a read of a register answers, and the state after a read, after a write and after a reset.
+-- The value that a read of a register returns, and the state after a read, a write and a reset.
 use Rattle.std.specs.Prelude.{◌&&◌, ℕ, Bool, false, List, ◌∷◌, Option, Some, None, bit_and, replicate, slice_index, slice_set}
 use Rattle.std.specs.Prelude.{if◌then◌else◌}
 use Rattle.eeprom.specs.declared.eerd.ReadState.TheVariants.{Idle}
@@ -15,15 +15,13 @@ use Rattle.tx_engine.specs.Transmitter.{new_transmitter}
 use Rattle.adapter.specs.declared.register.Register.{Register}
 use Rattle.adapter.specs.declared.register.Register.TheVariants.{Ctrl, Status, Eerd, Mdic, Vet, Icr, Ics, Ims, Imc, Rctl, Tctl, Pba}
 use Rattle.adapter.specs.declared.register.Register.TheVariants.{Receive, Transmit, Mpc, Gprc, Gptc, Rnbc, Mta, Ral, Rah, Vfta}
-use Rattle.adapter.specs.PacketBuffer.{allocation_shown, allocation_written}
+use Rattle.registers.specs.PacketBuffer.{allocation_shown, allocation_written}
 use Rattle.adapter.specs.Rings.{new_ring, ring_answer, with_ring}
 use Rattle.adapter.specs.State.{AdapterState}
 use Rattle.adapter.specs.Table.{row_of, register_at, address_low_at_reset, address_high_at_reset}
 use Rattle.rx_engine.specs.declared.filter.TheConstants.{VLAN_TYPE}
 
--- After power-on and after a reset.
-
--- the filter: the first of the 16 receive addresses comes from the EEPROM
+-- The receive filter: the first of the 16 receive addresses comes from the EEPROM.
 abbrev pub filter_at_reset : List ℕ → FilterRegisters
 filter_at_reset words = record {
   ral = address_low_at_reset 0 words ∷ replicate 15 0;
@@ -34,7 +32,7 @@ filter_at_reset words = record {
   vet = VLAN_TYPE;
 }
 
--- an adapter after a reset, by the words of its EEPROM, its PHY and its PBA
+-- An adapter after a reset, by the words of its EEPROM, its PHY and its PBA.
 abbrev pub adapter_at_reset : List ℕ → PhyState → ℕ → AdapterState
 adapter_at_reset words phy kilobytes = record {
   image = words;
@@ -56,22 +54,20 @@ adapter_at_reset words phy kilobytes = record {
   transmitter = new_transmitter;
 }
 
--- an adapter after power-on: its PHY is new, and its packet buffer has 48 kilobytes for frames that are received
+-- An adapter after power-on: its PHY is new, and its packet buffer has 48 kilobytes for frames that are received.
 abbrev pub new_adapter : List ℕ → Link → AdapterState
 new_adapter words link = adapter_at_reset words (new_phy link) 48
 
--- CTRL.RST leaves the PHY and PBA as they are, gives every other register its value after a reset, empties both packet buffers, drops the
--- piece in progress and starts engines that a fault has stopped again (our choice)
+-- The adapter after a reset by CTRL.RST (our choice). The PHY and PBA don't change, and every other register has its reset value. Both
+-- packet buffers are empty, no piece is in progress, and no engine is stopped.
 abbrev pub after_reset : AdapterState → AdapterState
 after_reset state = adapter_at_reset state.image state.phy state.receive_kilobytes
 
--- Reads.
-
--- STATUS shows the link of the PHY while CTRL.SLU, bit 6, is set (our choice)
+-- STATUS shows the link of the PHY while CTRL.SLU, bit 6, is set (our choice).
 abbrev pub shows_link : AdapterState → Bool
 shows_link state = link_is_up state.phy && is_set state.device_control ctrl_slu
 
--- what a read of a register answers
+-- What a read of a register returns.
 abbrev pub answer : Register → AdapterState → ℕ
 answer Ctrl state = state.device_control
 answer Status state = if shows_link state then status_of_link_up else 0
@@ -96,7 +92,7 @@ answer (Ral entry) state = slice_index state.filter.ral entry
 answer (Rah entry) state = slice_index state.filter.rah entry
 answer (Vfta word) state = slice_index state.filter.vfta word
 
--- the state after a read of a register: ICR and the counters are cleared by it, and nothing else changes
+-- The state after a read of a register: the read clears ICR and the counters, and changes nothing else.
 abbrev pub read_of : Register → AdapterState → AdapterState
 read_of Icr state = record state { causes = record state.causes { recorded = 0 } }
 read_of Mpc state = record state { missed_packets = 0 }
@@ -105,9 +101,7 @@ read_of Gptc state = record state { transmitted_packets = 0 }
 read_of Rnbc state = record state { no_receive_buffers = 0 }
 read_of register state = state
 
--- Writes.
-
--- the state in which a register whose kept bits are its rule has this number
+-- The state in which a register whose kept bits are its whole rule has this value.
 abbrev pub with_register : Register → ℕ → AdapterState → AdapterState
 with_register Ctrl number state = record state { device_control = number }
 with_register Vet number state = record state { filter = record state.filter { vet = number } }
@@ -121,7 +115,7 @@ with_register (Rah entry) number state = record state { filter = record state.fi
 with_register (Vfta word) number state = record state { filter = record state.filter { vfta = slice_set state.filter.vfta word number } }
 with_register register number state = state
 
--- the state after a write of a register that has a rule of its own; STATUS and the counters ignore it
+-- The state after a write of a register that has another rule. STATUS and the counters ignore the write.
 abbrev pub by_rule : Register → ℕ → AdapterState → AdapterState
 by_rule Eerd value state = record state { eerd = eeprom.after_write value state.eerd }
 by_rule Mdic value state = record state { mdic = mdi.after_write value }
@@ -132,22 +126,22 @@ by_rule Imc value state = record state { causes = record state.causes { mask = d
 by_rule Pba value state = record state { receive_kilobytes = allocation_written value state.receive_kilobytes }
 by_rule register value state = state
 
--- a write of CTRL with RST, bit 26, resets, and the rest of it is ignored (our choice)
+-- A write of CTRL with RST, bit 26, resets the adapter, and its other bits are ignored (our choice).
 abbrev pub is_reset : Register → ℕ → Bool
 is_reset Ctrl value = is_set value ctrl_rst
 is_reset register value = false
 
--- the state after a write that is no reset: by the kept bits of the table's row, or by the register's own rule
+-- The state after a write that is no reset: by the kept bits of the table's row, or by the register's other rule.
 abbrev pub by_row : Option ℕ → Register → ℕ → AdapterState → AdapterState
 by_row (Some kept) register value state = with_register register (bit_and value kept) state
 by_row None register value state = by_rule register value state
 
--- the state after a write of a register
+-- The state after a write of a register.
 abbrev pub write_of : Register → ℕ → AdapterState → AdapterState
 write_of register value state =
     if is_reset register value then after_reset state else by_row (row_of register).kept register value state
 
--- By offsets: where there is no register, a read answers 0, and neither a read nor a write changes anything (our choice).
+-- Accesses by offset. If no register is at an offset, a read returns 0, and neither a read nor a write changes anything (our choice).
 
 -- What a read returns: the register's value, or 0 if there is no register.
 abbrev pub answer_of : Option Register → AdapterState → ℕ
@@ -164,14 +158,14 @@ abbrev pub left_by_write : Option Register → ℕ → AdapterState → AdapterS
 left_by_write (Some register) value state = write_of register value state
 left_by_write None value state = state
 
--- what a read at an offset answers
+-- What a read at an offset returns.
 abbrev pub answer_at : ℕ → AdapterState → ℕ
 answer_at offset state = answer_of (register_at offset) state
 
--- the state after a read at an offset
+-- The state after a read at an offset.
 abbrev pub after_read : ℕ → AdapterState → AdapterState
 after_read offset state = left_by_read (register_at offset) state
 
--- the state after a write at an offset
+-- The state after a write at an offset.
 abbrev pub after_write : ℕ → ℕ → AdapterState → AdapterState
 after_write offset value state = left_by_write (register_at offset) value state

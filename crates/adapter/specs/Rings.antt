@@ -6,7 +6,7 @@ use Rattle.adapter.specs.declared.register.RingRegister.{RingRegister}
 use Rattle.adapter.specs.declared.register.RingRegister.TheVariants.{BaseLow, BaseHigh, Length, Head, Tail}
 use Rattle.adapter.specs.declared.ring.RingRegisters.{RingRegisters}
 
--- the distance of the register from RDBAL or TDBAL, in bytes
+-- The distance of the register from RDBAL or TDBAL, in bytes.
 abbrev pub ring_distance : RingRegister → ℕ
 ring_distance BaseLow = 0x00
 ring_distance BaseHigh = 0x04
@@ -14,7 +14,7 @@ ring_distance Length = 0x08
 ring_distance Head = 0x10
 ring_distance Tail = 0x18
 
--- the bits that a write changes and a read shows
+-- The bits that a write stores and a read returns.
 abbrev pub ring_kept : RingRegister → ℕ
 ring_kept BaseLow = 0xFFFFFFF0
 ring_kept BaseHigh = 0xFFFFFFFF
@@ -22,11 +22,11 @@ ring_kept Length = 0x000FFF80
 ring_kept Head = 0x0000FFFF
 ring_kept Tail = 0x0000FFFF
 
--- a ring after a reset
+-- The registers of a ring after a reset.
 abbrev pub new_ring : RingRegisters
 new_ring = record { base_low = 0; base_high = 0; length_bytes = 0; head = 0; tail = 0 }
 
--- what a register reads
+-- The value that a read of a register returns.
 abbrev pub ring_answer : RingRegister → RingRegisters → ℕ
 ring_answer BaseLow ring = ring.base_low
 ring_answer BaseHigh ring = ring.base_high
@@ -34,7 +34,7 @@ ring_answer Length ring = ring.length_bytes
 ring_answer Head ring = ring.head
 ring_answer Tail ring = ring.tail
 
--- the ring with this number in a register
+-- The registers of a ring after one is set to this number.
 abbrev pub with_ring : RingRegister → ℕ → RingRegisters → RingRegisters
 with_ring BaseLow number ring = record ring { base_low = number }
 with_ring BaseHigh number ring = record ring { base_high = number }
@@ -42,11 +42,11 @@ with_ring Length number ring = record ring { length_bytes = number }
 with_ring Head number ring = record ring { head = number }
 with_ring Tail number ring = record ring { tail = number }
 
--- the ring's registers after a write of a word
+-- The ring's registers after a write of a word.
 abbrev pub ring_written : RingRegister → ℕ → RingRegisters → RingRegisters
 ring_written register value ring = with_ring register (bit_and value (ring_kept register)) ring
 
--- the ring that these registers define; the halves of its address are the high word and the low word
+-- The ring that these registers define. Its address consists of the high word and the low word.
 abbrev pub ring_of : RingRegisters → Ring
 ring_of registers = record {
   base = registers.base_high * 2 ^ 32 + registers.base_low;

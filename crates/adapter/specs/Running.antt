@@ -7,11 +7,11 @@ use Rattle.tx_engine.specs.Fetching.{IsTransmittable, descriptor_at}
 use Rattle.adapter.specs.Slots.{offered}
 use Rattle.adapter.specs.World.{World, receive_ring, transmit_ring}
 
--- the descriptor at an address can be transmitted: it has EOP and the legacy format, and names 1 to 1,518 bytes of memory
+-- The descriptor at an address can be transmitted: it has EOP and the legacy format, and names 1 to 1,518 bytes of memory.
 abbrev pub CanTransmit : List ℕ → ℕ → Type 0
 CanTransmit memory descriptor = IsTransmittable memory (descriptor_at memory descriptor)
 
--- With `Sound`, no step of an engine can be a fault.
+-- The engines can run: together with `Sound`, no step of an engine is a fault.
 pub record CanRun (world : World) : Type 0 where
   -- No fault has stopped the receive engine.
   pub receiver_runs : world.adapter.receiver.stopped ≡ false
@@ -26,6 +26,6 @@ pub record CanRun (world : World) : Type 0 where
   -- The descriptors from TDH to TDT can be transmitted.
   pub transmittable : All (CanTransmit world.memory) (offered (transmit_ring world))
 
--- If engines can run in the first world, they can in the second.
+-- If the engines can run in the first world, they can run in the second.
 abbrev pub GoOn : World → World → Type 0
 GoOn a b = CanRun a → CanRun b

@@ -15,35 +15,32 @@ use Rattle.adapter.specs.State.{AdapterState}
 use Rattle.adapter.specs.Transmitting.{PutAnswers, PutChangesOnly, TakeAnswers, after_put, after_take, memory_after_put}
 use Rattle.registers.specs.Places.{alone, lsc, mdac}
 
--- Ticks.
-
--- a read of the EEPROM that is pending ends with its word (13.4.4 "EEPROM Read Register")
+-- A read of the EEPROM that is pending ends with its word (13.4.4 "EEPROM Read Register").
 abbrev pub after_eeprom_tick : AdapterState → AdapterState
 after_eeprom_tick state = record state { eerd = eeprom.after_tick state.image state.eerd }
 
--- the causes that a tick of the PHY records: LSC, bit 2, if the link came up, and MDAC, bit 9, if a command whose I bit is set ended
--- (13.4.17 "Interrupt Cause Read Register")
+-- The causes that a tick of the PHY records: LSC, bit 2, if the link changed to up, and MDAC, bit 9, if a command with bit I set has ended
+-- (13.4.17 "Interrupt Cause Read Register").
 abbrev pub causes_told : Ticked → ℕ
 causes_told ticked = union (if ticked.link_changed then alone lsc else 0) (if ticked.access_complete then alone mdac else 0)
 
--- the adapter after a tick of the PHY with this result: `None` if the tick had nothing to do
+-- The adapter after a tick of the PHY with this result: `None` if the tick had nothing to do.
 abbrev pub after_phy_told : Option Ticked → AdapterState → AdapterState
 after_phy_told (Some ticked) state =
     with_causes (causes_told ticked)
     (record state { phy = mdi.phy_after_tick state.mdic state.phy; mdic = mdi.mdic_after_tick state.mdic state.phy })
 after_phy_told None state = state
 
--- the PHY's count is lowered, and then a pending command of MDIC ends (13.4.7 "MDI Control Register"); with neither, nothing changes
+-- A tick of the PHY lowers its count, and then ends a pending command of MDIC (13.4.7 "MDI Control Register"). If no count is running and
+-- no command is pending, nothing changes.
 abbrev pub after_phy_tick : AdapterState → AdapterState
 after_phy_tick state = after_phy_told (mdi.told state.mdic state.phy) state
 
--- the outcome of a tick: `Ticked` if it had something to do, else `Nothing`
+-- The outcome of a tick: `Ticked` if it had something to do, else `Nothing`.
 abbrev pub ticked : Bool → FrameOutcome
 ticked has_work = if has_work then DidTick else Nothing
 
--- Each kind of step.
-
--- which outcome a step has, by the adapter and the memory before it
+-- Which outcome a step has, by the adapter and the memory before it.
 abbrev pub Answers : StepKind → Bool → List ℕ → AdapterState → FrameOutcome → Type 0
 Answers TxTake wire_free memory state answer = TakeAnswers memory state answer
 Answers TxPut wire_free memory state answer = PutAnswers wire_free state answer
@@ -52,13 +49,13 @@ Answers RxDone wire_free memory state answer = DoneAnswers state answer
 Answers EepromTick wire_free memory state answer = answer ≡ ticked (eeprom.is_pending state.eerd)
 Answers PhyTick wire_free memory state answer = answer ≡ ticked (mdi.has_work state.mdic state.phy)
 
--- Whether a step of this kind has something to do: if and only if not, it answers `Nothing`, whatever is in memory and on the wire.
+-- Whether a step of this kind has something to do: its outcome isn't `Nothing`, whatever is in memory and on the wire.
 abbrev pub TellsWork : StepKind → Bool → AdapterState → Type 0
 TellsWork kind works state =
     (wire_free : Bool) (memory : List ℕ) (answer : FrameOutcome) → Answers kind wire_free memory state answer
     → IsTrue works ↔ (answer ≢ Nothing)
 
--- the adapter after a step with this outcome on this memory
+-- The adapter after a step with this outcome on this memory.
 abbrev pub after_step : StepKind → FrameOutcome → List ℕ → AdapterState → AdapterState
 after_step TxTake answer memory state = after_take answer memory state
 after_step TxPut answer memory state = after_put answer state
@@ -67,7 +64,7 @@ after_step RxDone answer memory state = after_done answer state
 after_step EepromTick answer memory state = after_eeprom_tick state
 after_step PhyTick answer memory state = after_phy_tick state
 
--- the memory after a step with this outcome
+-- The memory after a step with this outcome.
 abbrev pub memory_after_step : StepKind → FrameOutcome → List ℕ → AdapterState → List ℕ
 memory_after_step TxTake answer memory state = memory
 memory_after_step TxPut answer memory state = memory_after_put answer memory state
@@ -76,7 +73,7 @@ memory_after_step RxDone answer memory state = memory_after_done_step memory sta
 memory_after_step EepromTick answer memory state = memory
 memory_after_step PhyTick answer memory state = memory
 
--- The bytes that each kind of step may change in memory; all others stay.
+-- The bytes that a step of each kind may change in memory. It changes no other bytes.
 abbrev pub ChangesAtMost : StepKind → AdapterState → List ℕ → List ℕ → Type 0
 ChangesAtMost TxTake state memory memory' = memory' ≡ memory
 ChangesAtMost TxPut state memory memory' = PutChangesOnly state memory memory'

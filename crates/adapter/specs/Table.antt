@@ -1,6 +1,5 @@
--- The table of registers (chapter 13 "Register Descriptions"): the offset of each, what a write keeps, and what it
--- reads after a reset. PBA's reset value is the manual's. The other reset values, and the kept bits where the manual
--- has more, are own.
+-- The table of registers (chapter 13 "Register Descriptions"): the offset of each register, the bits that a write stores, and the value
+-- after a reset. PBA's reset value is the manual's. The other reset values, and the kept bits if the manual has more, are our choice.
 use Rattle.std.specs.Prelude.{◌≡◌, ◌+◌, ◌-◌, ◌*◌, ◌/◌, ◌%◌, ◌<◌, ◌==◌, ◌&&◌, ℕ, List, [], ◌∷◌, Option, Some, None, find, nat_lt, nat_le}
 use Rattle.std.specs.Prelude.{slice_index, if◌then◌else◌}
 use Rattle.adapter.specs.declared.register.RingRegister.TheVariants.{BaseLow, BaseHigh, Length, Head, Tail}
@@ -12,21 +11,21 @@ use Rattle.registers.specs.Places.{alone, rah_av}
 use Rattle.registers.specs.Kept.{control_mask, receive_control_mask, transmit_control_mask}
 use Rattle.rx_engine.specs.Registers.{address_high_mask}
 
--- A line of the table.
+-- A row of the table.
 pub record Row : Type 0 where
-  -- the offset in bytes
+  -- The offset in bytes.
   pub offset : ℕ
-  -- the bits that a write changes and a read shows, if these alone are the rule; else the register has a rule of its
-  -- own
+  -- The bits that a write stores and a read returns, if these bits are the register's whole rule. Otherwise `None`: the register has
+  -- another rule.
   pub kept : Option ℕ
-  -- what it reads after a reset, by the words of the EEPROM
+  -- The value after a reset, by the words of the EEPROM.
   pub reset : List ℕ → ℕ
 
--- a register whose kept bits are its rule
+-- A register whose kept bits are its whole rule.
 abbrev pub plain : ℕ → ℕ → ℕ → Row
 plain offset kept reset = record { offset = offset; kept = Some kept; reset = λ words. reset }
 
--- a register with a rule of its own
+-- A register with another rule.
 abbrev pub ruled : ℕ → ℕ → Row
 ruled offset reset = record { offset = offset; kept = None; reset = λ words. reset }
 
@@ -44,9 +43,9 @@ abbrev pub row_of : Register → Row
 row_of Ctrl = plain 0x0000 control_mask 0
 -- read only: 0x83 while the PHY's link is up and CTRL.SLU is set, else 0
 row_of Status = ruled 0x0008 0
--- for reading a word of the EEPROM (crate `eeprom`)
+-- it reads a word of the EEPROM (crate `eeprom`)
 row_of Eerd = ruled 0x0014 0
--- for reading and writing registers of the PHY (crate `mdic_phy`)
+-- it reads and writes registers of the PHY (crate `mdic_phy`)
 row_of Mdic = ruled 0x0020 0
 row_of Vet = plain 0x0038 0x0000FFFF 0x8100
 -- causes 0x2D7; a read clears all causes, and a write clears each cause whose bit is written as 1
@@ -76,7 +75,7 @@ row_of (Ral entry) = record { offset = 0x5400 + 8 * entry; kept = Some 0xFFFFFFF
 row_of (Rah entry) = record { offset = 0x5404 + 8 * entry; kept = Some address_high_mask; reset = address_high_at_reset entry }
 row_of (Vfta word) = plain (0x5600 + 4 * word) 0xFFFFFFFF 0
 
--- the register exists: its number is one that its array has
+-- The register exists: if it is in an array, its number is below the number of entries of the array.
 abbrev pub IsInTable : Register → Type 0
 IsInTable (Mta word) = word < 128
 IsInTable (Ral entry) = entry < 16
@@ -84,14 +83,14 @@ IsInTable (Rah entry) = entry < 16
 IsInTable (Vfta word) = word < 128
 IsInTable register = Unit {0}
 
--- the register is at this offset
+-- The register is at this offset.
 pub record StandsAt (offset : ℕ) (register : Register) : Type 0 where
-  -- Its number is one that its array has.
+  -- The register exists.
   pub in_table : IsInTable register
-  -- Its row has this offset.
+  -- The row of the register has this offset.
   pub there : (row_of register).offset ≡ offset
 
--- the registers that are no part of an array
+-- The registers that aren't in an array.
 abbrev pub single_registers : List Register
 single_registers =
     Ctrl ∷ Status ∷ Eerd ∷ Mdic ∷ Vet ∷ Icr ∷ Ics ∷ Ims ∷ Imc ∷ Rctl ∷ Tctl ∷ Pba
@@ -99,19 +98,19 @@ single_registers =
     ∷ Transmit BaseLow ∷ Transmit BaseHigh ∷ Transmit Length ∷ Transmit Head ∷ Transmit Tail
     ∷ Mpc ∷ Gprc ∷ Gptc ∷ Rnbc ∷ []
 
--- the register of an array of `count` words, `step` bytes from one to the next
+-- The register at an offset in an array of `count` registers that begins at `first`, `step` bytes from one to the next.
 abbrev pub array_register : ℕ → ℕ → ℕ → (ℕ → Register) → ℕ → Option Register
 array_register first count step register offset =
     if nat_le first offset && ((offset - first) % step == 0 && nat_lt ((offset - first) / step) count)
     then Some (register ((offset - first) / step))
     else None
 
--- the first register, if there is one, else the second
+-- The first register, if there is one, else the second.
 abbrev pub or_else : Option Register → Option Register → Option Register
 or_else (Some register) other = Some register
 or_else None other = other
 
--- the register of an array at an offset
+-- The register of an array at an offset.
 unfoldable pub array_register_at : ℕ → Option Register
 array_register_at offset =
     or_else (array_register 0x5200 128 4 Mta offset)
@@ -119,6 +118,6 @@ array_register_at offset =
     (or_else (array_register 0x5404 16 8 Rah offset)
     (array_register 0x5600 128 4 Vfta offset)))
 
--- the register at an offset, if there is one
+-- The register at an offset, if there is one.
 unfoldable pub register_at : ℕ → Option Register
 register_at offset = or_else (find (λ register. (row_of register).offset == offset) single_registers) (array_register_at offset)

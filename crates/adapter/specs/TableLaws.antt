@@ -1,4 +1,4 @@
--- The table by offsets, proved.
+-- Proofs about the register at an offset.
 use Rattle.std.proofs.Common.{◌≡◌, ◌+◌, ◌-◌, ◌*◌, ◌/◌, ◌%◌, ◌<◌, ◌≤◌, ◌==◌, ◌&&◌, ℕ, Bool, true, false, List, [], ◌∷◌, Option, Some, None}
 use Rattle.std.proofs.Common.{cond, refl, ap, subst, find, inl, inr, ◌⊎◌, arith, rules, ltb, leb}
 use Rattle.std.proofs.lemmas.Bool.{and_parts, eqb-true, leb-true, ltb-true}
@@ -11,7 +11,7 @@ use Rattle.adapter.specs.AccessLaws.{AccessesByOffset, OffsetsByTable, OutsideIs
 use Rattle.adapter.specs.Registers.{answer_of, left_by_read, left_by_write}
 use Rattle.adapter.specs.Table.{IsInTable, StandsAt, array_register, array_register_at, or_else, register_at, row_of, single_registers}
 
--- words of MTA
+-- Each register of an array is found at its offset.
 pub register_at-mta : (word : ℕ) → word < 128 → register_at (0x5200 + 4 * word) ≡ Some (Mta word)
 unfolding register_at array_register_at
 register_at-mta word within = grind (arith, nat_tests)
@@ -95,18 +95,18 @@ offset-below (Rah entry) within = omega arith
 offset-below (Vfta word) within = omega arith
 offset-below _ within = omega arith
 
--- `or_else` is one of the two
+-- The result of `or_else` is one of its arguments.
 or_else-cases : (first second : Option Register) (register : Register) → or_else first second ≡ Some register
     → (first ≡ Some register) ⊎ (second ≡ Some register)
 or_else-cases (Some register') second register found = inl found
 or_else-cases None second register found = inr found
 
--- each of these registers is in the table
+-- Each of these registers is in the table.
 abbrev AllInTable : List Register → Type 0
 AllInTable [] = Unit {0}
 AllInTable (register ∷ others) = IsInTable register × AllInTable others
 
--- a register that a search by offset finds is at this offset
+-- If a search by offset finds a register, this register is at the offset.
 found_stands : (offset : ℕ) (registers : List Register) (register : Register)
     → AllInTable registers → find (λ r. (row_of r).offset == offset) registers ≡ Some register → StandsAt offset register
 found_stands offset [] register all found = cc
@@ -121,7 +121,7 @@ found_stands offset (first ∷ others) register all found =
         subst (λ (r : Register). StandsAt offset r) same (record { in_table = all.0; there = equal refl })
     by_test false equal later is = later is
 
--- a register of an array is at this offset
+-- If a search in an array finds a register, this register is at the offset.
 array_stands : (first count step : ℕ) (word : ℕ → Register) (offset : ℕ) (register : Register)
     → ((n : ℕ) → n < count → StandsAt (first + step * n) (word n))
     → ((distance : ℕ) → distance % step ≡ 0 → step * (distance / step) ≡ distance)
@@ -169,7 +169,7 @@ register_at-only offset register found =
 pub offsets_by_table : OffsetsByTable
 offsets_by_table = record { there = register_at-there; only = register_at-only; multiple_of_four = offset-multiple; below = offset-below }
 
--- an access at the offset of a register is one of that register
+-- An access at the offset of a register is an access of this register.
 pub accesses_by_offset : AccessesByOffset
 accesses_by_offset offset register state stands =
     let found : register_at offset
@@ -180,7 +180,7 @@ accesses_by_offset offset register state stands =
       written = λ value. ap (λ (found : Option Register). left_by_write found value state) found;
     }
 
--- if no register is at the offset, none is found
+-- If no register is at an offset, the search finds no register.
 none_found : (offset : ℕ) → ((register : Register) → ¬ (StandsAt offset register)) → register_at offset ≡ None
 none_found offset none = by_case (register_at offset) (λ register found. none register (register_at-only offset register found))
   where

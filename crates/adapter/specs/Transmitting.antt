@@ -2,7 +2,7 @@
 use Rattle.std.specs.Prelude.{◌≡◌, ◌≢◌, ◌==◌, ◌++◌, ◌∷◌, [], ℕ, List, Bool, true, false, drop, if◌then◌else◌}
 use Rattle.descriptors.specs.Ring.{address_of, next_of}
 use Rattle.registers.specs.Places.{alone, txdw, txqe}
-use Rattle.tx_engine.specs.Fetching.{IsIdle, IsFetchable, fetched, pads}
+use Rattle.tx_engine.specs.Fetching.{HasNoFrameToTake, IsFetchable, fetched, pads}
 use Rattle.tx_engine.specs.Steps.{DiffersAtMostAt, status_place, written_back}
 use Rattle.tx_engine.specs.Transmitter.{Queued}
 use Rattle.adapter.specs.declared.ring.RingRegisters.{RingRegisters}
@@ -12,33 +12,31 @@ use Rattle.adapter.specs.Recording.{one_more, with_causes}
 use Rattle.adapter.specs.Rings.{ring_of}
 use Rattle.adapter.specs.State.{AdapterState}
 
--- Taking.
-
--- there is nothing to take: TCTL.EN is 0, a fault has stopped the engine, the packet buffer holds four frames, or TDH equals TDT
+-- There is nothing to take: TCTL.EN is 0, a fault has stopped the engine, the packet buffer holds four frames, or TDH equals TDT.
 abbrev pub HasNothingToTake : AdapterState → Type 0
-HasNothingToTake state = IsIdle state.transmit_control state.transmitter (ring_of state.transmit_ring)
+HasNothingToTake state = HasNoFrameToTake state.transmit_control state.transmitter (ring_of state.transmit_ring)
 
--- the descriptor at TDH can be taken
+-- The descriptor at TDH can be taken.
 abbrev pub CanTake : List ℕ → AdapterState → Type 0
 CanTake memory state = IsFetchable memory (ring_of state.transmit_ring)
 
--- which outcome a step that takes has, by the adapter and the memory before it
+-- Which outcome TxTake has, by the adapter and the memory before it.
 abbrev pub TakeAnswers : List ℕ → AdapterState → FrameOutcome → Type 0
 TakeAnswers memory state Nothing = HasNothingToTake state
 TakeAnswers memory state Fault = (¬ (HasNothingToTake state)) × (¬ (CanTake memory state))
 TakeAnswers memory state Took = (¬ (HasNothingToTake state)) × CanTake memory state
 TakeAnswers memory state _ = ⊥
 
--- the ring's registers with the head moved on
+-- The registers of a ring after the head has advanced by one slot.
 abbrev pub moved_on : RingRegisters → RingRegisters
 moved_on ring = record ring { head = next_of (ring_of ring) ring.head }
 
--- the causes that a step that takes records: TXQE, bit 1, if TDH has become TDT (13.4.17)
+-- The causes that TxTake records: TXQE, bit 1, if TDH then equals TDT (13.4.17).
 abbrev pub causes_of_taking : RingRegisters → ℕ
 causes_of_taking ring = if (moved_on ring).head == ring.tail then alone txqe else 0
 
--- The adapter after a step that takes, with this outcome: after `Took` the frame is the last one in the packet buffer, and TDH has moved
--- on; a fault stops the step.
+-- The adapter after TxTake with this outcome. After `Took`, the frame is the last one in the packet buffer, and TDH has advanced. A fault
+-- stops the step.
 abbrev pub after_take : FrameOutcome → List ℕ → AdapterState → AdapterState
 after_take Took memory state =
     with_causes (causes_of_taking state.transmit_ring) (record state {
@@ -51,27 +49,25 @@ after_take Took memory state =
 after_take Fault memory state = record state { transmitter = record state.transmitter { stopped = true } }
 after_take _ memory state = state
 
--- Putting.
-
--- this is the oldest frame of a packet buffer
+-- The frame is the oldest of a packet buffer.
 abbrev pub IsOldest : List Queued → List ℕ → Type 0
 IsOldest [] frame = ⊥
 IsOldest (queued ∷ later) frame = queued.frame ≡ frame
 
--- which outcome a step that puts has, by the adapter before it
+-- Which outcome TxPut has, by the adapter before it.
 abbrev pub PutAnswers : Bool → AdapterState → FrameOutcome → Type 0
 PutAnswers wire_free state Nothing = state.transmitter.buffer ≡ []
 PutAnswers wire_free state WireFull = (state.transmitter.buffer ≢ []) × (wire_free ≡ false)
 PutAnswers wire_free state (Put frame) = (wire_free ≡ true) × IsOldest state.transmitter.buffer frame
 PutAnswers wire_free state _ = ⊥
 
--- the causes that a step that puts records: TXDW, bit 0, if the descriptor of the oldest frame asks for a report
--- (13.4.17; that it waits until the frame is on the wire is our choice)
+-- The causes that TxPut records: TXDW, bit 0, if the descriptor of the oldest frame asks for a report (13.4.17; that TXDW waits until the
+-- frame is on the wire is our choice).
 abbrev pub causes_of_putting : List Queued → ℕ
 causes_of_putting [] = 0
 causes_of_putting (queued ∷ later) = if queued.report then alone txdw else 0
 
--- The oldest frame has left the packet buffer, and is counted by GPTC.
+-- The adapter after its oldest frame is removed from the packet buffer: GPTC counts the frame, and the causes are recorded.
 abbrev pub without_oldest : AdapterState → AdapterState
 without_oldest state =
     with_causes (causes_of_putting state.transmitter.buffer) (record state {
@@ -84,21 +80,21 @@ abbrev pub after_put : FrameOutcome → AdapterState → AdapterState
 after_put (Put frame) state = without_oldest state
 after_put _ state = state
 
--- memory, once the oldest frame of a packet buffer is on the wire
+-- Memory after the oldest frame of a packet buffer is put on the wire.
 abbrev pub reported : List Queued → List ℕ → List ℕ
 reported [] memory = memory
 reported (queued ∷ later) memory = written_back memory queued
 
--- The memory after a step that puts: the status byte of the frame's descriptor has DD alone if it asks for a report.
+-- The memory after TxPut: if the descriptor asks for a report, the status byte of the frame's descriptor contains only DD.
 abbrev pub memory_after_put : FrameOutcome → List ℕ → AdapterState → List ℕ
 memory_after_put (Put frame) memory state = reported state.transmitter.buffer memory
 memory_after_put _ memory state = memory
 
--- With a frame in the packet buffer, at most byte 12 of the oldest frame's descriptor differs; with none, no byte.
+-- If a frame is in the packet buffer, memory differs at most in byte 12 of the oldest frame's descriptor. Otherwise no byte differs.
 abbrev pub ChangesStatusOfOldest : List Queued → List ℕ → List ℕ → Type 0
 ChangesStatusOfOldest [] memory memory' = memory' ≡ memory
 ChangesStatusOfOldest (queued ∷ later) memory memory' = DiffersAtMostAt (status_place queued) memory memory'
 
--- A step that puts changes at most byte 12 of the descriptor of the oldest frame.
+-- TxPut changes at most byte 12 of the descriptor of the oldest frame.
 abbrev pub PutChangesOnly : AdapterState → List ℕ → List ℕ → Type 0
 PutChangesOnly state memory memory' = ChangesStatusOfOldest state.transmitter.buffer memory memory'

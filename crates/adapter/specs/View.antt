@@ -1,4 +1,4 @@
--- How the fields of an adapter are the plain data of its contracts.
+-- The plain data of an adapter, from its fields.
 use Rattle.std.specs.Prelude.{ℕ, List}
 use Rattle.adapter.specs.declared.adapter.Adapter.TheInside.{Inside}
 use Rattle.adapter.specs.declared.register_file.RegisterFile.{RegisterFile}
@@ -8,7 +8,7 @@ use Rattle.adapter.specs.Registers.{filter_at_reset}
 use Rattle.adapter.specs.Rings.{new_ring}
 use Rattle.adapter.specs.State.{AdapterState, IsAdapter}
 
--- the data that the fields are
+-- The plain data of the fields.
 abbrev pub state_of : Inside → AdapterState
 state_of inside = record {
   image = inside.image;
@@ -30,11 +30,11 @@ state_of inside = record {
   transmitter = inside.transmitter;
 }
 
--- What holds of the fields at all times.
+-- The invariant of the fields.
 abbrev pub IsConsistent : Inside → Type 0
 IsConsistent inside = IsAdapter (state_of inside)
 
--- the registers after a reset
+-- The registers after a reset.
 abbrev pub registers_at_reset : List ℕ → RegisterFile
 registers_at_reset words = record {
   ctrl = record { 0 = 0 };

@@ -1,4 +1,4 @@
--- A host's memory and its adapter together, and what a driver's accesses do to them.
+-- A host's memory with its adapter, and the effect of a driver's accesses on them.
 use Rattle.std.specs.Prelude.{ℕ, List}
 use Rattle.dma_memory.specs.HostMemory.{with_bytes}
 use Rattle.descriptors.specs.declared.ring.Ring.{Ring}
@@ -8,9 +8,9 @@ use Rattle.adapter.specs.State.{AdapterState}
 
 -- An adapter with its host's memory.
 pub record World : Type 0 where
-  -- the host's memory
+  -- The host's memory.
   pub memory : List ℕ
-  -- The adapter.
+  -- The adapter's state.
   pub adapter : AdapterState
 
 -- The ring that RDBAL to RDT define.
@@ -21,14 +21,14 @@ receive_ring world = ring_of world.adapter.receive_ring
 abbrev pub transmit_ring : World → Ring
 transmit_ring world = ring_of world.adapter.transmit_ring
 
--- the world after a register read, by the register's offset
+-- The world after a register read, by the register's offset.
 abbrev pub world_after_read : ℕ → World → World
 world_after_read offset world = record world { adapter = after_read offset world.adapter }
 
--- the world after a register write, by the register's offset
+-- The world after a register write, by the register's offset.
 abbrev pub world_after_write : ℕ → ℕ → World → World
 world_after_write offset value world = record world { adapter = after_write offset value world.adapter }
 
--- the world after a store to memory
+-- The world after a store to memory.
 abbrev pub world_after_store : ℕ → List ℕ → World → World
 world_after_store address bytes world = record world { memory = with_bytes world.memory address bytes }

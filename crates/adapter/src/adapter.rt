@@ -1,4 +1,4 @@
-// The adapter: its registers joined.
+// The adapter: its registers, its EEPROM and PHY, and its engines.
 
 ghost use Rattle.std.specs.Prelude.{◌≡◌, ◌↔◌, ◌≤◌, IsTrue, IfOk, IfSome, fold, length};
 ghost use Rattle.registers.specs.Bits.{Meet};
@@ -6,7 +6,6 @@ ghost use Rattle.adapter.specs.Registers.{is_reset};
 ghost use Rattle.adapter.specs.Steps.{causes_told};
 
 use crate::outcome::Outcome;
-use crate::packet_buffer::PacketBufferAllocation;
 use crate::register::Register;
 use crate::register_file::RegisterFile;
 use crate::step::StepKind;
@@ -14,7 +13,7 @@ use bitflags::Flags;
 use dma_memory::HostMemory;
 use eeprom::Image;
 use mdic_phy::{Link, Phy, Ticked};
-use registers::{Cause, Ctrl, Status, Tctl};
+use registers::{Cause, Ctrl, PacketBufferAllocation, Status, Tctl};
 use rx_engine::RxEngine;
 use std::alloc::{AllocError, Global};
 use std::hash::Hasher;
@@ -27,9 +26,9 @@ const VLAN_TYPE_BITS: u32 = 0xFFFF;
 /// An 82540EM: its registers, its EEPROM and PHY, and the two engines that move frames between its
 /// wire and a host's memory.
 ///
-/// A contract sees it as an `AdapterState`, plain data that `specs/State.antt` lists. Each register access has
-/// the effect that the table in [`offsets`](crate::offsets) gives. The adapter does all other work in steps:
-/// one call of [`step`](Adapter::step) is one step.
+/// In contracts, the value is an `AdapterState`, plain data that `specs/State.antt` defines. Each register access has
+/// the effect in the table of [`offsets`](crate::offsets). The adapter does all other work in steps: one call of
+/// [`step`](Adapter::step) is one step.
 #[derive(Drop)]
 pub struct Adapter {
     image: Image,
@@ -55,11 +54,11 @@ impl Model for Adapter {
 impl Clone for Adapter {
     ghost is_clone = { λ adapter copy. copy ≡ adapter };
 
-    /// An adapter in the same state.
+    /// A copy of the adapter, in the same state.
     ///
     /// # Errors
     ///
-    /// If memory is refused.
+    /// Returns an error only if an allocation fails.
     fn clone(&self) -> Result<Adapter, AllocError> {
         Ok(Adapter {
             image: self.image,
@@ -84,12 +83,13 @@ impl Adapter {
     ghost use Rattle.eeprom.specs.Eerd.{is_pending};
     ghost use Rattle.mdic_phy.specs.Mdic.{has_work};
 
-    /// An adapter after power-on, with this EEPROM and a PHY whose link is up after the ticks of `link`, or never. Both
-    /// packet buffers are empty; their memory is taken here, and no later call takes any.
+    /// An adapter after power-on, with this EEPROM. `link` is how long the PHY's negotiation takes until the link is
+    /// up. Both packet buffers are empty. Their memory is allocated here, and no later call except `clone` allocates
+    /// memory.
     ///
     /// # Errors
     ///
-    /// Only if memory is refused.
+    /// Returns an error only if an allocation fails.
     pub fn new(alloc: Global, image: &Image, link: Link) -> Result<Adapter, AllocError>
         ensures { IfOk result (λ adapter. adapter ≡ new_adapter image.now link) }
     {
@@ -110,15 +110,18 @@ impl Adapter {
         ensures state { self.new ≡ after_read offset self.old }
         ensures adapter { IsAdapter self.new }
     {
-        self.read_register(Register::at(offset))
+        let answer = self.read_register(Register::at(offset));
+        let _ = &self.image;
+        answer
     }
 
-    /// The value that a read of the register at an offset in bytes would answer now. Nothing changes: no cause and no
+    /// The value that a read of the register at an offset in bytes would return now. Nothing changes: no cause and no
     /// counter is cleared.
     pub fn value(&self, offset: u32) -> u32
         ensures answer { result ≡ answer_at offset self.now }
         ensures adapter { IsAdapter self.now }
     {
+        let _ = &self.image;
         self.value_of(Register::at(offset))
     }
 
@@ -130,6 +133,7 @@ impl Adapter {
         ensures adapter { IsAdapter self.new }
     {
         self.write_register(Register::at(offset), value);
+        let _ = &self.image;
     }
 
     /// Whether the interrupt line is asserted: exactly while a recorded cause is in the mask (our choice:
@@ -155,8 +159,8 @@ impl Adapter {
         self.file.mdic.has_work(&self.phy)
     }
 
-    /// Feeds the whole state of the adapter to a hasher, except for the image of the EEPROM, which nothing changes.
-    /// Equal adapters feed the same bytes.
+    /// Feeds the whole state of the adapter to a hasher, except for the image of the EEPROM, which never changes. Equal
+    /// adapters feed the same bytes.
     pub fn feed<H: Hasher>(&self, hasher: &mut H)
         ensures { hasher.new ≡ fold H.write hasher.old (adapter_writes self.now) }
     {
@@ -175,20 +179,19 @@ impl Adapter {
         self.packet_buffer.bytes()
     }
 
-    /// Performs one step of the adapter on its host's memory. `wire_free` means that the wire has room for a frame.
-    /// If the outcome is `Nothing`, the adapter and the memory are unchanged.
+    /// Performs one step of the adapter on its host's memory. `wire_free` is whether the wire has room for a frame. If
+    /// the outcome is `Nothing`, the adapter and the memory are unchanged.
     ///
-    /// After a `Fault`, steps of this kind return `Nothing` until a write of CTRL with RST; other steps and arrivals
-    /// aren't affected. A fault changes neither memory nor a register of a ring (our choice).
+    /// A `Fault` stops the engine: steps of this kind return `Nothing` until a write of CTRL with RST. Steps of other
+    /// kinds and arrivals aren't affected. A fault changes neither memory nor a register of a ring (our choice).
     ///
-    /// Of memory a step changes at most the buffer that the receive descriptor at RDH names
-    /// ([`RxData`](StepKind::RxData)), bytes 8 to 15 of the descriptor of the piece in progress
-    /// ([`RxDone`](StepKind::RxDone)), and byte 12 of the descriptor of the frame that is put on the wire
-    /// ([`TxPut`](StepKind::TxPut)).
+    /// A step changes at most these bytes of memory:
+    /// - [`RxData`](StepKind::RxData): the bytes of the piece, in the buffer that the receive descriptor at RDH names.
+    /// - [`RxDone`](StepKind::RxDone): bytes 8 to 15 of the descriptor of the piece in progress.
+    /// - [`TxPut`](StepKind::TxPut): byte 12 of the descriptor of the frame that is put on the wire.
     ///
-    /// If memory has the same size in each step, a descriptor that is written back is within memory. In a smaller
-    /// memory, `RxDone` writes nothing if the descriptor isn't within memory, and `TxPut` writes nothing if byte 12 of
-    /// the descriptor isn't.
+    /// `RxDone` writes nothing if the descriptor isn't inside memory, and `TxPut` writes nothing if byte 12 of the
+    /// descriptor isn't. This happens only if memory is smaller than in the step that fetched the descriptor.
     #[inline(always)]
     pub fn step(&mut self, kind: StepKind, memory: &mut HostMemory, wire_free: bool) -> Outcome<()>
         ensures answer { Answers kind wire_free memory.old self.old (framed result self.old) }
@@ -212,7 +215,7 @@ impl Adapter {
     }
 }
 
-/// What each register does.
+/// The effect of each register access.
 #[tactic(auto, using(registers::specs::Laws::subsets))]
 impl Adapter {
     ghost use Rattle.adapter.specs.Registers.{answer, answer_of, left_by_read, left_by_write, write_of};
@@ -224,13 +227,12 @@ impl Adapter {
     ghost use Rattle.adapter.specs.Steps.{after_eeprom_tick, after_phy_tick, ticked};
     ghost use Rattle.adapter.specs.Table.{IsInTable};
 
-    /// Reads a register, if there is one: ICR and the counters are cleared by it.
+    /// Reads a register, if there is one. A read of ICR or of a counter clears the register.
     #[inline(always)]
     fn read_register(&mut self, register: Option<Register>) -> u32
         requires { IfSome register IsInTable }
         ensures answer { result ≡ answer_of register self.old }
         ensures state { self.new ≡ left_by_read register self.old }
-        ensures adapter { IsAdapter self.new }
     {
         let file = &mut self.file;
         match register {
@@ -248,7 +250,6 @@ impl Adapter {
     fn value_of(&self, register: Option<Register>) -> u32
         requires { IfSome register IsInTable }
         ensures answer { result ≡ answer_of register self.now }
-        ensures adapter { IsAdapter self.now }
     {
         let file = &self.file;
         let Some(register) = register else {
@@ -284,7 +285,6 @@ impl Adapter {
     fn write_register(&mut self, register: Option<Register>, value: u32)
         requires { IfSome register IsInTable }
         ensures state { self.new ≡ left_by_write register value self.old }
-        ensures adapter { IsAdapter self.new }
     {
         let file = &mut self.file;
         let Some(register) = register else {
@@ -313,8 +313,8 @@ impl Adapter {
         }
     }
 
-    /// A write of CTRL with RST resets, the packet buffers and engines too, and the rest of it is ignored
-    /// (our choice); PBA and the PHY stay. Any other write keeps its bits.
+    /// A write of CTRL with RST resets the adapter with its packet buffers and engines, but not PBA and the PHY. The
+    /// other bits of the value are then ignored (our choice). Any other write stores the kept bits of CTRL.
     fn write_ctrl(&mut self, value: u32)
         ensures state { self.new ≡ write_of Register.Ctrl value self.old }
     {
@@ -327,14 +327,14 @@ impl Adapter {
         }
     }
 
-    /// STATUS: the link of the PHY is shown while CTRL.SLU is set (our choice).
+    /// The value of STATUS, which shows the link of the PHY while CTRL.SLU is set (our choice).
     fn status(&self) -> Status
         ensures { result.0 ≡ answer Register.Status self.now }
     {
         Status::of_link(self.phy.link_is_up() && self.file.ctrl.sets_link_up())
     }
 
-    /// A pending read of the EEPROM ends.
+    /// Ends a pending read of the EEPROM.
     fn tick_eeprom(&mut self) -> Outcome<()>
         ensures state { self.new ≡ after_eeprom_tick self.old }
         ensures answer { framed result self.old ≡ ticked (is_pending self.old.eerd) }
@@ -348,7 +348,7 @@ impl Adapter {
         }
     }
 
-    /// A step of the PHY, which records LSC if the link came up, and MDAC if a command whose I bit is set ended.
+    /// Plays a tick of the PHY. Records LSC if the link changed to up, and MDAC if a command with bit I set has ended.
     fn tick_phy(&mut self) -> Outcome<()>
         ensures state { self.new ≡ after_phy_tick self.old }
         ensures answer { framed result self.old ≡ ticked (has_work self.old.mdic self.old.phy) }
@@ -370,7 +370,7 @@ fn asks_for_reset(value: u32) -> bool
     Ctrl::written(value).resets()
 }
 
-/// The causes that a tick of the PHY records: LSC if the link came up, and MDAC if a command whose I bit is set
+/// The causes that a tick of the PHY records: LSC if the link changed to up, and MDAC if a command whose I bit is set
 /// ended.
 fn causes_of(ticked: Ticked) -> Cause
     ensures { result.0 ≡ causes_told ticked }

@@ -1,14 +1,14 @@
-// What an adapter counted.
+// The frame counts of an adapter.
 
 use crate::Adapter;
 use registers::Counter;
 
-/// What the statistics registers of an adapter hold (13.7 "Statistics Registers").
+/// The values of an adapter's statistics registers (13.7 "Statistics Registers").
 #[derive(Clone, Copy, Debug, PartialEq, Eq)]
 pub struct FrameCounts {
     /// MPC: frames that were missed because the receive packet buffer had no room.
     pub missed: u32,
-    /// RNBC: frames that came while no descriptor was free.
+    /// RNBC: frames that were stored or missed while no descriptor was free.
     pub without_descriptor: u32,
     /// GPRC: frames that were received, each counted as its descriptor is written back.
     pub received: u32,
@@ -16,12 +16,12 @@ pub struct FrameCounts {
     pub transmitted: u32,
 }
 
-/// How many frames wait in the two parts of an adapter's packet buffer.
+/// The numbers of frames that wait in the two packet buffers of an adapter.
 #[derive(Clone, Copy, Debug, PartialEq, Eq)]
 pub struct WaitingFrames {
-    /// Frames that arrived. A frame of which pieces are moved counts until its last piece is.
+    /// Frames that were stored. A frame counts until its last piece is moved.
     pub received: u16,
-    /// Frames that were fetched and aren't on the wire yet.
+    /// Frames that were taken from the ring and aren't on the wire yet.
     pub transmit: u8,
 }
 
@@ -29,7 +29,7 @@ impl Adapter {
     ghost use Rattle.std.specs.Prelude.{◌≡◌, length};
     ghost use Rattle.adapter.specs.State.{IsAdapter};
 
-    /// What the statistics registers hold. Unlike a driver's read, this call clears none of them.
+    /// The values of the statistics registers. Unlike a driver's read, this call clears no register.
     pub fn counts(&self) -> FrameCounts
         ensures missed { result.missed ≡ self.now.missed_packets }
         ensures without_descriptor { result.without_descriptor ≡ self.now.no_receive_buffers }
@@ -44,7 +44,7 @@ impl Adapter {
         }
     }
 
-    /// How many frames wait in the packet buffer.
+    /// The numbers of frames that wait in the packet buffers.
     pub fn waiting(&self) -> WaitingFrames
         ensures received { result.received ≡ length self.now.receiver.buffer }
         ensures transmit { result.transmit ≡ length self.now.transmitter.buffer }
@@ -55,8 +55,8 @@ impl Adapter {
         }
     }
 
-    /// Sets MPC, as if this many frames had been missed since the last read of MPC. A test uses it to bring MPC near
-    /// its greatest value, 0xFFFF_FFFF, where MPC stops.
+    /// Sets MPC, as if this number of frames had been missed since the last read of MPC. A test uses this call to bring
+    /// MPC near its greatest value, 0xFFFF_FFFF, at which MPC sticks.
     pub fn set_missed(&mut self, count: u32)
         ensures state { self.new ≡ record self.old { missed_packets = count } }
         ensures adapter { IsAdapter self.new }

@@ -1,4 +1,4 @@
-//! What reads and writes do to one another, as laws with nothing to run.
+//! Laws of register accesses, steps and arrivals. The functions do nothing: their contracts are the laws.
 
 ghost use Rattle.adapter.specs.AccessLaws.{AccessesByOffset, OffsetsByTable, OthersStayAtRead, OthersStayAtWrite};
 ghost use Rattle.adapter.specs.AccessLaws.{OutsideIsIgnored, PlainReadsBack, PowerOnByTable, ResetByTable};
@@ -17,10 +17,10 @@ pub fn offsets_by_table()
     ensures outside { OutsideIsIgnored }
 {}
 
-/// What accesses do to registers, by the table, in every state:
-/// - a register whose kept bits are its rule reads those bits of what was last written;
-/// - a write of one register doesn't change what other registers read, with these exceptions: a write of CTRL with
-///   RST resets, CTRL.SLU changes STATUS, a write of ICS changes ICR, and a write of IMC changes IMS;
+/// The effect of accesses on registers, by the table, in every state of the adapter:
+/// - a register whose kept bits are its whole rule reads these bits of the value last written;
+/// - a write of one register doesn't change what other registers read. The exceptions are a write of CTRL with RST,
+///   which resets the adapter, and that CTRL.SLU changes STATUS, ICS changes ICR, and IMC changes IMS;
 /// - a read of one register doesn't change what any other register reads.
 pub fn accesses_by_table()
     ensures read_back { PlainReadsBack }
@@ -29,37 +29,37 @@ pub fn accesses_by_table()
     ensures others_at_read { OthersStayAtRead }
 {}
 
-/// What registers read at first, by the table: after power-on each its reset value; after a write
-/// of CTRL with RST each but PBA its reset value again, whatever else was written, while PBA, the
-/// PHY and the EEPROM stay.
+/// The reset values of registers, by the table. After power-on, each register reads its reset value. After a write of
+/// CTRL with RST, whatever its other bits, each register except PBA reads its reset value; PBA, the PHY and the EEPROM
+/// don't change.
 pub fn resets_by_table()
     ensures power_on { PowerOnByTable }
     ensures reset { ResetByTable }
 {}
 
-/// What a register whose kept bits are its rule reads after any list of accesses and steps since
-/// power-on, by the history alone: the kept bits of the last write to it, if no reset came after that write,
-/// else its reset value.
+/// The value of a register whose kept bits are its whole rule, after any list of accesses, steps and arrivals since
+/// power-on. If no reset came after the last write to the register, it reads the kept bits of this write, else its
+/// reset value. RDH and TDH read this value until a step advances the head.
 pub fn plain_by_history()
     ensures { PlainByHistory }
 {}
 
-/// The laws of the crates `eeprom` and `mdic_phy` hold of an adapter's EERD, MDIC and PHY after any list of
-/// accesses and steps since power-on. To these laws EERD is new after a reset by CTRL.RST, and for MDIC such a reset
-/// is a write of a word without a command.
+/// The laws of the crates `eeprom` and `mdic_phy` apply to an adapter's EERD, MDIC and PHY after any list of accesses,
+/// steps and arrivals since power-on. A reset by CTRL.RST makes EERD new, and counts as a write of 0 to MDIC, which is
+/// a write without a command.
 pub fn parts_have_their_laws()
     ensures { PartsHaveTheirLaws }
 {}
 
-/// What steps and arrivals do to the frames that an adapter holds.
+/// The effect of steps and arrivals on the frames that an adapter holds.
 /// - The frames to be sent are those in the transmit packet buffer, then those that the descriptors
-///   from TDH to TDT name. A step that takes leaves them; one that puts takes the first.
-/// - The frames held are those that end in finished slots and in the one in progress, each with its
-///   pieces joined, then those in the receive packet buffer. A frame that is stored is after them, a
-///   data step doesn't change them, a done step makes the piece in progress a finished one.
+///   from TDH to TDT name. A take step doesn't change this list; a put step removes the first frame.
+/// - The frames held are those that end in finished slots and in the slot in progress, each with its
+///   pieces joined, then those in the receive packet buffer. A stored frame is added after them. A data step doesn't
+///   change these frames. A done step makes the piece in progress a finished piece.
 ///
-/// If a step writes to memory, the bytes written are apart from the descriptors and frames that are
-/// still to be read: the conditions are in the laws.
+/// The laws of steps that write to memory have a condition: the bytes written are apart from the descriptors and frames
+/// that are still to be read.
 pub fn frames_by_steps()
     ensures taking { TakingLeavesFrames }
     ensures putting { PuttingTakesFirst }

@@ -7,13 +7,10 @@
 
 mod adapter;
 mod counts;
-mod finished;
 mod laws;
 pub mod offsets;
 mod outcome;
-mod packet_buffer;
 mod pending;
-mod queued;
 mod receive;
 mod register;
 mod register_file;

@@ -1,8 +1,7 @@
 //! The offsets of the registers, in bytes (chapter 13, "Register Descriptions").
 //!
-//! This is the table of registers. "Kept" are the bits that a write changes and a read shows; the
-//! others read 0. "Reset" is the value in a new adapter and, for every register but PBA, after
-//! CTRL.RST.
+//! This is the table of registers. "Kept" are the bits that a write stores and a read returns; the other bits read 0.
+//! "Reset" is the value in a new adapter and, for every register except PBA, after CTRL.RST.
 //!
 //! | Offset | Register | Kept bits, or rule | Reset |
 //! |---|---|---|---|
@@ -11,10 +10,10 @@
 //! | 0x0014 | EERD | reads a word of the EEPROM (crate `eeprom`) | 0 |
 //! | 0x0020 | MDIC | reads and writes registers of the PHY (crate `mdic_phy`) | 0 |
 //! | 0x0038 | VET | 0x0000FFFF | 0x8100 |
-//! | 0x00C0 | ICR | causes 0x2D7; a read clears them, a write of 1 clears that one | 0 |
+//! | 0x00C0 | ICR | causes 0x2D7; a read clears all causes, a write clears each cause whose bit is written as 1 | 0 |
 //! | 0x00C8 | ICS | a write records causes; reads 0 | 0 |
 //! | 0x00D0 | IMS | a write adds causes to the mask; reads the mask | 0 |
-//! | 0x00D8 | IMC | a write takes causes out of the mask; reads 0 | 0 |
+//! | 0x00D8 | IMC | a write removes causes from the mask; reads 0 | 0 |
 //! | 0x0100 | RCTL | 0x0607B33A | 0 |
 //! | 0x0400 | TCTL | 0x003FFFFA | 0 |
 //! | 0x1000 | PBA | RXA (15:0), an even number from 2 to 48, else ignored; the upper half reads 64 - RXA | 0x00100030 |
@@ -32,9 +31,9 @@
 //! | 0x5404 + 8n | RAH(n), n 0 to 15 | 0x8000FFFF | RAH(0) from word 2 of the EEPROM with bit 31, AV; the others 0 |
 //! | 0x5600 to 0x57FC | VFTA, 128 words | 0xFFFFFFFF | 0 |
 //!
-//! Every other offset, one that isn't a multiple of 4 among them, reads 0 and ignores writes (our choice).
+//! Every other offset, including those that aren't multiples of 4, reads 0 and ignores writes (our choice).
 
-/// The bytes of a register, by which the offsets of neighbours differ.
+/// The number of bytes of a register.
 pub const REGISTER_BYTES: u32 = 4;
 
 /// CTRL, device control (13.4.1).
@@ -127,7 +126,7 @@ pub const RAL: u32 = 0x5400;
 /// RAH(15), the last receive address high (13.5.3).
 pub const RAH_LAST: u32 = 0x547C;
 
-/// The bytes from one pair of RAL and RAH to the next.
+/// The number of bytes from one pair of RAL and RAH to the next.
 pub const ADDRESS_PAIR_BYTES: u32 = 8;
 
 /// VFTA, the first of 128 words of the VLAN filter table array (13.5.4).

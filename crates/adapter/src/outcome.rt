@@ -2,11 +2,11 @@
 
 use rx_engine::Fate;
 
-/// What came of a step of an adapter, or of a delivery to it.
+/// The outcome of a step of an adapter, or of a delivery to it.
 ///
-/// `F` is what an outcome holds of its frame. [`step`](crate::Adapter::step) holds nothing of it (`()`), as
-/// [`to_put`](crate::Adapter::to_put) lends the frame before the step. Lists of outcomes hold the frame itself. A
-/// contract that compares outcomes speaks of the frame's bytes (`FrameOutcome`).
+/// `F` is the type of the frame in an outcome. [`step`](crate::Adapter::step) uses `()`, because
+/// [`to_put`](crate::Adapter::to_put) returns the frame before the step. Lists of outcomes contain the frame itself.
+/// Contracts that compare outcomes use the bytes of the frame (`FrameOutcome`).
 #[derive(Clone, Copy, Debug, Drop, PartialEq, Eq)]
 pub enum Outcome<F> {
     /// A frame was taken from the transmit ring.
@@ -15,14 +15,14 @@ pub enum Outcome<F> {
     Put(F),
     /// The wire has no room for the frame that is to be put. Nothing changed.
     WireFull,
-    /// A piece of a received frame was written to memory, and more of the frame is left. Its descriptor isn't written
-    /// back yet.
+    /// A piece of a received frame was written to memory, and more pieces of the frame follow. The piece's descriptor
+    /// isn't written back yet.
     Part,
-    /// The last piece of a received frame was written to memory. Its descriptor isn't written back yet.
+    /// The last piece of a received frame was written to memory. The piece's descriptor isn't written back yet.
     Moved,
     /// A receive descriptor was written back.
     Done,
-    /// This frame was delivered, and met this fate.
+    /// This frame was delivered, and had this fate.
     Delivered(F, Fate),
     /// The EEPROM or the PHY did something.
     Ticked,
@@ -37,7 +37,7 @@ impl<F> Outcome<F> {
     ghost use Rattle.std.specs.Prelude.{◌≡◌};
     ghost use Rattle.adapter.specs.Outcomes.{with_frame};
 
-    /// The same outcome, with this frame if it has one.
+    /// The same outcome, with this frame if the outcome contains a frame.
     pub fn with_frame<G>(self, frame: G) -> Outcome<G>
     where
         F: Drop,

@@ -2,30 +2,27 @@
 
 ghost use Rattle.std.specs.Prelude.{◌≡◌, ◌≤◌, ◌<◌, ◌+◌, ◌++◌, ◌∷◌, [], IfSome, IsSome, length, map, true, vec_capacity};
 ghost use Rattle.std.specs.Option.{ForSome};
-ghost use Rattle.dma_memory.specs.HostMemory.{LiesIn, bytes_at};
 ghost use Rattle.descriptors.specs.Frames.{IsLegal};
-ghost use Rattle.rx_engine.specs.Descriptors.{named_address};
-ghost use Rattle.rx_engine.specs.Held.{bytes_of_work};
 ghost use Rattle.adapter.specs.HostFrames.{finished_pieces, frames_held, frames_to_send, pieces_in_slots};
-ghost use Rattle.adapter.specs.JoinedPieces.{AreShort};
+ghost use Rattle.rx_engine.specs.JoinedPieces.{AreShort};
 ghost use Rattle.adapter.specs.Pending.{CanReadHeld, CanReadSending};
 ghost use Rattle.adapter.specs.World.{World};
 ghost use Rattle.rx_engine.specs.Pieces.{frames_of};
 
 use crate::Adapter;
-use crate::finished::{append_finished, append_piece};
-use crate::queued::append_queued;
 use arrayvec::ArrayVec;
-use descriptors::{Frame, RX_DESC_BYTES, RxDesc};
+use descriptors::Frame;
 use dma_memory::HostMemory;
-use rx_engine::{RxEngine, Work};
-use tx_engine::TxEngine;
+use rx_engine::{RxEngine, append_finished, append_piece, bytes_in_progress};
+use tx_engine::{TxEngine, append_queued};
 
 impl Adapter {
-    /// Appends the frames that the host has still to send to `sending`: those of the transmit packet buffer, then those
-    /// of the descriptors from TDH to TDT, padded. Appends the frames that it holds to `holding`: those that end in
-    /// finished slots, from slot `oldest` of the receive ring on, and in the piece in progress, then those of the
-    /// receive packet buffer. Both lists must have room for them. No memory is taken, and nothing else changes.
+    /// Appends the frames that the host has still to send to `sending`: first those in the transmit packet buffer, then
+    /// those of the descriptors from TDH to TDT, padded.
+    ///
+    /// Appends the frames that the host holds to `holding`. First come the frames that end in finished slots or in the
+    /// piece in progress, from slot `oldest` of the receive ring on. The frames in the receive packet buffer follow.
+    /// Both lists must have room for these frames. No memory is allocated.
     pub fn pending(
         &self,
         memory: &HostMemory,
@@ -72,19 +69,6 @@ impl Adapter {
     }
 }
 
-/// The bytes of the piece in progress.
-fn bytes_in_progress<'a>(memory: &'a HostMemory, work: &Work) -> Option<&'a [u8]>
-    requires descriptor { LiesIn memory.now work.now.descriptor 16 }
-    requires piece { LiesIn memory.now (named_address memory.now work.now.descriptor) work.now.length }
-    ensures there { IsSome result }
-    ensures bytes { IfSome result (λ bytes. bytes.now ≡ bytes_of_work memory.now work.now) }
-{
-    let mut bytes = [0; RX_DESC_BYTES];
-    memory.load(work.descriptor, &mut bytes).ok()?;
-    let address = RxDesc::from_bytes(&bytes).address;
-    memory.view(address, usize::from(work.length)).ok()
-}
-
 /// Appends the frames of the transmit packet buffer.
 fn append_to_put(engine: &TxEngine, frames: &mut Vec<Frame>)
     requires room { length frames.old.items + length engine.now.buffer ≤ vec_capacity frames.old }
@@ -107,7 +91,7 @@ fn append_buffered(engine: &RxEngine, frames: &mut Vec<Frame>)
     }
 }
 
-/// Appends a frame of these bytes.
+/// Appends a frame with these bytes.
 fn append_frame(bytes: &[u8], frames: &mut Vec<Frame>)
     requires short { length bytes.now ≤ 1518 }
     requires room { length frames.old.items < vec_capacity frames.old }

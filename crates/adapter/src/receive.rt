@@ -1,9 +1,6 @@
 // Arrivals and steps of reception.
 
-ghost use Rattle.std.specs.Prelude.{◌≡◌, length, if◌then◌else◌};
-ghost use Rattle.registers.specs.Bits.{IsSubset};
-ghost use Rattle.registers.specs.Kept.{all_causes};
-ghost use Rattle.registers.specs.Places.{alone, rxt0};
+ghost use Rattle.std.specs.Prelude.{◌≡◌, length};
 ghost use Rattle.adapter.specs.DataOutcomes.{causes_of_answer, outcome_of};
 ghost use Rattle.adapter.specs.Outcomes.{framed};
 ghost use Rattle.adapter.specs.State.{IsAdapter};
@@ -20,12 +17,12 @@ use rx_engine::{Data, Done, Fate, arrive, rx_data, rx_done};
 
 #[tactic(auto, using(registers::specs::Laws::subsets))]
 impl Adapter {
-    /// A frame comes from the wire. Its fate is the first of [`Fate`] that applies, by RCTL, the receive
-    /// filter and the room that PBA gives the packet buffer.
+    /// A frame arrives from the wire. Its fate is the first variant of [`Fate`] that applies. The fate depends on RCTL,
+    /// on the receive filter, and on the room in the packet buffer, whose size PBA selects.
     ///
-    /// A frame that is missed is counted by MPC and records RXO. One that is stored or missed while RDH
-    /// equals RDT is counted by RNBC (our choice). If a write of PBA makes the packet buffer smaller, the
-    /// frames in it stay, and each frame that comes is missed until it has room.
+    /// If the frame is missed, MPC counts it, and RXO is recorded. If the frame is stored or missed while RDH equals
+    /// RDT, RNBC counts it (our choice). If a write of PBA makes the packet buffer smaller, the frames in the buffer
+    /// remain. Then each arriving frame is missed until there is room for it.
     pub fn arrive(&mut self, frame: &[u8]) -> Fate
         ensures fate { IsFate self.old frame.now result }
         ensures state { self.new ≡ after_arrive result frame.now self.old }
@@ -63,8 +60,8 @@ impl Adapter {
         outcome_of(answer)
     }
 
-    /// Writes the descriptor of the piece in progress back. If it is the last piece of its frame, RXT0 is recorded, and
-    /// GPRC counts the frame.
+    /// Writes back the descriptor of the piece in progress. If the frame ends in this piece, RXT0 is recorded, and GPRC
+    /// counts the frame.
     pub(crate) fn finish_piece(&mut self, memory: &mut HostMemory) -> Outcome<()>
         ensures answer { DoneAnswers self.old (framed result self.old) }
         ensures state { self.new ≡ after_done (framed result self.old) self.old }
@@ -73,14 +70,14 @@ impl Adapter {
         ensures size { length memory.new ≡ length memory.old }
         ensures adapter { IsAdapter self.new }
     {
-        let ends = self.receiver.work().is_some_and(|work| work.ends);
+        let ends = match self.receiver.work() {
+            Some(work) => work.ends,
+            None => false,
+        };
         match rx_done(&mut self.receiver, memory) {
             Done::Nothing => Outcome::Nothing,
             Done::Done => {
-                self.file.causes.raise(causes_of_finishing(ends));
-                if ends {
-                    self.file.gprc.bump();
-                }
+                self.file.note_finished(ends);
                 Outcome::Done
             }
         }
@@ -99,8 +96,8 @@ fn outcome_of(answer: Data) -> Outcome<()>
     }
 }
 
-/// The causes that a data step with this answer of the engine records: RXDMT0 if the free descriptors have become half
-/// the ring.
+/// The causes that a data step with this answer of the engine records: RXDMT0 if the free descriptors are now half the
+/// ring.
 fn causes_of_answer(answer: Data) -> Cause
     ensures { result.0 ≡ causes_of_answer answer }
 {
@@ -108,12 +105,4 @@ fn causes_of_answer(answer: Data) -> Cause
         Data::Part { low: true } | Data::Moved { low: true } => Cause::RXDMT0,
         _ => Cause::empty(),
     }
-}
-
-/// The causes that a write-back records: RXT0 if its frame ends.
-fn causes_of_finishing(ends: bool) -> Cause
-    ensures causes { result.0 ≡ (if ends then alone rxt0 else 0) }
-    ensures alone { IsSubset result.0 all_causes }
-{
-    if ends { Cause::RXT0 } else { Cause::empty() }
 }

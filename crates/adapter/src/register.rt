@@ -1,11 +1,11 @@
-// Which register is at an offset.
+// The registers, and the register at an offset.
 
 ghost use Rattle.std.specs.Prelude.{◌≡◌, ◌≢◌, ◌<◌, ◌/◌, ◌%◌, IfSome};
 
 use crate::offsets::*;
 
 /// A register of one of the two descriptor rings.
-#[derive(Clone, Copy, Debug, PartialEq, Eq)]
+#[derive(Clone, Copy, PartialEq, Eq)]
 pub enum RingRegister {
     /// RDBAL, TDBAL: the low word of the ring's address.
     BaseLow,
@@ -13,58 +13,58 @@ pub enum RingRegister {
     BaseHigh,
     /// RDLEN, TDLEN: the ring's length in bytes.
     Length,
-    /// RDH, TDH: the first descriptor that is the adapter's.
+    /// RDH, TDH: the index of the first descriptor that the adapter owns, unless head equals tail.
     Head,
-    /// RDT, TDT: the first descriptor that the adapter doesn't own.
+    /// RDT, TDT: the index of the descriptor after the last one that the adapter owns.
     Tail,
 }
 
 /// A register of the adapter (chapter 13).
-#[derive(Clone, Copy, Debug, PartialEq, Eq)]
+#[derive(Clone, Copy, PartialEq, Eq)]
 pub enum Register {
-    /// Device control.
+    /// CTRL, device control.
     Ctrl,
-    /// Device status.
+    /// STATUS, device status.
     Status,
-    /// EEPROM read.
+    /// EERD, EEPROM read.
     Eerd,
-    /// MDI control.
+    /// MDIC, MDI control.
     Mdic,
-    /// VLAN type.
+    /// VET, VLAN type.
     Vet,
-    /// Interrupt cause read.
+    /// ICR, interrupt cause read.
     Icr,
-    /// Interrupt cause set.
+    /// ICS, interrupt cause set.
     Ics,
-    /// Interrupt mask set and read.
+    /// IMS, interrupt mask set and read.
     Ims,
-    /// Interrupt mask clear.
+    /// IMC, interrupt mask clear.
     Imc,
-    /// Receive control.
+    /// RCTL, receive control.
     Rctl,
-    /// Transmit control.
+    /// TCTL, transmit control.
     Tctl,
-    /// Packet buffer allocation.
+    /// PBA, packet buffer allocation.
     Pba,
     /// A register of the receive descriptor ring.
     Receive(RingRegister),
     /// A register of the transmit descriptor ring.
     Transmit(RingRegister),
-    /// Missed packets count.
+    /// MPC, missed packets count.
     Mpc,
-    /// Good packets received count.
+    /// GPRC, good packets received count.
     Gprc,
-    /// Good packets transmitted count.
+    /// GPTC, good packets transmitted count.
     Gptc,
-    /// Receive no buffers count.
+    /// RNBC, receive no buffers count.
     Rnbc,
-    /// A word of the multicast table array, 0 to 127.
+    /// MTA, a word of the multicast table array, 0 to 127.
     Mta(u8),
-    /// Receive address low of an entry, 0 to 15.
+    /// RAL, receive address low of an entry, 0 to 15.
     Ral(u8),
-    /// Receive address high of an entry, 0 to 15.
+    /// RAH, receive address high of an entry, 0 to 15.
     Rah(u8),
-    /// A word of the VLAN filter table array, 0 to 127.
+    /// VFTA, a word of the VLAN filter table array, 0 to 127.
     Vfta(u8),
 }
 
@@ -116,7 +116,7 @@ impl Register {
     }
 }
 
-/// The register at this number of bytes after RAL(0), up to RAH(15).
+/// The register that is this number of bytes after RAL(0), up to RAH(15).
 fn address_register(distance: u32) -> Register
     requires { distance < 128 }
     ensures even { distance % 8 ≡ 0 → result ≡ Register.Ral (distance / 8) }

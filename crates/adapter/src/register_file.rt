@@ -1,6 +1,8 @@
 // The registers that a reset sets.
 
 ghost use Rattle.std.specs.Prelude.{◌≡◌, ◌<◌, ◌==◌, if◌then◌else◌, fold, length, slice_index};
+ghost use Rattle.registers.specs.Bits.{union};
+ghost use Rattle.registers.specs.Places.{alone, rxt0};
 ghost use Rattle.adapter.specs.Hashed.{file_writes};
 ghost use Rattle.adapter.specs.Recording.{one_more};
 ghost use Rattle.adapter.specs.Registers.{filter_at_reset};
@@ -10,18 +12,18 @@ use crate::ring::RingRegisters;
 use bitflags::Flags;
 use eeprom::{Eerd, Image};
 use mdic_phy::Mdic;
-use registers::{Causes, Counter, Ctrl, Tctl};
+use registers::{Cause, Causes, Counter, Ctrl, Tctl};
 use rx_engine::{Filter, VLAN_TYPE};
 use std::alloc::AllocError;
 use std::hash::Hasher;
 
-/// The bits of a word of the EEPROM.
+/// The number of bits of a word of the EEPROM.
 const WORD_BITS: u32 = 16;
 
 /// AV, bit 31 of RAH: the address is valid.
 const ADDRESS_VALID: u32 = 1 << 31;
 
-/// The registers that a reset sets, all but PBA and those of the PHY. The filter has RCTL and VET, too.
+/// The registers that a reset sets: all except PBA and those of the PHY. RCTL and VET are in the filter.
 #[derive(Drop)]
 pub(crate) struct RegisterFile {
     pub(crate) ctrl: Ctrl,
@@ -41,11 +43,11 @@ pub(crate) struct RegisterFile {
 impl Clone for RegisterFile {
     ghost is_clone = { λ file copy. copy ≡ file };
 
-    /// The same registers.
+    /// A copy of the registers.
     ///
     /// # Errors
     ///
-    /// None: no memory is taken.
+    /// The call never fails: it allocates no memory.
     fn clone(&self) -> Result<RegisterFile, AllocError> {
         Ok(RegisterFile {
             ctrl: self.ctrl,
@@ -89,7 +91,7 @@ impl RegisterFile {
         }
     }
 
-    /// Counts a frame that reaches the packet buffer by RNBC, if there is no receive descriptor for it.
+    /// If RDH equals RDT, RNBC counts a frame that is stored or missed.
     pub(crate) fn count_no_buffers(&mut self)
         ensures { self.new ≡ record self.old {
           rnbc = (if self.old.receive_ring.head == self.old.receive_ring.tail then one_more self.old.rnbc
@@ -98,6 +100,22 @@ impl RegisterFile {
     {
         if self.receive_ring.head == self.receive_ring.tail {
             self.rnbc.bump();
+        }
+    }
+
+    /// Records the write-back of a receive descriptor. If a frame ends in it, RXT0 is recorded, and GPRC counts it.
+    pub(crate) fn note_finished(&mut self, ends: bool)
+        ensures { self.new ≡ record self.old {
+          causes = record self.old.causes {
+            recorded = union self.old.causes.recorded (if ends then alone rxt0 else 0);
+          };
+          gprc = (if ends then one_more self.old.gprc else self.old.gprc);
+        } }
+    {
+        let causes = if ends { Cause::RXT0 } else { Cause::empty() };
+        self.causes.raise(causes);
+        if ends {
+            self.gprc.bump();
         }
     }
 
@@ -121,8 +139,8 @@ impl RegisterFile {
     }
 }
 
-/// The filter after a reset: the address of the EEPROM is the first of the exact addresses, and VET
-/// is that of IEEE 802.1Q (our choice).
+/// The filter after a reset: the first receive address is the address in the EEPROM, and VET is the VLAN type of IEEE
+/// 802.1Q (our choice).
 #[tactic(auto, using(crate::proofs::Words::and_address_high))]
 fn filter_at_reset(image: &Image) -> Filter
     ensures filter { result ≡ filter_at_reset image.now }

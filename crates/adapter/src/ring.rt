@@ -8,19 +8,19 @@ use crate::register::RingRegister;
 use descriptors::Ring;
 use std::hash::Hasher;
 
-/// The bits of RDBAL and TDBAL: a ring's address is a multiple of 16.
+/// The bits that RDBAL and TDBAL store: a ring's address is a multiple of 16.
 const BASE_LOW_BITS: u32 = 0xFFFF_FFF0;
 
-/// The bits of RDLEN and TDLEN: a ring's length in bytes is a multiple of 128.
+/// The bits that RDLEN and TDLEN store: a ring's length in bytes is a multiple of 128.
 const LENGTH_BITS: u32 = 0x000F_FF80;
 
-/// The bits of a descriptor's number in RDH, RDT, TDH and TDT.
+/// The bits of a descriptor's index in RDH, RDT, TDH and TDT.
 const INDEX_BITS: u32 = 0xFFFF;
 
-/// The registers of a descriptor ring, as they read.
+/// The values of the registers of a descriptor ring.
 ///
-/// The adapter owns the descriptors from the head up to, not including, the tail.
-#[derive(Clone, Copy, Debug, PartialEq, Eq)]
+/// The adapter owns the descriptors from the head up to, but not including, the tail.
+#[derive(Clone, Copy)]
 pub struct RingRegisters {
     /// The low word of the ring's address, a multiple of 16.
     pub base_low: u32,
@@ -28,9 +28,9 @@ pub struct RingRegisters {
     pub base_high: u32,
     /// The ring's length in bytes, a multiple of 128.
     pub length_bytes: u32,
-    /// The first descriptor that is the adapter's.
+    /// The index of the first descriptor that the adapter owns, unless head equals tail.
     pub head: u16,
-    /// The first descriptor that the adapter doesn't own.
+    /// The index of the descriptor after the last one that the adapter owns.
     pub tail: u16,
 }
 
@@ -48,7 +48,7 @@ impl RingRegisters {
         }
     }
 
-    /// What a register reads.
+    /// The value of a register.
     pub(crate) fn read(&self, register: RingRegister) -> u32
         ensures { result ≡ ring_answer register self.now }
     {
@@ -61,7 +61,7 @@ impl RingRegisters {
         }
     }
 
-    /// Writes a register, which keeps its bits of the word.
+    /// Writes a register, which stores only the bits that it has.
     pub(crate) fn write(&mut self, register: RingRegister, value: u32)
         ensures { self.new ≡ ring_written register value self.old }
     {

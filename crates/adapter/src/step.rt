@@ -8,12 +8,12 @@ pub enum StepKind {
     /// Puts the oldest frame of the transmit packet buffer onto the wire.
     TxPut,
     /// Writes the next piece of the oldest frame of the receive packet buffer to the buffer of the receive descriptor
-    /// at RDH. A piece has at most as many bytes as that buffer (RCTL.BSIZE).
+    /// at RDH. A piece has at most the size of that buffer (RCTL.BSIZE).
     RxData,
     /// Writes back the descriptor of the piece that `RxData` wrote.
     RxDone,
     /// Ends a pending read of the EEPROM.
     EepromTick,
-    /// Lowers the count of the PHY's link, and ends a pending command of MDIC.
+    /// Lowers the PHY's count of ticks until the link is up, and ends a pending command of MDIC.
     PhyTick,
 }

@@ -40,8 +40,9 @@ impl Adapter {
         }
     }
 
-    /// The frame that a step [`TxPut`](crate::StepKind::TxPut) puts onto a wire with room: the oldest of the transmit
-    /// packet buffer, as it goes onto the wire. It has at most 1,518 bytes. `None` if the packet buffer is empty.
+    /// The frame that a step [`TxPut`](crate::StepKind::TxPut) puts onto a wire with room, as it is put onto the wire.
+    /// It is the oldest frame of the transmit packet buffer, and has at most 1,518 bytes. `None` exactly if the packet
+    /// buffer is empty.
     pub fn to_put(&self) -> Option<&[u8]>
         ensures none { IsNone result ↔ (self.now.transmitter.buffer ≡ []) }
         ensures oldest { IfSome result (λ frame. frame.now ≡ oldest self.now.transmitter.buffer) }
@@ -68,8 +69,8 @@ impl Adapter {
         Outcome::Put(())
     }
 
-    /// Drops the oldest frame of a packet buffer that isn't empty, once it is on the wire: it is counted, and reported
-    /// if its descriptor asks for that.
+    /// Removes the oldest frame of a packet buffer that isn't empty, after the frame is put on the wire. GPTC counts
+    /// the frame. If its descriptor asks for a report, the step writes DD to it and records TXDW.
     fn drop_put_frame(&mut self, memory: &mut HostMemory)
         requires { self.old.transmitter.buffer ≢ [] }
         ensures state { self.new ≡ without_oldest self.old }
@@ -84,7 +85,7 @@ impl Adapter {
     }
 }
 
-/// The causes that a taken frame records: TXQE if head has become tail.
+/// The causes that a taken frame records: TXQE if head now equals tail.
 fn causes_of_taking(emptied: bool) -> Cause
     ensures causes { result.0 ≡ (if emptied then alone txqe else 0) }
     ensures alone { IsSubset result.0 all_causes }
@@ -92,8 +93,8 @@ fn causes_of_taking(emptied: bool) -> Cause
     if emptied { Cause::TXQE } else { Cause::empty() }
 }
 
-/// Puts the oldest frame of a packet buffer that isn't empty onto the wire, and returns the causes that this records:
-/// TXDW if its descriptor asks for a report.
+/// Puts the oldest frame of a packet buffer that isn't empty onto the wire. Returns the causes that the step records:
+/// TXDW if the frame's descriptor asks for a report.
 fn put_oldest(engine: &mut TxEngine, memory: &mut HostMemory) -> Cause
     requires { engine.old.buffer ≢ [] }
     ensures causes { result.0 ≡ causes_of_putting engine.old.buffer }

@@ -11,8 +11,8 @@ use rx_engine::has_frame_to_move;
 use tx_engine::is_idle;
 
 impl Adapter {
-    /// Whether a step of this kind has something to do: if and only if not, its outcome is `Nothing`. This depends
-    /// neither on the memory nor on the wire: [`TxPut`](StepKind::TxPut) has something to do on a full wire, too.
+    /// Whether a step of this kind has something to do: its outcome isn't `Nothing`. This depends neither on memory nor
+    /// on the wire: [`TxPut`](StepKind::TxPut) has something to do even if the wire is full.
     pub fn has_work(&self, kind: StepKind) -> bool
         ensures work { TellsWork kind result self.now }
     {
@@ -26,7 +26,7 @@ impl Adapter {
         }
     }
 
-    /// Whether the transmit engine has a frame to take from its ring, or a fault to find.
+    /// Whether a step `TxTake` would take a frame, or be a fault.
     fn has_frame_to_take(&self) -> bool
         ensures { IsTrue result ↔ (¬ (HasNothingToTake self.now)) }
     {
@@ -44,7 +44,8 @@ impl Adapter {
         !self.transmitter.is_empty()
     }
 
-    /// Whether the receive engine has a piece to move, and a descriptor for it.
+    /// Whether the receive engine can begin a piece: RCTL.EN is set, the engine is running and idle, a frame is in the
+    /// packet buffer, and a descriptor is offered.
     fn has_piece_to_move(&self) -> bool
         ensures { IsTrue result ↔ HasFrameAndDescriptor self.now }
     {

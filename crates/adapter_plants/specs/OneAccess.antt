@@ -1,9 +1,9 @@
--- An access over a solo bus has one answer, and leaves one state.
+-- An access over a solo bus has one answer, and leads to one state.
 use Rattle.std.proofs.Common.{◌≡◌, ◌+◌, ◌++◌, ◌∷◌, [], List, sym, ap, subst, length, ◌∙◌}
 use Rattle.std.specs.Prelude.{map, min}
 use Rattle.adapter_plants.specs.OneTrail.{AreSameRequests, IsSameRequest, courses_one, trail_end}
 use Rattle.bus.specs.LivelyBuses.{most_accesses}
-use Rattle.bus.specs.PastOfStretch.{Past}
+use Rattle.bus.specs.Pasts.{Past}
 use Rattle.bus.specs.TickGroups.{played_in, waiting_after}
 use Rattle.bus.specs.Trails.{Trail, past_of}
 use Rattle.bus.specs.declared.event.Access.{Access}
@@ -11,7 +11,7 @@ use Rattle.bus.specs.declared.event.Event.{Event}
 use Rattle.solo_bus.specs.SoloBuses.{Recounts, SoloState, is_go, lively_ticks, solo_tick_of}
 use Rattle.solo_bus.specs.declared.solo_bus.SoloTick.TheVariants.{Go}
 
--- Both states are equal, except that numbers of accesses at the greatest count aren't compared.
+-- Both states are equal, but all numbers of accesses from 2^64 - 1 on count as equal.
 pub record AreOneState (b c : SoloState) : Type 0 where
   pub world : b.world ≡ c.world
   pub waiting : b.waiting ≡ c.waiting

@@ -1,4 +1,4 @@
--- Ticks that are played one after the other lead to one state, and observers are told the same.
+-- The same ticks, played from one state, lead to one state, and observers are told the same outcomes.
 use Rattle.std.proofs.Common.{◌≡◌, ◌++◌, ◌∷◌, [], ℕ, List, refl, sym, ap, subst, ◌∙◌}
 use Rattle.std.specs.Prelude.{map}
 use Rattle.std.specs.List.{All}
@@ -8,9 +8,9 @@ use Rattle.adapter_plants.specs.OneStep.{atoms_one}
 use Rattle.bus.specs.declared.event.Event.TheVariants.{Accesses, Arrives, Steps}
 use Rattle.bus.specs.TickGroups.{without_go}
 use Rattle.stations.specs.AtomicRuns.{IsTick, LeadsTo, counted_by, is_go, step_told, steps_told}
-use Rattle.stations.specs.AtomicSteps.{AtomicStep, At, Idles, IsNoAccess, Watched, after, outcome_of, tick_of}
+use Rattle.stations.specs.AtomicSteps.{AtomicStep, At, Idles, IsNoAccess, Watched, after, step_outcome, tick_of}
 use Rattle.stations.specs.PlayedTicks.{PlaysTicks}
-use Rattle.stations.specs.Retelling.{Finished, watched_by}
+use Rattle.stations.specs.LentBuses.{Finished, watched_by}
 use Rattle.stations.specs.Stations.{StationState}
 use Rattle.stations.specs.ToldTicks.{TickTold, tick_told}
 use Rattle.stations.specs.declared.lent_bus.LentBus.{LentBus}
@@ -23,8 +23,8 @@ no_access (At host (Arrives frame fate)) is = is
 no_access (At host (Accesses access)) is = absurd (cc (is))
 no_access (Idles tick) is = tt
 
--- A step that is a tick is told as this tick with its outcome, and doesn't count.
-told_of_tick : (n : ℕ) (step : AtomicStep) → IsTick step → step_told n step ≡ tick_told (tick_of step) n (outcome_of step) ∷ []
+-- For a step that is a tick, observers are told this tick with its outcome, and no access is counted.
+told_of_tick : (n : ℕ) (step : AtomicStep) → IsTick step → step_told n step ≡ tick_told (tick_of step) n (step_outcome step) ∷ []
 told_of_tick n (At host (Steps kind free answer)) is = refl
 told_of_tick n (At host (Arrives frame fate)) is = refl
 told_of_tick n (At host (Accesses access)) is = absurd (cc (is))
@@ -37,21 +37,21 @@ uncounted n (At host (Accesses access)) is = absurd (cc (is))
 uncounted n (Idles tick) is = refl
 
 told_first : (n : ℕ) (step : AtomicStep) (later : List AtomicStep) → IsTick step
-    → steps_told n (step ∷ later) ≡ tick_told (tick_of step) n (outcome_of step) ∷ steps_told n later
+    → steps_told n (step ∷ later) ≡ tick_told (tick_of step) n (step_outcome step) ∷ steps_told n later
 told_first n step later is =
     ap (λ (told : List TickTold). told ++ steps_told (counted_by n step) later) (told_of_tick n step is)
-    ∙ ap (λ (k : ℕ). tick_told (tick_of step) n (outcome_of step) ∷ steps_told k later) (uncounted n step is)
+    ∙ ap (λ (k : ℕ). tick_told (tick_of step) n (step_outcome step) ∷ steps_told k later) (uncounted n step is)
 
 same_told : (n : ℕ) (x y : AtomicStep) (xs ys : List AtomicStep) → IsTick x → IsTick y → tick_of x ≡ tick_of y
-    → outcome_of x ≡ outcome_of y → steps_told n xs ≡ steps_told n ys → steps_told n (x ∷ xs) ≡ steps_told n (y ∷ ys)
+    → step_outcome x ≡ step_outcome y → steps_told n xs ≡ steps_told n ys → steps_told n (x ∷ xs) ≡ steps_told n (y ∷ ys)
 same_told n x y xs ys is is' ticks outcomes rest =
     told_first n x xs is
-    ∙ ap (λ (tick : Tick). tick_told tick n (outcome_of x) ∷ steps_told n xs) ticks
+    ∙ ap (λ (tick : Tick). tick_told tick n (step_outcome x) ∷ steps_told n xs) ticks
     ∙ ap (λ (outcome : FrameOutcome). tick_told (tick_of y) n outcome ∷ steps_told n xs) outcomes
-    ∙ ap (λ (told : List TickTold). tick_told (tick_of y) n (outcome_of y) ∷ told) rest
+    ∙ ap (λ (told : List TickTold). tick_told (tick_of y) n (step_outcome y) ∷ told) rest
     ∙ sym (told_first n y ys is')
 
--- Two courses of ticks end in one state, and the same is told of them.
+-- Two runs of the same ticks end in one state, and both observers are told the same outcomes.
 record EndAsOne (n : ℕ) (steps others : List AtomicStep) (new other : List StationState) : Type 0 where
   states : new ≡ other
   told : steps_told n steps ≡ steps_told n others
@@ -72,14 +72,14 @@ ends_one caller n (x ∷ xs) (y ∷ ys) old new other are are' same p q =
     (subst (λ (s : List StationState). LeadsTo caller ys s other) (sym one.states) q.2) in
     record { states = later.states; told = same_told n x y xs ys is is' first one.outcomes later.told }
 
--- Two ends of ticks: one state, and both observers are told the same.
+-- The same ticks were played from two states: the states after them are equal, and both observers were told the same outcomes.
 pub record AreOneEnd {O : Type 0} (observers : OfObserver O) (old old' new other : Watched O) : Type 0 where
   pub states : new.stations ≡ other.stations
   pub told : List TickTold
   pub heard : observers.heard old.observer new.observer told
   pub other_heard : observers.heard old'.observer other.observer told
 
--- If the same ticks are played from one state, the states after them are equal, and the same is told.
+-- If the same ticks are played from one state, the states after them are equal, and the same outcomes are told.
 ticks_one : {O : Type 0} (observers : OfObserver O) (ticks : List Tick) (accesses : ℕ) (old old' new other : Watched O)
     → old.stations ≡ old'.stations → PlaysTicks observers ticks accesses old new → PlaysTicks observers ticks accesses old' other
     → AreOneEnd observers old old' new other
@@ -93,7 +93,7 @@ ticks_one observers ticks accesses old old' new other same p q =
       other_heard = subst (λ (told : List TickTold). observers.heard old'.observer other.observer told) (sym one.told) q.heard;
     }
 
--- Two lent buses with the same stations, ticks and count of accesses finish as one.
+-- If two lent buses have the same stations, ticks and count of accesses, they finish in the same way.
 pub finished_one : {O : Type 0} {g : OfObserver O} (a b c d : LentBus O g) → a.stations.now ≡ c.stations.now → a.ticks.now ≡ c.ticks.now
     → a.accesses ≡ c.accesses → Finished a b → Finished c d → AreOneEnd g (watched_by a) (watched_by c) (watched_by b) (watched_by d)
 finished_one {O} {g} a b c d stations ticks accesses p q =

@@ -1,10 +1,10 @@
--- The ticks that wait at a solo bus have one course.
+-- The ticks that wait at a solo bus lead to one state.
 use Rattle.std.proofs.Common.{◌≡◌, ◌++◌, ◌∷◌, [], ℕ, List, Bool, refl, sym, ap, subst, length, ◌∙◌}
 use Rattle.std.specs.List.{All}
 use Rattle.std.proofs.lemmas.List.Elements.{All-head, All-tail}
 use Rattle.adapter.specs.World.{World}
 use Rattle.adapter_plants.specs.OneTrail.{AreSameRequests, courses_one, no_accesses, trail_end}
-use Rattle.bus.specs.PastOfStretch.{Past}
+use Rattle.bus.specs.Pasts.{Past}
 use Rattle.bus.specs.Trails.{IsStep, Trail, past_of}
 use Rattle.bus.specs.declared.event.Access.{Access}
 use Rattle.bus.specs.declared.event.Event.{Event}
@@ -45,7 +45,7 @@ module _ (ticks left : List SoloTick) (a b c : SoloState) (p : PlaysSoloTicks ti
         other_trail = q.trail;
       })
 
-  -- They leave one state.
+  -- Both runs of the ticks end in one state.
   pub solo_end_one : b ≡ c
   solo_end_one =
       same_solo b c

@@ -1,4 +1,4 @@
--- What is played on stations has one outcome, and leaves one state.
+-- A tick that is played on stations has one outcome, and leads to one state.
 use Rattle.std.proofs.Common.{◌≡◌, ◌∷◌, [], ℕ, suc, List, Bool, true, false, Option, Some, None, refl, sym, ap, subst, ◌∙◌}
 use Rattle.std.specs.Prelude.{◌↔◌, IsTrue, slice_get}
 use Rattle.adapter.specs.Outcomes.{FrameOutcome}
@@ -12,13 +12,11 @@ use Rattle.adapter_plants.specs.OneFate.{one_fate}
 use Rattle.bus.specs.declared.event.Event.{Event}
 use Rattle.bus.specs.declared.event.Event.TheVariants.{Accesses, Arrives, Steps}
 use Rattle.rx_engine.specs.declared.arrival.Fate.{Fate}
-use Rattle.stations.specs.AtomicSteps.{AtomicStep, At, CanHappen, FindsNothing, Idles, IsNoAccess, OccursAt, Plays, after, outcome_of}
+use Rattle.stations.specs.AtomicSteps.{AtomicStep, At, CanHappen, FindsNothing, Idles, IsNoAccess, OccursAt, PlaysTick, after, step_outcome}
 use Rattle.stations.specs.AtomicSteps.{outcome_of_event, tick_of, tick_of_event}
 use Rattle.stations.specs.Stations.{StationState, WireHasRoom, all_after, at_each, backlog_at, each_after, stations_after, wire_of}
 use Rattle.stations.specs.Stations.{world_at}
 use Rattle.stations.specs.declared.tick.Tick.{Tick}
-
--- Steps.
 
 same_free : (a b : Bool) (P : Type 0) → IsTrue a ↔ P → IsTrue b ↔ P → a ≡ b
 same_free true true P p q = refl
@@ -26,7 +24,7 @@ same_free true false P p q = absurd (cc (q.1 (p.0 refl)))
 same_free false true P p q = absurd (cc (p.1 (q.0 refl)))
 same_free false false P p q = refl
 
--- Whether the wire is free matters to TxPut alone.
+-- Whether the wire is free matters only for TxPut.
 step_one : (kind : StepKind) (free other : Bool) (memory : List ℕ) (state : AdapterState) (a b : FrameOutcome)
     → (kind ≡ TxPut → free ≡ other) → Answers kind free memory state a → Answers kind other memory state b → a ≡ b
 step_one TxTake free other memory state a b same p q = answers_are_one TxTake free memory state a b p q
@@ -53,8 +51,6 @@ found_after None host kind free other answer stations = refl
 found_after (Some station) host kind free other answer stations =
     each_same (each_after host station.wire (Steps kind free answer)) (each_after host station.wire (Steps kind other answer))
     (λ k here. refl) 0 stations
-
--- Events.
 
 is_elsewhere : (found : Option StationState) (wire : ℕ) → found ≡ None → wire_of found ≡ Some wire → ⊥
 is_elsewhere None wire none some = absurd (cc)
@@ -124,17 +120,17 @@ host_one host other (Arrives frame fate) (Arrives another another_fate) x y same
 host_one host other (Arrives frame fate) (Accesses access) x y same = absurd y
 host_one host other (Accesses access) b x y same = absurd x
 
--- A tick that finds nothing is no tick of an event that occurs.
+-- A tick that finds nothing to do isn't the tick of an event that occurs.
 finds_something : (host : ℕ) (event : Event) (stations : List StationState) → IsNoAccess (At host event)
     → OccursAt host event stations → FindsNothing (tick_of_event host event) stations → ⊥
 finds_something host (Steps kind free a) stations x p none = is_elsewhere (slice_get stations host) p.wire none p.on_wire
 finds_something host (Arrives frame fate) stations x p none = none_waits (backlog_at stations host) frame none p.suits_wire
 finds_something host (Accesses access) stations x p none = x
 
--- Two atomic steps of one tick are one.
+-- Two atomic steps of the same tick are equal.
 pub atoms_one : (a b : AtomicStep) (stations : List StationState) → IsNoAccess a → IsNoAccess b → tick_of a ≡ tick_of b
     → CanHappen a stations → CanHappen b stations
-    → AreOne (outcome_of a) (outcome_of b) (after a stations) (after b stations)
+    → AreOne (step_outcome a) (step_outcome b) (after a stations) (after b stations)
 atoms_one (At host a) (At other b) stations x y same p q =
     let hosts = host_one host other a b x y same in
     let y = subst (λ (h : ℕ). IsNoAccess (At h b)) hosts y in
@@ -148,9 +144,9 @@ atoms_one (Idles tick) (At host b) stations x y same p q =
     absurd (finds_something host b stations y q (subst (λ (t : Tick). FindsNothing t stations) same p))
 atoms_one (Idles tick) (Idles other) stations x y same p q = record { outcomes = refl; states = refl }
 
--- A tick that is played has one outcome, and leaves one state.
-pub plays_one : (old new other : List StationState) (tick : Tick) (outcome another : FrameOutcome) → Plays old tick outcome new
-    → Plays old tick another other → AreOne outcome another new other
+-- A tick that is played has one outcome, and leads to one state.
+pub plays_one : (old new other : List StationState) (tick : Tick) (outcome another : FrameOutcome) → PlaysTick old tick outcome new
+    → PlaysTick old tick another other → AreOne outcome another new other
 plays_one old new other tick outcome another p q =
     let same = atoms_one p.step q.step old p.no_access q.no_access (p.tick_is ∙ sym q.tick_is) p.happens q.happens in
     record {

@@ -33,7 +33,8 @@ AreSameRequests _ _ = ⊥
 access_one : (a b : Access) (world : World) → IsSameRequest a b → Trail (Accesses a ∷ []) world (world_after (Accesses a) world)
     → Trail (Accesses b ∷ []) world (world_after (Accesses b) world) → a ≡ b
 access_one (Reads offset value) (Reads at other) world same p q =
-    let again = subst (λ (x : ℕ). Trail (Accesses (Reads x other) ∷ []) world (world_after (Accesses (Reads x other)) world)) (sym same) q in
+    let again = subst (λ (x : ℕ). Trail (Accesses (Reads x other) ∷ []) world (world_after (Accesses (Reads x other)) world)) (sym same) q
+    in
     ap (λ (x : ℕ). Reads offset x) (p.0 ∙ sym again.0) ∙ ap (λ (x : ℕ). Reads x other) same
 access_one (Reads offset value) _ world same p q = absurd same
 access_one (Writes offset value) (Writes at other) world same p q = cc (same.0, same.1)
@@ -55,7 +56,7 @@ pub trail_end : (events : List Event) (a b c : World) → Trail events a b → T
 trail_end [] a b c p q = p ∙ sym q
 trail_end (event ∷ later) a b c p q = trail_end later (world_after event a) b c p.1 q.1
 
--- Two lists of events from one state, of the same ticks and the same requests.
+-- Two lists of events from one state, with the same ticks and the same requests.
 pub record Courses (xs ys : List Event) (a b c : World) (frames : ℕ) : Type 0 where
   pub ticks : map solo_tick_of xs ≡ map solo_tick_of ys
   pub free : AreFree xs frames
@@ -64,7 +65,7 @@ pub record Courses (xs ys : List Event) (a b c : World) (frames : ℕ) : Type 0 
   pub trail : Trail xs a b
   pub other_trail : Trail ys a c
 
--- Both lists are equal.
+-- Two such lists are equal.
 pub courses_one : (xs ys : List Event) (a b c : World) (frames : ℕ) → Courses xs ys a b c frames → xs ≡ ys
 courses_one [] [] a b c frames p = refl
 courses_one [] (y ∷ ys) a b c frames p = absurd (cc (p.ticks))
@@ -79,7 +80,8 @@ courses_one (Steps kind free answer ∷ xs) (Steps other another outcome ∷ ys)
     let trail = subst (λ (o : FrameOutcome). Trail (Steps kind free o ∷ ys) a c) answers trail in
     let other_free = subst (λ (k : StepKind). AreFree (Steps k another outcome ∷ ys) frames) kinds p.other_free in
     let other_free = subst (λ (o : FrameOutcome). AreFree (Steps kind another o ∷ ys) frames) answers other_free in
-    let requests = subst (λ (made : List Access). AreSameRequests (made ++ (past_of xs).accesses) ((past_of_step other outcome).accesses ++ (past_of ys).accesses))
+    let requests = subst (λ (made : List Access). AreSameRequests (made ++ (past_of xs).accesses)
+    ((past_of_step other outcome).accesses ++ (past_of ys).accesses))
     (no_accesses kind answer) p.requests in
     let requests = subst (λ (made : List Access). AreSameRequests (past_of xs).accesses (made ++ (past_of ys).accesses))
     (no_accesses other outcome) requests in

@@ -7,7 +7,7 @@ use adapter::{Adapter, Fate, Outcome, StepKind};
 use dma_memory::HostMemory;
 use std::hash::Hasher;
 
-/// [`Adapter::step`] twice.
+/// Calls [`Adapter::step`] twice.
 #[tactic(auto, using(crate::specs::OneAnswer::one_answer))]
 pub fn step(
     one: &mut Adapter,
@@ -29,7 +29,7 @@ pub fn step(
     )
 }
 
-/// [`Adapter::arrive`] twice.
+/// Calls [`Adapter::arrive`] twice.
 #[tactic(auto, using(crate::specs::OneFate::one_fate))]
 pub fn arrive(one: &mut Adapter, other: &mut Adapter, frame: &[u8]) -> (Fate, Fate)
     requires { one.old ≡ other.old }
@@ -39,7 +39,7 @@ pub fn arrive(one: &mut Adapter, other: &mut Adapter, frame: &[u8]) -> (Fate, Fa
     (one.arrive(frame), other.arrive(frame))
 }
 
-/// [`Adapter::read`] twice.
+/// Calls [`Adapter::read`] twice.
 pub fn read(one: &mut Adapter, other: &mut Adapter, offset: u32) -> (u32, u32)
     requires { one.old ≡ other.old }
     ensures answer { result.0 ≡ result.1 }
@@ -48,7 +48,7 @@ pub fn read(one: &mut Adapter, other: &mut Adapter, offset: u32) -> (u32, u32)
     (one.read(offset), other.read(offset))
 }
 
-/// [`Adapter::value`] twice.
+/// Calls [`Adapter::value`] twice.
 pub fn value(one: &Adapter, other: &Adapter, offset: u32) -> (u32, u32)
     requires { one.now ≡ other.now }
     ensures { result.0 ≡ result.1 }
@@ -56,7 +56,7 @@ pub fn value(one: &Adapter, other: &Adapter, offset: u32) -> (u32, u32)
     (one.value(offset), other.value(offset))
 }
 
-/// [`Adapter::write`] twice.
+/// Calls [`Adapter::write`] twice.
 pub fn write(one: &mut Adapter, other: &mut Adapter, offset: u32, value: u32)
     requires { one.old ≡ other.old }
     ensures { one.new ≡ other.new }
@@ -65,7 +65,7 @@ pub fn write(one: &mut Adapter, other: &mut Adapter, offset: u32, value: u32)
     other.write(offset, value);
 }
 
-/// [`Adapter::line`] twice.
+/// Calls [`Adapter::line`] twice.
 pub fn line(one: &Adapter, other: &Adapter) -> (bool, bool)
     requires { one.now ≡ other.now }
     ensures { result.0 ≡ result.1 }
@@ -73,7 +73,7 @@ pub fn line(one: &Adapter, other: &Adapter) -> (bool, bool)
     (one.line(), other.line())
 }
 
-/// [`Adapter::to_put`] twice.
+/// Calls [`Adapter::to_put`] twice.
 pub fn to_put<'a>(one: &'a Adapter, other: &'a Adapter) -> (Option<&'a [u8]>, Option<&'a [u8]>)
     requires { one.now ≡ other.now }
     ensures none { IsNone result.0 ↔ IsNone result.1 }
@@ -82,7 +82,7 @@ pub fn to_put<'a>(one: &'a Adapter, other: &'a Adapter) -> (Option<&'a [u8]>, Op
     (one.to_put(), other.to_put())
 }
 
-/// [`Adapter::has_work`], and the [`Adapter::step`] whose outcome it predicts.
+/// Calls [`Adapter::has_work`], and then the [`Adapter::step`] whose outcome it states.
 pub fn has_work(
     adapter: &mut Adapter,
     kind: StepKind,
@@ -97,7 +97,7 @@ pub fn has_work(
     )
 }
 
-/// [`Adapter::feed`] twice.
+/// Calls [`Adapter::feed`] twice.
 pub fn feed<H: Hasher>(one: &Adapter, other: &Adapter, hasher: &mut H, another: &mut H)
     requires adapter { one.now ≡ other.now }
     requires hasher { hasher.old ≡ another.old }

@@ -10,7 +10,7 @@ use dma_memory::HostMemory;
 use solo_bus::{MOST_TICKS, SoloBus, SoloTick};
 use std::alloc::{AllocError, Global};
 
-/// [`SoloBus::new`] twice. When there is too little memory is open.
+/// Calls [`SoloBus::new`] twice. The contract doesn't state when an allocation fails.
 pub fn new(
     alloc: Global,
     adapter: Adapter,
@@ -29,7 +29,7 @@ pub fn new(
     )
 }
 
-/// [`SoloBus::step`] twice.
+/// Calls [`SoloBus::step`] twice.
 #[tactic(auto, using(crate::specs::OneAnswer::one_answer))]
 pub fn step(one: &mut SoloBus, other: &mut SoloBus, kind: StepKind) -> (Outcome<()>, Outcome<()>)
     requires { one.old ≡ other.old }
@@ -39,7 +39,7 @@ pub fn step(one: &mut SoloBus, other: &mut SoloBus, kind: StepKind) -> (Outcome<
     (one.step(kind), other.step(kind))
 }
 
-/// [`SoloBus::arrive`] twice.
+/// Calls [`SoloBus::arrive`] twice.
 #[tactic(auto, using(crate::specs::OneFate::one_fate))]
 pub fn arrive(one: &mut SoloBus, other: &mut SoloBus, frame: &[u8]) -> (Fate, Fate)
     requires { one.old ≡ other.old }
@@ -49,7 +49,7 @@ pub fn arrive(one: &mut SoloBus, other: &mut SoloBus, frame: &[u8]) -> (Fate, Fa
     (one.arrive(frame), other.arrive(frame))
 }
 
-/// [`SoloBus::take_put`] twice.
+/// Calls [`SoloBus::take_put`] twice.
 pub fn take_put(one: &mut SoloBus, other: &mut SoloBus) -> (Option<Frame>, Option<Frame>)
     requires { one.old ≡ other.old }
     ensures frame { result.0 ≡ result.1 }
@@ -58,7 +58,7 @@ pub fn take_put(one: &mut SoloBus, other: &mut SoloBus) -> (Option<Frame>, Optio
     (one.take_put(), other.take_put())
 }
 
-/// [`SoloBus::play`] twice.
+/// Calls [`SoloBus::play`] twice.
 pub fn play(one: &mut SoloBus, other: &mut SoloBus, ticks: &[SoloTick])
     requires state { one.old ≡ other.old }
     requires room { length one.old.waiting + length ticks.now ≤ MOST_TICKS }
@@ -68,7 +68,7 @@ pub fn play(one: &mut SoloBus, other: &mut SoloBus, ticks: &[SoloTick])
     other.play(ticks);
 }
 
-/// [`SoloBus::finish`] twice.
+/// Calls [`SoloBus::finish`] twice.
 pub fn finish(one: &mut SoloBus, other: &mut SoloBus)
     requires { one.old ≡ other.old }
     ensures { one.new ≡ other.new }
@@ -77,7 +77,7 @@ pub fn finish(one: &mut SoloBus, other: &mut SoloBus)
     other.finish();
 }
 
-/// [`SoloBus::line`] twice.
+/// Calls [`SoloBus::line`] twice.
 pub fn line(one: &SoloBus, other: &SoloBus) -> (bool, bool)
     requires { one.now ≡ other.now }
     ensures { result.0 ≡ result.1 }
@@ -85,7 +85,7 @@ pub fn line(one: &SoloBus, other: &SoloBus) -> (bool, bool)
     (one.line(), other.line())
 }
 
-/// [`Bus::read`] of `SoloBus` twice.
+/// Calls [`Bus::read`] of `SoloBus` twice.
 pub fn read(one: &mut SoloBus, other: &mut SoloBus, offset: u32) -> (u32, u32)
     requires { one.old ≡ other.old }
     ensures answer { result.0 ≡ result.1 }
@@ -94,7 +94,7 @@ pub fn read(one: &mut SoloBus, other: &mut SoloBus, offset: u32) -> (u32, u32)
     (one.read(offset), other.read(offset))
 }
 
-/// [`Bus::write`] of `SoloBus` twice.
+/// Calls [`Bus::write`] of `SoloBus` twice.
 pub fn write(one: &mut SoloBus, other: &mut SoloBus, offset: u32, value: u32)
     requires { one.old ≡ other.old }
     ensures { AreOneState one.new other.new }
@@ -103,7 +103,7 @@ pub fn write(one: &mut SoloBus, other: &mut SoloBus, offset: u32, value: u32)
     other.write(offset, value);
 }
 
-/// [`Bus::load`] of `SoloBus` twice.
+/// Calls [`Bus::load`] of `SoloBus` twice.
 pub fn load(
     one: &mut SoloBus,
     other: &mut SoloBus,
@@ -121,7 +121,7 @@ pub fn load(
     other.load(address, other_into);
 }
 
-/// [`Bus::store`] of `SoloBus` twice.
+/// Calls [`Bus::store`] of `SoloBus` twice.
 pub fn store(one: &mut SoloBus, other: &mut SoloBus, address: u64, bytes: &[u8])
     requires state { one.old ≡ other.old }
     requires inside { address + length bytes.now ≤ length one.old.world.memory }

@@ -1,4 +1,4 @@
-//! The calls of `Stations`, each made twice, and a call of the bus that lends them.
+//! The calls of `Stations`, each made twice, and a call of the bus to which stations are lent.
 
 ghost use Rattle.std.specs.Prelude.{◌≡◌, ◌<◌, ◌∷◌, [], List};
 ghost use Rattle.adapter.specs.Outcomes.{FrameOutcome};
@@ -12,7 +12,7 @@ ghost use Rattle.stations.specs.ToldTicks.{TickTold, tick_told};
 use bus::Bus;
 use stations::{LentBus, Observer, Stations, Tick};
 
-/// [`Stations::play`] twice: each observer is told the same outcome.
+/// Calls [`Stations::play`] twice: both observers are told the same outcome.
 pub fn play<O: Observer>(
     one: &mut Stations,
     other: &mut Stations,
@@ -32,7 +32,7 @@ pub fn play<O: Observer>(
     other.play(tick, accesses, another);
 }
 
-/// [`LentBus::finish`] twice: both observers are told the same.
+/// Calls [`LentBus::finish`] twice: both observers are told the same outcomes.
 pub fn finish<'a, 't, O: Observer>(one: &mut LentBus<'a, 't, O>, other: &mut LentBus<'a, 't, O>)
     requires stations { one.old.stations.now ≡ other.old.stations.now }
     requires ticks { one.old.ticks.now ≡ other.old.ticks.now }
@@ -49,7 +49,7 @@ pub fn finish<'a, 't, O: Observer>(one: &mut LentBus<'a, 't, O>, other: &mut Len
     other.finish();
 }
 
-/// A correct use of [`Bus::read`] of `LentBus`, the control of the edits.
+/// A twin of [`Bus::read`] of `LentBus`, which the edits change.
 pub fn read<'a, 't, O: Observer>(bus: &mut LentBus<'a, 't, O>, offset: u32) -> u32
     ensures keeps { Keeps ⟦<LentBus<'a, 't, O> as Bus>⟧ bus.old bus.new }
     ensures acts { ⟦<LentBus<'a, 't, O> as Bus>⟧.honest bus.old

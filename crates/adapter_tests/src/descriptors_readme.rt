@@ -1,4 +1,4 @@
-//! The code of README.md, word for word.
+//! The code of the README of `descriptors`, word for word.
 
 use bitflags::Flags;
 use descriptors::{Frame, Ring, RxDesc, RxStatus, TxCommand, TxDesc, TxStatus};

@@ -1,4 +1,4 @@
-//! The code of README.md, word for word.
+//! The code of the README of `dma_memory`, word for word.
 
 use dma_memory::{HostMemory, Layout, OutOfRange, Pool};
 use std::test::Fail;

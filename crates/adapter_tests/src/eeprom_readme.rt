@@ -1,4 +1,4 @@
-//! The code of README.md, word for word.
+//! The code of the README of `eeprom`, word for word.
 
 use eeprom::{Eerd, Image, checksum_ok};
 

@@ -1,4 +1,4 @@
-//! The code of README.md, word for word.
+//! The code of the README of `frame_queue`, word for word.
 
 use frame_queue::{FrameQueue, PackedQueue};
 use std::test::Fail;

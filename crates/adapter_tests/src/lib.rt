@@ -1,4 +1,4 @@
-//! Tests of the adapter, of its parts, and of a bus with one adapter, over their public calls alone.
+//! Tests of the adapter, of its parts, and of a bus with one adapter, through their public calls.
 #![tactic(auto)]
 
 #[cfg(test)]

@@ -1,4 +1,4 @@
-//! The code of README.md, word for word.
+//! The code of the README of `mdic_phy`, word for word.
 
 use mdic_phy::{Link, Mdic, Phy};
 

@@ -1,4 +1,4 @@
-//! Memory that may be refused, and the texts of refusals.
+//! Allocations that may fail, and the texts of errors.
 
 use adapter::{Outcome, StepKind};
 use bus::StoredBytes;
@@ -8,12 +8,12 @@ use solo_bus::sound_buses::{with_buffered_frame, with_work};
 use std::process::Abort;
 use std::test::Fail;
 
-/// Asserts that a text is as it has to be.
+/// Asserts that a text is the expected one.
 fn same(rt: &impl Abort, shown: &str, wanted: &str) {
     assert!(rt; shown == wanted, "{shown}");
 }
 
-/// A refused allocation is the one failure that is allowed here, so that each can be made to fail in turn.
+/// The call may fail only if an allocation fails, so that a test can make each allocation fail in turn.
 #[test]
 fn a_new_memory_is_zeros(rt: HostRuntime) {
     if let Ok(memory) = HostMemory::new(rt.alloc(), 22_528) {
@@ -22,7 +22,7 @@ fn a_new_memory_is_zeros(rt: HostRuntime) {
     }
 }
 
-/// A refused allocation is the one failure that is allowed here, too.
+/// The call may fail only if an allocation fails.
 #[test]
 fn a_new_pool_has_all_numbers(rt: HostRuntime) {
     if let Ok(pool) = Pool::new(rt.alloc(), u16::MAX) {
@@ -30,7 +30,7 @@ fn a_new_pool_has_all_numbers(rt: HostRuntime) {
     }
 }
 
-/// And here.
+/// The calls may fail only if an allocation fails.
 #[test]
 fn stored_bytes_and_sound_buses_are_made(rt: HostRuntime) {
     if let Ok(stored) = StoredBytes::from_slice(rt.alloc(), &[1, 2, 3]) {

@@ -1,4 +1,5 @@
-//! Calls that take no memory, as what they need was made before. They succeed, even if every later allocation fails.
+//! Calls that allocate no memory, because their memory was allocated before. They succeed even if every later
+//! allocation fails.
 
 use adapter::offsets::{GPRC, GPTC, RCTL, RDLEN, RDT, TCTL, TDBAL, TDLEN, TDT};
 use adapter::{Adapter, Fate, Outcome, StepKind};
@@ -12,7 +13,7 @@ use std::process::Abort;
 /// A frame to all hosts.
 const FRAME: [u8; 60] = [0xFF; 60];
 
-/// A frame arrives, moves to the buffer at 0x800, and its descriptor at address 0 is written back.
+/// Receives a frame: it arrives, moves to the buffer at 0x800, and the descriptor at address 0 is written back.
 fn receives(rt: &impl Abort, adapter: &mut Adapter, memory: &mut HostMemory) {
     assert!(rt; memory.store(0, &0x800u64.to_le_bytes()).is_ok());
     adapter.write(RDLEN, 128);
@@ -29,7 +30,7 @@ fn receives(rt: &impl Abort, adapter: &mut Adapter, memory: &mut HostMemory) {
     assert_eq!(rt; adapter.read(GPRC), 1);
 }
 
-/// The frame at 0x800 is sent. Its descriptor is at 0x100.
+/// Sends the frame at 0x800. Its descriptor is at 0x100.
 fn sends(rt: &impl Abort, adapter: &mut Adapter, memory: &mut HostMemory) {
     let descriptor = [0, 8, 0, 0, 0, 0, 0, 0, 60, 0, 0, 0x09, 0, 0, 0, 0];
     assert!(rt; memory.store(0x100, &descriptor).is_ok());

@@ -19,7 +19,7 @@ fn the_code_of_the_readme_of_adapter(rt: HostRuntime) -> Result<(), Fail> {
     adapter.write(RDLEN, 128);
     adapter.write(RDT, 1);
     adapter.write(RCTL, Rctl::EN.union(Rctl::BAM).bits());
-    // A broadcast frame comes, moves into the buffer, and is told in its descriptor.
+    // A broadcast frame arrives, is moved into the buffer, and its descriptor is written back.
     let frame = [0xFF; 60];
     assert_eq!(rt; adapter.arrive(&frame), Fate::Stored);
     let moved = adapter.step(StepKind::RxData, &mut memory, true);

@@ -1,4 +1,4 @@
-//! The code of README.md, word for word.
+//! The code of the README of `registers`, word for word.
 
 use bitflags::Flags;
 use registers::{Cause, Causes, Counter, GroupOffset, Rctl, Status};

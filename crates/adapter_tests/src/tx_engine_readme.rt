@@ -1,4 +1,4 @@
-//! The code of README.md, word for word.
+//! The code of the README of `tx_engine`, word for word.
 
 use descriptors::Ring;
 use dma_memory::HostMemory;
@@ -22,7 +22,7 @@ fn the_code_of_the_readme_of_tx_engine(rt: HostRuntime) -> Result<(), Fail> {
     let taken = take(&mut engine, &mut ring, Tctl::EN, &memory);
     assert_eq!(rt; taken, Take::Took { emptied: true });
     assert_eq!(rt; engine.front(), Some([0xFF; 60].as_slice()));
-    // The frame leaves for the wire, and byte 12 of its descriptor tells it.
+    // The frame moves to the wire, and DD is set in byte 12 of its descriptor.
     let gone = put(&mut engine, &mut memory, true);
     assert_eq!(rt; gone, Put::Put { reported: true });
     assert_eq!(rt; memory.view(12, 1), Ok([0x01].as_slice()));

@@ -1,4 +1,4 @@
--- What accesses leave as it is.
+-- What accesses don't change.
 use Rattle.std.proofs.Common.{◌≡◌, ◌≢◌, ℕ, Bool, Option, Some, None, refl, sym, ap, subst, ◌∙◌, cond}
 use Rattle.std.specs.Prelude.{IfSome}
 use Rattle.adapter.specs.Registers.{after_reset, by_row, left_by_read, left_by_write, read_of, write_of}
@@ -16,7 +16,7 @@ use Rattle.bus.specs.declared.event.Access.{Access}
 use Rattle.bus.specs.declared.event.Access.TheVariants.{Loads, Reads, Stores, Writes}
 use Rattle.bus.specs.Trails.{world_after_access}
 
--- What is so of a register is so of the one that stands at its offset.
+-- A fact of a register holds for the register that is at its offset.
 pub at_offset : (P : Register → Type 0) (register : Register) → IsInTable register → P register
     → IfSome (register_at (row_of register).offset) P
 at_offset P register within is = subst (λ (found : Option Register). IfSome found P) (sym (register_at-there register within)) is
@@ -50,7 +50,7 @@ quiet_leaves_world (Writes offset value) world quiet other = absurd quiet
 quiet_leaves_world (Loads address size) world quiet other = refl
 quiet_leaves_world (Stores address bytes) world quiet other = absurd (other tt)
 
--- a register that stays at a read isn't ICR
+-- a register that a read doesn't clear isn't ICR
 not-icr : (found : Option Register) → IfSome found StaysAtRead → found ≢ Some Icr
 not-icr found stays is =
     let of_icr : IfSome (Some Icr) StaysAtRead = subst (λ (f : Option Register). IfSome f StaysAtRead) is stays in
@@ -80,7 +80,7 @@ ring_writes_leave_interrupts (Transmit part) value of_ring =
     write_leaves_interrupts (Transmit part) value tt ((λ no. no), refl) ((λ no. no), refl)
 ring_writes_leave_interrupts _ value of_ring = absurd of_ring
 
--- a write without a reset is one by the register's row
+-- a write without a reset is a write by the register's row
 pub by-row : (register : Register) (value : ℕ) (state : AdapterState) → ResetsNothing value register
     → write_of register value state ≡ by_row (row_of register).kept register value state
 by-row register value state keeps =

@@ -1,4 +1,4 @@
--- An adapter at rest stays so while a driver sets it up.
+-- An adapter at rest remains at rest while a driver sets it up.
 use Rattle.std.proofs.Common.{arith, ◌≡◌, ◌≤◌, ◌-◌, ◌++◌, [], true, false, ℕ, Bool, List, Option, None, Some, length, map}
 use Rattle.std.proofs.Common.{if◌then◌else◌, refl, sym, ap, subst, ◌∙◌}
 use Rattle.std.specs.List.{All, take_while}

@@ -1,4 +1,4 @@
--- Separate areas: in a memory of the same size, without one of them, with a shorter one in place of one.
+-- Separate areas: in a memory of the same size, without one of the areas, or with a shorter area in place of one.
 use Rattle.std.proofs.Common.{◌≡◌, ◌≤◌, ◌++◌, ◌∷◌, ℕ, List, length, arith}
 use Rattle.dma_memory.specs.Areas.{AreApart, AreSeparate, Area, IsInside}
 use Rattle.dma_memory.specs.AreaLaws.{apart-inside, inside-apart, lies-inside}
@@ -14,7 +14,7 @@ separate-same memory memory' areas areas' size same separate = rw same (record {
   apart = separate.apart;
 })
 
--- Without one of them.
+-- Without one of the areas.
 pub separate-without : (memory : List ℕ) (front : List Area) (area : Area) (behind : List Area)
     → AreSeparate memory (front ++ area ∷ behind) → AreSeparate memory (front ++ behind)
 separate-without memory front area behind separate = record {
@@ -22,7 +22,7 @@ separate-without memory front area behind separate = record {
   apart = pairs-without AreApart front area behind separate.apart;
 }
 
--- With the beginning of one of them in its place.
+-- With the beginning of one of the areas in its place.
 pub separate-shorter : (memory : List ℕ) (front : List Area) (address size shorter : ℕ) (behind : List Area) → shorter ≤ size
     → AreSeparate memory (front ++ record { address = address; size = size } ∷ behind)
     → AreSeparate memory (front ++ record { address = address; size = shorter } ∷ behind)

@@ -1,4 +1,4 @@
--- What may happen between two accesses composes, and nothing at all is one of its cases.
+-- What may happen between two accesses composes, and it may be that nothing happens.
 use Rattle.std.proofs.Common.{◌≡◌, ◌⊎◌, ◌+◌, ℕ, zero, suc, List, [], ◌++◌, refl, sym, ap, subst, ◌∙◌, inl, inr, append_assoc}
 use Rattle.std.proofs.Common.{arith, length-append}
 use Rattle.std.proofs.lemmas.List.{append-nil}
@@ -14,7 +14,7 @@ use Rattle.adapter.specs.Slots.{finished, written_back}
 use Rattle.adapter.specs.HostFrames.{finished_pieces, frames_held, frames_to_send}
 use Rattle.adapter.specs.Conditions.{Sound}
 use Rattle.bus.specs.Law.{Between, Happens, OnlyHeadMoves, PutsInOrder, Steady, StoresInOrder, management_of, phy_ticked}
-use Rattle.bus.specs.PastOfStretch.{Past, joined, nothing}
+use Rattle.bus.specs.Pasts.{Past, joined, nothing}
 use Rattle.adapter.specs.World.{World}
 use Rattle.descriptors.specs.Frames.{IsLegal}
 use Rattle.descriptors.specs.Ring.{HasValidIndices}
@@ -22,7 +22,7 @@ use Rattle.adapter.specs.Rings.{ring_of}
 use Rattle.std.proofs.lemmas.List.Elements.{All-append}
 use Rattle.bus.proofs.Lists.{all-none}
 
--- As often as two numbers say together is as often as the one says, and then as the other does.
+-- To iterate by a sum of two numbers is to iterate by the first, and then by the second.
 pub iterate-add : {A : Type 0} (h : A → A) (m n : ℕ) (x : A) → iterate h (m + n) x ≡ iterate h n (iterate h m x)
 iterate-add h zero n x = let none : 0 + n ≡ n = omega arith in ap (λ (k : ℕ). iterate h k x) none
 iterate-add h (suc m) n x =
@@ -31,7 +31,7 @@ iterate-add h (suc m) n x =
 
 -- Registers.
 
--- A head that stayed twice stayed, and one that moved is a slot.
+-- A head that didn't move in either interval didn't move in both, and a head that moved is a slot.
 head_trans : (a b c : RingRegisters) → OnlyHeadMoves a b → OnlyHeadMoves b c → OnlyHeadMoves a c
 head_trans a b c one two = record {
   others = two.others ∙ ap (λ (ring : RingRegisters). let moved : RingRegisters = record ring { head = c.head } in moved) one.others;
@@ -99,7 +99,7 @@ steady_refl a = record {
 
 -- Frames.
 
--- A cause that is recorded if a frame ended in a first stretch still is after a later one.
+-- A cause that is recorded if a frame ended in a first interval still is after a later one.
 told-joined : (first later : List Piece) (b c : World) → All IsPart first ⊎ HasBit b.adapter.causes.recorded rxt0
     → All IsPart later ⊎ HasBit c.adapter.causes.recorded rxt0
     → ((place : ℕ) → HasBit b.adapter.causes.recorded place → HasBit c.adapter.causes.recorded place)

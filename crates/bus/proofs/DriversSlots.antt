@@ -1,4 +1,4 @@
--- Finished and written-back slots, the driver's own slots, and what it wrote into descriptors aren't the adapter's to write.
+-- The adapter may not write finished and written-back slots, the driver's slots, and what the driver wrote into descriptors.
 use Rattle.std.proofs.Common.{◌≡◌, ◌≢◌, ◌≤◌, ◌<◌, ◌⊎◌, ◌+◌, ◌*◌, inl, inr, ◌++◌, ◌∷◌, [], ℕ, zero, suc, List, map, drop, slice_index}
 use Rattle.std.proofs.Common.{⊎_elim, refl, sym, ap, subst, ◌∙◌, arith}
 use Rattle.std.specs.List.{All, AllPairs}
@@ -31,7 +31,7 @@ use Rattle.bus.proofs.WrittenAreas.{named-same}
 use Rattle.bus.proofs.Lists.{all-head, all-left, all-none, all-right, all-tail, all-unmapped, map-same, pairs-head, pairs-right, pairs-tail}
 use Rattle.bus.proofs.Rings.{dealt-left, dealt-right, each-outstanding, far-apart, outstanding-apart, outstanding-inside, slot-inside}
 
--- Each of the elements in front with each of those behind.
+-- Each of the first elements with each of the later ones.
 pairs-across : {X : Type 0} (R : X → X → Type 0) (xs ys : List X) → AllPairs R (xs ++ ys) → All (λ x. All (R x) ys) xs
 pairs-across R [] ys pairs = all-none (λ x. All (R x) ys)
 pairs-across R (x ∷ xs) ys pairs =
@@ -52,7 +52,7 @@ half-inside r d inside = record { from = omega (arith, inside.from); to = omega 
 byte-inside : (t : Area) (d : ℕ) → IsInside (descriptor_area d) t → IsInside (status_byte d) t
 byte-inside t d inside = record { from = omega (arith, inside.from); to = omega (arith, inside.to) }
 
--- What is apart from a descriptor is apart from what is reported in it.
+-- An area apart from a descriptor is apart from the bytes of the descriptor that the adapter reports in.
 half-apart : (x y : ℕ) → AreApart (descriptor_area x) (descriptor_area y) → AreApart (descriptor_area x) (reported_half y)
 half-apart x y apart = inside-apart (descriptor_area x) (reported_half y) (descriptor_area y)
     (half-inside (descriptor_area y) y (record { from = omega arith; to = omega arith })) apart
@@ -181,9 +181,9 @@ foreign-written o p a sound =
     (outstanding-inside ring p slots.slot) in
     λ k d below. foreign-in_transmit o p a _ sound (inside k d below) (λ j e within. byte-apart _ _ (across k d below j e within))
 
--- The driver's own slots, and the addresses in descriptors.
+-- The driver's slots, and the addresses in descriptors.
 
--- An own slot is apart from the outstanding ones.
+-- A slot of the driver is apart from the outstanding slots.
 pub own-apart : (ring : Ring) (oldest slot : ℕ) → (oldest < count_of ring) ⊎ (outstanding ring oldest ≡ []) → IsDriversSlot ring oldest slot
     → All (λ d. AreApart (descriptor_area (address_of ring slot)) (descriptor_area d)) (outstanding ring oldest)
 own-apart ring oldest slot dealt own =
@@ -216,7 +216,7 @@ foreign-address o p a slot sound below =
     (dealt-right a.memory ring o (in_work a) Apart sound.receive_slots
     (each-outstanding ring o Apart sound.receive_slots.slot (λ other within. front-apart ring.base slot other)))
 
--- The address that a descriptor names stands in its first eight bytes.
+-- The address that a descriptor names is in its first eight bytes.
 address-front : (memory : List ℕ) (at : ℕ) → receive.named_address memory at ≡ little_number 8 (bytes_at memory at 8)
 unfolding rx_desc_of
 address-front memory at = little_from-take 0 8 16 (drop at memory) (omega arith)
@@ -234,7 +234,7 @@ foreign-transmit_slot o p a slot sound own =
     foreign-in_transmit o p a (descriptor_area at) sound (slot-inside ring.base (count_of ring) slot 16 own.below (omega arith))
     (dealt-right a.memory ring p (buffered a) Apart sound.transmit_slots (λ k d within. byte-apart at _ (apart k d within)))
 
--- Bytes of a descriptor in front of its status, and behind it.
+-- The bytes of a descriptor before its status, and after it.
 front-status : (base slot other : ℕ) → AreApart (record { address = base + 16 * slot; size = 12 }) (status_byte (base + 16 * other))
 front-status base slot other = ⊎_elim (λ (less : other < slot). inr (omega (arith, less)))
     (λ (more : slot ≤ other). inl (omega (arith, more))) (cases_lt other slot)

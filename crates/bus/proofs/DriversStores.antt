@@ -1,4 +1,4 @@
--- A driver's store to memory of its own.
+-- A driver's store to its own memory.
 use Rattle.std.proofs.Common.{◌≡◌, ◌++◌, [], ℕ, List, length, map, cond, sym, ap, subst}
 use Rattle.std.specs.List.{All}
 use Rattle.dma_memory.specs.Areas.{AreApart, Area, ChangesOnly}

@@ -1,4 +1,4 @@
--- Registers, causes and counters where an engine does something.
+-- Registers, causes and counters after a step of an engine.
 use Rattle.std.proofs.Common.{◌⊎◌, [], ◌≡◌, ◌+◌, ℕ, List, length, max, min, refl, sym, ap, inl}
 use Rattle.std.specs.Fn.{iterate}
 use Rattle.eeprom.specs.Eerd as eeprom
@@ -9,14 +9,14 @@ use Rattle.rx_engine.specs.Receiver.{Receiver}
 use Rattle.tx_engine.specs.Transmitter.{Transmitter}
 use Rattle.adapter.specs.State.{AdapterState}
 use Rattle.bus.specs.Law.{Steady, management_of, phy_ticked}
-use Rattle.bus.specs.PastOfStretch.{Past}
+use Rattle.bus.specs.Pasts.{Past}
 use Rattle.adapter.specs.World.{World}
 use Rattle.std.specs.List.{All}
 use Rattle.descriptors.specs.Frames.{IsLegal}
 use Rattle.descriptors.specs.Ring.{HasValidIndices}
 use Rattle.adapter.specs.Rings.{ring_of}
 
--- A cause that is recorded stays so where others are added.
+-- A cause that is recorded remains recorded if others are added.
 pub added : (recorded causes place : ℕ) → HasBit recorded place → HasBit (union recorded causes) place
 added recorded causes place set = (HasBit-union recorded causes place).1 (inl set)
 

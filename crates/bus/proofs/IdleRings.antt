@@ -1,4 +1,4 @@
--- Idle rings: the conditions of the law hold of them, and they stay idle.
+-- Idle rings: the conditions of the law hold for them, and they remain idle.
 use Rattle.std.proofs.Common.{◌≡◌, ⊎_elim, inl, inr, ◌++◌, ◌∷◌, [], true, false, ℕ, List, Bool, Option, None, Some, cond}
 use Rattle.std.proofs.Common.{if◌then◌else◌, length, map, refl, sym, ap, subst, ◌∙◌, arith}
 use Rattle.std.specs.List.{All, take_while}
@@ -127,13 +127,13 @@ idle_after_reset world = record {
   rings = record { receive = refl; transmit = refl; separate = empty_rings world.memory };
 }
 
--- What happens leaves them idle.
+-- Idle rings are idle after whatever happens between two accesses.
 
 work-empty : (work : Option Work) → slot_of_work work ≡ [] → work ≡ None
 work-empty None none = refl
 work-empty (Some work) none = absurd (cc)
 
--- No slot is taken, and none offered, where none is outstanding.
+-- No slot is taken or offered if no slot is outstanding.
 pub none-dealt : (memory : List ℕ) (ring : Ring) (oldest : ℕ) (taken : List ℕ) → oldest ≡ ring.tail → IsDealt memory ring oldest taken
     → (taken ≡ []) × (offered ring ≡ [])
 none-dealt memory ring oldest taken same dealt =
@@ -141,13 +141,13 @@ none-dealt memory ring oldest taken same dealt =
     let all = append-empty (done_slots memory ring oldest) (taken ++ offered ring) (sym dealt.classes ∙ clear) in
     append-empty taken (offered ring) all.1
 
--- A ring that offers nothing has its head at its tail, where these are slots.
+-- A ring that offers nothing has its head at its tail, if head and tail are slots.
 head-is-tail : (ring : Ring) → HasValidIndices ring → offered ring ≡ [] → ring.head ≡ ring.tail
 head-is-tail ring slots none =
     ⊎_elim (λ (same : ring.head ≡ ring.tail). same)
     (λ (differ : ¬ (ring.head ≡ ring.tail)). let first = offered-head ring slots differ in absurd (cc)) (cases_eq ring.head ring.tail)
 
--- The head stayed at the tail, or is a slot and so is the tail.
+-- The head is still at the tail, or head and tail are slots.
 pub still-idle : (a b : RingRegisters) → OnlyHeadMoves a b → a.head ≡ a.tail → offered (ring_of b) ≡ [] → b.head ≡ b.tail
 still-idle a b moves idle none =
     ⊎_elim
@@ -190,7 +190,7 @@ happenings_keep_idle a b past happens idle =
       };
     }
 
--- Accesses leave them idle.
+-- Idle rings are idle after accesses.
 
 -- Idle by the parts of the adapter that this rests on.
 idle-same : (memory memory' : List ℕ) (a b : AdapterState) → length memory' ≡ length memory → b.receiver ≡ a.receiver
@@ -240,7 +240,7 @@ reads_keep_idle offset world idle = by_case (register_at offset)
 pub stores_keep_idle : StoresKeepIdle
 stores_keep_idle address bytes world size idle = idle-same world.memory _ world.adapter world.adapter size refl refl refl refl idle
 
--- What a write leaves of the frames: it makes none.
+-- A write adds no frame.
 record NoFrames (state : AdapterState) : Type 0 where
   work : state.receiver.work ≡ None
   unmoved : moved_bytes state.receiver ≡ []
@@ -278,7 +278,7 @@ writes_keep_idle offset value world idle rings = by_case (register_at offset) re
       rings = rings;
     }
 
--- A write of a register that isn't a ring's leaves the rings, or resets.
+-- A write of a register that isn't a ring's doesn't change the rings, or is a reset.
 pub other_writes_keep_idle : OtherWritesKeepIdle
 other_writes_keep_idle register value world other idle = by_test (is_reset register value)
   where

@@ -1,4 +1,4 @@
--- Calls over a bus, one after the other, keep what each of them keeps.
+-- What each of several calls over a bus keeps, the calls one after the other keep.
 use Rattle.std.proofs.Common.{refl, ◌∙◌}
 use Rattle.bus.specs.Keeping.{Keeps}
 use Rattle.bus.specs.declared.bus.Bus.{Ghosts}

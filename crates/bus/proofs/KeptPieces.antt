@@ -1,4 +1,4 @@
--- If the pieces in slots are the same, so are the frames that they join to.
+-- If the pieces in slots are the same, the frames of these pieces are the same.
 use Rattle.std.proofs.Common.{◌≡◌, ◌<◌, ℕ, List, length, sym, ap, subst, ◌∙◌}
 use Rattle.std.specs.List.{All}
 use Rattle.descriptors.specs.Frames.{IsLegal, longest_frame}

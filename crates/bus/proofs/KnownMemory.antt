@@ -1,4 +1,4 @@
--- What a driver rests on stays, whatever happens: where its rings stand, and memory that no outstanding slot uses.
+-- Whatever happens, a driver's rings have the same addresses, and memory that no outstanding slot uses doesn't change.
 use Rattle.std.proofs.Common.{◌≡◌, ℕ, List, sym, ap, subst}
 use Rattle.std.specs.List.{All}
 use Rattle.dma_memory.specs.Areas.{AreApart, Area, area_at}
@@ -9,7 +9,7 @@ use Rattle.rx_engine.specs.Descriptors.{named_address}
 use Rattle.adapter.specs.HostAreas.{data_of, ring_area}
 use Rattle.adapter.specs.Conditions.{Sound}
 use Rattle.bus.specs.Law.{Happens}
-use Rattle.bus.specs.PastOfStretch.{Past}
+use Rattle.bus.specs.Pasts.{Past}
 use Rattle.bus.specs.SpareMemory.{AreasStayApart, IsSpare}
 use Rattle.adapter.specs.World.{receive_ring, transmit_ring, World}
 use Rattle.bus.proofs.DriversSlots.{drivers_side_stays}

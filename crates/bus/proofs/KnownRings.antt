@@ -1,4 +1,4 @@
--- What a driver knows of its rings stays known, and what a write of RDT or TDT leaves.
+-- What a driver knows of its rings still holds, and what a write of RDT or TDT doesn't change.
 use Rattle.std.proofs.Common.{◌≡◌, ◌<◌, ⊎_elim, ℕ, Option, sym, ap, subst, ◌∙◌, arith, bit_and}
 use Rattle.std.proofs.lemmas.Nat.{and_mask}
 use Rattle.descriptors.specs.Ring.{HasValidIndices, count_of}
@@ -14,7 +14,7 @@ use Rattle.adapter.specs.World.{receive_ring, transmit_ring, World}
 use Rattle.bus.specs.Law.{OnlyHeadMoves}
 use Rattle.bus.specs.KnownRings.{KnownRingStays, ReceiveTailMoves, TransmitTailMoves}
 
--- A head that stays, or is a slot, is a slot where it was one.
+-- A head that doesn't change, or that is a slot, is a slot if it was one before.
 head-slot : (a b : RingRegisters) → OnlyHeadMoves a b → a.head < count_of (ring_of a) → b.head < count_of (ring_of a)
 head-slot a b moves below =
     let count : count_of (ring_of b) ≡ count_of (ring_of a) =
@@ -24,7 +24,7 @@ head-slot a b moves below =
     (λ (slot : HasValidIndices (ring_of b)). subst (λ (n : ℕ). b.head < n) count slot.head)
     moves.head
 
--- What the driver knows of its ring it knows still where the head alone has moved.
+-- What the driver knows of its ring still holds if only the head has moved.
 pub knows-carried : (a b : RingRegisters) (base count tail : ℕ) → OnlyHeadMoves a b
     → KnowsRing (ring_of a) base count tail → KnowsRing (ring_of b) base count tail
 knows-carried a b base count tail moves knows = record {

@@ -1,4 +1,4 @@
--- Ticks and commands leave how the PHY's link comes up.
+-- Ticks and commands don't change the setting of the PHY's link.
 use Rattle.std.proofs.Common.{◌≡◌, ℕ, zero, suc, Bool, true, false, cond, Option, Some, None, refl, ◌∙◌}
 use Rattle.std.specs.Fn.{iterate}
 use Rattle.mdic_phy.specs.declared.mdic.Operation.{Operation}

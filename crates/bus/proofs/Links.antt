@@ -1,4 +1,4 @@
--- A link that is up stays up: whatever happens, and at accesses that leave the PHY.
+-- A link that is up remains up: whatever happens, and at accesses that don't change the PHY.
 use Rattle.std.proofs.Common.{◌≡◌, [], ℕ, zero, suc, Bool, true, false, cond, Option, Some, None, refl, sym, subst}
 use Rattle.std.specs.Fn.{iterate}
 use Rattle.std.specs.List.{All}
@@ -15,7 +15,7 @@ use Rattle.adapter.specs.World.{World}
 use Rattle.adapter.specs.declared.register.Register.{Register}
 use Rattle.adapter.specs.declared.register.Register.TheVariants.{Ctrl, Gprc, Gptc, Icr, Mdic, Mpc, Rnbc}
 use Rattle.bus.specs.Law.{Management, management_of, phy_ticked}
-use Rattle.bus.specs.Link.{AccessesKeepLink, HappeningsKeepLink, HasLink, IsNotOfPhy, LeavesPhy, LinkStretchesJoin}
+use Rattle.bus.specs.Link.{AccessesKeepLink, HappeningsKeepLink, HasLink, IsNotOfPhy, LeavesPhy, LinkIntervalsJoin}
 use Rattle.bus.specs.Settings.{Write, writes_in}
 use Rattle.bus.specs.declared.event.Access.TheVariants.{Loads, Reads, Stores, Writes}
 use Rattle.bus.proofs.Lists.{all-head, all-left, all-right}
@@ -65,7 +65,7 @@ happenings_keep_link a b past happens link =
 
 -- Accesses.
 
--- MDIC and the PHY are those of before.
+-- MDIC and the PHY are unchanged.
 same-management : (a b : World) → management_of b.adapter ≡ management_of a.adapter → HasLink a → HasLink b
 same-management a b same link =
     let before : IsUp (management_of a.adapter) = record { up = link.up; no_command = link.no_command } in
@@ -109,9 +109,9 @@ accesses_keep_link (Writes offset value) world leaves link =
 accesses_keep_link (Loads address size) world leaves link = link
 accesses_keep_link (Stores address bytes) world leaves link = record { up = link.up; no_command = link.no_command }
 
--- Two stretches.
-pub link_stretches_join : LinkStretchesJoin
-link_stretches_join a b c first later one two = λ leaves link.
+-- Two intervals.
+pub link_intervals_join : LinkIntervalsJoin
+link_intervals_join a b c first later one two = λ leaves link.
     let writes = subst (All LeavesPhy) (writes-append first.accesses later.accesses) leaves in
     two (all-right LeavesPhy (writes_in first.accesses) (writes_in later.accesses) writes)
     (one (all-left LeavesPhy (writes_in first.accesses) (writes_in later.accesses) writes) link)

@@ -1,4 +1,4 @@
--- What holds of each element, of each pair of elements, and of the elements in front, in parts of a list.
+-- What holds for each element, for each pair of elements, and for the first elements, in parts of a list.
 use Rattle.std.proofs.Common.{◌≡◌, ◌++◌, ◌∷◌, [], Bool, true, false, suc, List, map, refl, sym, ◌∙◌, arith, cond}
 use Rattle.std.specs.List.{All, AllPairs, take_while}
 use Rattle.std.proofs.lemmas.List.Elements.{All-cons, All-append, All-map}
@@ -70,7 +70,7 @@ pairs-head R x xs pairs k d below = pairs 0 (suc k) d (omega arith) (omega arith
 pub pairs-tail : {X : Type 0} (R : X → X → Type 0) (x : X) (xs : List X) → AllPairs R (x ∷ xs) → AllPairs R xs
 pairs-tail R x xs pairs i j d before below = pairs (suc i) (suc j) d (omega arith) (omega arith)
 
--- Those in front of an element.
+-- The elements before an element.
 pub pairs-before : {X : Type 0} (R : X → X → Type 0) (xs : List X) (y : X) (ys : List X) → AllPairs R (xs ++ y ∷ ys) → All (λ x. R x y) xs
 pairs-before R [] y ys pairs = all-none (λ x. R x y)
 pairs-before R (x ∷ xs) y ys pairs =
@@ -78,7 +78,7 @@ pairs-before R (x ∷ xs) y ys pairs =
     (all-head (R x) y ys (all-right (R x) xs (y ∷ ys) (pairs-head R x (xs ++ y ∷ ys) pairs)))
     (pairs-before R xs y ys (pairs-tail R x (xs ++ y ∷ ys) pairs))
 
--- Those behind it.
+-- The elements after an element.
 pub pairs-right : {X : Type 0} (R : X → X → Type 0) (xs ys : List X) → AllPairs R (xs ++ ys) → AllPairs R ys
 pairs-right R [] ys pairs = pairs
 pairs-right R (x ∷ xs) ys pairs = pairs-right R xs ys (pairs-tail R x (xs ++ ys) pairs)
@@ -111,7 +111,7 @@ pairs-mapped R f (x ∷ xs) pairs =
     (All-map (R (f x)) f xs (pairs-head (λ a b. R (f a) (f b)) x xs pairs))
     (pairs-mapped R f xs (pairs-tail (λ a b. R (f a) (f b)) x xs pairs))
 
--- The elements in front.
+-- The first elements.
 
 -- They pass.
 pub take_while-passes : {X : Type 0} (p : X → Bool) (xs : List X) → All (λ x. p x ≡ true) (take_while p xs)

@@ -9,7 +9,7 @@ use Rattle.bus.specs.BusMembers.{StaysWhole}
 use Rattle.bus.specs.Law.{Acts, view}
 use Rattle.bus.specs.LivelyBuses.{IsPrepared, IsQuietEvent, IsSameMachine, Lives, both_ticks, machine_bytes, machine_world}
 use Rattle.bus.specs.LivelyBusLaws.{same_on}
-use Rattle.bus.specs.PastOfStretch.{Past}
+use Rattle.bus.specs.Pasts.{Past}
 use Rattle.bus.specs.TrailLaws.{trail_joins}
 use Rattle.bus.specs.Trails.{IsAnswered, IsStep, past_of, world_after_access}
 use Rattle.bus.specs.declared.event.Access.{Access}
@@ -29,7 +29,7 @@ are-quiet a p prepared =
     All-cons IsQuietEvent (Steps EepromTick true prepared.eeprom) (Steps PhyTick true prepared.phy ∷ []) tt
     (All-cons IsQuietEvent (Steps PhyTick true prepared.phy) [] tt (all-none IsQuietEvent))
 
--- The access changes the machine only, and the machine stays the one lent.
+-- The access changes only the machine, and the same machine is lent.
 pub record IsAccess (p b : LivelyBus) (access : Access) : Type 0 where
   pub lent : IsSameMachine p b
   pub accesses : b.accesses ≡ p.accesses
@@ -66,7 +66,7 @@ lively-acts a p b access effect prepared is adapter does =
       effect_is = does;
     }
 
--- The size of memory stays while both steps are taken.
+-- Both steps don't change the size of memory.
 pub size-prepared : (a p : LivelyBus) → IsPrepared a p → machine_bytes p ≡ machine_bytes a
 size-prepared a p prepared =
     (trail_happens (both_ticks prepared.eeprom prepared.phy) (machine_world a) (machine_world p) (are-steps a p prepared)

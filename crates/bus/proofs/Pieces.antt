@@ -10,12 +10,12 @@ use Rattle.bus.specs.LargeBuffers.{LargeBuffersTakeFrames}
 use Rattle.adapter.specs.HostFrames.{pieces_in_slots}
 use Rattle.bus.proofs.Lists.{all-head, all-none, all-tail}
 
--- A piece in which its frame ends is a last one.
+-- A piece in which its frame ends is a last piece.
 pub last-ends : (ends : Bool) (bytes : List ℕ) → IsLast (piece_of ends bytes) → ends ≡ true
 last-ends true bytes last = refl
 last-ends false bytes last = absurd last
 
--- The bytes before some pieces belong to a frame that ends in them, or to the one that doesn't end yet.
+-- The bytes before some pieces belong to a frame that ends in these pieces, or to the frame that doesn't end yet.
 run-short : (size : ℕ) (begun : List ℕ) (pieces : List Piece) → All (IsCut size) pieces → All IsLegal (frames_from begun pieces)
     → length (begun_from begun pieces) < longest_frame → length begun < longest_frame
 run-short size begun [] cut legal short = short

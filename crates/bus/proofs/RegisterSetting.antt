@@ -279,7 +279,7 @@ same_trans o p a b d filter one two = record {
       (sym filter) fit.large) fit);
 }
 
--- one by one
+-- each slot in turn
 offered_each : (o p k : ℕ) (world : World) → Sound o p world → CanOfferMany o k world → OfferedMany o p k world (iterate offering k world)
 offered_each o p zero world sound can = record
     { same = (by-parts o p world world refl sound).same; runs = λ can. can; last = sym (append-nil (outstanding (receive_ring world) o)) }

@@ -1,4 +1,4 @@
--- What a write of a register leaves of the adapter, where it doesn't reset it.
+-- What a write of a register doesn't change in the adapter, if the write is no reset.
 use Rattle.std.proofs.Common.{◌≡◌, ℕ, refl}
 use Rattle.adapter.specs.declared.register.Register.{Register}
 use Rattle.adapter.specs.declared.register.Register.TheVariants.{Rctl, Tctl, Receive, Transmit}
@@ -8,7 +8,7 @@ use Rattle.adapter.specs.Table.{row_of}
 use Rattle.bus.specs.IdleRings.{IsOfRing}
 use Rattle.bus.specs.RegisterSetting.{IsOfConditions}
 
--- RCTL and TCTL are those of before, and the register isn't one of a ring.
+-- RCTL and TCTL are unchanged, and the register isn't a register of a ring.
 pub record KeepsControls (register : Register) (a b : AdapterState) : Type 0 where
   pub no_ring : ¬ (IsOfRing register)
   pub receive : b.filter.rctl ≡ a.filter.rctl

@@ -23,7 +23,7 @@ slots-below n i zero below = all-none (λ slot. slot < n)
 slots-below n i (suc k) below = All-cons (λ slot. slot < n) i (slots_from n ((i + 1) % n) k) below
     (slots-below n ((i + 1) % n) k (next-below n i below))
 
--- A slot isn't among those on the way to it.
+-- A slot isn't among the slots before it.
 pub slots-other : (n i k x : ℕ) → i < n → x < n → k ≤ (x + n - i) % n → All (λ slot. ¬ (slot ≡ x)) (slots_from n i k)
 slots-other n i zero x below within far = all-none (λ slot. ¬ (slot ≡ x))
 slots-other n i (suc k) x below within far =
@@ -33,7 +33,7 @@ slots-other n i (suc k) x below within far =
     All-cons (λ slot. ¬ (slot ≡ x)) i (slots_from n ((i + 1) % n) k) differ
     (slots-other n ((i + 1) % n) k x (next-below n i below) within (omega (arith, step, far)))
 
--- From the slot behind another it is all the ring to that other.
+-- From the slot after another slot, the distance to that other slot is one less than the number of slots.
 pub distance-whole : (n i : ℕ) → i < n → (i + n - (i + 1) % n) % n ≡ n - 1
 distance-whole n i below =
     ⊎_elim
@@ -53,7 +53,7 @@ slots-distinct n i (suc k) below fits =
 
 -- Slots by address.
 
--- A fact of each slot of the ring is one of each that is outstanding.
+-- A fact of each slot of the ring holds for each outstanding slot.
 pub each-outstanding : (ring : Ring) (oldest : ℕ) (P : ℕ → Type 0) → (oldest < count_of ring) ⊎ (outstanding ring oldest ≡ [])
     → ((slot : ℕ) → slot < count_of ring → P (address_of ring slot)) → All P (outstanding ring oldest)
 unfolding offered_places
@@ -63,12 +63,12 @@ each-outstanding ring oldest P (inl below) fact =
     let k = distance_of ring oldest ring.tail in
     All-map P (address_of ring) (slots_from n oldest k) (λ i d inside. fact _ (slots-below n oldest k below i d inside))
 
--- The first bytes of a slot stand in the ring,
+-- The first bytes of a slot are in the ring,
 pub slot-inside : (base n slot size : ℕ) → slot < n → size ≤ 16
     → IsInside (record { address = base + 16 * slot; size = size }) (record { address = base; size = 16 * n })
 slot-inside base n slot size below fits = record { from = omega arith; to = omega (arith, below, fits) }
 
--- so the outstanding slots do,
+-- so the outstanding slots are, too,
 pub outstanding-inside : (ring : Ring) (oldest : ℕ) → (oldest < count_of ring) ⊎ (outstanding ring oldest ≡ [])
     → All (λ descriptor. IsInside (descriptor_area descriptor) (ring_area ring)) (outstanding ring oldest)
 outstanding-inside ring oldest first =
@@ -143,7 +143,7 @@ dealt-moved memory ring oldest taken sound apart dealt =
       not_done = subst (λ (slots : List ℕ). All (λ d. is_done memory d ≡ false) slots) same dealt.not_done;
     }
 
--- The first slot that is taken gets done, and the others stay.
+-- The first slot that is taken is done then, and the others don't change.
 pub record Reported (memory memory' : List ℕ) (ring : Ring) (oldest descriptor : ℕ) (taken : List ℕ) : Type 0 where
   pub dealt : IsDealt memory' ring oldest taken
   pub grown : done_slots memory' ring oldest ≡ done_slots memory ring oldest ++ descriptor ∷ []

@@ -1,4 +1,4 @@
--- Engines that can run: no fault stops them, and what stays of them if memory is written.
+-- Engines that can run: no fault stops them, and they can still run if memory is written.
 use Rattle.std.proofs.Common.{◌≡◌, ◌≢◌, ◌≤◌, inr, [], Bool, true, false, cond, ℕ, List, length, length-take, drop, map}
 use Rattle.std.proofs.Common.{sym, ap, subst, arith}
 use Rattle.std.specs.List.{All}
@@ -58,7 +58,7 @@ can_take o p a sound can not_idle =
           (subst (λ (list : List ℕ). All (CanTransmit a.memory) list) first can.transmittable);
     }
 
--- The next piece has at most as many bytes as a buffer.
+-- The next piece fits into a buffer.
 pub piece-fits : (control : ℕ) (engine : Receiver) → length (next_piece control engine) ≤ buffer_bytes control
 piece-fits control engine = omega (arith, length-take (buffer_bytes control) (drop engine.moved (oldest engine.buffer)))
 
@@ -108,9 +108,9 @@ pub faults_never_come : FaultsNeverCome
 faults_never_come o p a kind wire_free answer sound can answers same =
     no_fault o p a kind wire_free sound can (subst (λ (given : FrameOutcome). Answers kind wire_free a.memory a.adapter given) same answers)
 
--- What stays.
+-- What doesn't change.
 
--- Descriptors that stay, in a memory of the same size.
+-- Descriptors that don't change, in a memory of the same size.
 pub transmittable-kept : (memory memory' : List ℕ) (slots : List ℕ) → length memory' ≡ length memory → All (IsSame memory memory') slots
     → All (CanTransmit memory) slots → All (CanTransmit memory') slots
 transmittable-kept memory memory' slots size same can = λ k d below.

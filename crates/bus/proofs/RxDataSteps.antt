@@ -17,7 +17,7 @@ use Rattle.rx_engine.specs.Receiver.{IsReceiver, Receiver, oldest}
 use Rattle.rx_engine.specs.Pieces.{IsCut, IsPart, Piece, begun_of}
 use Rattle.rx_engine.specs.Held.{HasBegun, Holds, MovesApart, held, in_work, piece_of}
 use Rattle.rx_engine.specs.Laws.{bytes_of_work-moved, held-after_data}
-use Rattle.rx_engine.specs.Moving.{is_half_free, next_piece, work_at}
+use Rattle.rx_engine.specs.Moving.{is_half_offered, next_piece, work_at}
 use Rattle.rx_engine.specs.declared.data.Data.TheVariants as answers
 use Rattle.rx_engine.specs.declared.engine.Work.{Work}
 use Rattle.tx_engine.specs.Transmitter.{Queued}
@@ -33,7 +33,7 @@ use Rattle.adapter.specs.Slots.{buffered, done_slots, finished, is_done, IsDealt
 use Rattle.adapter.specs.HostFrames.{finished_pieces, frames_held, named, piece_in, pieces_in_slots}
 use Rattle.adapter.specs.Conditions.{AreCut, Reports, Sound}
 use Rattle.bus.specs.Law.{Between, Happens}
-use Rattle.bus.specs.PastOfStretch.{nothing}
+use Rattle.bus.specs.Pasts.{nothing}
 use Rattle.bus.specs.StepsAndArrivals.{world_after_step}
 use Rattle.adapter.specs.State.{IsAdapter}
 use Rattle.adapter.specs.World.{receive_ring, transmit_ring, World}
@@ -57,7 +57,7 @@ use Rattle.descriptors.specs.Ring.{count_of}
 abbrev pub with_work : Option Work → World → World
 with_work work world = record world { adapter = record world.adapter { receiver = record world.adapter.receiver { work = work } } }
 
--- the receive engine with this packet buffer, so many bytes of its oldest frame moved, and a piece in progress
+-- the receive engine with this packet buffer, this number of moved bytes of its oldest frame, and a piece in progress
 abbrev pub moved_engine : Bool → List (List ℕ) → ℕ → World → Receiver
 moved_engine ends buffer moved world = record world.adapter.receiver {
   buffer = buffer;
@@ -72,7 +72,7 @@ moved_world ends buffer moved world = record {
   adapter = record (world_after_step RxData Moved world).adapter { receiver = moved_engine ends buffer moved world };
 }
 
--- the step leaves the frames held
+-- the step doesn't change the frames held
 abbrev pub KeepsHeld : Bool → List (List ℕ) → ℕ → ℕ → World → Type 0
 KeepsHeld ends buffer moved o a =
     MovesApart a.adapter.filter.rctl (receive_ring a) a.adapter.receiver a.memory ends
@@ -285,11 +285,11 @@ pub data_happens : (a : World) (answer : FrameOutcome) → IsAdapter a.adapter �
 data_happens a Part running says =
     data_moved false a.adapter.receiver.buffer (a.adapter.receiver.moved + piece_size a.adapter) a running says.0 says.1 says.2
     (λ o begun. held-after_data a.adapter.filter.rctl (receive_ring a) (with_work None a).adapter.receiver a.memory
-    (finished_pieces o a) (answers.Part (is_half_free (ring_of (moved_on a.adapter.receive_ring)))) begun)
+    (finished_pieces o a) (answers.Part (is_half_offered (ring_of (moved_on a.adapter.receive_ring)))) begun)
 data_happens a Moved running says =
     data_moved true (drop 1 a.adapter.receiver.buffer) 0 a running says.0 says.1 says.2
     (λ o begun. held-after_data a.adapter.filter.rctl (receive_ring a) (with_work None a).adapter.receiver a.memory
-    (finished_pieces o a) (answers.Moved (is_half_free (ring_of (moved_on a.adapter.receive_ring)))) begun)
+    (finished_pieces o a) (answers.Moved (is_half_offered (ring_of (moved_on a.adapter.receive_ring)))) begun)
 data_happens a Fault running answers = record {
   steady =
       steady_moves a a.memory (record (still a.adapter) { receiver = (world_after_step RxData Fault a).adapter.receiver })

@@ -35,7 +35,7 @@ use Rattle.adapter.specs.Slots.{buffered, done_slots, finished, in_work, is_done
 use Rattle.adapter.specs.HostFrames.{finished_pieces, frames_held, named, piece_in, pieces_in_slots}
 use Rattle.adapter.specs.Conditions.{Reports, Sound}
 use Rattle.bus.specs.Law.{Between, Happens}
-use Rattle.bus.specs.PastOfStretch.{nothing}
+use Rattle.bus.specs.Pasts.{nothing}
 use Rattle.bus.specs.StepsAndArrivals.{world_after_step}
 use Rattle.adapter.specs.State.{IsAdapter}
 use Rattle.adapter.specs.World.{receive_ring, transmit_ring, World}
@@ -67,7 +67,7 @@ told-of false recorded bytes = inl (All-cons IsPart (Part bytes) [] tt (all-none
 abbrev pub done_adapter : World → AdapterState
 done_adapter world = after_done Done world.adapter
 
--- Where the piece in progress and its descriptor stand.
+-- The places of the piece in progress and its descriptor.
 pub record WorkStands (world : World) (work : Work) : Type 0 where
   pub inside : IsInside (descriptor_area work.descriptor) (ring_area (receive_ring world))
   pub lies : LiesIn world.memory work.descriptor 16
@@ -246,7 +246,7 @@ between_done o p work a0 most sound =
         → r ∷ t ∷ (d' ++ (f' ++ b')) ≡ r ∷ t ∷ (d ++ (f ++ (w ∷ b)))
     same-lists r t d d' f f' b' w b same_d same_f same_b = rw (same_d, same_f, same_b, append_assoc f (w ∷ []) b) refl
 
--- In any state the size stays.
+-- In any state, the size of memory doesn't change.
 length-back : (memory : List ℕ) (work : Work) → length (memory_after_done (Some work) memory) ≡ length memory
 length-back memory work = by-test (nat_le (work.descriptor + 16) (length memory)) refl
   where

@@ -1,4 +1,4 @@
--- What a driver has set stays, but for its own writes.
+-- Only a driver's writes change what it has set.
 use Rattle.std.proofs.Common.{Bool, List, None, Option, Some, [], ap, false, if◌then◌else◌, refl, subst, sym, true, ℕ, ◌++◌, ◌∙◌, ◌∷◌, ◌≡◌}
 use Rattle.std.specs.List.{All}
 use Rattle.registers.specs.Bits.{HasBit}
@@ -16,7 +16,7 @@ use Rattle.adapter.specs.World.{World}
 use Rattle.bus.proofs.Lists.{all-head, all-left, all-right, all-tail}
 use Rattle.bus.proofs.LinkSettings.{link-ticks}
 use Rattle.bus.specs.Law.{Management, management_of, Happens}
-use Rattle.bus.specs.PastOfStretch.{Past, joined}
+use Rattle.bus.specs.Pasts.{Past, joined}
 use Rattle.bus.specs.Settings.{adapter_with, AreSet, HappeningsLeaveSettings, IsNotReceiveControl, IsOff, LeavesReceiver, NoArrival}
 use Rattle.bus.specs.Settings.{Settings, settings_after, settings_after_all, settings_of, SettingsJoin, StaysOff, WhileOff, Write}
 use Rattle.bus.specs.Settings.{writes_in, WritesSet}
@@ -38,7 +38,7 @@ happenings_leave_settings a b past happens =
     ∙ link-ticks past.phy_ticks (management_of a.adapter)) stay.allocation stay.device_control stay.mask stay.filter
     stay.transmit_control steady.receive_ring.others steady.transmit_ring.others
 
--- A read leaves them.
+-- A read doesn't change the settings.
 read-leaves : (register : Register) (adapter : AdapterState) → settings_of (read_of register adapter) ≡ settings_of adapter
 read-leaves Icr adapter = refl
 read-leaves Mpc adapter = refl
@@ -54,7 +54,7 @@ reads-leave offset adapter = by_case (register_at offset)
     by_case None = refl
     by_case (Some register) = read-leaves register adapter
 
--- A write sets what it sets of an adapter at rest.
+-- A write sets what it sets in an adapter at rest.
 row-sets : (register : Register) (value : ℕ) (adapter : AdapterState)
     → settings_of (by_row (row_of register).kept register value adapter)
     ≡ settings_of (by_row (row_of register).kept register value (adapter_with (settings_of adapter)))
@@ -86,7 +86,7 @@ writes-set offset value adapter = by_case (register_at offset)
     by_case None = refl
     by_case (Some register) = by_test register (is_reset register value)
 
--- Stretches join.
+-- Intervals join.
 pub settings-append : (first later : List Write) (settings : Settings)
     → settings_after_all (first ++ later) settings ≡ settings_after_all later (settings_after_all first settings)
 settings-append [] later settings = refl
@@ -140,7 +140,7 @@ stays-off (write ∷ later) settings leaves off =
 pub happens-off : (a b : World) (past : Past) → Happens a b past → IsOff a → NoArrival past
 happens-off a b past happens off = let none = happens.steady.arrivals.off off in record { none_stored = none.0; none_missed = none.1 }
 
--- Two stretches.
+-- Two intervals.
 pub while_off-joins : (a b : World) (first later : Past) → AreSet a b first → WhileOff a first → WhileOff b later
     → WhileOff a (joined first later)
 while_off-joins a b first later set one two = λ off leaves.

@@ -35,12 +35,12 @@ use Rattle.tx_engine.specs.Laws.{to_send-offer}
 use Rattle.tx_engine.specs.Transmitter.{Queued}
 use Rattle.bus.proofs.Rings.{distance-whole}
 
--- There are as many outstanding slots as it is from the oldest to the tail.
+-- The number of outstanding slots is the distance from the oldest slot to the tail.
 length-map : (f : ℕ → ℕ) (xs : List ℕ) → length (map f xs) ≡ length xs
 length-map f [] = refl
 length-map f (x ∷ xs) = ap suc (length-map f xs)
 
--- Where the slot behind the tail isn't the oldest, it isn't the head.
+-- If the slot after the tail isn't the oldest, it isn't the head.
 not-head : (memory : List ℕ) (ring : Ring) (oldest : ℕ) (taken : List ℕ) → IsDealt memory ring oldest taken → HasValidIndices ring
     → oldest < count_of ring → next_of ring ring.tail ≢ oldest → next_of ring ring.tail ≢ ring.head
 not-head memory ring oldest taken dealt in_ring below room same =
@@ -60,7 +60,7 @@ not-head memory ring oldest taken dealt in_ring below room same =
     ∙ distance-whole n ring.tail in_ring.tail in
     absurd (omega (arith, all, some, parts, grows, most, full))
 
--- One slot more, which isn't done, stands behind the offered ones.
+-- One more slot, which isn't done, is after the offered slots.
 pub record Grown (memory : List ℕ) (ring moved : Ring) (oldest : ℕ) (taken : List ℕ) : Type 0 where
   pub dealt : IsDealt memory moved oldest taken
   pub done : done_slots memory moved oldest ≡ done_slots memory ring oldest
@@ -106,7 +106,7 @@ dealt-offered memory ring oldest taken dealt in_ring below room fresh =
       offered_grown = off;
     }
 
--- The offered buffers grow by one, or, where the adapter doesn't receive, there are none.
+-- The offered buffers grow by one, or, if the adapter doesn't receive, there are none.
 buffers-grown : (on : Bool) (f : ℕ → Area) (xs ys : List ℕ) (x : ℕ) → ys ≡ xs ++ x ∷ []
     → ((on ≡ true) × (cond on (map f ys) [] ≡ cond on (map f xs) [] ++ f x ∷ [])) ⊎ (cond on (map f ys) [] ≡ cond on (map f xs) [])
 buffers-grown true f xs ys x grown = inl (refl, ap (map f) grown ∙ map-append f xs (x ∷ []))
@@ -135,7 +135,7 @@ areas-more r t d n n' w b b' area same_n more =
 areas-still : (r t : Area) (d n n' w b b' : List Area) → n' ≡ n → b' ≡ b → r ∷ t ∷ (d ++ (n' ++ (w ++ b'))) ≡ r ∷ t ∷ (d ++ (n ++ (w ++ b)))
 areas-still r t d n n' w b b' same_n same_b = rw (same_n, same_b) refl
 
--- What isn't the adapter's stays so, but for the slot and its buffer.
+-- Memory that the adapter may not write remains such memory, except for the slot and its buffer.
 all-grown : (P : Area → Type 0) (f : ℕ → Area) (taken xs ys : List ℕ) (x : ℕ) → ys ≡ xs ++ x ∷ [] → All P (map f (taken ++ xs)) → P (f x)
     → All P (map f (taken ++ ys))
 all-grown P f taken xs ys x grown all new =

@@ -1,4 +1,4 @@
--- Memory that no outstanding slot uses is apart from all that the conditions name, and stays so.
+-- Memory that no outstanding slot uses is apart from all that the conditions name, and remains so.
 use Rattle.std.proofs.lemmas.Bool.{eqb-true}
 use Rattle.std.proofs.Common.{refl, ◌≡◌, ◌≤◌, ◌++◌, [], Bool, true, false, cond, ℕ, List, Option, Some, None, map, arith}
 use Rattle.std.specs.List.{All}
@@ -39,7 +39,7 @@ work-apart memory (Some work) size area apart fit =
     (all-head (λ d. AreApart (record { address = receive.named_address memory d; size = size }) area) work.descriptor [] apart))
     (all-none (λ other. AreApart other area))
 
--- A finished frame stands in its buffer.
+-- A finished frame is in its buffer.
 name-apart : (memory : List ℕ) (size d : ℕ) (area : Area) → (named memory d).size ≤ size
     → AreApart (record { address = receive.named_address memory d; size = size }) area → AreApart (named memory d) area
 name-apart memory size d area fit apart =
@@ -82,7 +82,7 @@ spare-apart size o p a area sound fit spare =
       buffers = offered-apart a size area fit.large (all-right Away (in_work a) (offered (receive_ring a)) behind);
     })
 
--- The adapter doesn't write it.
+-- The adapter doesn't write this memory.
 pub spare-foreign : (size o p : ℕ) (a : World) (area : Area) → Sound o p a → FitBuffers size o a → IsSpare size o p a area
     → IsForeign a area
 spare-foreign size o p a area sound fit spare =

@@ -1,4 +1,4 @@
--- Each adapter step and each delivery is one of the things that may happen between two accesses.
+-- Each adapter step and each delivery is one of the events that may happen between two accesses.
 use Rattle.adapter.specs.declared.step.StepKind.TheVariants.{TxTake, TxPut, RxData, RxDone, EepromTick, PhyTick}
 use Rattle.bus.specs.StepsAndArrivals.{ArrivalsHappen, StepsHappen}
 use Rattle.bus.proofs.RxDoneSteps.{done_happens}

@@ -1,4 +1,4 @@
--- Steps that leave memory, rings and slots: ticks, arrivals, and faults.
+-- Steps that don't change memory, rings and slots: ticks, arrivals, and faults.
 use Rattle.std.specs.Fn.{iterate}
 use Rattle.std.proofs.Common.{◌≡◌, ◌≤◌, ◌++◌, [], inl, Bool, true, false, ℕ, List, Option, Some, None, length, refl, sym, ap, arith}
 use Rattle.std.proofs.lemmas.List.{append-nil}
@@ -27,7 +27,7 @@ use Rattle.adapter.specs.Slots.{finished, written_back}
 use Rattle.adapter.specs.HostFrames.{finished_pieces, frames_held, frames_to_send}
 use Rattle.adapter.specs.Conditions.{Sound}
 use Rattle.bus.specs.Law.{Between, Happens, Management, Steady, management_of, phy_ticked}
-use Rattle.bus.specs.PastOfStretch.{Past, nothing}
+use Rattle.bus.specs.Pasts.{Past, nothing}
 use Rattle.adapter.specs.Running.{CanRun}
 use Rattle.bus.specs.StepsAndArrivals.{past_of_arrival, past_of_step, world_after_arrival, world_after_step}
 use Rattle.adapter.specs.State.{IsAdapter}
@@ -149,7 +149,7 @@ between_stopped o p a receiver transmitter cannot sound =
 
 -- Ticks.
 
--- so many move EERD, MDIC and the PHY, and may record causes
+-- this number of ticks moves EERD, MDIC and the PHY, and may record causes
 steady_ticked : (a : World) (recorded : ℕ) (eerd : ReadState) (management : Management) (eeprom_ticks phy_ticks : ℕ)
     → a.adapter.missed_packets ≤ greatest_count → ((place : ℕ) → HasBit a.adapter.causes.recorded place → HasBit recorded place)
     → eerd ≡ iterate (eeprom.after_tick a.adapter.image) eeprom_ticks a.adapter.eerd
@@ -188,7 +188,7 @@ eeprom_tick_happens a answer running =
           (record nothing { eeprom_ticks = 1 }) refl (holds-same o p a sound) (going a) sound;
     }
 
--- the PHY's tick, by what it tells
+-- the PHY's tick, by what it reports
 tick_told : (a : World) (tells : Option Told) (answer : FrameOutcome) → told a.adapter.mdic a.adapter.phy ≡ tells → IsAdapter a.adapter
     → (management_of (after_phy_told tells a.adapter) ≡ phy_ticked (management_of a.adapter))
     → Happens a (record a { adapter = after_phy_told tells a.adapter }) (past_of_step PhyTick answer)
@@ -209,7 +209,7 @@ tick_told a (Some tells) answer is running moves =
           (record nothing { phy_ticks = 1 }) refl (holds-same o p a sound) (going a) sound;
     }
 
--- It moves MDIC and the PHY exactly where there is something to do.
+-- The tick changes MDIC and the PHY exactly if there is something to do.
 management_told : (adapter : AdapterState) (works : Bool) (tells : Told)
     → management_of (after_phy_told (cond works (Some tells) None) adapter)
     ≡ cond works (let management : Management = record

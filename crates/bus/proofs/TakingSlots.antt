@@ -25,7 +25,7 @@ use Rattle.bus.proofs.Rings.{outstanding-apart}
 
 -- The way from a slot.
 
--- Where the next number leaves more than nothing, this one leaves one less.
+-- If the distance to the next number isn't 0, the distance from it is one less.
 mod-before : (n m d : ℕ) → 0 < n → suc m % n ≡ suc d → m % n ≡ d
 mod-before n m d some next =
     let below = mod_below m n some in
@@ -39,7 +39,7 @@ mod-before n m d some next =
     omega (arith, same, step))
     (cases_eq (suc (m % n)) n)
 
--- One slot on, the way is shorter by one.
+-- From the next slot, the distance is shorter by one.
 way-shorter : (n from to d : ℕ) → from < n → (to + n - from) % n ≡ suc d → (to + n - (from + 1) % n) % n ≡ d
 way-shorter n from to d below way =
     ⊎_elim
@@ -63,7 +63,7 @@ way-shorter n from to d below way =
 list-some : (x : ℕ) (xs : List ℕ) → ¬ (x ∷ xs ≡ [])
 list-some x xs same = let none : suc (length xs) ≡ 0 = ap length same in absurd (omega (arith, none))
 
--- Where a slot is outstanding, the first one stands at the oldest place, and the others from the next place on.
+-- If a slot is outstanding, the first one is at the oldest place, and the others are from the next place on.
 outstanding-first : (ring : Ring) (oldest slot : ℕ) (later : List ℕ) → oldest < count_of ring → outstanding ring oldest ≡ slot ∷ later
     → outstanding ring oldest ≡ address_of ring oldest ∷ outstanding ring (next_of ring oldest)
 unfolding offered_places
@@ -146,7 +146,7 @@ dealt-ahead memory ring oldest taken slot later dealt done =
 
 -- Both rings.
 
--- the receive slot behind the oldest
+-- the receive slot after the oldest
 abbrev pub behind_oldest_receive : ℕ → World → ℕ
 behind_oldest_receive oldest world = next_of (receive_ring world) oldest
 

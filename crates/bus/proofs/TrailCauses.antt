@@ -9,7 +9,7 @@ use Rattle.mdic_phy.specs.Mdic.{told}
 use Rattle.mdic_phy.specs.declared.mdic.Ticked.{Ticked}
 use Rattle.registers.specs.Bits.{HasBit, union}
 use Rattle.registers.specs.Laws.{HasBit-union}
-use Rattle.rx_engine.specs.Moving.{is_half_free}
+use Rattle.rx_engine.specs.Moving.{is_half_offered}
 use Rattle.rx_engine.specs.declared.arrival.Fate.{Fate}
 use Rattle.rx_engine.specs.declared.arrival.Fate.TheVariants.{Missed, Stored}
 use Rattle.tx_engine.specs.Steps.{IfFront}
@@ -134,7 +134,7 @@ masks_stay (event ∷ later) a b leaves trail =
     masks_stay later (world_after event a) b behind trail.1
     ∙ event_leaves_mask event a (all-left LeavesMask (past_of_event event).accesses (past_of later).accesses leaves)
 
--- What was recorded stays.
+-- Causes that were recorded remain recorded.
 
 pub cause_stays : (later : List Event) (a b : World) (place : ℕ) → All LeavesCauses (past_of later).accesses → Trail later a b
     → HasBit a.adapter.causes.recorded place → HasBit b.adapter.causes.recorded place
@@ -197,10 +197,10 @@ recorded_causes_stay later a b leaves = record {
       tick-is-recorded wire_free answer later a b 2 ticked leaves trail tells (link-is-told ticked is);
   part = λ wire_free trail half.
       first_is_recorded (Steps RxData wire_free Part) later a b 4 (causes_of_moving a.adapter.receive_ring) leaves trail refl
-      (chosen (is_half_free (ring_of (moved_on a.adapter.receive_ring))) 0x10 4 refl half);
+      (chosen (is_half_offered (ring_of (moved_on a.adapter.receive_ring))) 0x10 4 refl half);
   moved = λ wire_free trail half.
       first_is_recorded (Steps RxData wire_free Moved) later a b 4 (causes_of_moving a.adapter.receive_ring) leaves trail refl
-      (chosen (is_half_free (ring_of (moved_on a.adapter.receive_ring))) 0x10 4 refl half);
+      (chosen (is_half_offered (ring_of (moved_on a.adapter.receive_ring))) 0x10 4 refl half);
   missed = λ frame trail. first_is_recorded (Arrives frame Missed) later a b 6 0x40 leaves trail refl refl;
   done = λ wire_free trail ends.
       first_is_recorded (Steps RxDone wire_free Done) later a b 7 (causes_of_finishing a.adapter.receiver.work) leaves trail refl

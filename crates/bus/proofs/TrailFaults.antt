@@ -31,7 +31,7 @@ use Rattle.bus.proofs.Accesses.{by-row}
 use Rattle.bus.proofs.Lists.{all-head, all-left, all-none, all-right}
 use Rattle.bus.proofs.RegisterWrites.{row-leaves}
 
--- What is stopped stays so.
+-- A stopped engine remains stopped.
 
 same : (a b : AdapterState) → b.receiver.stopped ≡ a.receiver.stopped → b.transmitter.stopped ≡ a.transmitter.stopped → StaysStopped a b
 same a b receiver transmitter = record { receiver = λ stopped. receiver ∙ stopped; transmitter = λ stopped. transmitter ∙ stopped }
@@ -111,7 +111,7 @@ no-tick : (works : Bool) → Fault ≡ ticked works → ⊥
 no-tick true is = absurd (cc)
 no-tick false is = absurd (cc)
 
--- an engine of it is stopped
+-- an engine of the adapter is stopped
 abbrev IsStopped : AdapterState → Type 0
 IsStopped adapter = (adapter.receiver.stopped ≡ true) ⊎ (adapter.transmitter.stopped ≡ true)
 
@@ -124,7 +124,7 @@ fault_stops RxDone wire_free world answers = absurd answers
 fault_stops EepromTick wire_free world answers = absurd (no-tick (is_pending world.adapter.eerd) answers)
 fault_stops PhyTick wire_free world answers = absurd (no-tick (has_work world.adapter.mdic world.adapter.phy) answers)
 
--- an engine doesn't both stand and run
+-- no engine is both stopped and running
 both : (stopped : Bool) → stopped ≡ true → stopped ≡ false → ⊥
 both true stands runs = absurd (cc)
 both false stands runs = absurd (cc)

@@ -1,4 +1,4 @@
--- A frame is put onto the wire, and its descriptor reports it.
+-- A frame is put onto the wire, and its descriptor is written back.
 use Rattle.std.proofs.Common.{◌≡◌, ◌<◌, ◌+◌, ◌&&◌, inl, ◌++◌, ◌∷◌, [], Bool, true, false, cond, nat_lt, ℕ, List, length, map, slice_index}
 use Rattle.std.proofs.Common.{refl, sym, ap, subst, ◌∙◌, arith}
 use Rattle.std.specs.List.{All}
@@ -26,7 +26,7 @@ use Rattle.adapter.specs.Slots.{buffered, finished, in_work, is_done, offered}
 use Rattle.adapter.specs.HostFrames.{finished_pieces, frames_held, named}
 use Rattle.adapter.specs.Conditions.{Reports, Sound}
 use Rattle.bus.specs.Law.{Between, Happens}
-use Rattle.bus.specs.PastOfStretch.{nothing}
+use Rattle.bus.specs.Pasts.{nothing}
 use Rattle.bus.specs.StepsAndArrivals.{past_of_step, world_after_step}
 use Rattle.adapter.specs.State.{IsAdapter}
 use Rattle.adapter.specs.World.{receive_ring, transmit_ring, World}
@@ -69,7 +69,7 @@ abbrev pub with_queue : List Queued → World → World
 with_queue queue world = record world
     { adapter = record world.adapter { transmitter = record world.adapter.transmitter { buffer = queue } } }
 
--- the adapter behind a step that put the first of them
+-- the adapter after a step that put the first of these frames
 abbrev pub put_adapter : Queued → List Queued → World → AdapterState
 put_adapter queued later world = after_put (Put queued.frame) (with_queue (queued ∷ later) world).adapter
 
@@ -202,14 +202,14 @@ between_put o p queued later a0 sound =
       };
     }
 
--- The report is written, as every frame asks for it and its descriptor lies in memory.
+-- The report is written, since every frame asks for a report and its descriptor is inside memory.
 report-written : (memory : List ℕ) (queued : Queued) → queued.report ≡ true → LiesIn memory (queued.descriptor + 12) 1
     → reported_in memory queued ≡ with_bytes memory (queued.descriptor + 12) (1 ∷ [])
 report-written memory queued asks lies =
     let fits : nat_lt (queued.descriptor + 12) (length memory) ≡ true = grind (arith, nat_tests) in
     rw (asks, fits) refl
 
--- In any state a report leaves the size.
+-- In any state, a report doesn't change the size of memory.
 length-reported : (memory : List ℕ) (queued : Queued) → length (reported_in memory queued) ≡ length memory
 length-reported memory queued = by-tests queued.report (nat_lt (queued.descriptor + 12) (length memory)) refl
   where

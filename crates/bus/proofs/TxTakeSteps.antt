@@ -20,7 +20,7 @@ use Rattle.adapter.specs.HostAreas.{data_of, offered_buffers, reported_half, rin
 use Rattle.adapter.specs.HostFrames.{finished_pieces, frames_held, named}
 use Rattle.adapter.specs.Conditions.{Reports, Sound}
 use Rattle.bus.specs.Law.{Between, Happens}
-use Rattle.bus.specs.PastOfStretch.{nothing}
+use Rattle.bus.specs.Pasts.{nothing}
 use Rattle.adapter.specs.Running.{CanTransmit}
 use Rattle.bus.specs.StepsAndArrivals.{world_after_step}
 use Rattle.adapter.specs.State.{IsAdapter}
@@ -37,7 +37,7 @@ use Rattle.bus.proofs.RunningEngines.{can_take}
 use Rattle.descriptors.specs.RingLaws.{next-below}
 use Rattle.descriptors.specs.Ring.{count_of}
 
--- the world behind a step that took, with padding or without
+-- the world after a step that took a frame, with padding or without
 abbrev pub taken : Bool → World → World
 taken pad world = record world {
   adapter = with_causes (causes_of_taking world.adapter.transmit_ring) (record world.adapter {

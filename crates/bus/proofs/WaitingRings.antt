@@ -63,7 +63,7 @@ no-pieces-cut size (Part bytes ∷ later) some cut none nothing =
     absurd (omega (arith, some, full, grows, empty))
 no-pieces-cut size (Last bytes ∷ later) some cut none nothing = absurd (cc)
 
--- If no frame is held, so it is.
+-- The same is so if no frame is held.
 pub holds-none : (size o p : ℕ) (world : World) → Sound o p world → 1 ≤ size → AreCut size o world
     → frames_held o world ≡ [] → HoldsNone o world
 holds-none size o p world sound some cut none =

@@ -1,4 +1,4 @@
--- The driver's own slots can be written, and the slots from the tail on are its own.
+-- The driver's slots can be written, and the slots from the tail on are the driver's.
 use Rattle.std.proofs.Common.{◌≡◌, ◌≢◌, ◌*◌, ◌+◌, ℕ, arith}
 use Rattle.std.proofs.lemmas.List.Elements.{All-map}
 use Rattle.dma_memory.specs.Areas.{descriptor_area}

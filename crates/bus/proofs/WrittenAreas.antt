@@ -1,4 +1,4 @@
--- What stays of both rings where one area of memory is written.
+-- What doesn't change of both rings if one area of memory is written.
 use Rattle.std.proofs.Common.{◌≡◌, ◌≤◌, ◌++◌, ◌∷◌, [], true, ℕ, List, Option, Some, None, map, slice_index, refl, sym, ap, subst, ◌∙◌}
 use Rattle.std.specs.List.{All}
 use Rattle.dma_memory.specs.Areas.{AreApart, Area, ChangesOnly, bytes_in, descriptor_area}
@@ -103,7 +103,7 @@ pieces-kept memory memory' area slots keeps same apart =
 pub descriptors-kept : (memory memory' : List ℕ) (slots : List ℕ) → All (IsSame memory memory') slots → SameDescriptors memory memory' slots
 descriptors-kept memory memory' slots same = λ k d below. ap rx_desc_of (same k d below)
 
--- the frames that these finished slots name have at most so many bytes
+-- the frames that these finished slots name have at most this number of bytes
 abbrev pub NamesFit : List ℕ → ℕ → List ℕ → Type 0
 NamesFit memory size slots = All (λ slot. (named memory slot).size ≤ size) slots
 
@@ -167,7 +167,7 @@ to_send-kept memory memory' ring buffer same =
     (offered_places ring)
     (λ k d below. ap (λ (queued : Queued). queued.frame) (each k d below)))
 
--- The transmit side, where what is written is apart from its ring and its data.
+-- The transmit side, if the written area is apart from the transmit ring and its data.
 
 pub record TransmitKept (world : World) (memory' : List ℕ) (oldest : ℕ) : Type 0 where
   pub same_offered : All (IsSame world.memory memory') (offered (transmit_ring world))
@@ -205,7 +205,7 @@ transmit_kept world memory' oldest area keeps dealt apart data_apart =
     transmit_kept_by_slots world memory' oldest area keeps dealt
     (same-outstanding world.memory memory' area (transmit_ring world) oldest (buffered world) keeps apart dealt) data_apart
 
--- The receive side, where what is written is apart from its ring, from the bytes of finished slots and of the slot in work.
+-- The receive side, if the written area is apart from the receive ring and from the bytes of finished slots and of the piece in progress.
 
 pub record ReceiveKept (world : World) (memory' : List ℕ) (oldest : ℕ) : Type 0 where
   pub same_offered : All (IsSame world.memory memory') (offered (receive_ring world))

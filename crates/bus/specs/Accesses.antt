@@ -1,4 +1,4 @@
--- What accesses of a driver don't change: the adapter, its engines, or the causes that it has recorded (our choice).
+-- Accesses of a driver that don't change the adapter, or don't change its recorded causes or its mask (our choice).
 use Rattle.std.specs.Prelude.{⊤, ◌≡◌, ◌≢◌, ℕ, false, Some, IfSome}
 use Rattle.adapter.specs.Registers.{is_reset}
 use Rattle.adapter.specs.Table.{register_at, row_of}
@@ -10,9 +10,7 @@ use Rattle.bus.specs.declared.event.Access.{Access}
 use Rattle.bus.specs.declared.event.Access.TheVariants.{Loads, Reads, Stores, Writes}
 use Rattle.bus.specs.Trails.{world_after_access}
 
--- Quiet accesses.
-
--- a read of the register clears it: ICR and the counters
+-- A read of the register clears it: the register is ICR or a counter.
 abbrev pub IsClearedByRead : Register → Type 0
 IsClearedByRead Icr = ⊤
 IsClearedByRead Mpc = ⊤
@@ -24,7 +22,7 @@ IsClearedByRead register = ⊥
 abbrev pub StaysAtRead : Register → Type 0
 StaysAtRead register = ¬ (IsClearedByRead register)
 
--- a load, a store, and a read that clears nothing
+-- A quiet access: a load, a store, or a read that clears no register.
 abbrev pub IsQuiet : Access → Type 0
 IsQuiet (Reads offset value) = IfSome (register_at offset) StaysAtRead
 IsQuiet (Writes offset value) = ⊥
@@ -45,66 +43,61 @@ QuietAccessesLeaveAdapters = (access : Access) (world : World) → IsQuiet acces
 abbrev pub QuietAccessesLeaveWorlds : Type 0
 QuietAccessesLeaveWorlds = (access : Access) (world : World) → IsQuiet access → ¬ (IsStore access) → world_after_access access world ≡ world
 
--- Writes.
-
--- a write of the register moves the recorded causes: ICR and ICS
+-- A write of the register can change the recorded causes: the register is ICR or ICS.
 abbrev pub MovesCauses : Register → Type 0
 MovesCauses Icr = ⊤
 MovesCauses Ics = ⊤
 MovesCauses register = ⊥
 
--- a write of the register moves the mask: IMS and IMC
+-- A write of the register can change the mask: the register is IMS or IMC.
 abbrev pub MovesMask : Register → Type 0
 MovesMask Ims = ⊤
 MovesMask Imc = ⊤
 MovesMask register = ⊥
 
--- a write of this word to the register is no reset
+-- A write of this word to the register is no reset.
 abbrev pub ResetsNothing : ℕ → Register → Type 0
 ResetsNothing value register = is_reset register value ≡ false
 
--- a write of this word to the register is no reset, and doesn't move the recorded causes
+-- A write of this word to the register isn't a reset, and doesn't change the recorded causes.
 abbrev pub WriteLeavesCauses : ℕ → Register → Type 0
 WriteLeavesCauses value register = (¬ (MovesCauses register)) × ResetsNothing value register
 
--- a write of this word to the register is no reset, and doesn't move the mask
+-- A write of this word to the register isn't a reset, and doesn't change the mask.
 abbrev pub WriteLeavesMask : ℕ → Register → Type 0
 WriteLeavesMask value register = (¬ (MovesMask register)) × ResetsNothing value register
 
--- Accesses.
-
--- the access isn't a write of CTRL with RST
+-- The access isn't a write of CTRL with RST.
 abbrev pub IsNoReset : Access → Type 0
 IsNoReset (Reads offset value) = ⊤
 IsNoReset (Writes offset value) = IfSome (register_at offset) (ResetsNothing value)
 IsNoReset (Loads address size) = ⊤
 IsNoReset (Stores address bytes) = ⊤
 
--- the access is neither a read of ICR, nor a write of ICR or ICS, nor a reset
+-- The access is neither a read of ICR, nor a write of ICR or ICS, nor a reset.
 abbrev pub LeavesCauses : Access → Type 0
 LeavesCauses (Reads offset value) = register_at offset ≢ Some Icr
 LeavesCauses (Writes offset value) = IfSome (register_at offset) (WriteLeavesCauses value)
 LeavesCauses (Loads address size) = ⊤
 LeavesCauses (Stores address bytes) = ⊤
 
--- the access is neither a write of IMS or IMC, nor a reset
+-- The access is neither a write of IMS or IMC, nor a reset.
 abbrev pub LeavesMask : Access → Type 0
 LeavesMask (Reads offset value) = ⊤
 LeavesMask (Writes offset value) = IfSome (register_at offset) (WriteLeavesMask value)
 LeavesMask (Loads address size) = ⊤
 LeavesMask (Stores address bytes) = ⊤
 
--- the access is no reset, and moves neither the recorded causes nor the mask
+-- The access isn't a reset, and changes neither the recorded causes nor the mask.
 pub record LeavesInterrupts (access : Access) : Type 0 where
   pub no_reset : IsNoReset access
   pub causes : LeavesCauses access
   pub mask : LeavesMask access
 
--- Quiet accesses are no resets, and move neither the recorded causes nor the mask.
+-- Quiet accesses aren't resets, and change neither the recorded causes nor the mask.
 abbrev pub QuietAccessesLeaveInterrupts : Type 0
 QuietAccessesLeaveInterrupts = (access : Access) → IsQuiet access → LeavesInterrupts access
 
--- Writes of a ring's registers, RDT and TDT among them, are no resets, and move neither the recorded causes nor the
--- mask.
+-- Writes of a ring's registers, including RDT and TDT, aren't resets, and change neither the recorded causes nor the mask.
 abbrev pub RingWritesLeaveInterrupts : Type 0
 RingWritesLeaveInterrupts = (register : Register) (value : ℕ) → IsOfRing register → LeavesInterrupts (Writes (row_of register).offset value)

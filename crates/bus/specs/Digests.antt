@@ -5,10 +5,10 @@ use Rattle.std.specs.Hash.DefaultHasher as sip
 use Rattle.adapter.specs.Hashed.{adapter_writes}
 use Rattle.adapter.specs.World.{World}
 
--- what the adapter feeds, and then the bytes of memory
+-- What the adapter feeds, followed by the bytes of memory.
 abbrev pub world_writes : World → HashWrites
 world_writes world = adapter_writes world.adapter ++ world.memory ∷ []
 
--- SipHash-1-3 of these bytes, with both keys 0
+-- SipHash-1-3 of these bytes, with both keys 0.
 unfoldable pub digest_of : World → ℕ
 digest_of world = sip.finish (fold sip.write sip.initial (world_writes world))

@@ -1,4 +1,4 @@
--- A driver's store to memory of its own doesn't change what the law is about.
+-- A driver's store to its own memory changes neither the conditions of the law nor frames.
 use Rattle.std.specs.Prelude.{◌≡◌, ◌≤◌, ℕ, List, All, length}
 use Rattle.dma_memory.specs.Areas.{AreApart, Area, descriptor_area}
 use Rattle.dma_memory.specs.HostMemory.{LiesIn}
@@ -25,14 +25,14 @@ pub record SameFrames (oldest_receive oldest_transmit : ℕ) (a b : World) : Typ
   pub finished_same : finished oldest_receive b ≡ finished oldest_receive a
   pub written_same : written_back oldest_transmit b ≡ written_back oldest_transmit a
   pub pieces_same : finished_pieces oldest_receive b ≡ finished_pieces oldest_receive a
-  -- Frames that are cut into buffers of some size still are, and pieces that fit into such buffers still do, if RCTL then names this size,
-  -- or no larger one, while RCTL.EN is set.
+  -- Frames that are cut into buffers of some size are still cut in this way, if RCTL selects this size while RCTL.EN is set.
   pub whole : (size : ℕ) → (HasBit b.adapter.filter.rctl rctl_en → buffer_size b ≡ size)
       → AreCut size oldest_receive a → AreCut size oldest_receive b
+  -- Pieces that fit into buffers of some size still fit, if RCTL selects no larger size while RCTL.EN is set.
   pub fits : (size : ℕ) → (HasBit b.adapter.filter.rctl rctl_en → buffer_size b ≤ size)
       → FitBuffers size oldest_receive a → FitBuffers size oldest_receive b
 
--- The frames are the same, and engines that could run still can.
+-- The frames are the same, and engines that could run still can run.
 pub record LeavesFrames (oldest_receive oldest_transmit : ℕ) (a b : World) : Type 0 where
   pub same : SameFrames oldest_receive oldest_transmit a b
   pub runs : GoOn a b
@@ -44,7 +44,7 @@ DriversStoresLeaveFrames =
     → IsDriversArea oldest_receive oldest_transmit world (record { address = address; size = length bytes })
     → LeavesFrames oldest_receive oldest_transmit world (world_after_store address bytes world)
 
--- What isn't the adapter's to write stays so after such a store.
+-- An area that the adapter may not write remains such an area after this store.
 abbrev pub DriversStoresLeaveForeign : Type 0
 DriversStoresLeaveForeign =
     (oldest_receive oldest_transmit : ℕ) (world : World) (address : ℕ) (bytes : List ℕ)

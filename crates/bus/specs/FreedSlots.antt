@@ -1,4 +1,4 @@
--- A driver frees its oldest written-back transmit slot: the next one is its oldest then.
+-- A driver frees its oldest written-back transmit slot: it then counts the next slot as its oldest.
 use Rattle.std.specs.Prelude.{◌≡◌, ◌∷◌, ℕ, List}
 use Rattle.descriptors.specs.Ring.{address_of, next_of}
 use Rattle.adapter.specs.Slots.{outstanding, written_back}
@@ -6,12 +6,12 @@ use Rattle.adapter.specs.Conditions.{Sound}
 use Rattle.bus.specs.DriversSlots.{IsDriversSlot}
 use Rattle.adapter.specs.World.{transmit_ring, World}
 
--- the transmit slot after the oldest
+-- The transmit slot after the oldest one.
 abbrev pub behind_oldest_transmit : ℕ → World → ℕ
 behind_oldest_transmit oldest world = next_of (transmit_ring world) oldest
 
--- The slot is at the driver's oldest place. With the next place as the oldest the conditions hold, and the slot is no
--- longer outstanding but the driver's. The frames to be sent don't depend on which slot is the oldest.
+-- The slot is the driver's oldest one. If the driver counts the next slot as its oldest, the conditions hold, and the freed slot is the
+-- driver's. The frames to be sent don't depend on which slot is the oldest.
 pub record Freed (oldest_receive oldest_transmit : ℕ) (world : World) (slot : ℕ) (later : List ℕ) : Type 0 where
   pub stands : slot ≡ address_of (transmit_ring world) oldest_transmit
   pub sound : Sound oldest_receive (behind_oldest_transmit oldest_transmit world) world

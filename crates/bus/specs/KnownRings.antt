@@ -1,13 +1,13 @@
--- What a driver knows of its rings stays known, and a write of a tail moves it alone (our choice).
+-- What a driver knows of its rings remains true, and a write of a tail changes only the tail (our choice).
 use Rattle.std.specs.Prelude.{◌≡◌, ◌<◌, ℕ}
 use Rattle.adapter.specs.declared.offsets.TheConstants.{RDT, TDT}
 use Rattle.descriptors.specs.declared.ring.Ring.{Ring}
 use Rattle.adapter.specs.KnownRing.{KnowsRing}
 use Rattle.adapter.specs.World.{World, world_after_write}
 use Rattle.bus.specs.Law.{Steady}
-use Rattle.bus.specs.PastOfStretch.{Past}
+use Rattle.bus.specs.Pasts.{Past}
 
--- Whatever happens between two accesses, what a driver knows of this ring still holds.
+-- Whatever happens between two accesses, what a driver knows of this ring remains true.
 abbrev pub KnownRingStays : (World → Ring) → Type 0
 KnownRingStays ring =
     (a b : World) (past : Past) (base count tail : ℕ) → Steady a b past → KnowsRing (ring a) base count tail
@@ -18,7 +18,7 @@ KnownRingStays ring =
 abbrev pub index_limit : ℕ
 index_limit = 65536
 
--- A write of RDT, or of TDT, of an index that fits the register leaves all but the tail.
+-- A write of RDT, or of TDT, of an index that fits the register changes only the tail.
 abbrev pub ReceiveTailMoves : Type 0
 ReceiveTailMoves =
     (index : ℕ) (world : World) → index < index_limit

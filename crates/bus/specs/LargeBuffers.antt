@@ -6,8 +6,8 @@ use Rattle.adapter.specs.Conditions.{AreCut}
 use Rattle.adapter.specs.HostFrames.{pieces_in_slots}
 use Rattle.adapter.specs.World.{World}
 
--- If receive buffers have room for each legal frame, each finished slot, and the one in progress, contains the last
--- piece of its frame, which is the whole frame.
+-- If receive buffers have room for each legal frame, no frame has more than one piece. Each finished slot and the slot in progress contain
+-- the last piece of a frame.
 abbrev pub LargeBuffersTakeFrames : Type 0
 LargeBuffersTakeFrames =
     (size oldest_receive : ℕ) (world : World) → longest_frame ≤ size → AreCut size oldest_receive world

@@ -19,13 +19,11 @@ use Rattle.adapter.specs.Slots.{finished, written_back}
 use Rattle.adapter.specs.State.{AdapterState, IsAdapter}
 use Rattle.adapter.specs.World.{World}
 use Rattle.adapter.specs.declared.ring.RingRegisters.{RingRegisters}
-use Rattle.bus.specs.PastOfStretch.{Past}
+use Rattle.bus.specs.Pasts.{Past}
 use Rattle.bus.specs.declared.event.Access.{Access}
 use Rattle.registers.specs.Places.{rctl_en, rxt0}
 
--- Registers.
-
--- MDIC and its PHY
+-- MDIC and its PHY.
 pub record Management : Type 0 where
   pub mdic : MdicState
   pub phy : PhyState
@@ -33,7 +31,7 @@ pub record Management : Type 0 where
 abbrev pub management_of : AdapterState → Management
 management_of adapter = record { mdic = adapter.mdic; phy = adapter.phy }
 
--- a tick of the PHY does something if the countdown of its link runs or a command of MDIC is pending
+-- MDIC and the PHY after a tick. The tick has an effect if the PHY counts ticks until the link is up, or if a command of MDIC is pending.
 abbrev pub phy_ticked : Management → Management
 phy_ticked management =
     if has_work management.mdic management.phy
@@ -53,92 +51,90 @@ pub record RegistersStay (a b : AdapterState) : Type 0 where
   -- PBA doesn't change.
   pub allocation : b.receive_kilobytes ≡ a.receive_kilobytes
 
--- Of the registers of a ring only the head moves.
+-- Of the registers of a ring, only the head may change.
 pub record OnlyHeadMoves (a b : RingRegisters) : Type 0 where
-  -- Base, length and tail stay.
+  -- Base, length and tail don't change.
   pub others : b ≡ record a { head = b.head }
-  -- A head that moves is a slot of its ring, and so is the tail.
+  -- If the head changes, it is the index of a slot of its ring, and so is the tail.
   pub head : (b.head ≡ a.head) ⊎ HasValidIndices (ring_of b)
 
--- Frames that were stored or missed.
+-- The frames that were stored or missed.
 pub record CountsArrivals (a b : World) (past : Past) : Type 0 where
   -- MPC grows by the number of missed frames, up to its greatest value, where it remains.
   pub missed : b.adapter.missed_packets ≡ max a.adapter.missed_packets (min (a.adapter.missed_packets + past.missed) greatest_count)
-  -- If RCTL.EN is 0 no frame is stored or missed.
+  -- If RCTL.EN is 0, no frame is stored or missed.
   pub off : ¬ (HasBit a.adapter.filter.rctl rctl_en) → (past.stored ≡ []) × (past.missed ≡ 0)
   -- Each stored frame has 60 to 1,518 bytes.
   pub legal : All IsLegal past.stored
 
--- What ticks alone change.
+-- The registers that only ticks change.
 pub record MovesByTicks (a b : World) (past : Past) : Type 0 where
-  -- EERD changes by ticks of the EEPROM alone.
+  -- Only ticks of the EEPROM change EERD.
   pub eerd : b.adapter.eerd ≡ iterate (eeprom.after_tick a.adapter.image) past.eeprom_ticks a.adapter.eerd
-  -- MDIC and the PHY change by ticks of the PHY alone.
+  -- Only ticks of the PHY change MDIC and the PHY.
   pub management : management_of b.adapter ≡ iterate phy_ticked past.phy_ticks (management_of a.adapter)
 
--- What holds in every state, whatever the registers and the memory contain.
+-- What is true of every interval, whatever the registers and the memory contain.
 pub record Steady (a b : World) (past : Past) : Type 0 where
-  -- Memory keeps its size, and the EEPROM its words.
+  -- The size of memory and the words of the EEPROM don't change.
   pub size : length b.memory ≡ length a.memory
   pub image : b.adapter.image ≡ a.adapter.image
   pub registers : RegistersStay a.adapter b.adapter
-  -- Causes that are recorded stay recorded.
+  -- Recorded causes remain recorded.
   pub causes : (place : ℕ) → HasBit a.adapter.causes.recorded place → HasBit b.adapter.causes.recorded place
   pub receive_ring : OnlyHeadMoves a.adapter.receive_ring b.adapter.receive_ring
   pub transmit_ring : OnlyHeadMoves a.adapter.transmit_ring b.adapter.transmit_ring
   pub arrivals : CountsArrivals a b past
   pub ticks : MovesByTicks a b past
 
--- Frames.
-
--- Frames that were put on the wire.
+-- The frames that were put on the wire.
 pub record PutsInOrder (oldest_transmit : ℕ) (a b : World) (past : Past) : Type 0 where
-  -- Frames to be sent are put in order, none lost and none twice.
+  -- The frames to be sent are put on the wire in order, each exactly once.
   pub sends : past.put ++ frames_to_send b ≡ frames_to_send a
-  -- The written-back slots from the oldest on grow at the end by one for each frame.
+  -- The list of written-back slots, from the oldest on, grows at its end by one slot for each frame.
   pub reported : List ℕ
   pub written : written_back oldest_transmit b ≡ written_back oldest_transmit a ++ reported
   pub each_reported : length reported ≡ length past.put
 
--- Frames that were stored, and the slots that report them.
+-- The frames that were stored, and the slots that report them.
 pub record StoresInOrder (oldest_receive : ℕ) (a b : World) (past : Past) : Type 0 where
-  -- The frames held grow at the end by those that were stored.
+  -- The list of frames held grows at its end by the stored frames.
   pub holds : frames_held oldest_receive b ≡ frames_held oldest_receive a ++ past.stored
-  -- The finished slots from the oldest on only grow, and so do the pieces in them.
+  -- The list of finished slots, from the oldest on, only grows at its end, and so does the list of their pieces.
   pub more : List ℕ
   pub done : finished oldest_receive b ≡ finished oldest_receive a ++ more
   pub pieces : List Piece
   pub grown : finished_pieces oldest_receive b ≡ finished_pieces oldest_receive a ++ pieces
-  -- If a frame ends in a new one, RXT0, bit 7, is recorded.
+  -- If a frame ends in one of the new slots, RXT0, bit 7, is recorded.
   pub told : All IsPart pieces ⊎ HasBit b.adapter.causes.recorded rxt0
 
 -- What happens to frames, slots and memory.
 pub record Between (oldest_receive oldest_transmit : ℕ) (a b : World) (past : Past) : Type 0 where
   pub transmit : PutsInOrder oldest_transmit a b past
   pub receive : StoresInOrder oldest_receive a b past
-  -- Pieces that fit into buffers of some size still do, and new ones do.
+  -- If all pieces fit into buffers of some size, they still fit, and so do new pieces.
   pub fits : (size : ℕ) → FitBuffers size oldest_receive a → FitBuffers size oldest_receive b
-  -- If frames are cut into buffers of some size, new ones are, too.
+  -- If frames are cut into buffers of some size, new frames are cut in the same way.
   pub whole : (size : ℕ) → AreCut size oldest_receive a → AreCut size oldest_receive b
-  -- What isn't the adapter's stays as it is, and stays not the adapter's.
+  -- An area that isn't the adapter's doesn't change, and doesn't become the adapter's.
   pub untouched : (area : Area) → IsForeign a area → bytes_in b.memory area ≡ bytes_in a.memory area
   pub foreign : (area : Area) → IsForeign a area → IsForeign b area
-  -- Engines that can run can run further: no fault stops them.
+  -- If the engines can run before the interval, they can run after it: no fault stops them.
   pub runs : CanRun a → CanRun b
   pub sound : Sound oldest_receive oldest_transmit b
 
--- Any adapter steps and deliveries, whichever slots the driver counts as its oldest.
+-- What adapter steps and deliveries may do, whichever slots the driver counts as its oldest.
 pub record Happens (a b : World) (past : Past) : Type 0 where
   pub steady : Steady a b past
   pub between : (oldest_receive oldest_transmit : ℕ) → Sound oldest_receive oldest_transmit a
       → Between oldest_receive oldest_transmit a b past
 
--- at least one tick of the EEPROM and one of the PHY happened
+-- At least one tick of the EEPROM and one tick of the PHY happened.
 pub record HasTicks (past : Past) : Type 0 where
   pub eeprom : 1 ≤ past.eeprom_ticks
   pub phy : 1 ≤ past.phy_ticks
 
--- what a bus shows of itself: memory and adapter, what it reports of an interval, and whether it is lively
+-- A bus as its members describe it: its memory and adapter, its report of an interval, and whether it is lively.
 pub record BusView (B : Type 0) : Type 1 where
   pub world : B → World
   pub happened : B → B → Past → Type 0
@@ -147,10 +143,10 @@ pub record BusView (B : Type 0) : Type 1 where
 abbrev pub view : {B : Type 0} → (B → World) → (B → B → Past → Type 0) → (B → Type 0) → BusView B
 view world happened lively = record { world = world; happened = happened; lively = lively }
 
--- One access of a driver over a bus: something happens, which the bus reports, and then the access itself. A lively bus
--- plays ticks before each.
+-- One access of a driver over a bus: first an interval, which the bus reports, and then the access itself. A lively bus plays ticks in this
+-- interval.
 pub record Acts {B : Type 0} (bus : BusView B) (old new : B) (access : Access) (effect : World → World → Type 0) : Type 0 where
-  -- where the access itself begins
+  -- The world in which the access itself begins.
   pub middle : World
   pub past : Past
   pub only : past.accesses ≡ access ∷ []

@@ -1,4 +1,4 @@
-pub mod PastOfStretch
+pub mod Pasts
 pub mod Law
 pub mod Composition
 pub mod StepsAndArrivals

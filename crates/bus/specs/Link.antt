@@ -1,4 +1,4 @@
--- That a link which is up stays up while a driver sets the adapter up (our choice).
+-- A link that is up remains up while a driver sets the adapter up (our choice).
 use Rattle.std.specs.Prelude.{⊤, ◌≡◌, true, [], ◌∷◌, All, Option, Some, None}
 use Rattle.mdic_phy.specs.Phy.{link_is_up}
 use Rattle.adapter.specs.Table.{register_at}
@@ -6,12 +6,12 @@ use Rattle.adapter.specs.World.{World}
 use Rattle.adapter.specs.declared.register.Register.{Register}
 use Rattle.adapter.specs.declared.register.Register.TheVariants.{Ctrl, Mdic}
 use Rattle.bus.specs.Law.{Happens}
-use Rattle.bus.specs.PastOfStretch.{Past, joined}
+use Rattle.bus.specs.Pasts.{Past, joined}
 use Rattle.bus.specs.Settings.{Write, writes_in}
 use Rattle.bus.specs.Trails.{world_after_access}
 use Rattle.bus.specs.declared.event.Access.{Access}
 
--- The link is up, and no command of MDIC waits for its end, so that ticks alone come to the PHY.
+-- The link is up, and no command of MDIC is pending, so that only ticks reach the PHY.
 pub record HasLink (world : World) : Type 0 where
   -- The PHY's link is up.
   pub up : link_is_up world.adapter.phy ≡ true
@@ -24,23 +24,23 @@ IsNotOfPhy (Some Ctrl) = ⊥
 IsNotOfPhy (Some Mdic) = ⊥
 IsNotOfPhy _ = ⊤
 
--- the write is neither one of CTRL nor one of MDIC
+-- The write is neither a write of CTRL nor a write of MDIC.
 abbrev pub LeavesPhy : Write → Type 0
 LeavesPhy write = IsNotOfPhy (register_at write.offset)
 
--- If neither CTRL nor MDIC is written in an interval, a link that is up at its beginning is up at its end.
+-- If neither CTRL nor MDIC is written in an interval, a link that is up before it is up after it.
 abbrev pub KeepsLink : World → World → Past → Type 0
 KeepsLink a b past = All LeavesPhy (writes_in past.accesses) → HasLink a → HasLink b
 
--- Whatever happens between two accesses, a link that is up stays up.
+-- Whatever happens between two accesses, a link that is up remains up.
 abbrev pub HappeningsKeepLink : Type 0
 HappeningsKeepLink = (a b : World) (past : Past) → Happens a b past → HasLink a → HasLink b
 
--- At an access that writes neither CTRL nor MDIC, a link that is up stays up.
+-- At an access that writes neither CTRL nor MDIC, a link that is up remains up.
 abbrev pub AccessesKeepLink : Type 0
 AccessesKeepLink =
     (access : Access) (world : World) → All LeavesPhy (writes_in (access ∷ [])) → HasLink world → HasLink (world_after_access access world)
 
--- What holds of a link over each of two consecutive intervals holds over both together.
-abbrev pub LinkStretchesJoin : Type 0
-LinkStretchesJoin = (a b c : World) (first later : Past) → KeepsLink a b first → KeepsLink b c later → KeepsLink a c (joined first later)
+-- If `KeepsLink` holds for each of two consecutive intervals, it holds for both together.
+abbrev pub LinkIntervalsJoin : Type 0
+LinkIntervalsJoin = (a b c : World) (first later : Past) → KeepsLink a b first → KeepsLink b c later → KeepsLink a c (joined first later)

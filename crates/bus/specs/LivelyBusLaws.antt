@@ -1,8 +1,8 @@
--- Reports of a lively bus join over consecutive intervals.
+-- Lemmas: the reports of a lively bus join over consecutive intervals.
 use Rattle.std.proofs.Common.{◌≡◌, ◌+◌, ◌++◌, [], length, min, refl, sym, ap, ◌∙◌, arith, length-append}
 use Rattle.std.proofs.lemmas.List.Elements.{All-append, All-nil}
 use Rattle.bus.specs.LivelyBuses.{IsQuietEvent, IsSameMachine, Lives, machine_world, most_accesses}
-use Rattle.bus.specs.PastOfStretch.{Past, joined, nothing}
+use Rattle.bus.specs.Pasts.{Past, joined, nothing}
 use Rattle.bus.specs.TrailLaws.{past_of-append, trail_joins}
 use Rattle.bus.specs.Trails.{past_of}
 use Rattle.bus.specs.declared.lively_bus.LivelyBus.{LivelyBus}
@@ -38,7 +38,7 @@ lives_join a b c first later one two = record {
   count = omega (arith, one.count, two.count, length-append first.accesses later.accesses);
 }
 
--- Each access raises the count by one.
+-- Each access increases the count by one.
 pub lives_count : (a b : LivelyBus) (past : Past) → Lives a b past
     → min b.accesses most_accesses ≡ min (min a.accesses most_accesses + length past.accesses) most_accesses
 lives_count a b past lives = omega (arith, lives.count)

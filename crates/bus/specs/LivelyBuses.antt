@@ -3,7 +3,7 @@ use Rattle.std.specs.Prelude.{⊤, ◌≡◌, ◌+◌, ◌-◌, ◌^◌, ◌∷�
 use Rattle.adapter.specs.Outcomes.{FrameOutcome}
 use Rattle.adapter.specs.World.{World}
 use Rattle.adapter.specs.declared.step.StepKind.TheVariants.{EepromTick, PhyTick}
-use Rattle.bus.specs.PastOfStretch.{Past}
+use Rattle.bus.specs.Pasts.{Past}
 use Rattle.bus.specs.Trails.{Trail, past_of}
 use Rattle.bus.specs.declared.event.Event.{Event}
 use Rattle.bus.specs.declared.event.Event.TheVariants.{Accesses, Arrives, Steps}
@@ -15,15 +15,15 @@ machine_world bus = bus.machine.now.world
 abbrev pub machine_bytes : LivelyBus → ℕ
 machine_bytes bus = length (machine_world bus).memory
 
--- the greatest count of accesses
+-- The greatest count of accesses.
 abbrev pub most_accesses : ℕ
 most_accesses = 2 ^ 64 - 1
 
--- The same machine is lent.
+-- The same machine is lent in both states.
 pub record IsSameMachine (a b : LivelyBus) : Type 0 where
   pub machine : b.machine.ghost_name ≡ a.machine.ghost_name
 
--- the event is an access, or a step of the EEPROM or the PHY
+-- The event is an access, or a step of the EEPROM or the PHY.
 abbrev pub IsQuietEvent : Event → Type 0
 IsQuietEvent (Steps EepromTick wire_free outcome) = ⊤
 IsQuietEvent (Steps PhyTick wire_free outcome) = ⊤
@@ -31,7 +31,7 @@ IsQuietEvent (Steps kind wire_free outcome) = ⊥
 IsQuietEvent (Arrives frame fate) = ⊥
 IsQuietEvent (Accesses access) = ⊤
 
--- From one state to another these events happened: for each access one step of the EEPROM, one of the PHY, and the access itself.
+-- These events happened from one state to another: for each access, a step of the EEPROM, a step of the PHY, and the access itself.
 pub record Lives (a b : LivelyBus) (past : Past) : Type 0 where
   pub lent : IsSameMachine a b
   pub events : List Event
@@ -42,11 +42,11 @@ pub record Lives (a b : LivelyBus) (past : Past) : Type 0 where
   pub phy : past.phy_ticks ≡ length past.accesses
   pub count : min b.accesses most_accesses ≡ min (a.accesses + length past.accesses) most_accesses
 
--- both steps before an access, with their outcomes
+-- The steps of the EEPROM and the PHY before an access, with their outcomes.
 abbrev pub both_ticks : (eeprom phy : FrameOutcome) → List Event
 both_ticks eeprom phy = Steps EepromTick true eeprom ∷ Steps PhyTick true phy ∷ []
 
--- What comes before an access: both steps, and the access is counted.
+-- Before an access, both steps are played, and the access is counted.
 pub record IsPrepared (a b : LivelyBus) : Type 0 where
   pub lent : IsSameMachine a b
   pub eeprom : FrameOutcome

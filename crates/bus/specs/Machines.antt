@@ -6,15 +6,15 @@ use Rattle.bus.specs.Trails.{world_after}
 use Rattle.bus.specs.declared.event.Event.{Event}
 use Rattle.bus.specs.declared.machine.Machine.TheInside.{Inside}
 
--- the interrupt line is asserted while a recorded cause is in the mask (13.4.17 "Interrupt Cause Read Register")
+-- Whether the interrupt line is asserted: a recorded cause is in the mask (13.4.17 "Interrupt Cause Read Register").
 abbrev pub is_asserted : AdapterState → Bool
 is_asserted adapter = nat_lt 0 (bit_and adapter.causes.recorded adapter.causes.mask)
 
--- An adapter with its host's memory, and the last report of its interrupt line.
+-- An adapter with its host's memory, and the level of its interrupt line at the last report.
 pub record MachineState : Type 0 where
   -- The adapter and the memory.
   pub world : World
-  -- the level of the interrupt line when it was last reported
+  -- The level of the interrupt line when it was last reported.
   pub reported : Bool
 
 abbrev pub machine_of : Inside → MachineState
@@ -23,10 +23,10 @@ machine_of inside = record {
   reported = inside.reported;
 }
 
--- What holds of every machine: what holds of every adapter.
+-- The invariant of a machine is the invariant of its adapter.
 abbrev pub IsMachine : Inside → Type 0
 IsMachine inside = IsAdapter inside.adapter
 
--- the machine after an event
+-- The machine after an event.
 abbrev pub after_event : Event → MachineState → MachineState
 after_event event machine = record machine { world = world_after event machine.world }

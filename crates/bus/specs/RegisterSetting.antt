@@ -1,5 +1,5 @@
--- What a driver does while the conditions of the law hold, besides offering slots one by one and storing to memory of its own: it writes
--- and reads registers, as in initialisation after the first slot offered (our choice).
+-- Other accesses of a driver while the conditions of the law hold: writes and reads of registers, as in initialization after the first slot
+-- is offered (our choice).
 use Rattle.std.specs.Prelude.{⊤, ◌≡◌, ◌≤◌, ◌<◌, ◌+◌, ◌%◌, ◌++◌, ℕ, zero, suc, [], false, All, None, map}
 use Rattle.dma_memory.specs.Areas.{AreSeparate}
 use Rattle.registers.specs.Bits.{HasBit}
@@ -17,24 +17,21 @@ use Rattle.adapter.specs.Conditions.{AreCut, FitBuffers, Sound}
 use Rattle.bus.specs.Law.{Happens}
 use Rattle.bus.specs.SlotOffers.{CanOffer, offering}
 use Rattle.bus.specs.DriversStores.{LeavesFrames, SameFrames}
-use Rattle.bus.specs.PastOfStretch.{Past}
+use Rattle.bus.specs.Pasts.{Past}
 use Rattle.adapter.specs.Running.{GoOn}
 use Rattle.adapter.specs.World.{receive_ring, transmit_ring, World, world_after_read}
 
--- Many slots are offered at once.
-
--- this number of slots can be offered, one after the other
+-- This number of slots can be offered, one after the other.
 abbrev pub CanOfferMany : ℕ → ℕ → World → Type 0
 CanOfferMany oldest zero world = ⊤
 CanOfferMany oldest (suc k) world = CanOffer oldest world × CanOfferMany oldest k (offering world)
 
--- the world with RDT at this index
+-- The world with RDT at this index.
 abbrev pub with_tail : ℕ → World → World
 with_tail index world = record world
     { adapter = record world.adapter { receive_ring = record world.adapter.receive_ring { tail = index } } }
 
--- RDT is moved on by k slots in one write: the conditions hold again, these slots are the last that are outstanding,
--- and frames are the same.
+-- One write advances RDT by k slots: the conditions hold again, these slots are the last outstanding ones, and frames are the same.
 pub record OfferedMany (oldest_receive oldest_transmit k : ℕ) (a b : World) : Type 0 where
   pub same : SameFrames oldest_receive oldest_transmit a b
   pub runs : GoOn a b
@@ -51,26 +48,24 @@ ManySlotsCanBeOffered =
     → OfferedMany oldest_receive oldest_transmit k world
     (with_tail ((world.adapter.receive_ring.tail + k) % count_of (receive_ring world)) world)
 
--- Controls.
-
--- the world with this word in RCTL
+-- The world in which RCTL is this word.
 abbrev pub with_receive_control : ℕ → World → World
 with_receive_control control world = record world
     { adapter = record world.adapter { filter = record world.adapter.filter { rctl = control } } }
 
--- The conditions hold, and frames are the same; if BSEX is 0, engines that could run still can.
+-- The conditions hold, and frames are the same. If BSEX is 0, engines that could run still can run.
 pub record ReceiverSet (oldest_receive oldest_transmit : ℕ) (a b : World) : Type 0 where
   pub same : SameFrames oldest_receive oldest_transmit a b
   pub runs : ¬ (HasBit b.adapter.filter.rctl rctl_bsex) → GoOn a b
 
--- RCTL may be written if the rings, the frames and the buffers that then count are in memory, apart from one another.
+-- RCTL may be written if the rings, the frames, and the buffers that the conditions then name are in memory, apart from one another.
 abbrev pub ReceiverCanBeSet : Type 0
 ReceiverCanBeSet =
     (oldest_receive oldest_transmit control : ℕ) (world : World) → Sound oldest_receive oldest_transmit world
     → AreSeparate world.memory (areas oldest_receive (with_receive_control control world))
     → ReceiverSet oldest_receive oldest_transmit world (with_receive_control control world)
 
--- the world with this word in TCTL
+-- The world in which TCTL is this word.
 abbrev pub with_transmit_control : ℕ → World → World
 with_transmit_control control world = record world { adapter = record world.adapter { transmit_control = control } }
 
@@ -81,13 +76,11 @@ TransmitterCanBeSet =
     → (¬ (world.adapter.transmit_ring.head ≡ world.adapter.transmit_ring.tail) → HasBit control tctl_psp)
     → LeavesFrames oldest_receive oldest_transmit world (with_transmit_control control world)
 
--- The transmit ring.
-
--- the world with these registers of the transmit ring
+-- The world with these registers of the transmit ring.
 abbrev pub with_transmit_ring : RingRegisters → World → World
 with_transmit_ring ring world = record world { adapter = record world.adapter { transmit_ring = ring } }
 
--- The conditions hold with TDT as the oldest slot, nothing is outstanding or to be sent, and what was received stays.
+-- The conditions hold with TDT as the oldest slot, no slot is outstanding, no frame is to be sent, and received frames don't change.
 pub record TransmitRingSet (oldest_receive : ℕ) (a b : World) : Type 0 where
   pub sound : Sound oldest_receive b.adapter.transmit_ring.tail b
   pub none_outstanding : outstanding (transmit_ring b) b.adapter.transmit_ring.tail ≡ []
@@ -97,8 +90,8 @@ pub record TransmitRingSet (oldest_receive : ℕ) (a b : World) : Type 0 where
   pub fits : (size : ℕ) → FitBuffers size oldest_receive a → FitBuffers size oldest_receive b
   pub runs : GoOn a b
 
--- While no frame is in the transmit packet buffer the transmit ring may be set up, with TDH equal to TDT, if it is
--- apart from all else.
+-- The transmit ring may be set up while no frame is in the transmit packet buffer. TDH must equal TDT, and the ring must be apart from all
+-- other areas.
 abbrev pub TransmitRingCanBeSet : Type 0
 TransmitRingCanBeSet =
     (oldest_receive oldest_transmit : ℕ) (ring : RingRegisters) (world : World) → Sound oldest_receive oldest_transmit world
@@ -106,9 +99,7 @@ TransmitRingCanBeSet =
     → AreSeparate world.memory (areas oldest_receive (with_transmit_ring ring world))
     → TransmitRingSet oldest_receive world (with_transmit_ring ring world)
 
--- Other accesses.
-
--- a register that the conditions read
+-- A register on which the conditions depend.
 abbrev pub IsOfConditions : Register → Type 0
 IsOfConditions Rctl = ⊤
 IsOfConditions Tctl = ⊤
@@ -116,8 +107,7 @@ IsOfConditions (Receive part) = ⊤
 IsOfConditions (Transmit part) = ⊤
 IsOfConditions register = ⊥
 
--- A write of a register that the conditions don't read, except for a reset, changes neither the conditions nor slots
--- nor frames.
+-- A write of a register on which the conditions don't depend, except for a reset, changes neither the conditions nor slots nor frames.
 abbrev pub OtherWritesLeaveFrames : Type 0
 OtherWritesLeaveFrames =
     (oldest_receive oldest_transmit : ℕ) (register : Register) (value : ℕ) (world : World)
@@ -130,28 +120,26 @@ ReadsLeaveFrames =
     (oldest_receive oldest_transmit offset : ℕ) (world : World)
     → Sound oldest_receive oldest_transmit world → LeavesFrames oldest_receive oldest_transmit world (world_after_read offset world)
 
--- What happens meanwhile.
-
--- no frame is in the transmit packet buffer, and TDH is TDT
+-- No frame is in the transmit packet buffer, and TDH is TDT.
 pub record IsTransmitIdle (world : World) : Type 0 where
   pub buffer : world.adapter.transmitter.buffer ≡ []
   pub ring : world.adapter.transmit_ring.head ≡ world.adapter.transmit_ring.tail
 
--- A transmit ring of which nothing is outstanding stays so, with all that is received going on.
+-- A transmit ring without outstanding slots remains without outstanding slots, while frames may be received.
 abbrev pub TransmitStaysIdle : Type 0
 TransmitStaysIdle =
     (oldest_receive : ℕ) (a b : World) (past : Past) → Sound oldest_receive a.adapter.transmit_ring.tail a
     → a.adapter.transmit_ring.head ≡ a.adapter.transmit_ring.tail → Happens a b past → IsTransmitIdle b
 
--- No receive slot is finished, no piece is in progress, and the slots offered, with the addresses of their buffers, are as they were.
+-- No receive slot is finished, and no piece is in progress. The offered slots and the addresses of their buffers don't change.
 pub record OffersStay (oldest_receive : ℕ) (a b : World) : Type 0 where
   pub none_finished : finished oldest_receive b ≡ []
   pub no_work : b.adapter.receiver.work ≡ None
   pub slots : offered (receive_ring b) ≡ offered (receive_ring a)
   pub addresses : All (λ slot. named_address b.memory slot ≡ named_address a.memory slot) (offered (receive_ring a))
 
--- While RCTL.EN is 0 and no frame is held, the receive slots that are offered wait. No slot contains a part of a frame then, if frames are
--- cut into buffers of one size, which have at least one byte.
+-- While RCTL.EN is 0 and no frame is held, the offered receive slots don't change. Frames must be cut into buffers of one size, at least
+-- one byte, so that no slot contains a part of a frame.
 abbrev pub OffersWait : Type 0
 OffersWait =
     (size oldest_receive oldest_transmit : ℕ) (a b : World) (past : Past) → Sound oldest_receive oldest_transmit a

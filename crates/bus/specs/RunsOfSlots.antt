@@ -1,4 +1,5 @@
--- A driver takes a run of its oldest finished receive slots if one frame ends in them, in the last: the slot after them is its oldest then.
+-- A driver takes a run of its oldest finished receive slots, if a frame ends in the last slot of the run, and in no other. Then the slot
+-- after the run is the oldest one.
 use Rattle.std.specs.Prelude.{◌≡◌, ◌++◌, ℕ, List, [], ◌∷◌, All, length, map}
 use Rattle.std.specs.List.{concat}
 use Rattle.descriptors.specs.Frames.{IsLegal}
@@ -14,16 +15,16 @@ use Rattle.adapter.specs.Slots.{finished, outstanding}
 use Rattle.adapter.specs.World.{World, receive_ring}
 use Rattle.bus.specs.DriversSlots.{IsDriversSlot, frame_named}
 
--- the places of these slots in the ring, from the oldest on
+-- The places of a run's slots in the ring, from the oldest slot on.
 abbrev pub places_of_run : ℕ → List ℕ → World → List ℕ
 places_of_run oldest run world = slots_from (count_of (receive_ring world)) oldest (length run)
 
--- the place after them
+-- The place after the slots of a run.
 abbrev pub after_run : ℕ → List ℕ → World → ℕ
 after_run oldest run world = place (count_of (receive_ring world)) oldest (length run)
 
--- If frames are cut into buffers of one size, the frame is legal, its parts fill their buffers, no slot has an error, and the frames of the
--- other slots are cut so, too.
+-- The frame of a run, if frames are cut into buffers of one size. It is legal, its parts fill their buffers, and no slot has an error. The
+-- frames in the other slots are cut in the same way.
 pub record IsCutRun (size oldest_receive : ℕ) (world : World) (run : List ℕ) (seen : List (List ℕ)) (last : List ℕ) : Type 0 where
   pub legal : IsLegal (concat seen ++ last)
   pub full : All (λ bytes. length bytes ≡ size) seen
@@ -35,36 +36,36 @@ pub record IsCutRun (size oldest_receive : ℕ) (world : World) (run : List ℕ)
 pub record RunBecomesDrivers (oldest_receive : ℕ) (world : World) (run : List ℕ) : Type 0 where
   -- The slots follow one another in the ring, from the oldest one on.
   pub stand : run ≡ map (address_of (receive_ring world)) (places_of_run oldest_receive run world)
-  -- They are no longer outstanding.
+  -- The slots of the run are no longer outstanding.
   pub first : outstanding (receive_ring world) oldest_receive
       ≡ run ++ outstanding (receive_ring world) (after_run oldest_receive run world)
-  -- They are the driver's.
+  -- The slots of the run are the driver's.
   pub own : All (IsDriversSlot (receive_ring world) (after_run oldest_receive run world)) (places_of_run oldest_receive run world)
-  -- Their bytes aren't the adapter's to write.
+  -- The bytes that the slots name aren't the adapter's to write.
   pub foreign : All (λ slot. IsForeign world (named world.memory slot)) run
 
--- The slots contain parts, and then the last piece of their frame.
+-- The slots contain parts of a frame, and then its last piece.
 pub record RunContainsFrame (oldest_receive : ℕ) (world : World) (run : List ℕ) (seen : List (List ℕ)) (last : List ℕ) : Type 0 where
-  -- the bytes that each slot names, and how many its descriptor says they are
+  -- The bytes that the slots name, and the lengths in their descriptors, are those of the pieces.
   pub bytes : map (frame_named world) run ≡ seen ++ last ∷ []
   pub sizes : map (λ slot. (descriptor_at world.memory slot).length) run ≡ map length (seen ++ last ∷ [])
-  -- The frame leaves the front of the frames held.
+  -- The frame is removed from the front of the frames held.
   pub held : frames_held oldest_receive world ≡ (concat seen ++ last) ∷ frames_held (after_run oldest_receive run world) world
-  -- The frame leaves the front of the frames that end in finished slots.
+  -- The frame is removed from the front of the frames that end in finished slots.
   pub ended : frames_of (finished_pieces oldest_receive world)
       ≡ (concat seen ++ last) ∷ frames_of (finished_pieces (after_run oldest_receive run world) world)
 
--- With the place after the slots as the oldest one the conditions hold again.
+-- If the driver counts the slot after the run as its oldest, the conditions hold again.
 pub record RunTaken (oldest_receive oldest_transmit : ℕ) (world : World) (run : List ℕ) (seen : List (List ℕ)) (last : List ℕ)
     : Type 0 where
   pub slots : RunBecomesDrivers oldest_receive world run
   pub frame : RunContainsFrame oldest_receive world run seen last
   pub sound : Sound (after_run oldest_receive run world) oldest_transmit world
-  -- The other finished slots stay finished.
+  -- The other finished slots are still finished.
   pub behind : finished oldest_receive world ≡ run ++ finished (after_run oldest_receive run world) world
-  -- Pieces that fit into buffers of some size still do.
+  -- Pieces that fit into buffers of some size still fit.
   pub fits : (size : ℕ) → FitBuffers size oldest_receive world → FitBuffers size (after_run oldest_receive run world) world
-  -- If frames are cut into buffers of some size, this one is, and so are the others.
+  -- If frames are cut into buffers of some size, the frame of the run and the other frames are cut in this way.
   pub cut : (size : ℕ) → AreCut size oldest_receive world → IsCutRun size oldest_receive world run seen last
 
 abbrev pub RunsCanBeTaken : Type 0

@@ -1,4 +1,4 @@
--- What a driver has set of an adapter: the registers that only its own writes change, beside what nothing changes (our choice).
+-- The settings of an adapter: the registers that only a driver's writes change, and values that never change (our choice).
 use Rattle.std.specs.Prelude.{⊤, ◌≡◌, ℕ, List, [], ◌∷◌, All, Option, Some}
 use Rattle.registers.specs.Bits.{HasBit}
 use Rattle.mdic_phy.specs.Phy.{new_phy}
@@ -13,29 +13,29 @@ use Rattle.adapter.specs.World.{World}
 use Rattle.adapter.specs.declared.register.Register.{Register}
 use Rattle.adapter.specs.declared.register.Register.TheVariants.{Rctl}
 use Rattle.bus.specs.Law.{Happens}
-use Rattle.bus.specs.PastOfStretch.{Past, joined}
+use Rattle.bus.specs.Pasts.{Past, joined}
 use Rattle.bus.specs.declared.event.Access.{Access}
 use Rattle.bus.specs.declared.event.Access.TheVariants.{Loads, Reads, Stores, Writes}
 
--- What only writes of registers change, and what never changes.
+-- The values that only writes of registers change, and the values that never change.
 pub record Settings : Type 0 where
-  -- the words of the EEPROM, which nothing changes
+  -- The words of the EEPROM, which never change.
   pub image : List ℕ
-  -- when the PHY's link comes up, which nothing changes
+  -- After how many ticks the PHY's link is up, which never changes.
   pub link : Link
-  -- PBA
+  -- The kilobytes of PBA.
   pub receive_kilobytes : ℕ
-  -- CTRL
+  -- The value of CTRL.
   pub device_control : ℕ
-  -- IMS
+  -- The mask, IMS.
   pub mask : ℕ
-  -- RAL, RAH, MTA, VFTA, RCTL and VET
+  -- The registers of the receive filter: RAL, RAH, MTA, VFTA, RCTL and VET.
   pub filter : FilterRegisters
-  -- TCTL
+  -- The value of TCTL.
   pub transmit_control : ℕ
-  -- RDBAL to RDT, with 0 in place of RDH
+  -- RDBAL to RDT, with RDH replaced by 0.
   pub receive_ring : RingRegisters
-  -- TDBAL to TDT, with 0 in place of TDH
+  -- TDBAL to TDT, with TDH replaced by 0.
   pub transmit_ring : RingRegisters
 
 -- The settings of an adapter.
@@ -52,7 +52,7 @@ settings_of adapter = record {
   transmit_ring = record adapter.transmit_ring { head = 0 };
 }
 
--- an adapter at rest that has these settings
+-- An adapter at rest that has these settings.
 abbrev pub adapter_with : Settings → AdapterState
 adapter_with settings = record (adapter_at_reset settings.image (new_phy settings.link) settings.receive_kilobytes) {
   device_control = settings.device_control;
@@ -63,14 +63,14 @@ adapter_with settings = record (adapter_at_reset settings.image (new_phy setting
   transmit_ring = settings.transmit_ring;
 }
 
--- a register write: an offset, and the word that is written
+-- A register write: an offset, and the word that is written.
 pub record Write : Type 0 where
   -- The offset of the register.
   pub offset : ℕ
   -- The word that is written.
   pub value : ℕ
 
--- the writes among accesses, in order
+-- The writes among accesses, in order.
 abbrev pub writes_in : List Access → List Write
 writes_in [] = []
 writes_in (Reads offset value ∷ later) = writes_in later
@@ -78,36 +78,34 @@ writes_in (Writes offset value ∷ later) = record { offset = offset; value = va
 writes_in (Loads address size ∷ later) = writes_in later
 writes_in (Stores address bytes ∷ later) = writes_in later
 
--- the settings after a write
+-- The settings after a write.
 abbrev pub settings_after : Write → Settings → Settings
 settings_after write settings = settings_of (after_write write.offset write.value (adapter_with settings))
 
--- what these writes, one after the other, leave of the settings
+-- The settings after these writes, one after the other.
 abbrev pub settings_after_all : List Write → Settings → Settings
 settings_after_all [] settings = settings
 settings_after_all (write ∷ later) settings = settings_after_all later (settings_after write settings)
 
--- In an interval the settings become what the driver's writes make of them, whatever else happens.
+-- After an interval, the settings are those after the driver's writes, whatever else happened.
 abbrev pub AreSet : World → World → Past → Type 0
 AreSet a b past = settings_of b.adapter ≡ settings_after_all (writes_in past.accesses) (settings_of a.adapter)
 
--- What two intervals set, one after the other, their joined interval sets.
+-- If `AreSet` holds for two consecutive intervals, it holds for the joined interval.
 abbrev pub SettingsJoin : Type 0
 SettingsJoin = (a b c : World) (first later : Past) → AreSet a b first → AreSet b c later → AreSet a c (joined first later)
 
--- Whatever happens between two accesses leaves the settings.
+-- What happens between two accesses doesn't change the settings.
 abbrev pub HappeningsLeaveSettings : Type 0
 HappeningsLeaveSettings = (a b : World) (past : Past) → Happens a b past → settings_of b.adapter ≡ settings_of a.adapter
 
--- A write of any register sets what it sets on an adapter at rest with these settings.
+-- A write of any register has the same effect on the settings as on an adapter at rest with these settings.
 abbrev pub WritesSet : Type 0
 WritesSet =
     (offset value : ℕ) (adapter : AdapterState)
     → settings_of (after_write offset value adapter) ≡ settings_after (record { offset = offset; value = value }) (settings_of adapter)
 
--- While frames don't come.
-
--- RCTL.EN is 0
+-- RCTL.EN is 0.
 abbrev pub IsOff : World → Type 0
 IsOff world = ¬ (HasBit world.adapter.filter.rctl rctl_en)
 
@@ -116,7 +114,7 @@ abbrev pub IsNotReceiveControl : Option Register → Type 0
 IsNotReceiveControl (Some Rctl) = ⊥
 IsNotReceiveControl _ = ⊤
 
--- the write isn't one of RCTL
+-- The write isn't a write of RCTL.
 abbrev pub LeavesReceiver : Write → Type 0
 LeavesReceiver write = IsNotReceiveControl (register_at write.offset)
 
@@ -131,7 +129,7 @@ pub record NoArrival (past : Past) : Type 0 where
 abbrev pub WhileOff : World → Past → Type 0
 WhileOff a past = IsOff a → All LeavesReceiver (writes_in past.accesses) → NoArrival past
 
--- After writes of other registers than RCTL, also one that resets, RCTL.EN is still 0.
+-- If RCTL.EN is 0, it is still 0 after writes of registers other than RCTL, even after a reset.
 abbrev pub StaysOff : Type 0
 StaysOff = (writes : List Write) (settings : Settings) → All LeavesReceiver writes → ¬ (HasBit settings.filter.rctl rctl_en)
     → ¬ (HasBit (settings_after_all writes settings).filter.rctl rctl_en)

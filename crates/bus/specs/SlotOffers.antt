@@ -16,9 +16,9 @@ use Rattle.adapter.specs.World.{receive_ring, transmit_ring, World}
 use Rattle.adapter.specs.Rings.{ring_of}
 use Rattle.adapter.specs.declared.ring.RingRegisters.{RingRegisters}
 
--- A driver offers its next receive slot: it moves RDT on by one ("3.2.6 Receive Descriptor Queue Structure").
+-- A driver offers its next receive slot: it advances RDT by one ("3.2.6 Receive Descriptor Queue Structure").
 
--- the world with RDT moved on by one
+-- The world in which RDT has advanced by one.
 abbrev pub offering : World → World
 offering world = record world {
   adapter = record world.adapter {
@@ -32,26 +32,26 @@ pub record HasRoom (oldest : ℕ) (registers : RingRegisters) : Type 0 where
   pub oldest_slot : oldest < count_of (ring_of registers)
   pub head_slot : registers.head < count_of (ring_of registers)
   pub tail_slot : registers.tail < count_of (ring_of registers)
-  -- The slot at the tail isn't the last one before the oldest.
+  -- The slot after the tail isn't the oldest slot.
   pub room : next_of (ring_of registers) registers.tail ≢ oldest
 
--- The slot at RDT can be offered. Its buffer, of the size that RCTL.BSIZE names, counts only while RCTL.EN is set.
+-- The slot at RDT can be offered. The conditions name its buffer, of the size that RCTL.BSIZE selects, only while RCTL.EN is set.
 pub record CanOffer (oldest : ℕ) (world : World) : Type 0 where
   pub ring : HasRoom oldest world.adapter.receive_ring
-  -- Its descriptor isn't done.
+  -- The slot's descriptor isn't done.
   pub fresh : is_done world.memory (address_of (receive_ring world) world.adapter.receive_ring.tail) ≡ false
   -- While RCTL.EN is set, the buffer is in memory.
   pub lies : HasBit world.adapter.filter.rctl rctl_en
       → LiesIn world.memory (buffer_of world (address_of (receive_ring world) world.adapter.receive_ring.tail)).address
       (buffer_of world 0).size
-  -- While RCTL.EN is set, the buffer is apart from all that the conditions name.
+  -- While RCTL.EN is set, the buffer is apart from all areas that the conditions name.
   pub apart : HasBit world.adapter.filter.rctl rctl_en
       → All (λ area. AreApart area (buffer_of world (address_of (receive_ring world) world.adapter.receive_ring.tail)))
       (areas oldest world)
 
--- After the offer the conditions hold again, the slot is the last that is outstanding, frames are the same, and engines
--- that could run still can. What isn't the adapter's stays so, apart from where it may report the slot and, while
--- RCTL.EN is set, from the slot's buffer.
+-- After the offer, the conditions hold again, the slot is the last outstanding one, and frames are the same. Engines that could run still
+-- can run. An area that the adapter may not write remains such an area if it is apart from bytes 8 to 15 of the slot's descriptor. While
+-- RCTL.EN is set, the area must also be apart from the slot's buffer.
 pub record Offered (oldest_receive oldest_transmit : ℕ) (a b : World) : Type 0 where
   pub same : SameFrames oldest_receive oldest_transmit a b
   pub runs : GoOn a b
@@ -67,9 +67,9 @@ SlotsCanBeOffered =
     (oldest_receive oldest_transmit : ℕ) (world : World) → Sound oldest_receive oldest_transmit world → CanOffer oldest_receive world
     → Offered oldest_receive oldest_transmit world (offering world)
 
--- A driver offers its next transmit slot: it moves TDT on by one ("3.4 Transmit Descriptor Ring Structure").
+-- A driver offers its next transmit slot: it advances TDT by one ("3.4 Transmit Descriptor Ring Structure").
 
--- the world with TDT moved on by one
+-- The world in which TDT has advanced by one.
 abbrev pub offering_frame : World → World
 offering_frame world = record world {
   adapter = record world.adapter {
@@ -80,12 +80,12 @@ offering_frame world = record world {
 -- The slot at TDT can be offered.
 pub record CanSend (oldest_receive oldest_transmit : ℕ) (world : World) : Type 0 where
   pub ring : HasRoom oldest_transmit world.adapter.transmit_ring
-  -- Its descriptor isn't done, and asks for a report.
+  -- The slot's descriptor isn't done, and asks for a report.
   pub fresh : is_done world.memory (address_of (transmit_ring world) world.adapter.transmit_ring.tail) ≡ false
   pub reports : Reports (fetched true world.memory (address_of (transmit_ring world) world.adapter.transmit_ring.tail))
   -- TCTL.PSP is set.
   pub pads : HasBit world.adapter.transmit_control tctl_psp
-  -- Its data is in memory, apart from all that the conditions name.
+  -- The slot's data is in memory, apart from all areas that the conditions name.
   pub lies :
       LiesIn world.memory (data_of world.memory (address_of (transmit_ring world) world.adapter.transmit_ring.tail)).address
       (data_of world.memory (address_of (transmit_ring world) world.adapter.transmit_ring.tail)).size
@@ -97,24 +97,24 @@ pub record SameReceived (oldest_receive : ℕ) (a b : World) : Type 0 where
   pub held : frames_held oldest_receive b ≡ frames_held oldest_receive a
   pub finished_same : finished oldest_receive b ≡ finished oldest_receive a
   pub pieces_same : finished_pieces oldest_receive b ≡ finished_pieces oldest_receive a
-  -- Frames that are cut into buffers of some size still are, and pieces that fit into such buffers still do.
+  -- If frames are cut into buffers of some size, they are still cut in this way. If pieces fit into such buffers, they still fit.
   pub whole : (size : ℕ) → AreCut size oldest_receive a → AreCut size oldest_receive b
   pub fits : (size : ℕ) → FitBuffers size oldest_receive a → FitBuffers size oldest_receive b
 
--- After the offer the conditions hold again, with one more slot that is outstanding.
+-- After the offer, the conditions hold again, with one more outstanding slot.
 pub record OfferedFrame (oldest_receive oldest_transmit : ℕ) (a b : World) : Type 0 where
   pub sound : Sound oldest_receive oldest_transmit b
-  -- Its frame, padded, is the last that is to be sent.
+  -- The frame of the slot, padded, is the last frame to be sent.
   pub to_send : frames_to_send b ≡ frames_to_send a ++ frame_at true a.memory (address_of (transmit_ring a) a.adapter.transmit_ring.tail)
       ∷ []
   pub received : SameReceived oldest_receive a b
   pub written_same : written_back oldest_transmit b ≡ written_back oldest_transmit a
-  -- The slot is the last that is outstanding.
+  -- The slot is the last outstanding slot.
   pub last : outstanding (transmit_ring b) oldest_transmit ≡ outstanding (transmit_ring a) oldest_transmit
       ++ address_of (transmit_ring a) a.adapter.transmit_ring.tail ∷ []
-  -- Engines that could run still can if the descriptor can be transmitted.
+  -- If the descriptor can be transmitted, engines that could run still can run.
   pub runs : CanTransmit a.memory (address_of (transmit_ring a) a.adapter.transmit_ring.tail) → GoOn a b
-  -- What isn't the adapter's stays so, apart from the slot's status.
+  -- An area that isn't the adapter's doesn't become the adapter's, if it is apart from the slot's status byte.
   pub foreign : (area : Area) → IsForeign a area → AreApart area (status_byte (address_of (transmit_ring a) a.adapter.transmit_ring.tail))
       → IsForeign b area
 

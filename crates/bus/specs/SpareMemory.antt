@@ -5,12 +5,12 @@ use Rattle.rx_engine.specs.Descriptors.{named_address}
 use Rattle.adapter.specs.HostAreas.{areas, data_of, IsForeign, ring_area}
 use Rattle.adapter.specs.Conditions.{FitBuffers, Sound}
 use Rattle.bus.specs.Law.{Happens}
-use Rattle.bus.specs.PastOfStretch.{Past}
+use Rattle.bus.specs.Pasts.{Past}
 use Rattle.adapter.specs.Slots.{outstanding}
 use Rattle.adapter.specs.World.{receive_ring, transmit_ring, World}
 
--- An area is apart from both rings, from the receive buffers of this size that outstanding slots name, and from their
--- data to send.
+-- An area is apart from both rings, from the receive buffers of this size that outstanding slots name, and from the data that outstanding
+-- transmit slots name.
 pub record IsSpare (size oldest_receive oldest_transmit : ℕ) (world : World) (area : Area) : Type 0 where
   pub receive_slots : AreApart (ring_area (receive_ring world)) area
   pub transmit_slots : AreApart (ring_area (transmit_ring world)) area
@@ -18,15 +18,15 @@ pub record IsSpare (size oldest_receive oldest_transmit : ℕ) (world : World) (
       (outstanding (receive_ring world) oldest_receive)
   pub sources : All (λ slot. AreApart (data_of world.memory slot) area) (outstanding (transmit_ring world) oldest_transmit)
 
--- The area is spare, apart from all that the conditions of the law name, and not the adapter's to write.
+-- The area is spare, apart from all areas that the conditions of the law name, and not the adapter's to write.
 pub record StaysApart (size oldest_receive oldest_transmit : ℕ) (world : World) (area : Area) : Type 0 where
   pub fit : FitBuffers size oldest_receive world
   pub spare : IsSpare size oldest_receive oldest_transmit world area
   pub apart : All (λ other. AreApart other area) (areas oldest_receive world)
   pub foreign : IsForeign world area
 
--- A spare area stays spare, whatever happens between two accesses, if pieces of frames fit into such buffers; and they
--- still fit.
+-- If pieces of frames fit into buffers of this size, a spare area remains spare whatever happens between two accesses, and the pieces still
+-- fit.
 abbrev pub AreasStayApart : Type 0
 AreasStayApart =
     (size oldest_receive oldest_transmit : ℕ) (a b : World) (past : Past) (area : Area)

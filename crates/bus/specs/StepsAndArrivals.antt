@@ -1,4 +1,4 @@
--- Adapter steps and deliveries as what may happen between two accesses.
+-- Adapter steps and deliveries are what may happen between two accesses.
 use Rattle.std.specs.Prelude.{ℕ, Bool, List}
 use Rattle.rx_engine.specs.Arriving.{kept}
 use Rattle.rx_engine.specs.declared.arrival.Fate.{Fate}
@@ -11,10 +11,10 @@ use Rattle.adapter.specs.declared.step.StepKind.{StepKind}
 use Rattle.adapter.specs.declared.step.StepKind.TheVariants.{TxTake, TxPut, RxData, RxDone, EepromTick, PhyTick}
 use Rattle.adapter.specs.Outcomes.{FrameOutcome}
 use Rattle.bus.specs.Law.{Happens}
-use Rattle.bus.specs.PastOfStretch.{Past, nothing}
+use Rattle.bus.specs.Pasts.{Past, nothing}
 use Rattle.adapter.specs.World.{World}
 
--- what happens in a step with this answer
+-- What happens in a step of this kind with this outcome.
 abbrev pub past_of_step : StepKind → FrameOutcome → Past
 past_of_step TxTake answer = nothing
 past_of_step TxPut answer = record nothing { put = put_by answer }
@@ -38,7 +38,7 @@ missed_by Filtered = 0
 missed_by Missed = 1
 missed_by Stored = 0
 
--- what happens when a frame with this fate arrives
+-- What happens when a frame with this fate arrives.
 abbrev pub past_of_arrival : Fate → List ℕ → Past
 past_of_arrival fate frame = record nothing { stored = kept fate frame; missed = missed_by fate }
 

@@ -1,4 +1,4 @@
--- What is played in some accesses and in later ones is played in all of them.
+-- Lemmas: the ticks played in some accesses, followed by those played in later accesses, are the ticks played in all of them.
 use Rattle.std.proofs.Common.{◌≡◌, ◌+◌, ◌++◌, ◌∷◌, [], Bool, true, false, ℕ, List, length, refl, sym, ap, ◌∙◌, append_assoc, arith}
 use Rattle.std.proofs.Common.{if◌then◌else◌, sum_by}
 use Rattle.std.proofs.lemmas.List.Sums.{sum_by-append, sum_by-cons}
@@ -23,7 +23,7 @@ played_joins {T} is_go go own (access ∷ first) later ticks =
     ap (λ (played : List T). before ++ go ∷ played) (played_joins is_go go own first later rest)
     ∙ sym (append_assoc before (go ∷ behind) (played_in is_go go own later (waiting_after is_go first rest)))
 
--- Counted over all that is played in one access and in later ones.
+-- A count over the ticks of one access and of the later accesses.
 counts_more :
     {T : Type 0} (is_go : T → Bool) (go : T) (own : List T) (count : T → ℕ) (access : Access) (later : List Access) (ticks : List T)
     → count go ≡ 0
@@ -34,7 +34,7 @@ counts_more is_go go own count access later ticks none =
     let behind = played_in is_go go own later (behind_group is_go ticks) in
     omega (arith, none, sum_by-append count (own ++ group) (go ∷ behind), sum_by-append count own group, sum_by-cons count go behind)
 
--- Counted over all that is played: the bus's own ticks, once or never for each access, and the groups.
+-- A count over all that is played: the bus's own ticks, once or never for each access, and the groups of ticks.
 pub played_counts :
     {T : Type 0} (is_go : T → Bool) (go : T) (own : List T) (count : T → ℕ) (once : Bool) (accesses : List Access) (ticks : List T)
     → count go ≡ 0 → sum_by count own ≡ (if once then 1 else 0)

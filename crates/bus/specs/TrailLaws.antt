@@ -1,6 +1,6 @@
--- Two trails, the second from the world in which the first ends, are one.
+-- Lemmas: if one trail begins in the world in which another ends, both together are one trail.
 use Rattle.std.proofs.Common.{◌≡◌, ℕ, List, [], ◌∷◌, ◌++◌, refl, sym, ap, subst, ◌∙◌, append_assoc, arith}
-use Rattle.bus.specs.PastOfStretch.{Past, joined, nothing}
+use Rattle.bus.specs.Pasts.{Past, joined, nothing}
 use Rattle.bus.specs.declared.event.Access.{Access}
 use Rattle.bus.specs.Trails.{Trail, past_of, past_of_event, world_after}
 use Rattle.bus.specs.declared.event.Event.{Event}

@@ -6,14 +6,14 @@ use Rattle.adapter.specs.Steps.{Answers}
 use Rattle.bus.specs.declared.event.Event.{Event}
 use Rattle.bus.specs.declared.event.Event.TheVariants.{Accesses, Arrives, Steps}
 use Rattle.bus.specs.Law.{Happens}
-use Rattle.bus.specs.PastOfStretch.{Past, joined, nothing}
+use Rattle.bus.specs.Pasts.{Past, joined, nothing}
 use Rattle.bus.specs.declared.event.Access.{Access}
 use Rattle.bus.specs.declared.event.Access.TheVariants.{Loads, Reads, Stores, Writes}
 use Rattle.bus.specs.StepsAndArrivals.{past_of_arrival, past_of_step, world_after_arrival, world_after_step}
 use Rattle.adapter.specs.State.{IsAdapter}
 use Rattle.adapter.specs.World.{World, world_after_read, world_after_store, world_after_write}
 
--- what an access says of the world before it: a read has the answer of the register
+-- The value that a read returned is the value of the register in the world before the access.
 abbrev pub IsAnswered : Access → World → Type 0
 IsAnswered (Reads offset value) world = value ≡ answer_at offset world.adapter
 IsAnswered (Writes offset value) world = ⊤
@@ -27,7 +27,7 @@ world_after_access (Writes offset value) world = world_after_write offset value 
 world_after_access (Loads address size) world = world
 world_after_access (Stores address bytes) world = world_after_store address bytes world
 
--- the event can happen in this world
+-- The event can happen in this world.
 abbrev pub Occurs : Event → World → Type 0
 Occurs (Steps kind wire_free answer) world = IsAdapter world.adapter × Answers kind wire_free world.memory world.adapter answer
 Occurs (Arrives frame fate) world = IsAdapter world.adapter × IsFate world.adapter frame fate
@@ -44,18 +44,18 @@ abbrev pub Trail : List Event → World → World → Type 0
 Trail [] a b = b ≡ a
 Trail (event ∷ later) a b = Occurs event a × Trail later (world_after event a) b
 
--- What happens in an event.
+-- What happened in one event.
 abbrev pub past_of_event : Event → Past
 past_of_event (Steps kind wire_free answer) = past_of_step kind answer
 past_of_event (Arrives frame fate) = past_of_arrival fate frame
 past_of_event (Accesses access) = record nothing { accesses = access ∷ [] }
 
--- what happened in these events
+-- What happened in all these events.
 abbrev pub past_of : List Event → Past
 past_of [] = nothing
 past_of (event ∷ later) = joined (past_of_event event) (past_of later)
 
--- a step or an arrival
+-- A step or an arrival.
 abbrev pub IsStep : Event → Type 0
 IsStep (Steps kind wire_free answer) = ⊤
 IsStep (Arrives frame fate) = ⊤

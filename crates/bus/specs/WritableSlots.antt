@@ -1,4 +1,4 @@
--- The driver's slots, the one at the tail among them, can be written (our choice).
+-- The driver can write its slots, including the slot at the tail (our choice).
 use Rattle.std.specs.Prelude.{◌≤◌, ◌<◌, ℕ}
 use Rattle.dma_memory.specs.Areas.{descriptor_area}
 use Rattle.dma_memory.specs.HostMemory.{LiesIn}
@@ -11,8 +11,8 @@ use Rattle.adapter.specs.World.{receive_ring, transmit_ring, World}
 use Rattle.bus.specs.DriversSlots.{IsDriversSlot}
 use Rattle.bus.specs.DriversStores.{IsDriversArea}
 
--- A descriptor that a driver can write: it lies in memory, a store to it doesn't change what the law is about, and it
--- isn't the adapter's.
+-- A descriptor that a driver can write. It is inside memory, and the adapter may not write it. A store to it changes neither the conditions
+-- of the law nor frames.
 pub record CanBeWritten (oldest_receive oldest_transmit : ℕ) (world : World) (descriptor : ℕ) : Type 0 where
   pub lies : LiesIn world.memory descriptor descriptor_bytes
   pub own : IsDriversArea oldest_receive oldest_transmit world (descriptor_area descriptor)
@@ -32,7 +32,7 @@ DriversTransmitSlotsCanBeWritten =
     → Sound oldest_receive oldest_transmit world → IsDriversSlot (transmit_ring world) oldest_transmit slot
     → CanBeWritten oldest_receive oldest_transmit world (address_of (transmit_ring world) slot)
 
--- The driver owns the slots from the tail on up to its oldest one.
+-- The slots from the tail up to, but not including, the driver's oldest one are the driver's.
 abbrev pub SlotsFromTailBelongToDriver : Type 0
 SlotsFromTailBelongToDriver =
     (ring : Ring) (oldest slot : ℕ) → oldest < count_of ring → slot < count_of ring

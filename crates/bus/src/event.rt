@@ -12,7 +12,7 @@ use std::marker::Model;
 
 /// The bytes that a driver stored by one access.
 ///
-/// They lie in memory of their own, so to hold them takes memory once, as many bytes as they are.
+/// The bytes are in their own allocation: one byte of memory for each byte.
 #[derive(Debug, Drop)]
 pub struct StoredBytes {
     bytes: Vec<u8>,
@@ -29,11 +29,11 @@ impl Model for StoredBytes {
 impl StoredBytes {
     ghost use Rattle.std.specs.Prelude.{◌≡◌, IfOk};
 
-    /// These bytes.
+    /// A copy of these bytes.
     ///
     /// # Errors
     ///
-    /// Only if memory is refused.
+    /// Returns an error only if an allocation fails.
     pub fn from_slice(alloc: Global, bytes: &[u8]) -> Result<StoredBytes, AllocError>
         ensures { IfOk result (λ stored. stored ≡ bytes.now) }
     {
@@ -64,26 +64,25 @@ impl Eq for StoredBytes {
     ghost laws = { Prim.search (comparing, rules) };
 }
 
-/// An access of a driver, with its offset or address first.
+/// An access of a driver. The first field is its offset or its address.
 #[derive(Debug, Drop, PartialEq, Eq)]
 pub enum Access {
-    /// The register at an offset was read as this value.
+    /// The register at this offset was read, and had this value.
     Reads(u32, u32),
-    /// The register at an offset was written with this value.
+    /// This value was written to the register at this offset.
     Writes(u32, u32),
-    /// So many bytes of memory were loaded.
+    /// This number of bytes was loaded from this address on.
     Loads(u64, u64),
-    /// These bytes were stored to memory.
+    /// These bytes were stored from this address on.
     Stores(u64, StoredBytes),
 }
 
-/// What happens to an adapter and its host's memory. Contracts speak of lists of these (`Trail`), which have the same
-/// events as those of code.
+/// An event at an adapter and its host's memory. Contracts use lists of these events (`Trail`).
 #[derive(Debug, Drop, PartialEq, Eq)]
 pub enum Event {
-    /// The adapter took a step of this kind, with or without room on its wire, and this was its outcome.
+    /// The adapter took a step of this kind, with this outcome. The flag is whether the wire had room.
     Steps(StepKind, bool, Outcome<Frame>),
-    /// A frame was delivered, and met this fate.
+    /// A frame was delivered, and had this fate.
     Arrives(Frame, Fate),
     /// The driver made an access.
     Accesses(Access),

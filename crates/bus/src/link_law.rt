@@ -1,13 +1,13 @@
-// A link that is up stays up.
+// A link that is up remains up.
 
-ghost use Rattle.bus.specs.Link.{AccessesKeepLink, HappeningsKeepLink, LinkStretchesJoin};
+ghost use Rattle.bus.specs.Link.{AccessesKeepLink, HappeningsKeepLink, LinkIntervalsJoin};
 
-/// Where the PHY's link is up and no command of MDIC waits for its end, so it stays.
+/// If the PHY's link is up and no command of MDIC is pending, both facts remain true:
 /// - `happenings`: whatever happens between two accesses.
-/// - `accesses`: at each access but a write of CTRL or MDIC.
-/// - `joins`: over two intervals without such a write, if it does over each.
+/// - `accesses`: after each access except a write of CTRL or MDIC.
+/// - `joins`: over two consecutive intervals, if both facts remain true over each.
 pub fn links_stay_up()
     ensures happenings { HappeningsKeepLink }
     ensures accesses { AccessesKeepLink }
-    ensures joins { LinkStretchesJoin }
+    ensures joins { LinkIntervalsJoin }
 {}

@@ -11,14 +11,14 @@ use adapter::StepKind;
 pub struct LivelyBus<'a> {
     /// The machine.
     pub machine: &'a mut Machine,
-    /// How many accesses there were, up to the greatest `u64`.
+    /// The number of accesses so far, up to the greatest `u64`.
     pub accesses: u64,
 }
 
 impl<'a> LivelyBus<'a> {
     ghost use Rattle.bus.specs.LivelyBuses.{IsPrepared};
 
-    /// Takes both steps, and counts the access that follows.
+    /// Plays both steps, and counts the access that follows.
     fn prepare(&mut self)
         ensures { IsPrepared self.old self.new }
     {

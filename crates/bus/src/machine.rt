@@ -23,10 +23,9 @@ use dma_memory::HostMemory;
 use std::hash::{DefaultHasher, Hasher};
 use std::marker::Model;
 
-/// An adapter and its host's memory. Each call but [`report_line`](Machine::report_line) makes one event happen, or
-/// none.
+/// An adapter and its host's memory. Each call, except [`report_line`](Machine::report_line), plays one event or none.
 ///
-/// In contracts it is a `MachineState`, plain data that `specs/Machines.antt` lists.
+/// In contracts, the value is a `MachineState`, plain data that `specs/Machines.antt` defines.
 #[derive(Clone, Drop)]
 pub struct Machine {
     adapter: Adapter,
@@ -60,7 +59,7 @@ impl Machine {
         }
     }
 
-    /// Makes the adapter take a step. `wire_free` says whether the wire has room for a frame.
+    /// Plays one step of the adapter. `wire_free` is whether the wire has room for a frame.
     #[inline(always)]
     pub fn step(&mut self, kind: StepKind, wire_free: bool) -> Outcome<()>
         ensures occurs { Occurs (Steps kind wire_free (framed result self.old.world.adapter)) self.old.world }
@@ -90,6 +89,7 @@ impl Machine {
     }
 
     /// Reads the register at an offset in bytes.
+    #[inline(always)]
     pub fn read(&mut self, offset: u32) -> u32
         ensures occurs { Occurs (Accesses (Reads offset result)) self.old.world }
         ensures state { self.new ≡ after_event (Accesses (Reads offset result)) self.old }
@@ -98,7 +98,7 @@ impl Machine {
         self.adapter.read(offset)
     }
 
-    /// The value that a read of the register at an offset in bytes would answer now. No event happens, and nothing
+    /// The value that a read of the register at an offset in bytes would return now. No event happens, and nothing
     /// changes.
     pub fn value(&self, offset: u32) -> u32
         ensures answer { result ≡ answer_at offset self.now.world.adapter }
@@ -108,6 +108,7 @@ impl Machine {
     }
 
     /// Writes the register at an offset in bytes.
+    #[inline(always)]
     pub fn write(&mut self, offset: u32, value: u32)
         ensures state { self.new ≡ after_event (Accesses (Writes offset value)) self.old }
         ensures adapter { IsAdapter self.old.world.adapter }
@@ -115,7 +116,7 @@ impl Machine {
         self.adapter.write(offset, value);
     }
 
-    /// Loads the bytes from an address on, which are in memory, into the whole of `into`.
+    /// Fills `into` with the bytes from an address on, which must be in memory.
     pub fn load(&self, address: u64, into: &mut [u8])
         requires lies { LiesIn self.now.world.memory address (length into.old) }
         ensures loaded { into.new ≡ bytes_at self.now.world.memory address (length into.old) }
@@ -124,7 +125,7 @@ impl Machine {
         let _ = self.memory.load(address, into);
     }
 
-    /// Stores bytes from an address on. They are in memory.
+    /// Stores bytes from an address on, which must be in memory.
     pub fn store(&mut self, address: u64, bytes: &[u8])
         requires lies { LiesIn self.old.world.memory address (length bytes.now) }
         ensures state { self.new ≡ after_event (Accesses (Stores address bytes.now)) self.old }
@@ -133,7 +134,7 @@ impl Machine {
         let _ = self.memory.store(address, bytes);
     }
 
-    /// How many bytes the memory has.
+    /// The number of bytes of memory.
     pub fn size(&self) -> u64
         ensures { result ≡ length self.now.world.memory }
     {
@@ -169,8 +170,8 @@ impl Machine {
         self.adapter.phy_has_work()
     }
 
-    /// The level of the interrupt line, if it differs from the level at the last report. The first report compares it
-    /// with the level when the machine was made.
+    /// The level of the interrupt line, if it differs from the level at the last report. The first report compares the
+    /// level with the level when the machine was made.
     pub fn report_line(&mut self) -> Option<bool>
         ensures none { IfNone result (self.old.reported ≡ is_asserted self.old.world.adapter) }
         ensures some { IfSome result (λ level.
@@ -195,7 +196,7 @@ impl Machine {
         self.adapter.counts()
     }
 
-    /// How many frames wait in the adapter's packet buffer.
+    /// The numbers of frames that wait in the adapter's packet buffers.
     pub fn waiting(&self) -> WaitingFrames
         ensures received { result.received ≡ length self.now.world.adapter.receiver.buffer }
         ensures transmit { result.transmit ≡ length self.now.world.adapter.transmitter.buffer }
@@ -203,14 +204,14 @@ impl Machine {
         self.adapter.waiting()
     }
 
-    /// The adapter.
+    /// The machine's adapter.
     pub fn adapter(&self) -> &Adapter
         ensures { result.now ≡ self.now.world.adapter }
     {
         &self.adapter
     }
 
-    /// Appends the frames that are to be sent to `sending`, and those that are held to `holding`. See
+    /// Appends the frames that are to be sent to `sending`, and the frames that are held to `holding`. See
     /// [`Adapter::pending`].
     pub fn pending(&self, oldest: u16, sending: &mut Vec<Frame>, holding: &mut Vec<Frame>)
         requires sending { CanReadSending self.now.world }
@@ -225,9 +226,9 @@ impl Machine {
         self.adapter.pending(&self.memory, oldest, sending, holding);
     }
 
-    /// A digest of the adapter and its memory, by SipHash-1-3. Machines that agree in both have equal digests, and
-    /// machines that don't practically always have different ones. The image of the EEPROM, which no event changes, and
-    /// the level of the interrupt line at the last report aren't covered.
+    /// A digest of the adapter and its memory, by SipHash-1-3. Machines with equal adapters and memories have equal
+    /// digests; different machines have the same digest only by chance. The image of the EEPROM, which no event
+    /// changes, and the level of the interrupt line at the last report aren't covered.
     #[tactic(auto, unfolding(crate::specs::Digests::digest_of))]
     pub fn digest(&self) -> u64
         ensures { result ≡ digest_of self.now.world }
@@ -238,7 +239,7 @@ impl Machine {
         hasher.finish()
     }
 
-    /// The adapter and the memory.
+    /// Returns the adapter and the memory.
     pub fn into_parts(self) -> (Adapter, HostMemory)
         ensures adapter { result.0 ≡ self.world.adapter }
         ensures memory { result.1 ≡ self.world.memory }

@@ -1,12 +1,12 @@
-// What a driver has set of an adapter stays, but for its own writes.
+// Only a driver's writes change the settings of its adapter.
 
 ghost use Rattle.bus.specs.AdaptersAtRest.{AccessesKeepRest, HappeningsKeepRest, RestAfterReset, RestIsIdle};
 ghost use Rattle.bus.specs.Settings.{HappeningsLeaveSettings, SettingsJoin, StaysOff, WritesSet};
 
-/// What a driver has set of an adapter, in its own registers of control, mask, filter, rings and packet
-/// buffer: whatever happens between two accesses leaves it; a write of any register, a reset among them,
-/// sets what it would set of an adapter at rest; and two intervals set what they set together. RCTL.EN stays
-/// 0 where it isn't written.
+/// The law of a driver's settings: the contents of the registers of control, mask, filter, rings and packet buffer that
+/// only a driver changes. What happens between two accesses doesn't change them. A write of any register, even a reset,
+/// has the effect that it would have on an adapter at rest with these settings. The settings after two intervals follow
+/// from both. RCTL.EN remains 0 if RCTL isn't written.
 pub fn writes_alone_set()
     ensures happenings { HappeningsLeaveSettings }
     ensures writes { WritesSet }
@@ -14,9 +14,9 @@ pub fn writes_alone_set()
     ensures stays_off { StaysOff }
 {}
 
-/// An adapter at rest, as after a reset, stays so while its driver sets it up: whatever happens, whatever
-/// is read or stored, and at a write of any register but RCTL and those of the rings. Meanwhile no frame
-/// comes or leaves.
+/// An adapter at rest, as after a reset, remains at rest while its driver sets it up. It remains at rest whatever
+/// happens, whatever is read or stored, and after a write of any register except RCTL and those of the rings.
+/// Meanwhile, no frame is stored, missed or put on the wire.
 pub fn adapters_rest()
     ensures idle { RestIsIdle }
     ensures after_reset { RestAfterReset }

@@ -1,4 +1,4 @@
--- What a step answers, by what is counted of the adapter.
+-- The outcome of a step, by the counts of the adapter.
 use Rattle.std.proofs.Common.{◌≡◌, ◌≢◌, ◌==◌, ◌&&◌, ◌||◌, ◌⊎◌, ◌-◌, [], ◌∷◌}
 use Rattle.std.proofs.Common.{ℕ, suc, Bool, true, false, not, Option, Some, None, List, length}
 use Rattle.std.proofs.Common.{if◌then◌else◌, inl}
@@ -23,9 +23,9 @@ use Rattle.adapter.specs.Transmitting.{HasNothingToTake, TakeAnswers}
 use Rattle.adapter.specs.Outcomes.{FrameOutcome}
 use Rattle.adapter.specs.declared.outcome.Outcome.TheVariants.{Done, Fault, Moved, Nothing, Part, Ticked, Took}
 use Rattle.delivery.specs.Counts.{bytes_left, counts_of, negotiation_ticks, phy_counts}
-use Rattle.delivery.specs.StepAnswers.{has_idle_phy, has_nothing_to_move, has_nothing_to_take, left_of_oldest, moved_or_part, nothing_if}
+use Rattle.delivery.specs.StepOutcomes.{has_idle_phy, has_nothing_to_move, has_nothing_to_take, left_of_oldest, moved_or_part, nothing_if}
 
--- it is Nothing where the test holds, and the other where it doesn't
+-- it is Nothing if the test holds, and the other outcome if it doesn't
 idles : (test : Bool) (other : FrameOutcome) → test ≡ true → Nothing ≡ nothing_if test other
 idles true other is = refl
 idles false other is = absurd (cc)
@@ -34,7 +34,7 @@ acts : (test : Bool) (other : FrameOutcome) → test ≡ false → other ≡ not
 acts false other is = refl
 acts true other is = absurd (cc)
 
--- two tests, where one of them holds, and where neither does
+-- two tests: one of them holds, or neither does
 one : (n m k l : ℕ) → (n ≡ k) ⊎ (m ≡ l) → (n == k || m == l) ≡ true
 one n m k l holds = elim (eqb_tells n k) [
   | inl same ↦ rw same.0 refl
@@ -84,7 +84,7 @@ take-answer memory a Took runs well answers =
 take-answer memory a Fault runs well answers = absurd (well refl)
 take-answer memory a _ runs well answers = absurd answers
 
--- Moving.
+-- Moving a piece
 
 count-left : (moved : ℕ) (frames : List (List ℕ)) → length (bytes_left moved frames) ≡ length frames
 count-left moved [] = refl
@@ -94,7 +94,7 @@ first-left : (moved : ℕ) (frames : List (List ℕ)) → left_of_oldest (bytes_
 first-left moved [] = omega arith
 first-left moved (frame ∷ frames) = refl
 
--- which of the two it is
+-- whether the outcome is Moved or Part
 last-or-part : (moved size : ℕ) (frames : List (List ℕ)) (last : Bool) → nat_le (length (oldest frames) - moved) size ≡ last
     → nat_le (left_of_oldest (bytes_left moved frames)) size ≡ last
 last-or-part moved size frames last is = ap (λ (n : ℕ). nat_le n size) (first-left moved frames) ∙ is
@@ -119,7 +119,7 @@ free : {X : Type 0} (work : Option X) (frames : List (List ℕ)) (head tail : �
 free (Some x) frames head tail ready some apart = absurd (cc)
 free None frames head tail ready some apart = none (length frames) head 0 tail (λ zero. some (empty frames zero)) apart
 
--- the test, where the side is enabled or not, and so many frames are in the packet buffer
+-- the test, by whether the side is enabled, and the number of frames in the packet buffer
 abbrev barred-when : AdapterState → Bool → ℕ → Bool
 barred-when a on frames = not on || (is_some a.receiver.work || (frames == 0 || a.receive_ring.head == a.receive_ring.tail))
 
@@ -171,7 +171,7 @@ done-answer a Done answers = acts (not (counts_of a).receive.is_working) Done (w
     works (Some x) some = refl
 done-answer a _ answers = absurd answers
 
--- Ticks.
+-- Ticks of the EEPROM and the PHY
 
 tick-answer : (works : Bool) → ticked works ≡ nothing_if (not works) Ticked
 tick-answer true = refl
@@ -181,7 +181,7 @@ pub eeprom-answer : (a : AdapterState) (answer : FrameOutcome) → answer ≡ ti
     → answer ≡ nothing_if (not (counts_of a).is_reading) Ticked
 eeprom-answer a answer is = is ∙ tick-answer (is_pending a.eerd)
 
--- there is work where the countdown runs or a command is pending
+-- a tick does something if the countdown runs or a command is pending
 idle-phy : (value : ℕ) (pending : Option Operation) (phy : PhyState)
     → not (has_work (record { value = value; pending = pending }) phy)
     ≡ has_idle_phy (phy_counts (record { value = value; pending = pending }) phy)

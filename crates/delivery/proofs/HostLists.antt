@@ -1,4 +1,4 @@
--- What atomic steps do to frames, host by host, is what the events of each host say.
+-- The lists of each host follow from the events at this host.
 use Rattle.std.proofs.Common.{◌≡◌, ◌+◌, ◌++◌, ◌∷◌, [], ◌==◌, ℕ, Bool, true, false, List, if◌then◌else◌, refl, sym, ap, ◌∙◌}
 use Rattle.std.proofs.Common.{arith, sum_by}
 use Rattle.std.proofs.lemmas.Grind.{flat_map-append}
@@ -27,9 +27,20 @@ use Rattle.stations.specs.AtomicRuns.{LeadsTo, events_at, past_at}
 use Rattle.delivery.specs.Lists.{holding_in_one, sending_in_one}
 use Rattle.delivery.specs.Fates.{Came, Mark, Went, mark_by, marks}
 use Rattle.delivery.specs.Happenings.{Happening, Moved, Put, Reached, accepted, accepted_in_one, given, given_in_one, happened_in}
-use Rattle.delivery.specs.Happenings.{missed, missed_of, of_host, put, put_by, reached, reached_by, stored, stored_by, told_of}
+use Rattle.delivery.specs.Happenings.{
+  missed,
+  missed_of,
+  of_host,
+  put,
+  put_in_one,
+  reached,
+  reached_by,
+  stored,
+  stored_by,
+  outcome_happenings,
+}
 
--- What a step tells: the frame that it put, or that it moved one.
+-- The happening of a step: the frame that it put, or that it moved a frame
 
 abbrev pub by_answer : {X : Type 0} → (List ℕ → List X) → List X → FrameOutcome → List X
 by_answer puts moves (outcome.Put frame) = puts frame
@@ -55,7 +66,7 @@ pub step-told :
     {X : Type 0} (f : Happening → List X) (host : ℕ) (puts : List ℕ → List X) (moves : List X)
     (kind : StepKind) (wire_free : Bool) (answer : FrameOutcome) (world : World)
     → Occurs (Steps kind wire_free answer) world → ((frame : List ℕ) → f (Put host frame) ≡ puts frame) → f (Moved host) ≡ moves
-    → flat_map f (told_of host answer) ≡ by_answer puts moves answer
+    → flat_map f (outcome_happenings host answer) ≡ by_answer puts moves answer
 step-told f host puts moves kind wire_free (outcome.Delivered frame fate) world occurs put moved =
     absurd (never-delivers kind wire_free world frame fate occurs)
 step-told f host puts moves kind wire_free (outcome.Put frame) world occurs put moved = append-nil (f (Put host frame)) ∙ put frame
@@ -77,40 +88,40 @@ put-chosen here (outcome.Put frame) = refl
 put-chosen here outcome.Moved = none-chosen here
 put-chosen here _ = none-chosen here
 
--- A list of one host is that of its events.
+-- A list of one host follows from its events
 
 chosen-more : {X : Type 0} (g : Event → List X) (here : Bool) (event : Event) (later : List Event)
     → flat_map g ((if here then event ∷ [] else []) ++ later) ≡ (if here then g event else []) ++ flat_map g later
 chosen-more g true event later = refl
 chosen-more g false event later = refl
 
--- where an event occurs, its happenings say this of a host
+-- the list of an event's happenings for host k is this list of the event
 abbrev pub Tells : {X : Type 0} → (Happening → List X) → (Event → List X) → (k : ℕ) → Type 0
 Tells f g k =
     (host : ℕ) (event : Event) (world : World) → Occurs event world
-    → flat_map f (told_of host (outcome_of_event event)) ≡ of_host k host (g event)
+    → flat_map f (outcome_happenings host (outcome_of_event event)) ≡ of_host k host (g event)
 
 pub by-events :
     {X : Type 0} (f : Happening → List X) (g : Event → List X) (caller k : ℕ) (steps : List AtomicStep) (a b : List StationState)
     → LeadsTo caller steps a b → Tells f g k → flat_map f (happened_in steps) ≡ flat_map g (events_at k steps)
 by-events f g caller k [] a b leads each = refl
 by-events {X} f g caller k (At host event ∷ later) a b leads each =
-    flat_map-append f (told_of host (outcome_of_event event)) (happened_in later)
+    flat_map-append f (outcome_happenings host (outcome_of_event event)) (happened_in later)
     ∙ ap (λ (front : List X). front ++ flat_map f (happened_in later)) (each host event (world_at a host) leads.0.occurs)
     ∙ ap (λ (behind : List X). of_host k host (g event) ++ behind) (by-events f g caller k later (after (At host event) a) b leads.2 each)
     ∙ sym (chosen-more g (k == host) event (events_at k later))
 by-events f g caller k (Idles tick ∷ later) a b leads each = by-events f g caller k later a b leads.2 each
 
--- What was put.
+-- Frames put
 
 abbrev pub frames_in : Event → List (List ℕ)
 frames_in (Steps kind wire_free answer) = frames_put answer
 frames_in (Arrives frame fate) = []
 frames_in (Accesses access) = []
 
-put-event : (k : ℕ) → Tells (put_by k) frames_in k
+put-event : (k : ℕ) → Tells (put_in_one k) frames_in k
 put-event k host (Steps kind wire_free answer) world occurs =
-    step-told (put_by k) host (λ frame. of_host k host (frame ∷ [])) [] kind wire_free answer world occurs (λ frame. refl) refl
+    step-told (put_in_one k) host (λ frame. of_host k host (frame ∷ [])) [] kind wire_free answer world occurs (λ frame. refl) refl
     ∙ put-chosen (k == host) answer
 put-event k host (Arrives frame fate) world occurs = none-chosen (k == host)
 put-event k host (Accesses access) world occurs = none-chosen (k == host)
@@ -129,10 +140,10 @@ put-trail (event ∷ later) a b trail =
 pub put-told : (caller k : ℕ) (steps : List AtomicStep) (a b : List StationState) → LeadsTo caller steps a b
     → put k (happened_in steps) ≡ (past_at k steps).put
 put-told caller k steps a b leads =
-    by-events (put_by k) frames_in caller k steps a b leads (put-event k)
+    by-events (put_in_one k) frames_in caller k steps a b leads (put-event k)
     ∙ put-trail (events_at k steps) (world_at a k) (world_at b k) (trail-of caller k steps a b leads)
 
--- What was stored.
+-- Frames stored
 
 abbrev pub kept_in : Event → List (List ℕ)
 kept_in (Steps kind wire_free answer) = []
@@ -170,7 +181,7 @@ pub stored-told : (caller k : ℕ) (steps : List AtomicStep) (a b : List Station
 stored-told caller k steps a b leads =
     by-events (stored_by k) kept_in caller k steps a b leads (stored-event k) ∙ stored-events (events_at k steps)
 
--- How many were missed.
+-- The number of frames missed
 
 none-missed : (kind : StepKind) (answer : FrameOutcome) → (let none : ℕ = 0 in none) ≡ (past_of_step kind answer).missed
 none-missed TxTake answer = refl
@@ -185,7 +196,7 @@ no-number true = refl
 no-number false = refl
 
 step-missed : (k host : ℕ) (kind : StepKind) (wire_free : Bool) (answer : FrameOutcome) (world : World)
-    → Occurs (Steps kind wire_free answer) world → sum_by (missed_of k) (told_of host answer) ≡ 0
+    → Occurs (Steps kind wire_free answer) world → sum_by (missed_of k) (outcome_happenings host answer) ≡ 0
 step-missed k host kind wire_free (outcome.Delivered frame fate) world occurs =
     absurd (never-delivers kind wire_free world frame fate occurs)
 step-missed k host kind wire_free (outcome.Put frame) world occurs = omega (arith, sum_by-cons (missed_of k) (Put host frame) [])
@@ -193,7 +204,7 @@ step-missed k host kind wire_free outcome.Moved world occurs = omega (arith, sum
 step-missed k host kind wire_free _ world occurs = refl
 
 event-missed : (k host : ℕ) (event : Event) (world : World) → Occurs event world
-    → sum_by (missed_of k) (told_of host (outcome_of_event event)) ≡ (if k == host then (past_of_event event).missed else 0)
+    → sum_by (missed_of k) (outcome_happenings host (outcome_of_event event)) ≡ (if k == host then (past_of_event event).missed else 0)
 event-missed k host (Steps kind wire_free answer) world occurs =
     step-missed k host kind wire_free answer world occurs
     ∙ no-number (k == host)
@@ -211,14 +222,14 @@ pub missed-told : (caller k : ℕ) (steps : List AtomicStep) (a b : List Station
     → missed k (happened_in steps) ≡ (past_at k steps).missed
 missed-told caller k [] a b leads = refl
 missed-told caller k (At host event ∷ later) a b leads =
-    sum_by-append (missed_of k) (told_of host (outcome_of_event event)) (happened_in later)
+    sum_by-append (missed_of k) (outcome_happenings host (outcome_of_event event)) (happened_in later)
     ∙ ap (λ (n : ℕ). n + missed k (happened_in later)) (event-missed k host event (world_at a host) leads.0.occurs)
     ∙ ap (λ (n : ℕ). (if k == host then (past_of_event event).missed else 0) + n)
     (missed-told caller k later (after (At host event) a) b leads.2)
     ∙ sym (chosen-missed (k == host) event (events_at k later))
 missed-told caller k (Idles tick ∷ later) a b leads = missed-told caller k later a b leads.2
 
--- What reached it.
+-- Frames that reached the host
 
 abbrev pub arrived_in : Event → List (List ℕ)
 arrived_in (Steps kind wire_free answer) = []
@@ -236,7 +247,7 @@ pub reached-told : (caller k : ℕ) (steps : List AtomicStep) (a b : List Statio
     → reached k (happened_in steps) ≡ flat_map arrived_in (events_at k steps)
 reached-told caller k steps a b leads = by-events (reached_by k) arrived_in caller k steps a b leads (reached-event k)
 
--- What came to its packet buffer and left it.
+-- Marks: arrivals at the packet buffer, and frames that left it
 
 abbrev pub marks_of_answer : FrameOutcome → List Mark
 marks_of_answer answer = by_answer (λ frame. []) (Went ∷ []) answer
@@ -263,24 +274,24 @@ pub marks-told : (caller k : ℕ) (steps : List AtomicStep) (a b : List StationS
     → marks k (happened_in steps) ≡ flat_map marks_in (events_at k steps)
 marks-told caller k steps a b leads = by-events (mark_by k) marks_in caller k steps a b leads (marks-event k)
 
--- Nothing was accepted or given.
+-- No frame was accepted or returned
 
 none-happens : {X : Type 0} (f : Happening → List X) (steps : List AtomicStep)
-    → ((host : ℕ) (outcome : FrameOutcome) → flat_map f (told_of host outcome) ≡ []) → flat_map f (happened_in steps) ≡ []
+    → ((host : ℕ) (outcome : FrameOutcome) → flat_map f (outcome_happenings host outcome) ≡ []) → flat_map f (happened_in steps) ≡ []
 none-happens f [] none = refl
 none-happens {X} f (At host event ∷ later) none =
-    flat_map-append f (told_of host (outcome_of_event event)) (happened_in later)
+    flat_map-append f (outcome_happenings host (outcome_of_event event)) (happened_in later)
     ∙ ap (λ (front : List X). front ++ flat_map f (happened_in later)) (none host (outcome_of_event event))
     ∙ none-happens f later none
 none-happens f (Idles tick ∷ later) none = none-happens f later none
 
-accepts-none : (k host : ℕ) (outcome : FrameOutcome) → flat_map (accepted_in_one k) (told_of host outcome) ≡ []
+accepts-none : (k host : ℕ) (outcome : FrameOutcome) → flat_map (accepted_in_one k) (outcome_happenings host outcome) ≡ []
 accepts-none k host (outcome.Put frame) = refl
 accepts-none k host (outcome.Delivered frame fate) = refl
 accepts-none k host outcome.Moved = refl
 accepts-none k host _ = refl
 
-gives-none : (k socket host : ℕ) (outcome : FrameOutcome) → flat_map (given_in_one k socket) (told_of host outcome) ≡ []
+gives-none : (k socket host : ℕ) (outcome : FrameOutcome) → flat_map (given_in_one k socket) (outcome_happenings host outcome) ≡ []
 gives-none k socket host (outcome.Put frame) = refl
 gives-none k socket host (outcome.Delivered frame fate) = refl
 gives-none k socket host outcome.Moved = refl
@@ -292,15 +303,15 @@ accepted-none k steps = none-happens (accepted_in_one k) steps (accepts-none k)
 pub given-none : (k socket : ℕ) (steps : List AtomicStep) → given k socket (happened_in steps) ≡ []
 given-none k socket steps = none-happens (given_in_one k socket) steps (gives-none k socket)
 
--- Nothing was given up.
+-- No frame was dropped by a reset
 
-drops-no_sending : (k host : ℕ) (outcome : FrameOutcome) → flat_map (sending_in_one k) (told_of host outcome) ≡ []
+drops-no_sending : (k host : ℕ) (outcome : FrameOutcome) → flat_map (sending_in_one k) (outcome_happenings host outcome) ≡ []
 drops-no_sending k host (outcome.Put frame) = refl
 drops-no_sending k host (outcome.Delivered frame fate) = refl
 drops-no_sending k host outcome.Moved = refl
 drops-no_sending k host _ = refl
 
-drops-no_holding : (k host : ℕ) (outcome : FrameOutcome) → flat_map (holding_in_one k) (told_of host outcome) ≡ []
+drops-no_holding : (k host : ℕ) (outcome : FrameOutcome) → flat_map (holding_in_one k) (outcome_happenings host outcome) ≡ []
 drops-no_holding k host (outcome.Put frame) = refl
 drops-no_holding k host (outcome.Delivered frame fate) = refl
 drops-no_holding k host outcome.Moved = refl

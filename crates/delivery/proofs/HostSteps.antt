@@ -1,4 +1,4 @@
--- What each event leaves of the exact counts.
+-- The counts after each event.
 use Rattle.std.proofs.Common.{◌≡◌, ◌+◌, ◌-◌, ℕ, Bool, true, false, Option, Some, None, List, [], ◌∷◌, drop, length, inl, inr, refl, sym}
 use Rattle.std.proofs.Common.{ap, if◌then◌else◌, subst, ◌∙◌}
 use Rattle.std.proofs.Common.{◌≤◌, ◌<◌, ◌++◌, ◌||◌, arith, cond, length-append, length-drop, length-take, map, take}
@@ -44,10 +44,19 @@ use Rattle.registers.specs.Places.{ctrl_rst}
 use Rattle.adapter.specs.declared.register.RingRegister.TheVariants.{BaseLow, BaseHigh, Length, Head}
 use Rattle.adapter.specs.Registers.{after_reset}
 use Rattle.delivery.specs.CountedHosts.{IsCounted, IsNotMdic}
-use Rattle.delivery.specs.Counts.{HostCounts, PhyCounts, after_outcome, after_piece, after_write, bytes_left, countdown_after, counts_after}
+use Rattle.delivery.specs.Counts.{
+  HostCounts,
+  PhyCounts,
+  after_outcome,
+  after_piece,
+  counts_after_write,
+  bytes_left,
+  countdown_after,
+  counts_after,
+}
 use Rattle.delivery.specs.Counts.{counts_behind, counts_of, emptied, negotiation_ticks, phy_counts}
 
--- what is counted behind a step that answers so
+-- the counts after a step with this outcome
 abbrev StepGoes : StepKind → Bool → FrameOutcome → World → Type 0
 StepGoes kind wire_free answer w =
     Answers kind wire_free w.memory w.adapter answer
@@ -94,7 +103,7 @@ left-after_last moved [] = refl
 left-after_last moved (frame ∷ []) = refl
 left-after_last moved (frame ∷ second ∷ later) = ap (λ (n : ℕ). n ∷ map length later) (omega arith)
 
--- a piece of it was moved, and more is left
+-- a piece of the oldest frame was moved, and more pieces are left
 left-after_part : (moved size : ℕ) (frames : List (List ℕ)) → nat_le (length (oldest frames) - moved) size ≡ false
     → bytes_left (moved + length (take size (drop moved (oldest frames)))) frames ≡ after_piece size (bytes_left moved frames)
 left-after_part moved size [] more = refl
@@ -120,7 +129,7 @@ done-goes outcome.Done wire_free w answers = refl
 done-goes outcome.Nothing wire_free w answers = refl
 done-goes _ wire_free w answers = absurd answers
 
--- The EEPROM.
+-- The EEPROM
 
 read-left : (words : List ℕ) (state : ReadState) (answer : FrameOutcome) (counts : HostCounts) → counts.is_reading ≡ eeprom.is_pending state
     → answer ≡ ticked (eeprom.is_pending state)
@@ -138,7 +147,7 @@ read-left words (reading.Done address word) answer counts same is =
 eeprom-goes : (answer : FrameOutcome) (wire_free : Bool) (w : World) → StepGoes EepromTick wire_free answer w
 eeprom-goes answer wire_free w answers = read-left w.adapter.image w.adapter.eerd answer (counts_of w.adapter) refl answers
 
--- The PHY.
+-- The PHY
 
 -- a tick lowers the countdown that runs
 lowered : (negotiation : Negotiation) → is_running negotiation ≡ true
@@ -150,7 +159,7 @@ lowered (Running left) runs = elim (leb_tells left 1) [
   | inr more ↦ rw more.0 (omega (arith, more.1))
 ]
 
--- or ends a command, which may start one
+-- or a tick ends a command, which may start a countdown
 countdown-left : (value : ℕ) (pending : Option Operation) (phy : PhyState)
     → has_work (record { value = value; pending = pending }) phy ≡ true
     → negotiation_ticks (phy_after_tick (record { value = value; pending = pending }) phy).negotiation
@@ -188,12 +197,12 @@ step-goes RxDone wire_free answer w answers = done-goes answer wire_free w answe
 step-goes EepromTick wire_free answer w answers = eeprom-goes answer wire_free w answers
 step-goes PhyTick wire_free answer w answers = phy-goes answer wire_free w answers
 
--- Arrivals.
+-- Arrivals
 
 none-stored : (a : AdapterState) → counts_of a ≡ counts_after (Arrives [] Off) (counts_of a)
 none-stored a = with-left (counts_of a) _ _ (sym (append-nil (bytes_left a.receiver.moved a.receiver.buffer)))
 
--- of a frame that is stored nothing is moved yet
+-- no byte of a stored frame has been moved yet
 left-stored : (moved : ℕ) (frames : List (List ℕ)) (frame : List ℕ) → moved ≤ length (oldest frames) - 1
     → bytes_left moved (frames ++ frame ∷ []) ≡ bytes_left moved frames ++ length frame ∷ []
 left-stored moved [] frame begun = ap (λ (n : ℕ). n ∷ []) (omega (arith, begun))
@@ -208,7 +217,7 @@ arrival-goes Filtered frame a is = none-stored a
 arrival-goes Missed frame a is = none-stored a
 arrival-goes Stored frame a is = with-left (counts_of a) _ _ (left-stored a.receiver.moved a.receiver.buffer frame is.receiver.begun)
 
--- Accesses.
+-- Accesses
 
 read-goes : (register : Register) (a : AdapterState) → counts_of (read_of register a) ≡ counts_of a
 read-goes Icr a = refl
@@ -233,7 +242,7 @@ started true address state = refl
 started false address state = refl
 
 write-goes : (register : Register) (value : ℕ) (a : AdapterState) → IsNotMdic register
-    → counts_of (write_of register value a) ≡ after_write (Some register) value (counts_of a)
+    → counts_of (write_of register value a) ≡ counts_after_write (Some register) value (counts_of a)
 write-goes (Receive BaseLow) value a counted = refl
 write-goes (Receive BaseHigh) value a counted = refl
 write-goes (Receive Length) value a counted = refl
@@ -252,11 +261,11 @@ write-goes Mdic value a counted = absurd counted
 write-goes _ value a counted = refl
 
 found-written : (found : Option Register) (value : ℕ) (a : AdapterState) → IfSome found IsNotMdic
-    → counts_of (left_by_write found value a) ≡ after_write found value (counts_of a)
+    → counts_of (left_by_write found value a) ≡ counts_after_write found value (counts_of a)
 found-written None value a counted = refl
 found-written (Some register) value a counted = write-goes register value a counted
 
--- Events.
+-- Events
 
 event-goes : (event : Event) (w : World) → All IsCounted (past_of_event event).accesses → Occurs event w
     → counts_of (world_after event w).adapter ≡ counts_after event (counts_of w.adapter)
@@ -268,7 +277,7 @@ event-goes (Accesses (Writes offset value)) w counted occurs =
 event-goes (Accesses (Loads address size)) w counted occurs = refl
 event-goes (Accesses (Stores address bytes)) w counted occurs = refl
 
--- Along a trail.
+-- The counts after a trail of events.
 pub trail-goes : (events : List Event) (a b : World) → All IsCounted (past_of events).accesses → Trail events a b
     → counts_of b.adapter ≡ counts_behind events (counts_of a.adapter)
 trail-goes [] a b counted trail = ap (λ (w : World). counts_of w.adapter) trail

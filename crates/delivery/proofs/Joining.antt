@@ -1,4 +1,4 @@
--- What happens first and then, host by host.
+-- Two consecutive lists of happenings join, host by host.
 use Rattle.std.proofs.Common.{◌≡◌, ◌+◌, ◌++◌, ◌∷◌, [], ◌==◌, ◌&&◌, not, ℕ, true, false, Option, List, drop, if◌then◌else◌, refl, ap, subst}
 use Rattle.std.proofs.Common.{append_assoc, sym, ◌∙◌}
 use Rattle.std.proofs.lemmas.Grind.{flat_map-append}
@@ -16,13 +16,13 @@ use Rattle.delivery.specs.Happenings.{
   given_in_one,
   missed,
 }
-use Rattle.delivery.specs.Happenings.{missed_of, put, put_by, reached, reached_by, share_wire, stored, stored_by, toward, toward_by}
+use Rattle.delivery.specs.Happenings.{missed_of, put, put_in_one, reached, reached_by, share_wire, stored, stored_by, toward, toward_by}
 
 pub accepted-append : (k : ℕ) (first later : List Happening) → accepted k (first ++ later) ≡ accepted k first ++ accepted k later
 accepted-append k first later = flat_map-append (accepted_in_one k) first later
 
 pub put-append : (k : ℕ) (first later : List Happening) → put k (first ++ later) ≡ put k first ++ put k later
-put-append k first later = flat_map-append (put_by k) first later
+put-append k first later = flat_map-append (put_in_one k) first later
 
 pub reached-append : (k : ℕ) (first later : List Happening) → reached k (first ++ later) ≡ reached k first ++ reached k later
 reached-append k first later = flat_map-append (reached_by k) first later
@@ -44,7 +44,7 @@ missed-append k first later = sum_by-append (missed_of k) first later
 pub marks-append : (k : ℕ) (first later : List Happening) → marks k (first ++ later) ≡ marks k first ++ marks k later
 marks-append k first later = flat_map-append (mark_by k) first later
 
--- The same wires.
+-- The same wires
 
 by-same : (wires others : ℕ → Option ℕ) (k : ℕ) (one : Happening) → ((host : ℕ) → wires host ≡ others host)
     → toward_by wires k one ≡ toward_by others k one
@@ -60,7 +60,7 @@ toward-same wires others k (one ∷ later) same =
     ap (λ (front : List (List ℕ)). front ++ toward wires k later) (by-same wires others k one same)
     ∙ ap (λ (behind : List (List ℕ)). toward_by others k one ++ behind) (toward-same wires others k later same)
 
--- Frames that wait.
+-- Frames that wait
 
 pub waits-append :
     (k : ℕ) (wires others : ℕ → Option ℕ) (first later : List Happening) (old mid new : List (List ℕ))
@@ -77,7 +77,7 @@ waits-append k wires others first later old mid new same one two =
     ∙ append_assoc old (toward wires k first) (toward wires k later)
     ∙ ap (λ (behind : List (List ℕ)). old ++ behind) (sym (toward-append wires k first later))
 
--- Fates.
+-- Fates
 
 pub fates-append : (registers : FilterRegisters) (room : ℕ) (n m l : Reception) (first later : List Mark)
     → AreRightFates registers room n first m → AreRightFates registers room m later l → AreRightFates registers room n (first ++ later) l
@@ -97,7 +97,7 @@ fates-append registers room n m l (SwitchedOn ∷ first) later one two =
 fates-append registers room n m l (Emptied ∷ first) later one two =
     fates-append registers room (record n { buffered = [] }) m l first later one two
 
--- Right fates are right from any mark on.
+-- Right fates are right from each mark on.
 record After (registers : FilterRegisters) (room : ℕ) (start : Reception) (first later : List Mark) (final : Reception) : Type 0 where
   groups : List (List ℕ)
   are : AreGroupsAfter start.groups first groups

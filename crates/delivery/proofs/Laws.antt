@@ -1,6 +1,6 @@
 -- The laws of delivery, put together.
 use Rattle.std.proofs.Common.{◌≡◌, ◌++◌, ℕ, List, sym, ap, subst, ◌∙◌}
-use Rattle.bus.specs.PastOfStretch.{Past}
+use Rattle.bus.specs.Pasts.{Past}
 use Rattle.bus.specs.TickGroups.{without_go}
 use Rattle.bus.specs.declared.event.Access.{Access}
 use Rattle.stations.proofs.Lengths.{length-stays}
@@ -9,7 +9,7 @@ use Rattle.stations.specs.Stations.{StationState}
 use Rattle.stations.specs.declared.tick.Tick.{Tick}
 use Rattle.stations.specs.AtomicRunLaws.{steps_told_join}
 use Rattle.stations.specs.AtomicRuns.{LeadsTo, counted_of, is_go, steps_told}
-use Rattle.stations.specs.Retelling.{Finished, Retells}
+use Rattle.stations.specs.LentBuses.{Finished, HappenedLent}
 use Rattle.stations.specs.declared.lent_bus.LentBus.{LentBus}
 use Rattle.stations.specs.declared.observer.Observer.{Ghosts as OfObserver}
 use Rattle.stations.specs.ToldTicks.{ComposesTold}
@@ -32,9 +32,9 @@ outcomes-tell caller ticks accesses first last a m b plays = record {
   counted = counted-all first last plays.are_ticks;
 }
 
--- A call over a lent bus.
+-- Calls over a lent bus.
 pub lent-calls : {O : Type 0} {g : OfObserver O} → ComposesTold g.heard
-    → (a m b : LentBus O g) (past : Past) (told : Retells a m past) (finished : Finished m b)
+    → (a m b : LentBus O g) (past : Past) (told : HappenedLent a m past) (finished : Finished m b)
     → a.accesses ≡ 0 → IsToldCall a m b past told.steps finished.plays.steps
 lent-calls {O} {g} composes a m b past told finished zero =
     let first = told.steps in

@@ -5,10 +5,10 @@ use Rattle.std.proofs.lemmas.List.{append-nil, append_cancel_right, map-append}
 use Rattle.descriptors.specs.Frames.{padded}
 use Rattle.bus.proofs.Lists.{append-empty}
 use Rattle.delivery.specs.Happenings.{accepted, accepted_in_one}
-use Rattle.delivery.specs.Lists.{AcceptedArePadded, Goes, GoesBehind, GoesJoin, GoesToOneEnd, GoesWithoutDrops}
+use Rattle.delivery.specs.Lists.{AcceptedArePadded, ListGoes, GoesBehind, GoesJoin, GoesToOneEnd, GoesWithoutDrops}
 
 pub goes-join : GoesJoin
-goes-join adds drops begin middle end [] later one two = subst (λ (list : List (List ℕ)). Goes adds drops list later end) one two
+goes-join adds drops begin middle end [] later one two = subst (λ (list : List (List ℕ)). ListGoes adds drops list later end) one two
 goes-join adds drops begin middle end (happening ∷ first) later one two =
     (one.0, one.1, goes-join adds drops one.0 middle end first later one.2 two)
 
@@ -24,7 +24,7 @@ pub goes-to_one_end : GoesToOneEnd
 goes-to_one_end adds drops begin end other [] one two = one ∙ sym two
 goes-to_one_end adds drops begin end other (happening ∷ later) one two =
     let same : one.0 ≡ two.0 = append_cancel_right one.0 two.0 (drops happening) (sym one.1 ∙ two.1) in
-    goes-to_one_end adds drops two.0 end other later (subst (λ (list : List (List ℕ)). Goes adds drops list later end) same one.2) two.2
+    goes-to_one_end adds drops two.0 end other later (subst (λ (list : List (List ℕ)). ListGoes adds drops list later end) same one.2) two.2
 
 pub goes-without_drops : GoesWithoutDrops
 goes-without_drops adds drops begin end [] none = (

@@ -1,4 +1,4 @@
--- While the receive side is disabled each frame that comes is dropped, and none leaves the packet buffer.
+-- While the receive side is disabled, each frame that arrives is dropped, and no frame leaves the packet buffer.
 use Rattle.std.proofs.Common.{◌≡◌, ◌∷◌, [], ℕ, Bool, true, false, Option, Some, None, List, All, refl, subst, sym, ap}
 use Rattle.std.proofs.Common.{if◌then◌else◌, ◌∙◌}
 use Rattle.std.proofs.lemmas.List.{append-nil}
@@ -85,7 +85,7 @@ event-fates (Steps kind wire_free answer) w occurs off = step-off kind wire_free
 event-fates (Arrives frame fate) w occurs off = came-off frame fate (is-off fate frame w.adapter off occurs.1)
 event-fates (Accesses access) w occurs off = λ registers room groups buffered. refl
 
--- The receive side stays disabled.
+-- The receive side remains disabled
 
 same-off : (a b : AdapterState) → SameButGroups a.filter b.filter → ¬ (HasBit a.filter.rctl rctl_en) → ¬ (HasBit b.filter.rctl rctl_en)
 same-off a b same off = subst (λ (f : FilterRegisters). ¬ (HasBit f.rctl rctl_en)) (sym same) off
@@ -108,7 +108,7 @@ event-stays_off (Arrives frame fate) w leaves occurs off =
     subst (λ (f : FilterRegisters). ¬ (HasBit f.rctl rctl_en)) (sym (arrival-filter fate frame w.adapter)) off
 event-stays_off (Accesses access) w leaves occurs off = access-stays_off access w leaves off
 
--- An empty buffer stays empty.
+-- An empty buffer remains empty
 
 step-empty : (kind : StepKind) (wire_free : Bool) (answer : FrameOutcome) (w : World) → Answers kind wire_free w.memory w.adapter answer
     → w.adapter.receiver.buffer ≡ [] → (world_after_step kind answer w).adapter.receiver.buffer ≡ []

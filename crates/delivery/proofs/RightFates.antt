@@ -1,4 +1,4 @@
--- Along atomic steps the fates of frames are right.
+-- The fates of frames are right in atomic steps.
 use Rattle.std.proofs.Common.{◌≡◌, ◌<◌, ◌⊎◌, ◌+◌, ◌*◌, ◌++◌, ◌∷◌, [], ℕ, Bool, true, false, Option, Some, None, List, All, drop}
 use Rattle.std.proofs.Common.{inl, inr, refl, subst, sym, ap, ◌∙◌}
 use Rattle.std.proofs.lemmas.List.{append-nil}
@@ -50,13 +50,13 @@ use Rattle.delivery.specs.Fates.{AreRightFates, Came, Emptied, IsRightFate, Join
 use Rattle.delivery.specs.Fates.{SwitchedOn, Went, in_force, reception}
 use Rattle.delivery.specs.Reception.{IsNotOfReception, LeavesReception, ReceivesRightly, SameButGroups}
 
--- Receptions join.
+-- Receptions join
 
--- What must hold of an adapter whose host has joined these groups.
+-- MTA has exactly the bits of the joined groups.
 abbrev Has : List (List ℕ) → AdapterState → Type 0
 Has groups a = HasNumbers a.filter.mta (numbers_of_groups groups)
 
--- Registers that are the same but for MTA judge alike.
+-- Registers that are the same except MTA have the same right fates.
 judged-alike : (a b : FilterRegisters) (room : ℕ) (now final : Reception) (all : List Mark) → SameButGroups a b
     → AreRightFates b room now all final → AreRightFates a room now all final
 unfolding filter_of
@@ -119,7 +119,7 @@ receives-append g1 g2 g3 a b c first later one two = record {
       one.kilobytes two.fates));
 }
 
--- Nothing came or left.
+-- No frame arrived or left.
 same : (groups : List (List ℕ)) (a b : AdapterState) → b.filter ≡ a.filter → b.receive_kilobytes ≡ a.receive_kilobytes
     → b.receiver.buffer ≡ a.receiver.buffer → ReceivesRightly groups a [] groups b
 same groups a b filter kilobytes buffer = record {
@@ -132,7 +132,7 @@ same groups a b filter kilobytes buffer = record {
   fates = ap (reception groups) buffer;
 }
 
--- Steps.
+-- Steps
 
 phy-receives : (groups : List (List ℕ)) (told : Option Ticked) (a : AdapterState)
     → ReceivesRightly groups a [] groups (after_phy_told told a)
@@ -171,7 +171,7 @@ step-receives groups PhyTick wire_free outcome.Moved w answers =
     absurd (never-moved (mdi.has_work w.adapter.mdic w.adapter.phy) answers)
 step-receives groups PhyTick wire_free _ w answers = phy-receives groups (mdi.told w.adapter.mdic w.adapter.phy) w.adapter
 
--- Arrivals.
+-- Arrivals
 
 -- The registers' filter is the one in force.
 same-sets : (groups : List (List ℕ)) (a : AdapterState) → Has groups a → SameSets (filter_of a.filter) (in_force a.filter groups)
@@ -240,7 +240,7 @@ arrival-receives groups Stored frame a has enabled is = record {
   fates = (right-fate groups Stored frame a has enabled is, refl);
 }
 
--- Accesses.
+-- Accesses
 
 read-receives : (groups : List (List ℕ)) (register : Register) (a : AdapterState)
     → ReceivesRightly groups a [] groups (read_of register a)
@@ -293,7 +293,7 @@ tails-leave_reception offset value is = elim is [
       subst (λ (o : ℕ). IfSome (register_at o) IsNotOfReception) (sym transmit) (at_offset IsNotOfReception (Transmit Tail) tt tt)
 ]
 
--- Trails.
+-- Trails
 
 event-receives : (groups : List (List ℕ)) (event : Event) (w : World) → Has groups w.adapter
     → All LeavesReception (past_of_event event).accesses → HasBit w.adapter.filter.rctl rctl_en
@@ -361,7 +361,7 @@ fates-right caller k steps a b groups leads leave enabled has =
     (sym (marks-told caller k steps a b leads))
     (trail-receives groups (events_at k steps) (world_at a k) (world_at b k) has leave enabled (trail-of caller k steps a b leads))
 
--- Groups are joined and left.
+-- Groups are joined and left
 
 changes-receives : (mark : Mark) (groups groups' : List (List ℕ)) (a b : AdapterState) → ChangesGroups mark groups groups'
     → SameButGroups a.filter b.filter → b.receive_kilobytes ≡ a.receive_kilobytes → b.receiver.buffer ≡ a.receiver.buffer

@@ -1,13 +1,13 @@
--- Slots of a ring, counted.
+-- The number of offered slots of a ring.
 use Rattle.std.proofs.Common.{◌≡◌, ◌<◌, ◌≤◌, ◌+◌, ◌-◌, ◌%◌, ℕ, sym, ap, ◌∙◌, arith, ⊎_elim}
 use Rattle.std.proofs.lemmas.Bool.{cases_lt}
 use Rattle.std.proofs.lemmas.Nat.{mod_below}
 use Rattle.std.proofs.Math.Nat.{mod-eq_of_lt, add-mod_left}
 use Rattle.descriptors.specs.RingLaws.{distance-around, distance-forward, distance-step}
 use Rattle.delivery.specs.Counts.{offered_in}
-use Rattle.delivery.specs.AnswersLaws.{NoneIsOffered, OneIsTaken, TailsOfferSlots}
+use Rattle.delivery.specs.AnswersLaws.{NoSlotIsOffered, OneIsTaken, TailsOfferSlots}
 
--- To a third slot by way of a second.
+-- Distances between slots add up.
 distance-joins : (n h t v : ℕ) → h < n → t < n → v < n
     → (v + n - h) % n ≡ ((t + n - h) % n + (v + n - t) % n) % n
 distance-joins n h t v slot_h slot_t slot_v = ⊎_elim
@@ -29,8 +29,8 @@ distance-joins n h t v slot_h slot_t slot_v = ⊎_elim
     less : (x y : ℕ) → x < n → y ≡ x → x ≡ y % n
     less x y below same = sym (ap (λ (k : ℕ). k % n) same ∙ mod-eq_of_lt below)
 
--- None is offered exactly where head equals tail.
-pub none-offered : NoneIsOffered
+-- No slot is offered exactly if head equals tail.
+pub none-offered : NoSlotIsOffered
 none-offered ring has = (
   λ none. ⊎_elim
       (λ (far : ring.tail < ring.head). absurd
@@ -42,7 +42,7 @@ none-offered ring has = (
   λ same. distance-forward ring.slots ring.head ring.tail has.tail (omega (arith, same)) ∙ omega (arith, same),
 )
 
--- Where the head moves on, one slot less is.
+-- If the head advances, one slot less is offered.
 pub one-taken : OneIsTaken
 one-taken ring has apart =
     let step = distance-step ring.slots ring.head ring.tail has.head has.tail apart in (
@@ -50,7 +50,7 @@ one-taken ring has apart =
       omega (arith, step),
     )
 
--- So many places on from a slot it is so far.
+-- The distance to the place d slots further is d.
 places-on : (n t d : ℕ) → t < n → d < n → ((t + d) % n + n - t) % n ≡ d
 places-on n t d slot few = ⊎_elim
     (λ (within : t + d < n). rw (mod-eq_of_lt within, distance-forward n t (t + d) within (omega arith)) (omega arith))

@@ -1,4 +1,4 @@
--- Engines that run still run where no fault comes, whatever is written: a reset starts them.
+-- Engines that run still run if no step is a fault, whatever is written; a reset starts them.
 use Rattle.std.proofs.Common.{◌≡◌, ◌≢◌, ◌==◌, ℕ, Bool, true, false, Option, Some, None, List, [], ◌∷◌, refl, sym, ap, subst, ◌∙◌}
 use Rattle.std.proofs.Common.{if◌then◌else◌}
 use Rattle.std.specs.List.{All}
@@ -29,11 +29,11 @@ use Rattle.bus.specs.declared.event.Access.TheVariants.{Loads, Reads, Stores, Wr
 use Rattle.bus.specs.declared.event.Event.{Event}
 use Rattle.bus.specs.declared.event.Event.TheVariants.{Accesses, Arrives, Steps}
 use Rattle.stations.specs.AtomicRuns.{events_at, events_by}
-use Rattle.stations.specs.AtomicSteps.{At, AtomicStep, Idles, outcome_of, outcome_of_event, tick_of}
+use Rattle.stations.specs.AtomicSteps.{At, AtomicStep, Idles, step_outcome, outcome_of_event, tick_of}
 use Rattle.stations.specs.declared.tick.Tick.{Tick}
-use Rattle.delivery.specs.StepAnswers.{IsTickOf, OfEachTick}
+use Rattle.delivery.specs.StepOutcomes.{IsTickOf, OfEachTick}
 
--- its engines run as they did
+-- the engines are stopped in b exactly if they are in a
 same : (a b : AdapterState) → b.receiver.stopped ≡ a.receiver.stopped → b.transmitter.stopped ≡ a.transmitter.stopped
     → EnginesRun a → EnginesRun b
 same a b receiver transmitter run = record { receiver = receiver ∙ run.receiver; transmitter = transmitter ∙ run.transmitter }
@@ -101,7 +101,7 @@ trail-runs (event ∷ later) a b well trail run =
     trail-runs later (world_after event a) b (all-tail IsNoFault event later well) trail.1
     (event-runs event a (all-head IsNoFault event later well) run)
 
--- The events of steps without a fault.
+-- The events of steps without a fault
 
 abbrev pub NoFaultAt : List AtomicStep → Tick → FrameOutcome → Type 0
 NoFaultAt before tick outcome = outcome ≢ Fault
@@ -115,7 +115,7 @@ its-own : (here : Bool) (event : Event) → (here ≡ true → IsNoFault event) 
 its-own true event well = All-cons IsNoFault event [] (well refl) (all-none IsNoFault)
 its-own false event well = all-none IsNoFault
 
-step-well : (host : ℕ) (step : AtomicStep) → (IsTickOf host (tick_of step) → outcome_of step ≢ Fault)
+step-well : (host : ℕ) (step : AtomicStep) → (IsTickOf host (tick_of step) → step_outcome step ≢ Fault)
     → All IsNoFault (events_by host step)
 step-well host (Idles tick) well = all-none IsNoFault
 step-well host (At other event) well = its-own (host == other) event (λ same.

@@ -1,4 +1,4 @@
--- Writes, counted: those of RDT and TDT, and those that leave both sides enabled.
+-- The counts after writes: those of RDT and TDT, and those that enable or disable neither side.
 use Rattle.std.proofs.Common.{◌≡◌, ◌<◌, ℕ, Option, Some, None, [], ◌∷◌, refl, ap, ◌∙◌, arith}
 use Rattle.std.specs.List.{All}
 use Rattle.std.specs.Prelude.{IfSome, bit_and}
@@ -20,9 +20,9 @@ use Rattle.bus.specs.declared.event.Event.{Event}
 use Rattle.bus.specs.declared.event.Event.TheVariants.{Accesses, Arrives, Steps}
 use Rattle.delivery.specs.AnswersLaws.{ReceiveTailWritesAreCounted, SidesStayEnabled, TransmitTailWritesAreCounted}
 use Rattle.delivery.specs.CountedHosts.{IsNotControl, LeavesEnabled}
-use Rattle.delivery.specs.Counts.{HostCounts, after_outcome, after_write, counts_after}
+use Rattle.delivery.specs.Counts.{HostCounts, after_outcome, counts_after_write, counts_after}
 
--- an index of a ring fits the register
+-- an index of a ring fits into the register
 tail-is : (value : ℕ) → value < 65536 → bit_and value (ring_kept Tail) ≡ value
 tail-is value below = and_mask value 16 ∙ omega (arith, below)
 
@@ -34,15 +34,15 @@ with-transmit-tail counts tail = record counts { transmit = record counts.transm
 
 pub receive-tail-counted : ReceiveTailWritesAreCounted
 receive-tail-counted value counts slot fits =
-    ap (λ (found : Option Register). after_write found value counts) (register_at-there (Receive Tail) tt)
+    ap (λ (found : Option Register). counts_after_write found value counts) (register_at-there (Receive Tail) tt)
     ∙ ap (with-receive-tail counts) (tail-is value (omega (arith, slot, fits)))
 
 pub transmit-tail-counted : TransmitTailWritesAreCounted
 transmit-tail-counted value counts slot fits =
-    ap (λ (found : Option Register). after_write found value counts) (register_at-there (Transmit Tail) tt)
+    ap (λ (found : Option Register). counts_after_write found value counts) (register_at-there (Transmit Tail) tt)
     ∙ ap (with-transmit-tail counts) (tail-is value (omega (arith, slot, fits)))
 
--- Both sides stay enabled or disabled.
+-- Both sides remain enabled or disabled
 
 record StaysEnabled (counts new : HostCounts) : Type 0 where
   receives : new.receive.is_enabled ≡ counts.receive.is_enabled
@@ -59,7 +59,7 @@ outcome-stays PhyTick Ticked counts = record { receives = refl; transmits = refl
 outcome-stays kind _ counts = record { receives = refl; transmits = refl }
 
 register-stays : (register : Register) (value : ℕ) (counts : HostCounts) → IsNotControl register
-    → StaysEnabled counts (after_write (Some register) value counts)
+    → StaysEnabled counts (counts_after_write (Some register) value counts)
 register-stays Ctrl value counts leaves = absurd leaves
 register-stays Rctl value counts leaves = absurd leaves
 register-stays Tctl value counts leaves = absurd leaves
@@ -69,7 +69,7 @@ register-stays Eerd value counts leaves = record { receives = refl; transmits = 
 register-stays _ value counts leaves = record { receives = refl; transmits = refl }
 
 write-stays : (found : Option Register) (value : ℕ) (counts : HostCounts) → IfSome found IsNotControl
-    → StaysEnabled counts (after_write found value counts)
+    → StaysEnabled counts (counts_after_write found value counts)
 write-stays None value counts leaves = record { receives = refl; transmits = refl }
 write-stays (Some register) value counts leaves = register-stays register value counts leaves
 

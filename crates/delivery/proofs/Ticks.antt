@@ -1,4 +1,4 @@
--- The laws: each tick is answered by what was counted at the start.
+-- The laws: the outcome of each tick follows from the counts at the start.
 use Rattle.std.proofs.Common.{◌≡◌, ◌≢◌, ◌==◌, ◌++◌, ℕ, Bool, true, false, Option, Some, None, List, [], ◌∷◌, length, slice_get, inl, inr}
 use Rattle.std.proofs.Common.{refl}
 use Rattle.std.proofs.Common.{sym, ap, subst, ◌∙◌, append_assoc, arith, if◌then◌else◌}
@@ -16,12 +16,12 @@ use Rattle.adapter.specs.declared.outcome.Outcome.TheVariants.{Delivered, Fault,
 use Rattle.bus.proofs.Lists.{all-head, all-left, all-right}
 use Rattle.bus.proofs.TrailFaults.{faults_stay, running_engines_met_no_fault}
 use Rattle.bus.specs.Accesses.{IsNoReset}
-use Rattle.bus.specs.PastOfStretch.{Past}
+use Rattle.bus.specs.Pasts.{Past}
 use Rattle.bus.specs.TrailFaults.{EnginesRun, IsNoFault, StaysStopped}
 use Rattle.bus.specs.declared.event.Access.{Access}
 use Rattle.bus.specs.declared.event.Event.{Event}
 use Rattle.bus.specs.declared.event.Event.TheVariants.{Accesses, Arrives, Steps}
-use Rattle.stations.specs.AtomicSteps.{At, AtomicStep, CanHappen, Idles, OccursAt, after, outcome_of, tick_of}
+use Rattle.stations.specs.AtomicSteps.{At, AtomicStep, CanHappen, Idles, OccursAt, after, step_outcome, tick_of}
 use Rattle.stations.specs.Stations.{StationState, wire_at, wire_of, world_at, world_of}
 use Rattle.stations.specs.declared.tick.Tick.TheVariants.{Deliver, Go, Step}
 use Rattle.stations.proofs.HostTrails.{trail-of}
@@ -35,10 +35,10 @@ use Rattle.delivery.specs.CountedHosts.{IsCounted}
 use Rattle.delivery.specs.Counts.{HostCounts, counts_of}
 use Rattle.delivery.specs.AnswersLaws.{AbsentHostsAnswerNothing, CountsGoByOutcomes, FaultNeverComes, FaultNeverComesAroundReset}
 use Rattle.delivery.specs.AnswersLaws.{GoAnswersNothing, MeetsNoFault, TicksAreAnsweredByCounting, WaitingFramesGoByOutcomes}
-use Rattle.delivery.specs.StepAnswers.{IsTickAnswer, IsDelivery, IsStepAnswer, IsTickOf, OfEachTick, counts_at, stations_behind}
+use Rattle.delivery.specs.StepOutcomes.{IsTickOutcome, IsDelivery, IsStepOutcome, IsTickOf, OfEachTick, counts_at, stations_behind}
 use Rattle.delivery.specs.WaitingFrames.{waiting_at}
 
--- A run up to a step of it, the step, and the rest.
+-- The steps before a step, this step, and the remaining steps
 
 record Parts (caller : ℕ) (before later : List AtomicStep) (step : AtomicStep) (a b : List StationState) : Type 0 where
   leads : LeadsTo caller before a (stations_behind before a)
@@ -63,7 +63,7 @@ accesses-of host steps before later same =
     ap (λ (list : List AtomicStep). (past_at host list).accesses) same
     ∙ ap (λ (past : Past). past.accesses) (past_join host before later)
 
--- Counts at the end.
+-- Counts at the end
 
 pub counts-go : CountsGoByOutcomes
 counts-go caller host steps a b leads counted =
@@ -72,7 +72,7 @@ counts-go caller host steps a b leads counted =
 pub waiting-goes : WaitingFramesGoByOutcomes
 waiting-goes caller host steps a b leads = run-waiting caller host steps a b leads
 
--- Faults.
+-- Faults
 
 runs : (a b : Bool) → (a ≡ true → b ≡ true) → b ≡ false → a ≡ false
 runs true b stays run = let stopped : b ≡ true = stays refl in let contrary : true ≡ false = sym stopped ∙ run in absurd (cc)
@@ -120,7 +120,7 @@ run-before caller host steps a b leads none run =
 
 step-no-fault : (caller host : ℕ) (step : AtomicStep) (later : List AtomicStep) (a b : List StationState)
     → LeadsTo caller (step ∷ later) a b → ResetNothing host (step ∷ later) → EnginesRun (world_at b host).adapter
-    → IsTickOf host (tick_of step) → outcome_of step ≢ Fault
+    → IsTickOf host (tick_of step) → step_outcome step ≢ Fault
 step-no-fault caller host (At other (Steps kind wire_free answer)) later a b leads none run of_host =
     let here = λ (k : ℕ). LeadsTo caller (At k (Steps kind wire_free answer) ∷ later) a b in
     let resets = λ (k : ℕ). ResetNothing host (At k (Steps kind wire_free answer) ∷ later) in
@@ -138,7 +138,7 @@ fault-never-comes caller host steps a b leads none run = record {
       run of_host;
 }
 
--- A fact of each tick, over steps and then over others.
+-- A fact about each tick, for some steps and then for others
 
 each-before : (host : ℕ) (first : AtomicStep) (later : List AtomicStep) → OfEachTick host (first ∷ later) NoFaultAt
     → OfEachTick host later NoFaultAt
@@ -150,13 +150,13 @@ each-joins : (host : ℕ) (first later : List AtomicStep) → OfEachTick host fi
 each-joins host [] later each rest before behind step same of_host = rest before behind step same of_host
 each-joins host (one ∷ first) later each rest [] behind step same of_host =
     let is : step ≡ one = cc in
-    subst (λ (s : AtomicStep). outcome_of s ≢ Fault) (sym is)
+    subst (λ (s : AtomicStep). step_outcome s ≢ Fault) (sym is)
     (each [] first one refl (subst (λ (s : AtomicStep). IsTickOf host (tick_of s)) is of_host))
 each-joins host (one ∷ first) later each rest (two ∷ before) behind step same of_host =
     let tails : first ++ later ≡ before ++ step ∷ behind = cc in
     each-joins host first later (each-before host one first each) rest before behind step tails of_host
 
--- an access is no tick of its host
+-- an access isn't a tick of its host
 access-first : (host : ℕ) (access : Access) → OfEachTick host (At host (Accesses access) ∷ []) NoFaultAt
 access-first host access [] behind step same of_host =
     let is : At host (Accesses access) ≡ step = cc in
@@ -174,7 +174,7 @@ faultless-around-reset caller host first later access a before after b leads non
           (each-joins host (At host (Accesses access) ∷ []) later (access-first host access) rest.none);
     }
 
--- Ticks that find nothing.
+-- Idle ticks
 
 pub go-nothing : GoAnswersNothing
 go-nothing (At host (Steps kind wire_free answer)) is = absurd (cc)
@@ -183,7 +183,7 @@ go-nothing (At host (Accesses access)) is = refl
 go-nothing (Idles tick) is = refl
 
 absent-step : (host : ℕ) (step : AtomicStep) (stations : List StationState) → wire_at stations host ≡ None
-    → CanHappen step stations → IsTickOf host (tick_of step) → outcome_of step ≡ Nothing
+    → CanHappen step stations → IsTickOf host (tick_of step) → step_outcome step ≡ Nothing
 absent-step host (At other (Steps kind wire_free answer)) stations none occurs of_host =
     let contrary : Some occurs.wire ≡ None = sym occurs.on_wire ∙ ap (wire_at stations) of_host ∙ none in
     absurd (cc)
@@ -199,14 +199,14 @@ absent-nothing caller host steps a b leads absent before later step same of_host
     absent-step host step (stations_behind before a)
     (run-wires caller before a (stations_behind before a) host at.leads ∙ ap wire_of absent) at.happens of_host
 
--- Answers.
+-- Outcomes
 
--- what is known of a host where a step of it comes
+-- what is known of a host before one of its steps
 record Known (host : ℕ) (before : List AtomicStep) (a : List StationState) : Type 0 where
   counts : counts_of (world_at (stations_behind before a) host).adapter ≡ counts_at a before host
   run : EnginesRun (world_at (stations_behind before a) host).adapter
 
--- where a buffer isn't empty, its number isn't 0
+-- if a buffer isn't empty, its number of frames isn't 0
 some-queued : (buffer : List Queued) → buffer ≢ [] → (length buffer == 0) ≡ false
 some-queued [] some = absurd (some refl)
 some-queued (queued ∷ buffer) some =
@@ -222,7 +222,7 @@ by-test test test' P Q same fact = subst (λ (t : Bool). MatchBool t P Q) (sym s
 put-answer : (caller host : ℕ) (before : List AtomicStep) (a : List StationState) (wire_free : Bool) (answer : FrameOutcome)
     → LeadsTo caller before a (stations_behind before a) → OccursAt host (Steps TxPut wire_free answer) (stations_behind before a)
     → PutAnswers wire_free (world_at (stations_behind before a) host).adapter answer
-    → IsStepAnswer a before host (counts_of (world_at (stations_behind before a) host).adapter) TxPut answer
+    → IsStepOutcome a before host (counts_of (world_at (stations_behind before a) host).adapter) TxPut answer
 put-answer caller host before a wire_free Nothing leads occurs none =
     by-test _ true _ _ (ap (λ (buffer : List Queued). length buffer == 0) none) refl
 put-answer caller host before a wire_free WireFull leads occurs full =
@@ -244,7 +244,7 @@ step-answer : (caller host : ℕ) (before : List AtomicStep) (a : List StationSt
     (answer : FrameOutcome)
     → LeadsTo caller before a (stations_behind before a) → OccursAt host (Steps kind wire_free answer) (stations_behind before a)
     → Known host before a → answer ≢ Fault
-    → IsStepAnswer a before host (counts_of (world_at (stations_behind before a) host).adapter) kind answer
+    → IsStepOutcome a before host (counts_of (world_at (stations_behind before a) host).adapter) kind answer
 step-answer caller host before a TxTake wire_free answer leads occurs known well =
     take-answer (world_at (stations_behind before a) host).memory (world_at (stations_behind before a) host).adapter answer
     known.run.transmitter well occurs.occurs.1
@@ -271,9 +271,9 @@ no-delivery : (waiting : List (List ℕ)) → waiting ≡ [] → IsDelivery wait
 no-delivery [] none = refl
 no-delivery (first ∷ later) none = absurd (cc)
 
--- a host that isn't there has nothing to do
+-- the outcome of a tick of a host that doesn't exist is Nothing
 idle-step : (start : List StationState) (before : List AtomicStep) (host : ℕ) (kind : StepKind) (found : Option StationState) → found ≡ None
-    → IsStepAnswer start before host (counts_of (world_of found).adapter) kind Nothing
+    → IsStepOutcome start before host (counts_of (world_of found).adapter) kind Nothing
 idle-step start before host TxTake None none = refl
 idle-step start before host TxPut None none = refl
 idle-step start before host RxData None none = refl
@@ -282,16 +282,16 @@ idle-step start before host EepromTick None none = refl
 idle-step start before host PhyTick None none = refl
 idle-step start before host kind (Some s) none = absurd (cc)
 
--- A tick of a host without a fault, in the state that the steps before it leave.
+-- The outcome of a tick of a host without a fault, in the state after the steps before the tick.
 tick-answer : (caller host : ℕ) (before : List AtomicStep) (step : AtomicStep) (a : List StationState)
     → LeadsTo caller before a (stations_behind before a) → CanHappen step (stations_behind before a)
-    → Known host before a → IsTickOf host (tick_of step) → outcome_of step ≢ Fault
-    → IsTickAnswer a before (tick_of step) (outcome_of step)
+    → Known host before a → IsTickOf host (tick_of step) → step_outcome step ≢ Fault
+    → IsTickOutcome a before (tick_of step) (step_outcome step)
 tick-answer caller host before (At other (Steps kind wire_free answer)) a leads happens known of_host well =
     let occurs = subst (λ (k : ℕ). OccursAt k (Steps kind wire_free answer) (stations_behind before a)) of_host happens in
     let answered = step-answer caller host before a kind wire_free answer leads occurs known well in
-    subst (λ (k : ℕ). IsTickAnswer a before (Step k kind) answer) (sym of_host)
-    (subst (λ (counts : HostCounts). IsStepAnswer a before host counts kind answer) known.counts answered)
+    subst (λ (k : ℕ). IsTickOutcome a before (Step k kind) answer) (sym of_host)
+    (subst (λ (counts : HostCounts). IsStepOutcome a before host counts kind answer) known.counts answered)
 tick-answer caller host before (At other (Arrives frame fate)) a leads happens known of_host well =
     is-delivery (waiting_at a before other) frame fate
     (ap (λ (frames : List (List ℕ)). slice_get frames 0) (sym (run-waiting caller other before a (stations_behind before a) leads))
@@ -301,13 +301,13 @@ tick-answer caller host before (Idles Go) a leads happens known of_host well = a
 tick-answer caller host before (Idles (Step other kind)) a leads happens known of_host well =
     let mid = stations_behind before a in
     let none : slice_get mid host ≡ None = ap (slice_get mid) (sym of_host) ∙ happens in
-    subst (λ (k : ℕ). IsTickAnswer a before (Step k kind) Nothing) (sym of_host)
-    (subst (λ (counts : HostCounts). IsStepAnswer a before host counts kind Nothing) known.counts
+    subst (λ (k : ℕ). IsTickOutcome a before (Step k kind) Nothing) (sym of_host)
+    (subst (λ (counts : HostCounts). IsStepOutcome a before host counts kind Nothing) known.counts
     (idle-step a before host kind (slice_get mid host) none))
 tick-answer caller host before (Idles (Deliver other)) a leads happens known of_host well =
     no-delivery (waiting_at a before other) (sym (run-waiting caller other before a (stations_behind before a) leads) ∙ happens)
 
--- of steps without a fault the first ones are without a fault
+-- if no step is a fault, none of the first steps is a fault
 each-first : (host : ℕ) (first rest : List AtomicStep) → OfEachTick host (first ++ rest) NoFaultAt → OfEachTick host first NoFaultAt
 each-first host first rest each before behind step same of_host =
     each before (behind ++ rest) step

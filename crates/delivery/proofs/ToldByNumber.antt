@@ -1,4 +1,4 @@
--- What outcomes with some numbers tell.
+-- The happenings of outcomes whose numbers of accesses pass a test.
 use Rattle.std.proofs.Common.{◌≡◌, ◌≤◌, ◌++◌, ◌∷◌, [], Bool, true, false, ℕ, List, map, if◌then◌else◌, refl, sym, ap}
 use Rattle.std.proofs.Common.{append_assoc, arith, ◌∙◌}
 use Rattle.bus.specs.LivelyBuses.{most_accesses}
@@ -12,24 +12,24 @@ use Rattle.stations.specs.declared.tick.Tick.TheVariants.{Deliver, Go, Step}
 use Rattle.stations.specs.AtomicRuns.{LeadsTo, counted_by, counted_of, is_go, noted_of}
 use Rattle.delivery.proofs.HostLists.{none-chosen}
 use Rattle.delivery.specs.DeliveryLaws.{OutcomesTellByNumber, happened_where}
-use Rattle.delivery.specs.Happenings.{Happening, happened_by, happened_in, told_of, told_where}
+use Rattle.delivery.specs.Happenings.{Happening, happened_by, happened_in, outcome_happenings, tick_happenings_where}
 
 where-without_go : (is_such : ℕ → Bool) (ticks : List Tick) (outcomes : List Numbered)
-    → told_where is_such (without_go is_go ticks) outcomes ≡ told_where is_such ticks outcomes
+    → tick_happenings_where is_such (without_go is_go ticks) outcomes ≡ tick_happenings_where is_such ticks outcomes
 where-without_go is_such [] outcomes = refl
 where-without_go is_such (Go ∷ ticks) outcomes = where-without_go is_such ticks outcomes
 where-without_go is_such (Step host kind ∷ ticks) [] = refl
 where-without_go is_such (Step host kind ∷ ticks) (one ∷ outcomes) =
-    ap (λ (list : List Happening). (if is_such one.accesses then told_of host one.outcome else []) ++ list)
+    ap (λ (list : List Happening). (if is_such one.accesses then outcome_happenings host one.outcome else []) ++ list)
     (where-without_go is_such ticks outcomes)
 where-without_go is_such (Deliver host ∷ ticks) [] = refl
 where-without_go is_such (Deliver host ∷ ticks) (one ∷ outcomes) =
-    ap (λ (list : List Happening). (if is_such one.accesses then told_of host one.outcome else []) ++ list)
+    ap (λ (list : List Happening). (if is_such one.accesses then outcome_happenings host one.outcome else []) ++ list)
     (where-without_go is_such ticks outcomes)
 
--- by the ticks of the steps
+-- the happenings by the ticks of the steps
 where-told : (is_such : ℕ → Bool) (caller n : ℕ) (steps : List AtomicStep) (a b : List StationState) → LeadsTo caller steps a b
-    → told_where is_such (map tick_of steps) (noted_of n steps) ≡ happened_where is_such n steps
+    → tick_happenings_where is_such (map tick_of steps) (noted_of n steps) ≡ happened_where is_such n steps
 where-told is_such caller n [] a b leads = refl
 where-told is_such caller n (At host (Steps kind wire_free answer) ∷ later) a b leads =
     ap (λ (list : List Happening). (if is_such n then happened_by (At host (Steps kind wire_free answer)) else []) ++ list)
@@ -50,11 +50,11 @@ where-told is_such caller n (Idles (Deliver host) ∷ later) a b leads =
 pub told-by_number : OutcomesTellByNumber
 told-by_number is_such caller ticks steps a b leads same =
     sym (where-without_go is_such ticks (noted_of 0 steps))
-    ∙ ap (λ (list : List Tick). told_where is_such list (noted_of 0 steps)) (sym same)
+    ∙ ap (λ (list : List Tick). tick_happenings_where is_such list (noted_of 0 steps)) (sym same)
     ∙ where-without_go is_such (map tick_of steps) (noted_of 0 steps)
     ∙ where-told is_such caller 0 steps a b leads
 
--- Parts of steps.
+-- Parts of a list of steps
 
 pub where-append : (is_such : ℕ → Bool) (n : ℕ) (first later : List AtomicStep)
     → happened_where is_such n (first ++ later) ≡ happened_where is_such n first ++ happened_where is_such (counted_of n first) later
@@ -79,7 +79,7 @@ more-counted n (step ∷ later) within =
     let rest = more-counted (counted_by n step) later one.1 in
     (omega (arith, one.0, rest.0), rest.1)
 
--- All numbers are such, or none is.
+-- All numbers pass the test, or none does.
 pub where-all : (is_such : ℕ → Bool) (n : ℕ) (steps : List AtomicStep) → n ≤ most_accesses
     → ((m : ℕ) → n ≤ m → m ≤ counted_of n steps → is_such m ≡ true) → happened_where is_such n steps ≡ happened_in steps
 where-all is_such n [] within all = refl

@@ -16,9 +16,9 @@ use Rattle.stations.specs.Stations.{StationState, backlog_after, backlog_at, bac
 use Rattle.stations.specs.Stations.{stations_after, wire_at, wire_of, with_frames, world_at}
 use Rattle.stations.specs.AtomicRuns.{LeadsTo, events_at}
 use Rattle.delivery.proofs.HostLists.{arrived_in, frames_in, none-chosen, put-chosen, put-occurs, reached-told, step-told}
-use Rattle.delivery.specs.Happenings.{happened_in, reached, share_wire, told_of, toward, toward_by}
+use Rattle.delivery.specs.Happenings.{happened_in, reached, share_wire, outcome_happenings, toward, toward_by}
 
--- Where a host is, what it has is found at its place.
+-- There is a host with this number, on this wire.
 record Stands (ss : List StationState) (host wire : ℕ) : Type 0 where
   station : StationState
   is : slice_get ss host ≡ Some station
@@ -38,7 +38,7 @@ at-place : (ss : List StationState) (host k : ℕ) (event : Event) (s : StationS
 at-place ss host k event s is =
     ap (λ (list : List StationState). slice_get list k) (after-is host event ss s is) ∙ get-at_each (each_after host s.wire event) ss k
 
--- Wires stay.
+-- Wires don't change
 
 frames-leave_wire : (sender wire k : ℕ) (frames : List (List ℕ)) (s : StationState) → (with_frames sender wire frames k s).wire ≡ s.wire
 frames-leave_wire sender wire k frames s =
@@ -63,7 +63,7 @@ pub wires-stay : (caller k : ℕ) (steps : List AtomicStep) (a b : List StationS
 wires-stay caller k [] a b leads = ap (λ (ss : List StationState). wire_at ss k) leads
 wires-stay caller k (step ∷ later) a b leads = wires-stay caller k later (after step a) b leads.2 ∙ wire-after step a k leads.0
 
--- The host itself.
+-- The host itself
 
 here : (host wire : ℕ) (event : Event) (s : StationState) → (host == host) ≡ true → each_after host wire event host s
     ≡ station_after event s
@@ -79,7 +79,7 @@ backlog-here ss host event itself occurs =
     ∙ ap Some (here host at.station.wire event at.station itself))
     ∙ ap (λ (o : Option StationState). backlog_after event (backlog_of o)) (sym at.is)
 
--- what arrives is the oldest frame that waits
+-- the frame that arrives is the oldest frame that waits
 oldest-first : (backlog : List (List ℕ)) (frame : List ℕ) → slice_get backlog 0 ≡ Some frame → frame ∷ drop 1 backlog ≡ backlog
 oldest-first [] frame oldest = absurd (cc)
 oldest-first (first ∷ later) frame oldest =
@@ -92,7 +92,7 @@ arrives-first (Steps kind wire_free answer) host wire ss suits = refl
 arrives-first (Arrives frame fate) host wire ss suits = oldest-first (backlog_at ss host) frame suits
 arrives-first (Accesses access) host wire ss suits = refl
 
--- Another host.
+-- Another host
 
 frames-wait : (sender wire k : ℕ) (frames : List (List ℕ)) (s : StationState) → (k == sender) ≡ false
     → (with_frames sender wire frames k s).backlog ≡ s.backlog ++ (if s.wire == wire then frames else [])
@@ -117,13 +117,13 @@ backlog-elsewhere ss host k event other occurs =
     ∙ ap (λ (o : Option StationState). backlog_at ss k
     ++ (if share_wire (wire_at ss k) (wire_of o) then (past_of_event event).put else [])) (sym at.is)
 
--- What a host puts toward another one.
+-- Frames that other hosts put on a host's wire
 
 abbrev sent : (wires : ℕ → Option ℕ) → (k host : ℕ) → Event → List (List ℕ)
 sent wires k host event = if not (k == host) && share_wire (wires k) (wires host) then (past_of_event event).put else []
 
 toward-event : (wires : ℕ → Option ℕ) (k host : ℕ) (event : Event) (world : World) → Occurs event world
-    → flat_map (toward_by wires k) (told_of host (outcome_of_event event))
+    → flat_map (toward_by wires k) (outcome_happenings host (outcome_of_event event))
     ≡ (if not (k == host) && share_wire (wires k) (wires host) then frames_in event else [])
 toward-event wires k host (Steps kind wire_free answer) world occurs =
     let shared = not (k == host) && share_wire (wires k) (wires host) in
@@ -137,13 +137,13 @@ toward-step : (wires : ℕ → Option ℕ) (k host : ℕ) (event : Event) (later
     → OccursAt host event ss
     → toward wires k (happened_in (At host event ∷ later)) ≡ sent wires k host event ++ toward wires k (happened_in later)
 toward-step wires k host event later ss occurs =
-    flat_map-append (toward_by wires k) (told_of host (outcome_of_event event)) (happened_in later)
+    flat_map-append (toward_by wires k) (outcome_happenings host (outcome_of_event event)) (happened_in later)
     ∙ ap (λ (front : List (List ℕ)). front ++ toward wires k (happened_in later))
     (toward-event wires k host event (world_at ss host) occurs.occurs
     ∙ ap (λ (frames : List (List ℕ)). if not (k == host) && share_wire (wires k) (wires host) then frames else [])
     (put-occurs event (world_at ss host) occurs.occurs))
 
--- What waited and was put toward a host has reached it or waits.
+-- The frames that waited, and then those put toward a host, have reached it or wait
 
 waits-events : (caller k : ℕ) (wires : ℕ → Option ℕ) (steps : List AtomicStep) (a b : List StationState)
     → ((host : ℕ) → wire_at a host ≡ wires host) → LeadsTo caller steps a b

@@ -1,4 +1,4 @@
--- What atomic steps leave of wires, of the frames that wait at their ends, and which ends are full.
+-- Wires, the frames that wait at their ends, and full ends, after atomic steps.
 use Rattle.std.proofs.Common.{◌≡◌, ◌≢◌, ◌<◌, ◌≤◌, ◌==◌, ◌&&◌, ◌⊎◌, ◌++◌, not, ℕ, zero, suc, Bool, true, false, Option, Some, None, List}
 use Rattle.std.proofs.Common.{[], ◌∷◌, length}
 use Rattle.std.proofs.Common.{slice_get, option_map, if◌then◌else◌, inl, inr, refl, sym, ap, subst, ◌∙◌, arith}
@@ -17,7 +17,7 @@ use Rattle.stations.specs.Stations.{station_after, stations_after, wire_at, wire
 use Rattle.stations.specs.AtomicRuns.{LeadsTo}
 use Rattle.delivery.specs.WaitingFrames.{WireIsFull, come_to, is_same_wire, waiting_after_step, waiting_at, waiting_behind}
 
--- What an event leaves of a place.
+-- A station after an event
 
 record Stands (stations : List StationState) (host wire : ℕ) : Type 0 where
   station : StationState
@@ -82,7 +82,7 @@ each-backlog host wire k event (Some s) = by_place (k == host) (s.wire == wire)
     by_place false true = refl
     by_place false false = sym (append-nil s.backlog)
 
--- Wires stay.
+-- Wires don't change
 
 step-wires : (step : AtomicStep) (stations : List StationState) (k : ℕ) → CanHappen step stations
     → wire_at (after step stations) k ≡ wire_at stations k
@@ -96,7 +96,7 @@ pub run-wires : (caller : ℕ) (steps : List AtomicStep) (a b : List StationStat
 run-wires caller [] a b k leads = ap (λ (stations : List StationState). wire_at stations k) leads
 run-wires caller (step ∷ later) a b k leads = run-wires caller later (after step a) b k leads.2 ∙ step-wires step a k leads.0
 
--- Frames that wait.
+-- Frames that wait
 
 step-waiting : (start stations : List StationState) (host : ℕ) (step : AtomicStep)
     → ((k : ℕ) → wire_at stations k ≡ wire_at start k) → CanHappen step stations
@@ -123,9 +123,9 @@ pub run-waiting : (caller host : ℕ) (steps : List AtomicStep) (a b : List Stat
     → backlog_at b host ≡ waiting_at a steps host
 run-waiting caller host steps a b leads = run-from caller a host steps a b (λ k. refl) leads
 
--- Full wires.
+-- Full wires
 
--- another end of the wire at which as many frames wait as may
+-- another end of the wire has no room for one more frame
 record FullEnd (stations : List StationState) (sender wire : ℕ) : Type 0 where
   other : ℕ
   station : StationState
@@ -139,7 +139,7 @@ abbrev HaveRoom : List StationState → (sender wire n : ℕ) → Type 0
 HaveRoom stations sender wire n =
     (host : ℕ) (station : StationState) → host < n → slice_get stations host ≡ Some station → HasRoomFrom sender wire host station
 
--- one place more
+-- one more place
 one-place : (stations : List StationState) (sender wire n : ℕ) (found : Option StationState) → slice_get stations n ≡ found
     → HaveRoom stations sender wire n → FullEnd stations sender wire ⊎ HaveRoom stations sender wire (suc n)
 one-place stations sender wire n None is room = inr (λ host station below there. elim (cases_eq host n) [
@@ -181,11 +181,11 @@ some-end-full stations sender wire none = elim (full-or-room stations sender wir
   | inr room ↦ absurd (none (λ host station is. room host station (slice_get_within stations host station is) is))
 ]
 
--- two hosts that are on the same wire are on one
+-- two hosts on the same wire share a wire
 same-wire : (wire wire' : ℕ) → wire ≡ wire' → (wire == wire') ≡ true
 same-wire wire wire' same = elim (eqb_tells wire wire') [ inl is ↦ is.0 | inr other ↦ absurd (other.1 same) ]
 
--- where not each other end has room, an end is full by counting
+-- if not each other end has room, an end is full by the counts
 pub full-by-counting : (caller host wire : ℕ) (before : List AtomicStep) (a b : List StationState) → LeadsTo caller before a b
     → wire_at b host ≡ Some wire → (WireHasRoom b host wire → ⊥) → WireIsFull a before host
 full-by-counting caller host wire before a b leads on none =
@@ -204,7 +204,7 @@ full-by-counting caller host wire before a b leads on none =
       full = subst (λ (frames : List (List ℕ)). end_frames ≤ length frames) (sym waits) end.full;
     }
 
--- where each has, none is
+-- if each other end has room, no end is full
 none-full : (host wire other : ℕ) (b : List StationState) (found : Option StationState) → slice_get b other ≡ found
     → WireHasRoom b host wire → other ≢ host → is_same_wire (wire_of found) (Some wire) ≡ true
     → end_frames ≤ length (backlog_of found) → ⊥

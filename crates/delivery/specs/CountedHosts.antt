@@ -1,4 +1,4 @@
--- Which accesses can be counted, and which hosts are enabled (our choice).
+-- Accesses whose effect on the counts is known, and hosts that can receive and send (our choice).
 use Rattle.std.specs.Prelude.{⊤, ℕ, IfSome}
 use Rattle.registers.specs.Bits.{HasBit}
 use Rattle.registers.specs.Places.{rctl_en, tctl_en}
@@ -12,37 +12,34 @@ use Rattle.adapter.specs.Table.{register_at}
 use Rattle.bus.specs.declared.event.Access.{Access}
 use Rattle.bus.specs.declared.event.Access.TheVariants.{Loads, Reads, Stores, Writes}
 
--- Accesses.
-
--- the register isn't MDIC, whose command may start a negotiation
+-- The register isn't MDIC, whose command may start a negotiation.
 abbrev pub IsNotMdic : Register → Type 0
 IsNotMdic Mdic = ⊥
 IsNotMdic register = ⊤
 
--- The effect of the access is counted exactly: it isn't a write of MDIC.
+-- The counts determine the effect of the access: it isn't a write of MDIC.
 abbrev pub IsCounted : Access → Type 0
 IsCounted (Reads offset value) = ⊤
 IsCounted (Writes offset value) = IfSome (register_at offset) IsNotMdic
 IsCounted (Loads address size) = ⊤
 IsCounted (Stores address bytes) = ⊤
 
--- The register isn't CTRL, RCTL or TCTL, so a write of it leaves both sides enabled or disabled, as they are.
+-- The register isn't CTRL, RCTL or TCTL, so a write of the register enables or disables neither side.
 abbrev pub IsNotControl : Register → Type 0
 IsNotControl Ctrl = ⊥
 IsNotControl Rctl = ⊥
 IsNotControl Tctl = ⊥
 IsNotControl register = ⊤
 
--- an access that isn't a write of CTRL, RCTL or TCTL
+-- The access isn't a write of CTRL, RCTL or TCTL.
 abbrev pub LeavesEnabled : Access → Type 0
 LeavesEnabled (Reads offset value) = ⊤
 LeavesEnabled (Writes offset value) = IfSome (register_at offset) IsNotControl
 LeavesEnabled (Loads address size) = ⊤
 LeavesEnabled (Stores address bytes) = ⊤
 
--- Hosts.
-
--- RCTL and TCTL are these words and the rings are these: both sides are enabled, and heads and tails are slots.
+-- With these values of RCTL and TCTL, and with these rings, both sides are enabled, and heads and tails are indices of
+-- slots.
 pub record AreEnabled (receive_control transmit_control : ℕ) (receive_ring transmit_ring : Ring) : Type 0 where
   -- RCTL.EN is set.
   pub receives : HasBit receive_control rctl_en

@@ -1,5 +1,5 @@
--- Which fate a frame meets, by the groups in force, the frames in the receive packet buffer, and whether the receive side is enabled (our
--- choice; the filter: "3.2.1 Packet Address Filtering"; RCTL.EN: "13.4.22 Receive Control").
+-- The right fate of a frame, by the groups in force, the frames in the receive packet buffer, and whether the receive
+-- side is enabled (our choice; the filter: "3.2.1 Packet Address Filtering"; RCTL.EN: "13.4.22 Receive Control").
 use Rattle.std.specs.Prelude.{⊤, ◌≡◌, ◌≢◌, ◌++◌, ℕ, Bool, true, false, IsTrue, List, [], ◌∷◌, drop}
 use Rattle.std.specs.List.{Contains, flat_map}
 use Rattle.descriptors.specs.Frames.{IsLegal}
@@ -13,21 +13,22 @@ use Rattle.rx_engine.specs.Registers.{FilterRegisters, filter_of}
 use Rattle.rx_engine.specs.Room.{HasRoomFor, LacksRoomFor}
 use Rattle.delivery.specs.Happenings.{Disabled, Enabled, GivenUp, Happening, Joined, Left, Moved, Reached, of_host}
 
--- What arrives at a receive packet buffer and leaves it, which groups its host joins and leaves, and what a reset does to the receive side.
+-- What changes the reception of a host. A frame is added to or removed from the receive packet buffer, a group is joined or left, or a
+-- reset changes the receive side.
 pub data Mark : Type 0 where
-  -- a frame arrived, and met this fate
+  -- A frame arrived, with this fate.
   Came : (frame : List ℕ) (fate : Fate) → Mark
-  -- the oldest frame was moved to memory
+  -- The oldest frame was moved to memory.
   Went : Mark
-  -- a group was joined
+  -- A group was joined.
   Joins : (group : List ℕ) → Mark
-  -- a group was left
+  -- A group was left.
   Quits : (group : List ℕ) → Mark
-  -- the receive side was disabled
+  -- The receive side was disabled.
   SwitchedOff : Mark
-  -- the receive side was enabled
+  -- The receive side was enabled.
   SwitchedOn : Mark
-  -- a reset gave up all frames in the buffer
+  -- A reset dropped all frames in the buffer.
   Emptied : Mark
 
 -- The mark of a happening, if it is at host k.
@@ -45,27 +46,26 @@ mark_by k other = []
 abbrev pub marks : ℕ → List Happening → List Mark
 marks k happened = flat_map (mark_by k) happened
 
--- What a host's fates depend on, besides registers: the groups that it has joined, the frames in its receive packet
--- buffer, and whether its receive side is enabled (RCTL.EN).
+-- The state on which the fates of a host's frames depend, besides registers.
 pub record Reception : Type 0 where
-  -- the groups joined
+  -- The groups that the host has joined.
   pub groups : List (List ℕ)
-  -- the frames in the receive packet buffer, the oldest first
+  -- The frames in the receive packet buffer, the oldest first.
   pub buffered : List (List ℕ)
-  -- whether RCTL.EN is set
+  -- Whether RCTL.EN is set.
   pub enabled : Bool
 
 -- These groups and these frames in the receive packet buffer, with the receive side enabled.
 abbrev pub reception : (groups buffered : List (List ℕ)) → Reception
 reception groups buffered = record { groups = groups; buffered = buffered; enabled = true }
 
--- The filter in force: that of the registers, but its group numbers are those of the groups joined, computed for RCTL.MO 00, which each
--- host has.
+-- The filter in force: the filter of the registers, but with the numbers of the joined groups instead of MTA. The numbers
+-- are computed for RCTL.MO 00.
 abbrev pub in_force : FilterRegisters → (groups : List (List ℕ)) → ReceiveFilter
 in_force registers groups = record (filter_of registers) { groups = λ number. Contains (numbers_of_groups groups) number }
 
--- The first fate that applies, with this filter in force, if the buffer of `room` bytes contains these frames. While the receive side is
--- disabled each frame has the fate Off, and while it is enabled none has.
+-- The fate is the first one that applies, with this filter in force, if the buffer of `room` bytes contains these
+-- frames. Each frame has the fate Off while the receive side is disabled, and no frame while it is enabled.
 abbrev pub IsRightFate : ReceiveFilter → (room : ℕ) → (enabled : Bool) → (buffered : List (List ℕ)) → List ℕ → Fate → Type 0
 IsRightFate filter room false buffered frame fate = fate ≡ Off
 IsRightFate filter room true buffered frame Off = ⊥
@@ -74,8 +74,9 @@ IsRightFate filter room true buffered frame Filtered = IsLegal frame × (¬ (Pas
 IsRightFate filter room true buffered frame Missed = IsLegal frame × Passes filter frame × LacksRoomFor room buffered frame
 IsRightFate filter room true buffered frame Stored = IsLegal frame × Passes filter frame × HasRoomFor room buffered frame
 
--- Each fate is right, by the reception at its point. `now` is the start, and `final` the end. The oldest frame can leave only if there is
--- one and the receive side is enabled, and only a group that is joined can be left.
+-- Each fate is the right one (`IsRightFate`) for the reception when the frame arrives. The marks lead from the reception `now` to the
+-- reception `final`. A frame is removed from the buffer only if the buffer isn't empty and the receive side is enabled, and only a
+-- joined group is left.
 abbrev pub AreRightFates : FilterRegisters → (room : ℕ) → (now : Reception) → List Mark → (final : Reception) → Type 0
 AreRightFates registers room now [] final = final ≡ now
 AreRightFates registers room now (Came frame fate ∷ later) final =
@@ -91,9 +92,8 @@ AreRightFates registers room now (SwitchedOff ∷ later) final = AreRightFates r
 AreRightFates registers room now (SwitchedOn ∷ later) final = AreRightFates registers room (record now { enabled = true }) later final
 AreRightFates registers room now (Emptied ∷ later) final = AreRightFates registers room (record now { buffered = [] }) later final
 
--- Right fates, fate by fate.
-
--- The frames in the buffer after these marks: those of the start, then those stored since, without those that left or were given up.
+-- The frames in the buffer after these marks: those at the start, followed by those stored since. Frames that left or that a reset dropped
+-- are not among them.
 abbrev pub buffered_after : (buffered : List (List ℕ)) → List Mark → List (List ℕ)
 buffered_after buffered [] = buffered
 buffered_after buffered (Came frame fate ∷ later) = buffered_after (buffered ++ kept fate frame) later
@@ -101,15 +101,15 @@ buffered_after buffered (Went ∷ later) = buffered_after (drop 1 buffered) late
 buffered_after buffered (Emptied ∷ later) = buffered_after [] later
 buffered_after buffered (other ∷ later) = buffered_after buffered later
 
--- Whether the receive side is enabled after these marks: as the last mark that switched it states, or as at the start
--- if none did.
+-- Whether the receive side is enabled after these marks. The last mark that enabled or disabled it decides; without such a mark, it is as
+-- at the start.
 abbrev pub enabled_after : (enabled : Bool) → List Mark → Bool
 enabled_after enabled [] = enabled
 enabled_after enabled (SwitchedOff ∷ later) = enabled_after false later
 enabled_after enabled (SwitchedOn ∷ later) = enabled_after true later
 enabled_after enabled (other ∷ later) = enabled_after enabled later
 
--- The groups in force after these marks are `now`: those of the start, with each that was joined added, and each that was left removed.
+-- The groups in force after these marks are `now`: those at the start, changed by each join and leave.
 abbrev pub AreGroupsAfter : (groups : List (List ℕ)) → List Mark → (now : List (List ℕ)) → Type 0
 AreGroupsAfter groups [] now = now ≡ groups
 AreGroupsAfter groups (Joins group ∷ later) now = AreGroupsAfter (groups ++ group ∷ []) later now
@@ -123,8 +123,8 @@ KeepsGroups (Joins group ∷ later) = ⊥
 KeepsGroups (Quits group ∷ later) = ⊥
 KeepsGroups (other ∷ later) = KeepsGroups later
 
--- A frame's fate is right by the groups in force when it comes, by the frames that the buffer contains then, and by whether the receive
--- side is enabled then.
+-- A frame's fate is right after the marks before the frame: by the groups in force, the frames in the buffer, and whether the receive side
+-- is enabled.
 pub record IsRightThere (registers : FilterRegisters) (room : ℕ) (start : Reception) (before : List Mark) (frame : List ℕ) (fate : Fate)
     : Type 0 where
   pub groups : List (List ℕ)
@@ -132,7 +132,7 @@ pub record IsRightThere (registers : FilterRegisters) (room : ℕ) (start : Rece
   pub right : IsRightFate (in_force registers groups) room (enabled_after start.enabled before) (buffered_after start.buffered before)
       frame fate
 
--- Each frame's fate is right by the groups, the frames and the receive side when it comes (`IsRightThere`).
+-- Each frame's fate is the right one for the marks before the frame (`IsRightThere`).
 abbrev pub AreRightByList : FilterRegisters → (room : ℕ) → (start : Reception) → List Mark → Type 0
 AreRightByList registers room start all =
     (before later : List Mark) (frame : List ℕ) (fate : Fate) → all ≡ before ++ Came frame fate ∷ later

@@ -1,4 +1,4 @@
--- What happens to frames in a run: happenings, in order, as events and their replies determine them (our choice).
+-- Happenings: what happens to frames in a run, in order. Ticks and their outcomes determine them (our choice).
 use Rattle.std.specs.Prelude.{◌==◌, ◌&&◌, not, ◌++◌, ℕ, Bool, false, Option, Some, None, List, [], ◌∷◌, sum_by, if◌then◌else◌}
 use Rattle.std.specs.List.{flat_map}
 use Rattle.rx_engine.specs.Arriving.{kept}
@@ -11,98 +11,92 @@ use Rattle.adapter.specs.declared.outcome.Outcome.TheVariants as outcome
 use Rattle.stations.specs.declared.tick.Tick.{Tick}
 use Rattle.stations.specs.declared.tick.Tick.TheVariants.{Deliver, Go, Step}
 
--- What happened at a host: to a frame, to the groups that it has joined, or to its receive side.
+-- What happened at a host: to a frame, to the joined groups, or to the receive side.
 pub data Happening : Type 0 where
-  -- a host was given a frame to send, and accepted it
+  -- The host accepted a frame for sending.
   Accepted : (host : ℕ) (frame : List ℕ) → Happening
-  -- the host's adapter put a frame onto the wire
+  -- The host's adapter put a frame onto the wire.
   Put : (host : ℕ) (frame : List ℕ) → Happening
-  -- a frame reached the host's adapter, and met this fate
+  -- A frame reached the host's adapter, with this fate.
   Reached : (host : ℕ) (frame : List ℕ) (fate : Fate) → Happening
-  -- the oldest frame left the receive packet buffer of the host's adapter for memory
+  -- The last piece of the oldest frame was moved from the receive packet buffer of the host's adapter to memory.
   Moved : (host : ℕ) → Happening
-  -- a socket of the host returned a frame
+  -- A socket of the host returned a frame.
   Given : (host socket : ℕ) (frame : List ℕ) → Happening
-  -- a host joined a multicast group, given by its address
+  -- The host joined a multicast group.
   Joined : (host : ℕ) (group : List ℕ) → Happening
-  -- a host left a multicast group
+  -- The host left a multicast group.
   Left : (host : ℕ) (group : List ℕ) → Happening
-  -- a reset of the host wrote 0 to RCTL, so the adapter's receive side is disabled
+  -- A reset of the host wrote 0 to RCTL, which disables the receive side.
   Disabled : (host : ℕ) → Happening
-  -- the reset wrote RCTL again, so the receive side is enabled
+  -- The reset wrote RCTL again, which enables the receive side.
   Enabled : (host : ℕ) → Happening
-  -- The reset wrote CTRL.RST, between these two writes. It gave up the frames `sending`, which were to be sent, and
-  -- `holding`, which were held.
+  -- The reset wrote CTRL.RST, between these two writes; the frames `sending`, which were to be sent, and `holding`,
+  -- which were held, are lost.
   GivenUp : (host : ℕ) (sending holding : List (List ℕ)) → Happening
 
--- The happenings of ticks, by their outcomes.
-
--- the host of a tick
+-- The host of a tick; 0 for Go.
 abbrev pub tick_host : Tick → ℕ
 tick_host Go = 0
 tick_host (Step host kind) = host
 tick_host (Deliver host) = host
 
--- the outcome of a tick at a host, as a happening
-abbrev pub told_of : (host : ℕ) → FrameOutcome → List Happening
-told_of host (outcome.Put frame) = Put host frame ∷ []
-told_of host (outcome.Delivered frame fate) = Reached host frame fate ∷ []
-told_of host outcome.Moved = Moved host ∷ []
-told_of host _ = []
+-- The happening of a tick at a host, by its outcome: Put, Delivered and Moved have a happening.
+abbrev pub outcome_happenings : (host : ℕ) → FrameOutcome → List Happening
+outcome_happenings host (outcome.Put frame) = Put host frame ∷ []
+outcome_happenings host (outcome.Delivered frame fate) = Reached host frame fate ∷ []
+outcome_happenings host outcome.Moved = Moved host ∷ []
+outcome_happenings host _ = []
 
--- The i-th outcome of a call belongs to the i-th of its ticks that isn't a Go.
-abbrev pub told : List Tick → List Numbered → List Happening
-told [] outcomes = []
-told (Go ∷ ticks) outcomes = told ticks outcomes
-told (Step host kind ∷ ticks) [] = []
-told (Step host kind ∷ ticks) (one ∷ outcomes) = told_of host one.outcome ++ told ticks outcomes
-told (Deliver host ∷ ticks) [] = []
-told (Deliver host ∷ ticks) (one ∷ outcomes) = told_of host one.outcome ++ told ticks outcomes
+-- The happenings of the ticks of a call, in order. The i-th outcome belongs to the i-th tick that isn't Go.
+abbrev pub tick_happenings : List Tick → List Numbered → List Happening
+tick_happenings [] outcomes = []
+tick_happenings (Go ∷ ticks) outcomes = tick_happenings ticks outcomes
+tick_happenings (Step host kind ∷ ticks) [] = []
+tick_happenings (Step host kind ∷ ticks) (one ∷ outcomes) = outcome_happenings host one.outcome ++ tick_happenings ticks outcomes
+tick_happenings (Deliver host ∷ ticks) [] = []
+tick_happenings (Deliver host ∷ ticks) (one ∷ outcomes) = outcome_happenings host one.outcome ++ tick_happenings ticks outcomes
 
--- The happenings of ticks whose outcomes have numbers that pass the test.
-abbrev pub told_where : (is_such : ℕ → Bool) → List Tick → List Numbered → List Happening
-told_where is_such [] outcomes = []
-told_where is_such (Go ∷ ticks) outcomes = told_where is_such ticks outcomes
-told_where is_such (Step host kind ∷ ticks) [] = []
-told_where is_such (Step host kind ∷ ticks) (one ∷ outcomes) =
-    (if is_such one.accesses then told_of host one.outcome else []) ++ told_where is_such ticks outcomes
-told_where is_such (Deliver host ∷ ticks) [] = []
-told_where is_such (Deliver host ∷ ticks) (one ∷ outcomes) =
-    (if is_such one.accesses then told_of host one.outcome else []) ++ told_where is_such ticks outcomes
+-- The happenings of those ticks whose numbers of accesses pass a test, in order.
+abbrev pub tick_happenings_where : (is_such : ℕ → Bool) → List Tick → List Numbered → List Happening
+tick_happenings_where is_such [] outcomes = []
+tick_happenings_where is_such (Go ∷ ticks) outcomes = tick_happenings_where is_such ticks outcomes
+tick_happenings_where is_such (Step host kind ∷ ticks) [] = []
+tick_happenings_where is_such (Step host kind ∷ ticks) (one ∷ outcomes) =
+    (if is_such one.accesses then outcome_happenings host one.outcome else []) ++ tick_happenings_where is_such ticks outcomes
+tick_happenings_where is_such (Deliver host ∷ ticks) [] = []
+tick_happenings_where is_such (Deliver host ∷ ticks) (one ∷ outcomes) =
+    (if is_such one.accesses then outcome_happenings host one.outcome else []) ++ tick_happenings_where is_such ticks outcomes
 
--- The happenings of ticks and outcomes, with what the call itself did (`middle`) after the outcomes with number 0 and
--- before the first other outcome.
-abbrev pub told_around : (middle : List Happening) → List Tick → List Numbered → List Happening
-told_around middle [] outcomes = middle
-told_around middle (Go ∷ ticks) outcomes = told_around middle ticks outcomes
-told_around middle (Step host kind ∷ ticks) [] = middle
-told_around middle (Step host kind ∷ ticks) (one ∷ outcomes) =
-    if one.accesses == 0 then told_of host one.outcome ++ told_around middle ticks outcomes
-    else middle ++ told (Step host kind ∷ ticks) (one ∷ outcomes)
-told_around middle (Deliver host ∷ ticks) [] = middle
-told_around middle (Deliver host ∷ ticks) (one ∷ outcomes) =
-    if one.accesses == 0 then told_of host one.outcome ++ told_around middle ticks outcomes
-    else middle ++ told (Deliver host ∷ ticks) (one ∷ outcomes)
+-- The happenings of the ticks of a call, with what the call itself did (`middle`) after the ticks before the first
+-- access.
+abbrev pub tick_happenings_around : (middle : List Happening) → List Tick → List Numbered → List Happening
+tick_happenings_around middle [] outcomes = middle
+tick_happenings_around middle (Go ∷ ticks) outcomes = tick_happenings_around middle ticks outcomes
+tick_happenings_around middle (Step host kind ∷ ticks) [] = middle
+tick_happenings_around middle (Step host kind ∷ ticks) (one ∷ outcomes) =
+    if one.accesses == 0 then outcome_happenings host one.outcome ++ tick_happenings_around middle ticks outcomes
+    else middle ++ tick_happenings (Step host kind ∷ ticks) (one ∷ outcomes)
+tick_happenings_around middle (Deliver host ∷ ticks) [] = middle
+tick_happenings_around middle (Deliver host ∷ ticks) (one ∷ outcomes) =
+    if one.accesses == 0 then outcome_happenings host one.outcome ++ tick_happenings_around middle ticks outcomes
+    else middle ++ tick_happenings (Deliver host ∷ ticks) (one ∷ outcomes)
 
--- the happenings of a tick outside a call, by its one outcome
-abbrev pub told_alone : Tick → List Numbered → List Happening
-told_alone tick [] = []
-told_alone tick (one ∷ outcomes) = told_of (tick_host tick) one.outcome
+-- The happenings of a tick outside a call, by its outcome.
+abbrev pub lone_tick_happenings : Tick → List Numbered → List Happening
+lone_tick_happenings tick [] = []
+lone_tick_happenings tick (one ∷ outcomes) = outcome_happenings (tick_host tick) one.outcome
 
--- What atomic steps do.
-
--- What happened in an atomic step.
+-- The happenings of an atomic step.
 abbrev pub happened_by : AtomicStep → List Happening
-happened_by (At host event) = told_of host (outcome_of_event event)
+happened_by (At host event) = outcome_happenings host (outcome_of_event event)
 happened_by (Idles tick) = []
 
--- What happened in atomic steps, in order.
+-- The happenings of atomic steps, in order.
 abbrev pub happened_in : List AtomicStep → List Happening
 happened_in steps = flat_map happened_by steps
 
--- The lists of one host, in order.
-
--- the list if both hosts are the same, else none
+-- This list if `k` is `host`, else the empty list.
 abbrev pub of_host : {T : Type 0} → (k host : ℕ) → List T → List T
 of_host k host some = if k == host then some else []
 
@@ -112,9 +106,9 @@ accepted_in_one k (Accepted host frame) = of_host k host (frame ∷ [])
 accepted_in_one k other = []
 
 -- The frame that host k put on its wire in this happening, if any, as a list.
-abbrev pub put_by : ℕ → Happening → List (List ℕ)
-put_by k (Put host frame) = of_host k host (frame ∷ [])
-put_by k other = []
+abbrev pub put_in_one : ℕ → Happening → List (List ℕ)
+put_in_one k (Put host frame) = of_host k host (frame ∷ [])
+put_in_one k other = []
 
 -- The frame that reached host k in this happening, if any, as a list.
 abbrev pub reached_by : ℕ → Happening → List (List ℕ)
@@ -136,7 +130,7 @@ abbrev pub missed_of : ℕ → Happening → ℕ
 missed_of k (Reached host frame fate) = if k == host then missed_by fate else 0
 missed_of k other = 0
 
--- Both hosts have a wire, and it is the same one.
+-- Both hosts exist, and are on the same wire.
 abbrev pub share_wire : Option ℕ → Option ℕ → Bool
 share_wire None other = false
 share_wire (Some wire) None = false
@@ -153,7 +147,7 @@ accepted k happened = flat_map (accepted_in_one k) happened
 
 -- The frames that host k put on its wire, in order.
 abbrev pub put : ℕ → List Happening → List (List ℕ)
-put k happened = flat_map (put_by k) happened
+put k happened = flat_map (put_in_one k) happened
 
 -- The frames that reached host k, in order.
 abbrev pub reached : ℕ → List Happening → List (List ℕ)

@@ -7,5 +7,5 @@ pub mod DeliveryLaws
 pub mod Counts
 pub mod WaitingFrames
 pub mod CountedHosts
-pub mod StepAnswers
+pub mod StepOutcomes
 pub mod AnswersLaws

@@ -1,11 +1,11 @@
--- The numbers of outcomes: how many accesses the call had made before (our choice).
+-- The number of accesses that a call had made before each outcome (our choice).
 use Rattle.std.specs.Prelude.{◌+◌, ℕ, List, [], ◌∷◌, map, min}
 use Rattle.stations.specs.declared.outcomes.Numbered.{Numbered}
 use Rattle.stations.specs.declared.tick.Tick.{Tick}
 use Rattle.stations.specs.declared.tick.Tick.TheVariants.{Deliver, Go, Step}
 
--- Ticks are cut at each Go into groups, numbered from i on. In a call of n accesses each outcome of a group has the
--- lesser of the group's number and n as its number.
+-- The number of accesses before each tick that isn't Go, in a call of n accesses. It is i plus the number of Gos before the tick, but at
+-- most n.
 abbrev pub numbers : List Tick → (i n : ℕ) → List ℕ
 numbers [] i n = []
 numbers (Go ∷ ticks) i n = numbers ticks (i + 1) n

@@ -11,29 +11,32 @@ ghost use Rattle.delivery.specs.Lists.{AcceptedArePadded, GoesBehind, GoesJoin, 
 
 use stations::Observer;
 
-/// The outcomes of ticks determine what their atomic steps did.
-/// - `call`: this holds for the ticks of a call, in order. Each outcome has a number, the number of accesses before it:
-///   the number of its tick's group, or the number of accesses of the complete call if that is less.
-/// - `alone`: this also holds for one tick that is played outside a call, even if it is a Go.
-/// - `leads`: if that tick isn't a Go, its step leads from the one state of all stations to the other.
+/// The outcomes of ticks determine what happened in their atomic steps.
+/// - `call`: this holds for the ticks of a call, in order. Each outcome has the number of accesses before its tick. It
+///   is the number of the `Go`s before the tick, but at most the number of accesses of the complete call.
+/// - `alone`: this also holds for one tick that is played outside a call, even if the tick is Go.
+/// - `leads`: if this tick isn't Go, its atomic step leads from the old state of all stations to the new one.
 pub fn outcomes_tell_steps()
     ensures call { OutcomesTellSteps }
     ensures alone { OneOutcomeTellsItsStep }
     ensures leads { OneTickLeads }
 {}
 
-/// `call` of [`outcomes_tell_steps`] applies to each call over a lent bus, after all its ticks were played. The bus's
-/// observer was told the outcome of each tick.
+/// `call` of [`outcomes_tell_steps`] applies to each call over a lent bus after `finish`, and the observer was told the
+/// outcome of each tick.
 pub fn lent_calls_are_told<O: Observer>()
     ensures { LentCallsAreTold O.Observer }
 {}
 
-/// `told_around` adds what a call itself did to the happenings of the call's ticks.
-/// - `between`: it adds this between two of them, before all or after all, and changes none of them.
-/// - `nothing`: if the call itself did nothing, the happenings are those of its ticks.
-/// - `access`: if the call made one access, what it did is between the ticks before this access and the ticks after it.
-/// - `none`: if the call made no access, what it did is after all its ticks.
-/// - `numbers`: the outcomes with some numbers tell what happened after these numbers of accesses.
+/// `tick_happenings_around` inserts what a call itself did into the happenings of the call's ticks.
+/// - `between`: the happenings of the ticks are the same, in the same order. What the call did is between two of them,
+///   or before or after all of them.
+/// - `nothing`: if the call did nothing, the happenings are those of its ticks.
+/// - `access`: if the call made one access, what it did is between the happenings before this access and those after
+/// it.
+/// - `none`: if the call made no access, what it did is after the happenings of all its ticks.
+/// - `numbers`: the outcomes whose numbers of accesses pass a test determine what happened in the steps with these
+/// numbers of accesses before them.
 pub fn calls_say_at_their_access()
     ensures between { CallsAreToldBetweenTicks }
     ensures nothing { OnlyTicksAreTold }
@@ -42,23 +45,23 @@ pub fn calls_say_at_their_access()
     ensures numbers { OutcomesTellByNumber }
 {}
 
-/// What atomic steps do to the frames of each host. Those that it put, stored and missed are those of
-/// its past. The frames that waited at its end, and then those that other hosts on its wire put, in
-/// order, have reached it in this order or wait there. Hosts and wires stay, and no frame is accepted or
-/// given.
+/// What atomic steps do to the frames of each host. The happenings contain exactly the frames that its adapter put,
+/// stored and missed. The frames that waited at the host's end of the wire, followed by those that other hosts on the
+/// wire put, have reached the host in this order or still wait. Hosts and wires don't change, and no frame is accepted
+/// or returned.
 pub fn steps_move_frames()
     ensures { StepsMoveFrames }
 {}
 
-/// Which fates are right.
-/// - `fates`: while RCTL.EN is 1 and a host loads, stores, reads registers, and writes none but RDT, TCTL, IMS and
-///   those of the transmit ring, each frame that reaches it meets the first fate that applies, by the filter and by the
-///   frames in the packet buffer, if MTA has exactly the bits of the numbers of the groups in force. The filter, these
-///   groups and the buffer's room don't change.
-/// - `tails`: writes of RDT and TDT are among these accesses.
-/// - `off`: while RCTL.EN is 0 and RCTL isn't written, each frame that reaches a host is dropped, and none leaves
-///   its packet buffer.
-/// - `filter`: while none but the registers of `fates` are written, the filter doesn't change.
+/// The conditions under which fates are right.
+/// - `fates`: each frame that reaches the host has the first fate that applies, by the filter and by the frames in the
+///   packet buffer. RCTL.EN must be 1, and MTA must have exactly the bits of the joined groups. The host's driver may
+///   write no registers except RDT, TCTL, IMS and those of the transmit ring. The filter, the groups and the buffer's
+///   room don't change.
+/// - `tails`: `fates` permits writes of RDT and TDT.
+/// - `off`: while RCTL.EN is 0 and RCTL isn't written, each frame that reaches a host is dropped. No frame is moved
+///   from its receive packet buffer to memory.
+/// - `filter`: while only the registers of `fates` are written, the filter doesn't change.
 pub fn fates_are_right()
     ensures fates { FatesAreRight }
     ensures tails { TailWritesLeaveReception }
@@ -66,21 +69,23 @@ pub fn fates_are_right()
     ensures filter { FilterStays }
 {}
 
-/// A host joins or leaves a group. The filter, except for its groups, and the frames in the packet buffer don't change.
-/// - `written`: by a write of a word of MTA.
-/// - `alone`: without an access.
+/// A host joins or leaves a group. The filter except MTA, and the frames in the packet buffer, don't change.
+/// - `written`: the driver writes a word of MTA.
+/// - `alone`: the driver makes no access.
 pub fn groups_change()
     ensures written { WritesChangeGroups }
     ensures alone { GroupsChangeAlone }
 {}
 
-/// Two consecutive lists of happenings join to one.
-/// - `lists`: each host's lists are those of the first happenings, and then those of the later.
-/// - `toward`: what is put toward a host depends on each host's wire alone.
-/// - `waits`: what waited at a host's end and was put toward it has reached it or waits, over both, if this holds over
-///   each, and wires don't change.
-/// - `fates`: right fates, and then right fates from where the first ended, are right.
-/// - `receptions`: what an adapter receives in two consecutive intervals joins. Its filter, groups and room are kept.
+/// Two consecutive lists of happenings join.
+/// - `lists`: each list of a host is its list for the first happenings, followed by its list for the later ones.
+/// - `toward`: the frames that other hosts put on a host's wire depend only on the wires of the hosts.
+/// - `waits`: the frames that reached a host, followed by those that wait at its end, are those that waited at the
+///   start, followed by those that others put on its wire. If this is true of each of two consecutive intervals, and
+///   wires don't change, it is true of both together.
+/// - `fates`: if the fates of both lists are right, and the second list begins with the final reception of the first,
+///   the fates of the joined list are right.
+/// - `receptions`: `ReceivesRightly` of two consecutive intervals holds for both together.
 pub fn deliveries_join()
     ensures lists { DeliveriesJoin }
     ensures toward { WiresDecideToward }
@@ -89,20 +94,21 @@ pub fn deliveries_join()
     ensures receptions { ReceptionsJoin }
 {}
 
-/// Fates that are right are right one by one, by the groups in force, the frames in the packet buffer, and whether the
-/// receive side is enabled, when a frame comes. The groups are those of the start, with each joined since added and
-/// each left since removed. The frames are those of the start, then the frames stored since, without those that left or
-/// were given up since.
+/// If all fates are right, each single fate is right. It is the right one for the groups in force, the frames in the
+/// packet buffer, and whether the receive side is enabled, when the frame arrives. The groups are those at the start,
+/// changed by each join and leave since. The frames are those at the start, followed by those stored since. Frames that
+/// left or that a reset dropped are not among them.
 pub fn fates_are_judged_by_the_buffer()
     ensures { FatesAreJudgedByTheBuffer }
 {}
 
-/// Lists of frames that grow at their end, and from whose end a reset takes what it gives up.
-/// - `join`: two consecutive changes of a list are one change.
-/// - `behind`: what is put before the list at the beginning is before it at the end.
-/// - `one_end`: there is at most one end.
-/// - `without`: if nothing is given up, the end is the beginning, then all that was added.
-/// - `padded`: what is added to the frames that are due is the accepted frames, padded.
+/// Lists of frames that grow at their end, and from whose end a reset removes frames.
+/// - `join`: two consecutive changes of a list are together one change.
+/// - `behind`: frames before the list at the beginning are still before the list at the end.
+/// - `one_end`: the beginning and the happenings determine the end.
+/// - `without`: if no frame is removed, the list at the end is the list at the beginning, followed by all frames that
+///   were added.
+/// - `padded`: the frames that are added to the frames due are the accepted frames, padded.
 pub fn lists_grow_and_shrink()
     ensures join { GoesJoin }
     ensures behind { GoesBehind }

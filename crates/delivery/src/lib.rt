@@ -1,5 +1,5 @@
-//! What happens to frames in a network, and what each tick answers: laws of atomic steps, of the outcomes that tell
-//! them, of the fates that frames meet, and of answers that are judged by counting.
+//! What happens to frames in a network: laws of atomic steps, of the outcomes that determine what happened, of the
+//! fates of frames, and of the counts from which outcomes follow.
 #![tactic(auto)]
 
 mod answers_law;

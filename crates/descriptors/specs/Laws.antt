@@ -1,5 +1,4 @@
--- A descriptor's bytes give the descriptor, and sixteen bytes give the same bytes back; and what padding does to a
--- frame.
+-- Lemmas about the conversion of descriptors to bytes and back, and about the padding of frames.
 use Rattle.std.proofs.Common.{◌≡◌, ◌≤◌, ◌<◌, ◌+◌, ◌-◌, ◌*◌, ◌/◌, ◌%◌, ◌^◌, ◌++◌, ◌∷◌, [], IsTrue, ℕ, zero, suc, List, length, take, drop}
 use Rattle.std.proofs.Common.{replicate, slice_index, refl, sym, ap, ◌∙◌, rules, arith}
 use Rattle.std.proofs.lemmas.List.{append-nil, length-append, length-replicate, take_all, take_at, length-drop, get_or-drop}
@@ -19,7 +18,7 @@ pub length-rx_desc_bytes : (desc : RxDesc) → length (rx_desc_bytes desc) ≡ 1
 unfolding rx_desc_bytes
 length-rx_desc_bytes desc = refl
 
--- From the bytes of a descriptor the descriptor comes back.
+-- A descriptor that is converted to bytes and back is the same descriptor.
 pub rx_desc_of-rx_desc_bytes : DescriptorsComeBack
 unfolding rx_desc_bytes rx_desc_of
 rx_desc_of-rx_desc_bytes desc fits =
@@ -29,7 +28,7 @@ rx_desc_of-rx_desc_bytes desc fits =
     let special = little_number-reads_back 2 desc.special [] fits.special in
     rw (address, length, checksum, special) refl
 
--- A byte below a number moves the number up by one place.
+-- If a byte is added below a number, the bytes of the number move up by one place.
 div-above : (j b x : ℕ) → b < 256 → (b + 256 * x) / 256 ^ suc j ≡ x / 256 ^ j
 div-above j b x below =
     let low : (b + 256 * x) / 256 ≡ x = omega arith in
@@ -44,7 +43,7 @@ bytes_low_first-above : (n j b x : ℕ) → b < 256 → bytes_low_first (suc j) 
 bytes_low_first-above zero j b x below = refl
 bytes_low_first-above (suc n) j b x below = rw (byte_at-above j b x below, bytes_low_first-above n (suc j) b x below) refl
 
--- The bytes of the number in the first n bytes are these bytes.
+-- The number in the first n bytes, converted to n bytes, is these bytes.
 pub little_bytes-little_number : (n : ℕ) (bytes : List ℕ) → AreBytes bytes → n ≤ length bytes
     → little_bytes n (little_number n bytes) ≡ take n bytes
 little_bytes-little_number zero bytes are fits = refl
@@ -57,22 +56,22 @@ little_bytes-little_number (suc n) (b ∷ bytes) are fits =
     ∙ little_bytes-little_number n bytes (λ i. are (suc i)) (omega arith) in
     rw (moved, first, others) refl
 
--- Bytes from a place on are bytes.
+-- The part of a list of bytes from a place on is a list of bytes.
 AreBytes-drop : (i : ℕ) (bytes : List ℕ) → AreBytes bytes → AreBytes (drop i bytes)
 AreBytes-drop i bytes are k = rw (get_or-drop i bytes k 0) (are (i + k))
 
--- Two bytes from a place on.
+-- The two bytes from a place on.
 take-two : (i : ℕ) (bytes : List ℕ) → suc i < length bytes → take 2 (drop i bytes) ≡ slice_index bytes i ∷ slice_index bytes (suc i) ∷ []
 take-two i bytes fits = ap (take 2) (drop-cons bytes i 0 (omega arith))
     ∙ ap (λ (rest : List ℕ). slice_index bytes i ∷ take 1 rest) (drop-cons bytes (suc i) 0 fits)
 
--- The bytes of the number that stands in n bytes from a place on are these bytes.
+-- The number in the n bytes from a place on, converted to n bytes, is these bytes.
 little_bytes-drop : (n i : ℕ) (bytes : List ℕ) → AreBytes bytes → i + n ≤ length bytes
     → little_bytes n (little_number n (drop i bytes)) ≡ take n (drop i bytes)
 little_bytes-drop n i bytes are fits = little_bytes-little_number n (drop i bytes) (AreBytes-drop i bytes are)
     (omega (arith, length-drop i bytes))
 
--- Sixteen bytes are eight, and four times two.
+-- Sixteen bytes are eight bytes, followed by four pairs of bytes.
 in_pieces : (bytes : List ℕ) → length bytes ≡ 16
     → take 8 bytes ++ take 2 (drop 8 bytes) ++ take 2 (drop 10 bytes) ++ take 2 (drop 12 bytes) ++ take 2 (drop 14 bytes) ≡ bytes
 in_pieces bytes size =
@@ -82,12 +81,12 @@ in_pieces bytes size =
     ∙ sym (take-add 14 2 bytes)
     ∙ take_all 16 bytes (omega arith)
 
--- The same five pieces make the same whole.
+-- If five pieces are equal, the joined pieces are equal.
 join-same : (a a' b b' c c' d d' e e' : List ℕ) → a ≡ a' → b ≡ b' → c ≡ c' → d ≡ d' → e ≡ e'
     → a ++ b ++ c ++ d ++ e ≡ a' ++ b' ++ c' ++ d' ++ e'
 join-same a a' b b' c c' d d' e e' same_a same_b same_c same_d same_e = rw (same_a, same_b, same_c, same_d, same_e) refl
 
--- From the descriptor of sixteen bytes the bytes come back.
+-- Sixteen bytes that are converted to a descriptor and back are the same bytes.
 pub rx_desc_bytes-rx_desc_of : BytesComeBack
 unfolding rx_desc_bytes rx_desc_of
 rx_desc_bytes-rx_desc_of bytes are size =
@@ -103,7 +102,7 @@ pub length-tx_desc_bytes : (desc : TxDesc) → length (tx_desc_bytes desc) ≡ 1
 unfolding tx_desc_bytes
 length-tx_desc_bytes desc = refl
 
--- From the bytes of a transmit descriptor the descriptor comes back.
+-- A transmit descriptor that is converted to bytes and back is the same descriptor.
 pub tx_desc_of-tx_desc_bytes : TxDescriptorsComeBack
 unfolding tx_desc_bytes tx_desc_of
 tx_desc_of-tx_desc_bytes desc fits =
@@ -112,7 +111,7 @@ tx_desc_of-tx_desc_bytes desc fits =
     let special = little_number-reads_back 2 desc.special [] fits.special in
     rw (address, length, special) refl
 
--- From the transmit descriptor of sixteen bytes the bytes come back.
+-- Sixteen bytes that are converted to a transmit descriptor and back are the same bytes.
 pub tx_desc_bytes-tx_desc_of : TxBytesComeBack
 unfolding tx_desc_bytes tx_desc_of
 tx_desc_bytes-tx_desc_of bytes are size =
@@ -130,18 +129,18 @@ is_sendable-bounds frame sendable = search rules
 pub is_sendable-from_bounds : (frame : List ℕ) → 14 ≤ length frame → length frame ≤ 1518 → IsTrue (is_sendable frame)
 is_sendable-from_bounds frame least most = search rules
 
--- Padding makes a frame shorter than 60 bytes 60 bytes long.
+-- After padding, a frame of at most 60 bytes has 60 bytes.
 pub length-padded-short : (frame : List ℕ) → length frame ≤ 60 → length (padded frame) ≡ 60
 length-padded-short frame short = omega
     (arith, length-append frame (replicate (60 - length frame) 0), length-replicate {A = ℕ} (60 - length frame) 0)
 
--- From 60 bytes on padding leaves a frame as it is.
+-- Padding doesn't change a frame of 60 bytes or more.
 pub padded-long : (frame : List ℕ) → 60 ≤ length frame → padded frame ≡ frame
 padded-long frame long =
     let none : 60 - length frame ≡ 0 = omega arith in
     ap (λ (n : ℕ). frame ++ replicate n 0) none ∙ append-nil frame
 
--- A padded frame has 60 bytes at least.
+-- A padded frame has at least 60 bytes.
 pub length-padded-least : (frame : List ℕ) → 60 ≤ length (padded frame)
 length-padded-least frame = omega
     (arith, length-append frame (replicate (60 - length frame) 0), length-replicate {A = ℕ} (60 - length frame) 0)
@@ -150,7 +149,7 @@ length-padded-least frame = omega
 pub take-padded : (frame : List ℕ) → take (length frame) (padded frame) ≡ frame
 take-padded frame = take_at frame (replicate (60 - length frame) 0) (length frame) refl
 
--- A sendable frame is legal once it is padded.
+-- A sendable frame is legal after it is padded.
 pub padded-legal : (frame : List ℕ) → IsTrue (is_sendable frame) → IsLegal (padded frame)
 padded-legal frame sendable =
     let bounds = is_sendable-bounds frame sendable in

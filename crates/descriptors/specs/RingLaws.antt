@@ -1,4 +1,4 @@
--- Which slots of a ring the adapter owns, and how they change when head or tail moves on.
+-- Which slots of a ring the adapter owns, and how they change when head or tail advances.
 use Rattle.std.proofs.Common.{◌≡◌, ⊎_elim, ◌≤◌, ◌<◌, ◌+◌, ◌-◌, ◌%◌, ◌++◌, ◌∷◌, [], ℕ, zero, suc, List, length, refl, ap, ◌∙◌, arith}
 use Rattle.std.proofs.lemmas.Bool.{cases_eq, cases_lt}
 use Rattle.std.proofs.lemmas.Nat.{mod_below}
@@ -6,18 +6,18 @@ use Rattle.std.proofs.Math.Nat.{mod-eq_of_lt, mod_self, add-mod_left}
 use Rattle.descriptors.specs.Ring.{count_of, distance_of, slots_from, offered_places, OfferedBeginAtHead, NoneIsOffered, OfferedAreDistance}
 use Rattle.descriptors.specs.Ring.{OfferedGrowAtTail}
 
--- The slot after one that isn't the last has the next number.
+-- The slot after a slot with number i has number i + 1, or 0 after the last one.
 pub next-inner : (n i : ℕ) → i + 1 < n → (i + 1) % n ≡ i + 1
 next-inner n i inner = mod-eq_of_lt inner
 
 pub next-last : (n i : ℕ) → i + 1 ≡ n → (i + 1) % n ≡ 0
 next-last n i last = ap (λ (k : ℕ). k % n) last ∙ mod_self n
 
--- The slot after a slot is a slot.
+-- The index after a slot is the index of a slot.
 pub next-below : (n i : ℕ) → i < n → (i + 1) % n < n
 next-below n i slot = mod_below (i + 1) n (omega arith)
 
--- The distance to a slot that isn't before the first one is the difference of both.
+-- The distance to a slot with a greater number is the difference of the numbers. To a slot with a smaller number, the distance wraps.
 pub distance-forward : (n from to : ℕ) → to < n → from ≤ to → (to + n - from) % n ≡ to - from
 distance-forward n from to slot forward =
     let moved : to + n - from ≡ n + (to - from) = omega arith in
@@ -26,7 +26,7 @@ distance-forward n from to slot forward =
 pub distance-around : (n from to : ℕ) → from < n → to < from → (to + n - from) % n ≡ to + n - from
 distance-around n from to slot around = mod-eq_of_lt (omega arith)
 
--- One slot further, the distance to another slot is shorter by one.
+-- From the next slot on, the distance to another slot is shorter by one.
 pub distance-step : (n from to : ℕ) → from < n → to < n → ¬ (from ≡ to) → (to + n - from) % n ≡ suc ((to + n - (from + 1) % n) % n)
 distance-step n from to slot_from slot_to apart =
     ⊎_elim
@@ -47,7 +47,7 @@ distance-step n from to slot_from slot_to apart =
     (omega arith))
     (cases_lt to from)
 
--- The distance to the slot after another is longer by one.
+-- The distance to the next slot after a slot is longer by one.
 pub distance-grows : (n from to : ℕ) → from < n → to < n → ¬ ((to + 1) % n ≡ from)
     → ((to + 1) % n + n - from) % n ≡ suc ((to + n - from) % n)
 distance-grows n from to slot_from slot_to apart =
@@ -66,22 +66,22 @@ distance-grows n from to slot_from slot_to apart =
     (cases_lt to from))
     (cases_eq (to + 1) n)
 
--- This list of k slots has k entries.
+-- The list of k slots has k entries.
 pub length-slots_from : (n index k : ℕ) → length (slots_from n index k) ≡ k
 length-slots_from n index zero = refl
 length-slots_from n index (suc k) = ap suc (length-slots_from n ((index + 1) % n) k)
 
--- The slot that is this number of slots after an index.
+-- The slot that is k slots after an index.
 abbrev pub place : ℕ → ℕ → ℕ → ℕ
 place n index zero = index
 place n index (suc k) = place n ((index + 1) % n) k
 
--- One more slot is at the end of the list.
+-- The list of k + 1 slots is the list of k slots and the next slot.
 pub slots_from-push : (n index k : ℕ) → slots_from n index (suc k) ≡ slots_from n index k ++ place n index k ∷ []
 slots_from-push n index zero = refl
 slots_from-push n index (suc k) = ap (λ (slots : List ℕ). index ∷ slots) (slots_from-push n ((index + 1) % n) k)
 
--- The slot that is after a slot by its distance to another slot is that other slot.
+-- If the distance from one slot to another is k, the slot that is k slots after the first is the other.
 pub place-distance : (n k from to : ℕ) → from < n → to < n → (to + n - from) % n ≡ k → place n from k ≡ to
 place-distance n zero from to slot_from slot_to none =
     ⊎_elim
@@ -119,7 +119,7 @@ pub length-places : OfferedAreDistance
 unfolding offered_places
 length-places ring = length-slots_from (count_of ring) ring.head (distance_of ring ring.head ring.tail)
 
--- Moving tail on gives the slot at the old tail, as the last one.
+-- If the tail advances, the slot at the old tail becomes the last offered slot.
 pub places-tail : OfferedGrowAtTail
 unfolding offered_places
 places-tail ring sound apart =

@@ -11,7 +11,7 @@ rx_desc_bytes desc =
     ++ (status_bits desc.status ∷ desc.errors ∷ [])
     ++ little_bytes 2 desc.special
 
--- The descriptor that sixteen bytes are.
+-- The descriptor that sixteen bytes encode.
 unfoldable pub rx_desc_of : List ℕ → RxDesc
 rx_desc_of bytes = record {
   address = little_number 8 bytes;
@@ -22,7 +22,7 @@ rx_desc_of bytes = record {
   special = little_number 2 (drop 14 bytes);
 }
 
--- Each field is a number of its width.
+-- Each field fits into its width.
 pub record Fits (desc : RxDesc) : Type 0 where
   pub address : desc.address < 2 ^ 64
   pub length : desc.length < 2 ^ 16
@@ -31,14 +31,14 @@ pub record Fits (desc : RxDesc) : Type 0 where
   pub errors : desc.errors < 2 ^ 8
   pub special : desc.special < 2 ^ 16
 
--- The numbers are bytes.
+-- Each number of the list is below 256.
 abbrev pub AreBytes : List ℕ → Type 0
 AreBytes bytes = (i : ℕ) → slice_index bytes i < 256
 
--- From the bytes of a descriptor the descriptor comes back.
+-- A descriptor that is converted to bytes and back is the same descriptor.
 abbrev pub DescriptorsComeBack : Type 0
 DescriptorsComeBack = (desc : RxDesc) → Fits desc → rx_desc_of (rx_desc_bytes desc) ≡ desc
 
--- From the descriptor of sixteen bytes the bytes come back.
+-- Sixteen bytes that are converted to a descriptor and back are the same bytes.
 abbrev pub BytesComeBack : Type 0
 BytesComeBack = (bytes : List ℕ) → AreBytes bytes → length bytes ≡ 16 → rx_desc_bytes (rx_desc_of bytes) ≡ bytes

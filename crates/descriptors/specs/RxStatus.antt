@@ -2,18 +2,18 @@
 use Rattle.std.specs.Prelude.{ℕ}
 use Rattle.descriptors.specs.declared.rx_status.RxStatus.{RxStatus}
 
--- The eight bits of a status.
+-- The status byte as a number.
 abbrev pub status_bits : RxStatus → ℕ
 status_bits status = status.0
 
--- the place of DD, descriptor done (3.2.3.1)
+-- The place of the bit DD, descriptor done (3.2.3.1).
 abbrev pub dd : ℕ
 dd = 0
 
--- the place of EOP, end of packet (3.2.3.1)
+-- The place of the bit EOP, end of packet (3.2.3.1).
 abbrev pub eop : ℕ
 eop = 1
 
--- the status with these bits, also those without a name
+-- The status with these bits; bits without a name are kept.
 abbrev pub status_of : ℕ → RxStatus
 status_of bits = record { 0 = bits }

@@ -12,7 +12,7 @@ tx_desc_bytes desc =
     ++ (sent_bits desc.status ∷ desc.css ∷ [])
     ++ little_bytes 2 desc.special
 
--- The descriptor that sixteen bytes are.
+-- The descriptor that sixteen bytes encode.
 unfoldable pub tx_desc_of : List ℕ → TxDesc
 tx_desc_of bytes = record {
   address = little_number 8 bytes;
@@ -24,7 +24,7 @@ tx_desc_of bytes = record {
   special = little_number 2 (drop 14 bytes);
 }
 
--- Each field is a number of its width.
+-- Each field fits into its width.
 pub record TxFits (desc : TxDesc) : Type 0 where
   pub address : desc.address < 2 ^ 64
   pub length : desc.length < 2 ^ 16
@@ -34,10 +34,10 @@ pub record TxFits (desc : TxDesc) : Type 0 where
   pub css : desc.css < 2 ^ 8
   pub special : desc.special < 2 ^ 16
 
--- From the bytes of a descriptor the descriptor comes back.
+-- A descriptor that is converted to bytes and back is the same descriptor.
 abbrev pub TxDescriptorsComeBack : Type 0
 TxDescriptorsComeBack = (desc : TxDesc) → TxFits desc → tx_desc_of (tx_desc_bytes desc) ≡ desc
 
--- From the descriptor of sixteen bytes the bytes come back.
+-- Sixteen bytes that are converted to a descriptor and back are the same bytes.
 abbrev pub TxBytesComeBack : Type 0
 TxBytesComeBack = (bytes : List ℕ) → AreBytes bytes → length bytes ≡ 16 → tx_desc_bytes (tx_desc_of bytes) ≡ bytes

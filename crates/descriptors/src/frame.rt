@@ -4,23 +4,24 @@ use arrayvec::ArrayVec;
 use std::alloc::AllocError;
 use std::marker::Model;
 
-/// The least bytes of a frame on the wire, without its check sequence (IEEE 802.3, 4.4.2: minFrameSize less 4 bytes).
+/// The least number of bytes of a frame on the wire, without its check sequence (IEEE 802.3, 4.4.2: minFrameSize less 4
+/// bytes).
 pub const SHORTEST_LEGAL: usize = 60;
 
-/// The most bytes of a frame on the wire, without its check sequence (IEEE 802.3, 4.4.2: maxBasicFrameSize of 1,518
-/// bytes less 4, and 4 for a VLAN tag).
+/// The greatest number of bytes of a frame on the wire, without its check sequence (IEEE 802.3, 4.4.2:
+/// maxBasicFrameSize of 1,518 bytes less 4, and 4 for a VLAN tag).
 pub const LONGEST_LEGAL: usize = 1518;
 
-/// The least bytes of a frame that can be sent: two addresses and the type (IEEE 802.3, 3.1.1). It is padded to
-/// [`SHORTEST_LEGAL`] bytes.
+/// The least number of bytes of a frame that can be sent: two addresses and the Length/Type field (IEEE 802.3, 3.1.1).
+/// After padding, the frame has [`SHORTEST_LEGAL`] bytes on the wire.
 pub const SHORTEST_SENDABLE: usize = 14;
 
-/// The most bytes of a frame that can be sent.
+/// The greatest number of bytes of a frame that can be sent.
 pub const LONGEST_SENDABLE: usize = LONGEST_LEGAL;
 
 /// An Ethernet frame of at most 1,518 bytes: destination address to end of data, without the check sequence.
 ///
-/// Its bytes are in the value itself, so no call allocates.
+/// The bytes are in the value itself, so no call allocates memory.
 #[derive(Debug, Drop, PartialEq, Eq)]
 pub struct Frame {
     bytes: ArrayVec<u8, LONGEST_LEGAL>,
@@ -39,7 +40,7 @@ impl Model for Frame {
 }
 
 impl Frame {
-    /// The most bytes of a frame.
+    /// The greatest number of bytes of a frame.
     pub const MAX_LEN: usize = LONGEST_LEGAL;
 
     /// An empty frame.
@@ -51,7 +52,7 @@ impl Frame {
         }
     }
 
-    /// The frame of these bytes, of which there are at most 1,518.
+    /// The frame with these bytes, of which there are at most 1,518.
     pub fn from_slice(bytes: &[u8]) -> Frame
         requires { length bytes.now ≤ 1518 }
         ensures { result ≡ bytes.now }
@@ -63,7 +64,7 @@ impl Frame {
         frame
     }
 
-    /// The frame of these bytes, or `None` exactly if there are more than 1,518.
+    /// The frame with these bytes, or `None` exactly if there are more than 1,518 bytes.
     pub fn try_from_slice(bytes: &[u8]) -> Option<Frame>
         ensures fits { IsSome result ↔ (length bytes.now ≤ 1518) }
         ensures value { IfSome result (λ frame. frame ≡ bytes.now) }
@@ -74,7 +75,7 @@ impl Frame {
         Some(Frame::from_slice(bytes))
     }
 
-    /// How many bytes the frame has.
+    /// The number of bytes of the frame.
     pub fn len(&self) -> usize
         ensures value { result ≡ length self.now }
         ensures fits { result ≤ 1518 }
@@ -98,7 +99,7 @@ impl Frame {
     }
 }
 
-/// A clone has the same bytes. It takes no memory, so it never fails.
+/// A clone has the same bytes. It allocates no memory, so it never fails.
 impl Clone for Frame {
     ghost is_clone = { λ frame copy. copy ≡ frame };
 

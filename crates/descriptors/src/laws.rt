@@ -3,29 +3,29 @@ ghost use Rattle.descriptors.specs.TxDesc.{TxDescriptorsComeBack, TxBytesComeBac
 ghost use Rattle.descriptors.specs.Ring.{OfferedBeginAtHead, NoneIsOffered, OfferedAreDistance, OfferedGrowAtTail};
 ghost use Rattle.descriptors.specs.Frames.{SendablePaddedIsLegal, PaddedBeginsWithFrame, LongFramesStay};
 
-/// Laws of receive descriptors: from the bytes of a descriptor the descriptor comes back, and from the descriptor of
-/// any sixteen bytes the bytes.
+/// Laws of receive descriptors. A descriptor that is converted to bytes and back is the same descriptor. Sixteen bytes
+/// that are converted to a descriptor and back are the same bytes.
 ///
-/// It does nothing: its contract is the laws.
+/// The function does nothing: its contract is the laws.
 pub fn descriptors_come_back()
     ensures descriptors { DescriptorsComeBack }
     ensures bytes { BytesComeBack }
 {}
 
-/// Laws of transmit descriptors: from the bytes of a descriptor the descriptor comes back, and from the descriptor of
-/// any sixteen bytes the bytes.
+/// Laws of transmit descriptors. A descriptor that is converted to bytes and back is the same descriptor. Sixteen bytes
+/// that are converted to a descriptor and back are the same bytes.
 ///
-/// It does nothing: its contract is the laws.
+/// The function does nothing: its contract is the laws.
 pub fn transmit_descriptors_come_back()
     ensures descriptors { TxDescriptorsComeBack }
     ensures bytes { TxBytesComeBack }
 {}
 
-/// Laws of rings whose head and tail are slots: the slots that the adapter owns begin at the head, and are those after
-/// it once head moves on; there is none if head equals tail, and their number is the distance from head to tail
-/// otherwise; moving tail on gives the slot at the old tail to the adapter, as the last one.
+/// Laws of rings whose head and tail are slots. The slots that the adapter owns begin at the head; after the head
+/// advances, the adapter owns the others. If head equals tail, the adapter owns no slot. The number of its slots is the
+/// distance from head to tail. If the tail advances, the slot at the old tail is added as the last one.
 ///
-/// It does nothing: its contract is the laws.
+/// The function does nothing: its contract is the laws.
 pub fn offered_places_go_from_head_to_tail()
     ensures begins { OfferedBeginAtHead }
     ensures empty { NoneIsOffered }
@@ -33,10 +33,10 @@ pub fn offered_places_go_from_head_to_tail()
     ensures grows { OfferedGrowAtTail }
 {}
 
-/// Laws of padding: a frame that can be sent is legal once it is padded, a padded frame begins with the frame, and a
-/// frame of 60 bytes or more stays as it is.
+/// Laws of padding. A frame that can be sent is legal after it is padded. A padded frame begins with the frame. Padding
+/// doesn't change a frame of 60 bytes or more.
 ///
-/// It does nothing: its contract is the laws.
+/// The function does nothing: its contract is the laws.
 pub fn sendable_frames_are_padded_to_legal()
     ensures legal { SendablePaddedIsLegal }
     ensures begins { PaddedBeginsWithFrame }

@@ -1,7 +1,6 @@
-//! What travels between a driver, its adapter and the wire: descriptors, which are sixteen bytes in a host's memory,
-//! and Ethernet frames.
+//! Descriptors of sixteen bytes in a host's memory, rings of descriptors, and Ethernet frames.
 //!
-//! A frame here is destination address to end of data, without the check sequence.
+//! A frame is the bytes from the destination address to the end of the data, without the check sequence.
 #![tactic(auto)]
 
 mod frame;

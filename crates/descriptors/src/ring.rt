@@ -1,21 +1,21 @@
 ghost use Rattle.std.specs.Prelude.{◌≡◌, ◌<◌, ◌^◌, ◌↔◌, IsTrue, IsSome, IfSome};
 
-/// The bytes of one descriptor of a ring.
+/// The number of bytes of a descriptor.
 const DESCRIPTOR_BYTES: u32 = 16;
 
-/// How many descriptors an index of 16 bits reaches.
+/// The number of descriptors that indices of 16 bits can reach.
 const MOST_INDEXED: u32 = 1 << 16;
 
 /// A ring of descriptors as its registers define it: base address, length, head and tail (Intel's manual, "13.4.25
-/// Receive Descriptor Base Address Low" up to "13.4.29 Receive Descriptor Tail", and the registers of transmit
-/// descriptors).
+/// Receive Descriptor Base Address Low" to "13.4.29 Receive Descriptor Tail", and the same registers of the transmit
+/// ring).
 ///
-/// The adapter owns the descriptors from head up to, not including, tail, wrapping.
+/// The adapter owns the descriptors from head up to, but not including, tail. After the last slot, the ring wraps.
 #[derive(Clone, Copy, Debug, PartialEq, Eq)]
 pub struct Ring {
     /// The address of the first descriptor in the host's memory.
     pub base: u64,
-    /// The length of the ring in bytes, sixteen a descriptor.
+    /// The length of the ring in bytes, sixteen for each descriptor.
     pub bytes: u32,
     /// The slot that the adapter uses next.
     pub head: u16,
@@ -26,15 +26,15 @@ pub struct Ring {
 impl Ring {
     ghost use Rattle.descriptors.specs.Ring.{count_of, HasValidIndices, next_of, distance_of, address_of};
 
-    /// How many descriptors the ring has: one for sixteen bytes of its length, 65,536 at most, which is as far as
-    /// indices of 16 bits reach. The length registers have 20 bits and name fewer.
+    /// The number of descriptors of the ring: its length divided by sixteen bytes, and at most 65,536, because indices
+    /// have 16 bits. The length registers of the adapter have 20 bits, so its rings have fewer.
     pub fn count(&self) -> u32
         ensures { result ≡ count_of self.now }
     {
         (self.bytes / DESCRIPTOR_BYTES).min(MOST_INDEXED)
     }
 
-    /// Whether head and tail are slots of the ring. A ring of no descriptors has none.
+    /// Whether head and tail are slots of the ring. A ring without descriptors has no slots.
     pub fn has_valid_indices(&self) -> bool
         ensures { IsTrue result ↔ HasValidIndices self.now }
     {
@@ -51,7 +51,7 @@ impl Ring {
         if next == self.count() { 0 } else { next as u16 }
     }
 
-    /// The distance in slots from one slot on to another, wrapping.
+    /// The number of steps from one slot forward to another, with wrapping.
     pub fn distance(&self, from: u16, to: u16) -> u32
         requires from_slot { from < count_of self.now }
         requires to_slot { to < count_of self.now }
@@ -64,7 +64,8 @@ impl Ring {
         }
     }
 
-    /// The address of a slot's descriptor, or `None` exactly if 64 bits can't hold it: addresses don't wrap.
+    /// The address of a slot's descriptor, or `None` exactly if the address has more than 64 bits. Addresses don't
+    /// wrap.
     pub fn descriptor(&self, index: u16) -> Option<u64>
         ensures in_range { IsSome result ↔ (address_of self.now index < 2 ^ 64) }
         ensures value { IfSome result (λ address. address ≡ address_of self.now index) }

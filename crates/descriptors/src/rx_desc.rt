@@ -4,16 +4,16 @@ use crate::RxStatus;
 use bitflags::Flags;
 use byteorder::{ByteOrder, LittleEndian};
 
-/// The bytes of a receive descriptor.
+/// The number of bytes of a receive descriptor.
 pub const RX_DESC_BYTES: usize = 16;
 
-/// A receive descriptor: where the adapter is to put a frame, and what it reports of the frame that it has put there
-/// (Intel's manual, "3.2.3 Receive Descriptor Format").
+/// A receive descriptor: the address of a receive buffer, and what the adapter reports about the bytes that it wrote
+/// there (Intel's manual, "3.2.3 Receive Descriptor Format").
 #[derive(Clone, Copy, Debug, PartialEq, Eq)]
 pub struct RxDesc {
     /// The address of the buffer in the host's memory.
     pub address: u64,
-    /// How many bytes the adapter wrote into the buffer.
+    /// The number of bytes that the adapter wrote into the buffer.
     pub length: u16,
     /// The packet checksum.
     pub checksum: u16,
@@ -28,7 +28,7 @@ pub struct RxDesc {
 impl RxDesc {
     ghost use Rattle.descriptors.specs.RxDesc.{rx_desc_bytes, rx_desc_of};
 
-    /// The bytes of the descriptor in memory: its fields in order, each little-endian.
+    /// The sixteen bytes of the descriptor in memory: its fields in order, each little-endian.
     #[tactic(auto, unfolding(crate::specs::RxDesc::rx_desc_bytes))]
     pub fn to_bytes(&self) -> [u8; 16]
         ensures { result ≡ rx_desc_bytes self.now }
@@ -43,7 +43,7 @@ impl RxDesc {
         bytes
     }
 
-    /// The descriptor that these bytes of memory are.
+    /// The descriptor that these bytes in memory encode.
     #[tactic(auto, unfolding(crate::specs::RxDesc::rx_desc_of))]
     pub fn from_bytes(bytes: &[u8; 16]) -> RxDesc
         ensures { result ≡ rx_desc_of bytes.now }

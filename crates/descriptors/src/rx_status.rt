@@ -4,15 +4,15 @@ use bitflags::{Flag, Flags, bitflag_items};
 
 /// The status byte of a receive descriptor (Intel's manual, "3.2.3.1 Receive Descriptor Status Field").
 ///
-/// The byte comes from memory, so bits without a name here are kept as they are.
+/// The byte comes from memory, so bits that have no name here are kept, too.
 #[derive(Clone, Copy, PartialEq, Eq, Debug)]
 pub struct RxStatus(u8);
 
 bitflag_items! {
     impl RxStatus: u8 {
-        /// The adapter is done with the descriptor: the bytes received are in its buffer.
+        /// Descriptor done: the adapter is done with the descriptor, and the bytes received are in its buffer.
         const DD = 1 << 0;
-        /// The buffer holds the end of its packet.
+        /// End of packet: the buffer contains the end of its packet.
         const EOP = 1 << 1;
     }
 }

@@ -4,19 +4,19 @@ use bitflags::{Flag, Flags, bitflag_items};
 
 /// The command byte of a transmit descriptor (Intel's manual, "3.3.3.1 Transmit Descriptor Command Field Format").
 ///
-/// The byte comes from memory, so bits without a name here are kept as they are.
+/// The byte comes from memory, so bits that have no name here are kept, too.
 #[derive(Clone, Copy, PartialEq, Eq, Debug)]
 pub struct TxCommand(u8);
 
 bitflag_items! {
     impl TxCommand: u8 {
-        /// The buffer holds the end of its packet.
+        /// End of packet: the buffer contains the end of its packet.
         const EOP = 1 << 0;
-        /// The adapter appends the check sequence.
+        /// Insert FCS: the adapter appends the check sequence.
         const IFCS = 1 << 1;
-        /// The adapter reports in the descriptor's status that the packet went out.
+        /// Report status: the adapter sets DD in the descriptor's status after the packet was sent.
         const RS = 1 << 3;
-        /// The descriptor has one of the extended formats.
+        /// Descriptor extension: the descriptor has one of the extended formats.
         const DEXT = 1 << 5;
     }
 }

@@ -4,24 +4,24 @@ use crate::{TxCommand, TxStatus};
 use bitflags::Flags;
 use byteorder::{ByteOrder, LittleEndian};
 
-/// The bytes of a transmit descriptor.
+/// The number of bytes of a transmit descriptor.
 pub const TX_DESC_BYTES: usize = 16;
 
-/// A transmit descriptor of the legacy format: where the frame to be sent is, what the adapter is to do with it, and
-/// whether it has gone out (Intel's manual, "3.3.3 Legacy Transmit Descriptor Format").
+/// A transmit descriptor of the legacy format (Intel's manual, "3.3.3 Legacy Transmit Descriptor Format"): the address
+/// and length of a frame to be sent, the commands for the adapter, and whether the frame was sent.
 #[derive(Clone, Copy, Debug, PartialEq, Eq)]
 pub struct TxDesc {
     /// The address of the frame's bytes in the host's memory.
     pub address: u64,
-    /// How many bytes the frame has.
+    /// The number of bytes of the frame.
     pub length: u16,
-    /// Check sum offset: where a check sum would be inserted.
+    /// Checksum offset: at which byte a checksum would be inserted.
     pub cso: u8,
-    /// What the adapter is to do.
+    /// The commands for the adapter.
     pub command: TxCommand,
     /// Whether the adapter is done with the descriptor.
     pub status: TxStatus,
-    /// Check sum start: where a check sum would begin.
+    /// Checksum start: at which byte the range of a checksum would begin.
     pub css: u8,
     /// VLAN tag information.
     pub special: u16,
@@ -30,7 +30,7 @@ pub struct TxDesc {
 impl TxDesc {
     ghost use Rattle.descriptors.specs.TxDesc.{tx_desc_bytes, tx_desc_of};
 
-    /// The bytes of the descriptor in memory: its fields in order, each little-endian.
+    /// The sixteen bytes of the descriptor in memory: its fields in order, each little-endian.
     #[tactic(auto, unfolding(crate::specs::TxDesc::tx_desc_bytes))]
     pub fn to_bytes(&self) -> [u8; 16]
         ensures { result ≡ tx_desc_bytes self.now }
@@ -46,7 +46,7 @@ impl TxDesc {
         bytes
     }
 
-    /// The descriptor that these bytes of memory are.
+    /// The descriptor that these bytes in memory encode.
     #[tactic(auto, unfolding(crate::specs::TxDesc::tx_desc_of))]
     pub fn from_bytes(bytes: &[u8; 16]) -> TxDesc
         ensures { result ≡ tx_desc_of bytes.now }

@@ -2,16 +2,16 @@ ghost use Rattle.std.specs.Prelude.{⊤, [], ◌∷◌, codes};
 
 use bitflags::{Flag, Flags, bitflag_items};
 
-/// The status byte of a transmit descriptor, whose low four bits are the status (Intel's manual, "3.3.3.2 Transmit
+/// The status byte of a transmit descriptor. Its low four bits are the status (Intel's manual, "3.3.3.2 Transmit
 /// Descriptor Status Field Format").
 ///
-/// The byte comes from memory and is kept whole, bits without a name among them.
+/// The byte comes from memory, so bits that have no name here are kept, too.
 #[derive(Clone, Copy, PartialEq, Eq, Debug)]
 pub struct TxStatus(u8);
 
 bitflag_items! {
     impl TxStatus: u8 {
-        /// The adapter is done with the descriptor: its packet went out.
+        /// Descriptor done: the adapter is done with the descriptor, and its packet was sent.
         const DD = 1 << 0;
     }
 }

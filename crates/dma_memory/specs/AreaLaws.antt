@@ -1,4 +1,4 @@
--- Areas that lie apart or inside one another, and what a store changes, for proofs of the crates above too.
+-- Lemmas about areas that are apart or inside one another, and about what a store changes. Other crates use them, too.
 use Rattle.std.proofs.Common.{inl, inr, ℕ, List, length, arith}
 use Rattle.dma_memory.specs.HostMemory.{with_bytes, LiesIn}
 use Rattle.dma_memory.specs.Areas.{Area, area_at, AreApart, IsInside, ChangesOnly}
@@ -16,12 +16,12 @@ pub inside-apart : (other inner outer : Area) → IsInside inner outer → AreAp
 inside-apart other inner outer inside (inl before) = inl (omega (arith, inside.from))
 inside-apart other inner outer inside (inr behind) = inr (omega (arith, inside.to))
 
--- What is inside an area that lies in memory lies in memory.
+-- If an area is inside memory, each area inside it is inside memory, too.
 pub lies-inside : (memory : List ℕ) (inner outer : Area) → IsInside inner outer → LiesIn memory outer.address outer.size
     → LiesIn memory inner.address inner.size
 lies-inside memory inner outer inside lies = omega (arith, inside.from, inside.to)
 
--- A store changes only its bytes.
+-- A store changes only the bytes that it writes.
 pub changes_only_stored : (memory bytes : List ℕ) (address : ℕ) → LiesIn memory address (length bytes)
     → ChangesOnly memory (with_bytes memory address bytes) (area_at address (length bytes))
 changes_only_stored memory bytes address lies = record {

@@ -2,46 +2,46 @@
 use Rattle.std.specs.Prelude.{◌≡◌, ◌≤◌, ◌+◌, ◌⊎◌, ℕ, List, length, All, AllPairs}
 use Rattle.dma_memory.specs.HostMemory.{bytes_at, LiesIn}
 
--- a range of bytes in a host's memory
+-- A range of bytes in a host's memory.
 pub record Area : Type 0 where
-  -- the address of the first byte
+  -- The address of the first byte.
   pub address : ℕ
-  -- the number of bytes
+  -- The number of bytes.
   pub size : ℕ
 
--- the area of this address and size
+-- The area of this address and size.
 abbrev pub area_at : ℕ → ℕ → Area
 area_at address size = record { address = address; size = size }
 
--- the sixteen bytes of a descriptor ("3.2.3 Receive Descriptor Format", "3.3.3 Legacy Transmit Descriptor Format" of Intel's manual)
+-- The sixteen bytes of a descriptor ("3.2.3 Receive Descriptor Format", "3.3.3 Legacy Transmit Descriptor Format" of Intel's manual).
 abbrev pub descriptor_area : ℕ → Area
 descriptor_area address = area_at address 16
 
--- the bytes of an area
+-- The bytes of an area.
 abbrev pub bytes_in : List ℕ → Area → List ℕ
 bytes_in memory area = bytes_at memory area.address area.size
 
--- of two areas one ends at or before the start of the other, so no byte belongs to both
+-- One of two areas ends at or before the start of the other, so no byte belongs to both.
 abbrev pub AreApart : Area → Area → Type 0
 AreApart a b = (a.address + a.size ≤ b.address) ⊎ (b.address + b.size ≤ a.address)
 
--- the first area begins and ends within the second
+-- The first area begins and ends within the second.
 pub record IsInside (inner outer : Area) : Type 0 where
-  -- it doesn't begin before the second area
+  -- The first area doesn't begin before the second.
   pub from : outer.address ≤ inner.address
-  -- it doesn't end after the second area
+  -- The first area doesn't end after the second.
   pub to : inner.address + inner.size ≤ outer.address + outer.size
 
--- these areas lie in memory, and any two of them are apart
+-- These areas are inside memory, and any two of them are apart.
 pub record AreSeparate (memory : List ℕ) (areas : List Area) : Type 0 where
-  -- each lies in memory
+  -- Each area is inside memory.
   pub lie : All (λ area. LiesIn memory area.address area.size) areas
-  -- any two have no byte in common
+  -- Any two areas are apart.
   pub apart : AllPairs AreApart areas
 
--- of memory at most this area has changed
+-- Memory may differ in this area only.
 pub record ChangesOnly (memory memory' : List ℕ) (area : Area) : Type 0 where
-  -- memory keeps its size
+  -- The size of memory doesn't change.
   pub size : length memory' ≡ length memory
-  -- every area apart from this one has the same bytes as before
+  -- Every area apart from this one has the same bytes as before.
   pub others : (other : Area) → AreApart area other → bytes_in memory' other ≡ bytes_in memory other

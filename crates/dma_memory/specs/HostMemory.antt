@@ -11,7 +11,7 @@ bytes_at memory address n = take n (drop address memory)
 abbrev pub with_bytes : List ℕ → ℕ → List ℕ → List ℕ
 with_bytes memory address bytes = take address memory ++ bytes ++ drop (address + length bytes) memory
 
--- The memory has n bytes from the address on. A difference of numbers stops at 0, so an empty range is in it at every
--- address, and any other range only if its last byte is below its size.
+-- The memory has n bytes from the address on. A subtraction in contracts stops at 0. So an empty range is inside memory at every address.
+-- Any other range is inside memory only if the address of its last byte is below the size.
 abbrev pub LiesIn : List ℕ → ℕ → ℕ → Type 0
 LiesIn memory address n = n ≤ length memory - address

@@ -1,4 +1,4 @@
--- What a memory contains after a store.
+-- The contents of a memory after a store.
 use Rattle.std.proofs.Common.{◌≡◌, ◌≤◌, ◌<◌, ◌+◌, ◌-◌, inl, inr, ◌++◌, ◌∷◌, [], ℕ, zero, suc, List, length, take, drop, replicate, refl}
 use Rattle.std.proofs.Common.{sym, ap, ◌∙◌, append_assoc, arith}
 use Rattle.std.proofs.lemmas.List.{length-append, length-take-le, length-drop, length-replicate, take-replicate, drop-replicate}
@@ -14,14 +14,14 @@ with_bytes-none memory address =
     append_assoc (take address memory) [] (drop (address + 0) memory) ∙ ap (λ (end : ℕ). take address memory ++ drop end memory) none
     ∙ take-append-drop address memory
 
--- Bytes inside the first of two joined lists are bytes of this list.
+-- A range inside the first of two joined lists is a range of the first list.
 bytes_at-front : (front rest : List ℕ) (address n : ℕ) → address + n ≤ length front
     → bytes_at (front ++ rest) address n ≡ bytes_at front address n
 bytes_at-front front rest address n fits =
     ap (take n) (drop-append-le address front rest (omega arith))
     ∙ take-append-le n (drop address front) rest (omega (arith, length-drop address front))
 
--- Bytes inside the second of two joined lists are bytes of this list.
+-- A range inside the second of two joined lists is a range of the second list.
 bytes_at-rest : (front rest : List ℕ) (address n : ℕ) → length front ≤ address
     → bytes_at (front ++ rest) address n ≡ bytes_at rest (address - length front) n
 bytes_at-rest front rest address n past =
@@ -89,7 +89,7 @@ pub bytes_at-elsewhere : (memory bytes : List ℕ) (address i n : ℕ) → LiesI
 bytes_at-elsewhere memory bytes address i n fits (inl after) = bytes_at-after memory bytes address i n fits after
 bytes_at-elsewhere memory bytes address i n fits (inr before) = bytes_at-before memory bytes address i n fits before
 
--- Two stores, the second right after the first, are one store, if the first begins inside memory.
+-- Two stores, the second right after the first, are one store, if the first begins at or before the end of memory.
 adjacent : (memory first second : List ℕ) (address : ℕ) → address ≤ length memory
     → with_bytes (with_bytes memory address first) (address + length first) second ≡ with_bytes memory address (first ++ second)
 adjacent memory first second address fits =
@@ -105,7 +105,7 @@ adjacent memory first second address fits =
     drop-drop (length second) (address + length first) memory ∙ ap (λ (i : ℕ). drop i memory) (omega (arith, length-append first second)) in
     rw (kept, behind, both, append_assoc (take address memory) first second) refl
 
--- Two stores, the second right after the first, are one.
+-- Two stores, the second right after the first, are equal to one store.
 pub with_bytes-adjacent : (memory first second : List ℕ) (address : ℕ) → LiesIn memory address (length (first ++ second))
     → with_bytes (with_bytes memory address first) (address + length first) second ≡ with_bytes memory address (first ++ second)
 with_bytes-adjacent memory [] second address fits =
@@ -114,7 +114,7 @@ with_bytes-adjacent memory [] second address fits =
     ∙ ap (λ (m : List ℕ). with_bytes m address second) (with_bytes-none memory address)
 with_bytes-adjacent memory (x ∷ xs) second address fits = adjacent memory (x ∷ xs) second address (omega arith)
 
--- `load` of n bytes inside memory returns n bytes.
+-- A range of n bytes inside memory has n bytes.
 pub length-bytes_at : (memory : List ℕ) (address n : ℕ) → LiesIn memory address n → length (bytes_at memory address n) ≡ n
 length-bytes_at memory address n fits = length-take-le n (drop address memory) (omega (arith, length-drop address memory))
 
@@ -123,7 +123,7 @@ pub bytes_at-zeros : (size address n : ℕ) → LiesIn (replicate size 0) addres
 bytes_at-zeros size address n fits =
     ap (take n) (drop-replicate address size 0) ∙ take-replicate n (size - address) 0 (omega (arith, length-replicate {A = ℕ} size 0))
 
--- The first bytes of a range, and then the others, are the range.
+-- The first n bytes of a range, followed by the other k bytes, are the range.
 pub bytes_at-parts : (memory : List ℕ) (address n k : ℕ)
     → bytes_at memory address (n + k) ≡ bytes_at memory address n ++ bytes_at memory (address + n) k
 bytes_at-parts memory address n k = take-add n k (drop address memory)

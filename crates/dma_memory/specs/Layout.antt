@@ -3,33 +3,33 @@ use Rattle.std.specs.Prelude.{◌≡◌, ◌≢◌, ◌≤◌, ◌<◌, ◌+◌,
 use Rattle.std.specs.Int.{next_multiple_of}
 use Rattle.dma_memory.specs.Areas.{Area, area_at, AreApart}
 
--- How many descriptors the receive ring and the transmit ring have, and how many receive buffers there are.
+-- How many descriptors each ring has, and how many receive buffers there are.
 pub record Counts : Type 0 where
-  -- the descriptors of the receive ring
+  -- The number of descriptors of the receive ring.
   pub rx : ℕ
-  -- the descriptors of the transmit ring
+  -- The number of descriptors of the transmit ring.
   pub tx : ℕ
-  -- the receive buffers
+  -- The number of receive buffers.
   pub buffers : ℕ
 
--- A ring has a multiple of 8 descriptors, as its length in bytes is a multiple of 128 ("13.4.27 Receive Descriptor
--- Length"), here from 8 to 4,096 (our choice).
+-- The number of descriptors of a ring is a multiple of 8, because its length in bytes is a multiple of 128 ("13.4.27 Receive Descriptor
+-- Length"). The number is from 8 to 4,096 (our choice).
 pub record IsRingSize (n : ℕ) : Type 0 where
-  -- a multiple of 8
+  -- The number is a multiple of 8.
   pub eights : n % 8 ≡ 0
-  -- at least 8
+  -- The number is at least 8.
   pub least : 8 ≤ n
-  -- at most 4,096
+  -- The number is at most 4,096.
   pub most : n ≤ 4096
 
--- There is a buffer for each receive descriptor at least, and there are 8,192 at most (our choice).
+-- There is at least one buffer for each receive descriptor, and there are at most 8,192 buffers (our choice).
 pub record IsBufferCount (rx buffers : ℕ) : Type 0 where
-  -- a buffer for each receive descriptor
+  -- There is a buffer for each receive descriptor.
   pub least : rx ≤ buffers
-  -- at most 8,192
+  -- There are at most 8,192 buffers.
   pub most : buffers ≤ 8192
 
--- What a layout has room for (our choice).
+-- The counts of slots and buffers that a layout may have (our choice).
 pub record IsAllowed (counts : Counts) : Type 0 where
   -- The receive ring has an allowed size.
   pub rx : IsRingSize counts.rx
@@ -38,23 +38,23 @@ pub record IsAllowed (counts : Counts) : Type 0 where
   -- The number of receive buffers is allowed.
   pub buffers : IsBufferCount counts.rx counts.buffers
 
--- How many bytes a descriptor has ("3.2.3 Receive Descriptor Format", "3.3.3 Legacy Transmit Descriptor Format").
+-- The number of bytes of a descriptor ("3.2.3 Receive Descriptor Format", "3.3.3 Legacy Transmit Descriptor Format").
 abbrev pub descriptor_bytes : ℕ
 descriptor_bytes = 16
 
--- How many bytes a transmit buffer has: it has room for the longest frame (our choice).
+-- The number of bytes of a transmit buffer, which has room for the longest frame (our choice).
 abbrev pub transmit_buffer_bytes : ℕ
 transmit_buffer_bytes = 2048
 
--- How many bytes a receive buffer has ("13.4.22 Receive Control", BSIZE 11b).
+-- The number of bytes of a receive buffer ("13.4.22 Receive Control", BSIZE 11b).
 abbrev pub receive_buffer_bytes : ℕ
 receive_buffer_bytes = 256
 
--- The least multiple of a transmit buffer's size at which both rings have ended (our choice).
+-- The address of the first buffer: the least multiple of a transmit buffer's size at or after the end of both rings (our choice).
 abbrev pub buffers_start : Counts → ℕ
 buffers_start counts = next_multiple_of (descriptor_bytes * counts.rx + descriptor_bytes * counts.tx) transmit_buffer_bytes
 
--- What has its place in a layout (our choice).
+-- A ring or a buffer of a layout (our choice).
 pub data Place : Type 0 where
   ReceiveRing : Place
   TransmitRing : Place
@@ -68,7 +68,7 @@ HasPlace counts TransmitRing = Unit {0}
 HasPlace counts (TransmitBuffer slot) = slot < counts.tx
 HasPlace counts (ReceiveBuffer number) = number < counts.buffers
 
--- The first address of a place: the receive ring, the transmit ring, the transmit buffers, the receive buffers.
+-- The address of a place. The receive ring comes first, then the transmit ring, the transmit buffers and the receive buffers.
 abbrev pub start_of : Counts → Place → ℕ
 start_of counts ReceiveRing = 0
 start_of counts TransmitRing = descriptor_bytes * counts.rx
@@ -82,7 +82,7 @@ bytes_of counts TransmitRing = descriptor_bytes * counts.tx
 bytes_of counts (TransmitBuffer slot) = transmit_buffer_bytes
 bytes_of counts (ReceiveBuffer number) = receive_buffer_bytes
 
--- The memory that a layout needs ends where the last receive buffer ends.
+-- The number of bytes of memory that a layout needs: up to the end of the last receive buffer.
 abbrev pub size_of : Counts → ℕ
 size_of counts = start_of counts (ReceiveBuffer counts.buffers)
 
@@ -100,7 +100,7 @@ abbrev pub PlacesLieBelowSize : Type 0
 PlacesLieBelowSize = (counts : Counts) (place : Place) → HasPlace counts place
     → start_of counts place + bytes_of counts place ≤ size_of counts
 
--- The buffers begin at the first multiple of a transmit buffer's size at which both rings have ended.
+-- The buffers begin at the first multiple of a transmit buffer's size at or after the end of both rings.
 pub record BeginsAtNextMultiple (counts : Counts) : Type 0 where
   pub multiple : buffers_start counts % transmit_buffer_bytes ≡ 0
   pub behind_rings : descriptor_bytes * counts.rx + descriptor_bytes * counts.tx ≤ buffers_start counts

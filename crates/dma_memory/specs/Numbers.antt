@@ -1,8 +1,8 @@
--- What a pool of receive buffers is to its callers (our choice).
+-- A pool of receive buffers in contracts (our choice).
 use Rattle.std.specs.Prelude.{ℕ, List}
 
 pub record Numbers : Type 0 where
-  -- the number of buffers: each number of the pool is below it
+  -- The number of buffers. Each number in the pool is below it.
   pub buffers : ℕ
-  -- the numbers that are in the pool
+  -- The numbers that are in the pool.
   pub free : List ℕ

@@ -1,5 +1,5 @@
--- Who owns which number (our choice). An owner's numbers are a list, those of several owners their lists one after the other,
--- and a number has as many owners as it has places there.
+-- The owners of numbers (our choice). The numbers of an owner are a list. The numbers of several owners are their lists, joined. A number
+-- has an owner for each place in the list at which it occurs.
 use Rattle.std.specs.Prelude.{◌≡◌, ◌≤◌, ◌<◌, ◌+◌, ◌↔◌, ◌==◌, ◌++◌, ◌∷◌, ℕ, List, Some, length, count_by, nat_lt, slice_get, if◌then◌else◌}
 
 -- How many times a number occurs in a list.
@@ -18,13 +18,13 @@ HasNoSecondOwner n numbers = (k : ℕ) → copies k numbers ≤ (if nat_lt k n t
 abbrev pub HaveSameNumbers : List ℕ → List ℕ → Type 0
 HaveSameNumbers xs ys = (k : ℕ) → copies k xs ≡ copies k ys
 
--- Each number below n is at one place of the list, and at no two places. No other number is at a place.
+-- Each number below n is at exactly one place of the list. No other number is at a place.
 pub record EachStandsOnce (n : ℕ) (numbers : List ℕ) : Type 0 where
   pub somewhere : (k : ℕ) → k < n → (i : ℕ) × (slice_get numbers i ≡ Some k)
   pub nowhere_else : (i j k : ℕ) → slice_get numbers i ≡ Some k → slice_get numbers j ≡ Some k → i ≡ j
   pub known : (i k : ℕ) → slice_get numbers i ≡ Some k → k < n
 
--- Each number has one owner by counts (`HasOneOwner`) if and only if it has by places (`EachStandsOnce`).
+-- Each number has one owner by counts (`HasOneOwner`) if and only if it has one by places (`EachStandsOnce`).
 abbrev pub CountsArePlaces : Type 0
 CountsArePlaces = (n : ℕ) (numbers : List ℕ) → HasOneOwner n numbers ↔ EachStandsOnce n numbers
 
@@ -32,12 +32,12 @@ CountsArePlaces = (n : ℕ) (numbers : List ℕ) → HasOneOwner n numbers ↔ E
 abbrev pub OwnersAddUp : Type 0
 OwnersAddUp = (k : ℕ) (xs ys : List ℕ) → copies k (xs ++ ys) ≡ copies k xs + copies k ys
 
--- A number that is taken from one owner and given to another still has one.
+-- A number that moves from one owner to another still has one owner.
 abbrev pub MovesKeepOneOwner : Type 0
 MovesKeepOneOwner = (n number : ℕ) (giver giver' taker taker' : List ℕ) → HasOneOwner n (giver ++ taker)
     → HaveSameNumbers giver (number ∷ giver') → HaveSameNumbers (number ∷ taker) taker' → HasOneOwner n (giver' ++ taker')
 
--- What one owner has is a number below n, and no other owner has it.
+-- A number that one owner has is below n, and no other owner has it.
 abbrev pub OwnedIsNowhereElse : Type 0
 OwnedIsNowhereElse = (n number : ℕ) (xs ys : List ℕ) → HasOneOwner n (xs ++ ys) → 0 < copies number ys → (number < n)
     × (copies number xs ≡ 0)

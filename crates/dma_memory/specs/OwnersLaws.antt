@@ -1,4 +1,4 @@
--- Counting the places of numbers in lists.
+-- Lemmas about how often numbers occur in lists.
 use Rattle.std.proofs.Common.{◌≡◌, ◌≢◌, ◌≤◌, ◌<◌, ◌+◌, ◌++◌, ◌∷◌, [], ℕ, zero, suc, List, length, refl, sym, arith}
 use Rattle.std.specs.Prelude.{◌==◌, nat_lt, if◌then◌else◌}
 use Rattle.std.proofs.lemmas.Bool.Decides.{nat_tests}
@@ -38,14 +38,14 @@ if_below-next k n next is_next = grind (arith, nat_tests)
 if_same-swap : (k x : ℕ) → if_same k x ≡ if_same x k
 if_same-swap k x = grind (arith, nat_tests)
 
--- How often a number occurs once another is put before the list.
+-- How often a number occurs after another number is put at the front of the list.
 pub copies-cons : (k x : ℕ) (xs : List ℕ) → copies k (x ∷ xs) ≡ if_same k x + copies k xs
 copies-cons k x xs = sum_by-cons (λ y. if k == y then 1 else 0) x xs
 
 pub copies-itself : (k : ℕ) (xs : List ℕ) → copies k (k ∷ xs) ≡ 1 + copies k xs
 copies-itself k xs = omega (arith, copies-cons k k xs, if_same-yes k k refl)
 
--- How often a number occurs once another is put after the list.
+-- How often a number occurs after another number is put at the end of the list.
 pub copies-push : (k x : ℕ) (xs : List ℕ) → copies k (xs ++ x ∷ []) ≡ copies k xs + if_same k x
 copies-push k x xs = sum_by_push (λ y. if k == y then 1 else 0) xs x
 
@@ -56,25 +56,25 @@ copies-last k xs = omega (arith, copies-push k k xs, if_same-yes k k refl)
 pub copies-append : OwnersAddUp
 copies-append k xs ys = sum_by-append (λ y. if k == y then 1 else 0) xs ys
 
--- If each number has one owner, none has a second one.
+-- If each number has one owner, no number has a second owner.
 pub no_second_from_one : (n : ℕ) (xs : List ℕ) → HasOneOwner n xs → HasNoSecondOwner n xs
 no_second_from_one n xs one k = omega (arith, one k)
 
--- If no number has a second owner in two joined lists, none has in the first list.
+-- If no number has a second owner in two joined lists, no number has a second owner in the first list.
 pub no_second-first : (n : ℕ) (xs ys : List ℕ) → HasNoSecondOwner n (xs ++ ys) → HasNoSecondOwner n xs
 no_second-first n xs ys once k = omega (arith, once k, copies-append k xs ys)
 
 pub no_second-last : (n : ℕ) (xs ys : List ℕ) → HasNoSecondOwner n (xs ++ ys) → HasNoSecondOwner n ys
 no_second-last n xs ys once k = omega (arith, once k, copies-append k xs ys)
 
--- A number in a list in which none has a second owner is below n, and occurs once.
+-- If no number has a second owner, each number in the list is below n and is in the list once.
 pub known_from_no_second : (n number : ℕ) (xs : List ℕ) → HasNoSecondOwner n xs → 0 < copies number xs → number < n
 known_from_no_second n number xs once some = below_from_if_below number n (omega (arith, once number))
 
 pub once_from_no_second : (n number : ℕ) (xs : List ℕ) → HasNoSecondOwner n xs → copies number xs ≤ 1
 once_from_no_second n number xs once = omega (arith, once number, if_below-most number n)
 
--- Lists with the same numbers have the same owners.
+-- If each number has one owner, the same is true of each list with the same numbers.
 pub one_owner-same : (n : ℕ) (xs ys : List ℕ) → HasOneOwner n xs → HaveSameNumbers xs ys → HasOneOwner n ys
 one_owner-same n xs ys one same k = omega (arith, one k, same k)
 
@@ -90,7 +90,7 @@ pub taken-last : (number : ℕ) (xs ys ys' : List ℕ) → HaveSameNumbers (numb
 taken-last number xs ys ys' same k =
     omega (arith, same k, copies-append k xs ys, copies-append k xs ys', copies-cons k number ys, copies-cons k number (xs ++ ys))
 
--- What stays where a number is taken from a list without a second owner.
+-- If no number has a second owner, no number has one after a number is removed from the list.
 pub no_second-taken : (n number : ℕ) (xs xs' : List ℕ) → HasNoSecondOwner n xs → HaveSameNumbers xs (number ∷ xs') → HasNoSecondOwner n xs'
 no_second-taken n number xs xs' once taken k = omega (arith, once k, taken k, copies-cons k number xs')
 
@@ -102,7 +102,7 @@ pub out_from_taken : (n number : ℕ) (xs xs' : List ℕ) → HasNoSecondOwner n
 out_from_taken n number xs xs' once taken =
     omega (arith, once_from_no_second n number xs once, taken number, copies-itself number xs')
 
--- A missing number may be added.
+-- If a number is missing, it can be added: then still no number has a second owner.
 if_same-fits : (k x n m : ℕ) → m ≤ if_below k n → (k ≡ x → m ≡ 0) → x < n → if_same k x + m ≤ if_below k n
 if_same-fits k x n m once out known = grind (arith, nat_tests)
 
@@ -112,7 +112,7 @@ no_second-given n number xs xs' once known out given k =
     let fits = if_same-fits k number n (copies k xs) (once k) (λ same. rw same out) known in
     omega (arith, given k, copies-cons k number xs)
 
--- A number that is taken from one owner and given to another still has one.
+-- A number that moves from one owner to another still has one owner.
 pub one_owner-moved : MovesKeepOneOwner
 one_owner-moved n number giver giver' taker taker' one taken given k =
     omega (
@@ -126,13 +126,13 @@ one_owner-moved n number giver giver' taker taker' one taken given k =
       copies-cons k number taker,
     )
 
--- What one owner has is a number below n, and no other owner has it.
+-- A number that one owner has is below n, and no other owner has it.
 pub owned-nowhere_else : OwnedIsNowhereElse
 owned-nowhere_else n number xs ys one some =
     let both = copies-append number xs ys in
     (below_from_if_below number n (omega (arith, one number)), omega (arith, one number, if_below-most number n))
 
--- At how many places of a list the numbers below n are.
+-- The number of places of a list at which there are numbers below n.
 abbrev places : ℕ → List ℕ → ℕ
 places zero xs = 0
 places (suc n) xs = places n xs + copies n xs
@@ -153,7 +153,7 @@ length-places n (x ∷ xs) once =
     let rest = no_second-taken n x (x ∷ xs) xs once (λ k. refl) in
     omega (arith, if_below-yes x n known, length-places n xs rest, places-cons n x xs)
 
--- The first m numbers are at m places if each occurs once, and at most at m places if each occurs at most once.
+-- The numbers below m are at m places if each occurs once, and at most at m places if each occurs at most once.
 places-once : (m : ℕ) (xs : List ℕ) → ((k : ℕ) → k < m → copies k xs ≡ 1) → places m xs ≡ m
 places-once zero xs once = refl
 places-once (suc m) xs once =
@@ -188,6 +188,6 @@ length-elsewhere n number xs ys one some =
     let missing = owned-nowhere_else n number ys xs (one_owner-swap n xs ys one) some in
     length-missing n number ys (no_second-last n xs ys (no_second_from_one n (xs ++ ys) one)) missing.0 missing.1
 
--- With the number n, each number below n + 1 has one owner.
+-- If each number below n has one owner, and n is added to the list, each number below n + 1 has one owner.
 pub one_owner-push : (n : ℕ) (xs : List ℕ) → HasOneOwner n xs → HasOneOwner (n + 1) (xs ++ n ∷ [])
 one_owner-push n xs one k = omega (arith, one k, copies-push k n xs, if_below-next k n (n + 1) refl)

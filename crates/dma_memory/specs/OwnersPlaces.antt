@@ -21,7 +21,7 @@ place k (x ∷ xs) some =
       | inr differ ↦ let later = place k xs (omega (arith, some, copies-cons k x xs, if_same-no k x differ)) in (suc later.0, later.1)
     ]
 
--- A number that is counted at most once is at one place at most.
+-- A number that is counted at most once is at no two places.
 one_place : (k i j : ℕ) (xs : List ℕ) → copies k xs ≤ 1 → slice_get xs i ≡ Some k → slice_get xs j ≡ Some k → i ≡ j
 one_place k i j [] most at also = absurd (cc)
 one_place k zero zero (x ∷ xs) most at also = refl
@@ -34,7 +34,7 @@ one_place k (suc i) zero (x ∷ xs) most at also =
 one_place k (suc i) (suc j) (x ∷ xs) most at also =
     ap suc (one_place k i j xs (omega (arith, most, copies-cons k x xs)) at also)
 
--- A number that is at one place at most is counted at most once.
+-- A number that is at no two places is counted at most once.
 counted_once : (k : ℕ) (xs : List ℕ) → ((i j : ℕ) → slice_get xs i ≡ Some k → slice_get xs j ≡ Some k → i ≡ j) → copies k xs ≤ 1
 counted_once k [] one = omega arith
 counted_once k (x ∷ xs) one =

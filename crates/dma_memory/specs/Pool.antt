@@ -1,4 +1,4 @@
--- How a pool keeps its numbers (our choice): a vector with room for all numbers contains those that are in the pool.
+-- How a pool stores its numbers (our choice): a vector with room for all numbers contains the numbers that are in the pool.
 use Rattle.std.specs.Prelude.{◌≤◌, ◌<◌, ◌^◌, vec_capacity}
 use Rattle.dma_memory.specs.Owners.{HasNoSecondOwner}
 use Rattle.dma_memory.specs.Numbers.{Numbers}

@@ -5,17 +5,16 @@ use std::alloc::{AllocError, Global};
 use std::marker::Model;
 use thiserror::Error;
 
-/// Refusal of a load or a store of bytes that don't all lie below the memory's size. Its text is
+/// The error of a load, a store or a view if the address of one of its bytes isn't below the memory's size. Its text is
 /// `E1 OutOfRange`.
 #[derive(Clone, Copy, Debug, PartialEq, Eq, Error)]
 #[error("E1 OutOfRange")]
 pub struct OutOfRange;
 
-/// The memory of a host: bytes with the addresses from 0 to its size - 1, which the host's driver and
-/// its adapter both load and store.
+/// The memory of a host: bytes with the addresses from 0 to its size - 1. The host's driver and its adapter load and
+/// store these bytes.
 ///
-/// An empty range is in it at every address, so a load or a store of no bytes is never refused. Its
-/// size never changes.
+/// An empty range is in memory at every address, so a load or a store of no bytes never fails. The size never changes.
 #[derive(Clone, Drop)]
 pub struct HostMemory {
     bytes: Vec<u8>,
@@ -32,7 +31,7 @@ impl HostMemory {
     ///
     /// # Errors
     ///
-    /// Only if memory is refused.
+    /// Returns an error only if an allocation fails.
     pub fn new(alloc: Global, size: u64) -> Result<HostMemory, AllocError>
         ensures zeros { IfOk result (λ memory. memory ≡ replicate size 0) }
     {
@@ -41,26 +40,25 @@ impl HostMemory {
         })
     }
 
-    /// How many bytes the memory has.
+    /// The number of bytes of the memory.
     pub fn size(&self) -> u64
         ensures { result ≡ length self.now }
     {
         self.bytes.len() as u64
     }
 
-    /// Whether `count` bytes from `address` on lie in the memory.
+    /// Whether `count` bytes from `address` on are in the memory.
     fn has(&self, address: u64, count: usize) -> bool
         ensures { IsTrue result ↔ LiesIn self.now address count }
     {
         count as u64 <= self.size().saturating_sub(address)
     }
 
-    /// Copies the bytes from `address` on into the whole of `into`.
+    /// Fills `into` with the bytes from `address` on.
     ///
     /// # Errors
     ///
-    /// E1 [`OutOfRange`] exactly if one of these bytes doesn't lie below the size; `into` is then
-    /// as it was.
+    /// E1 [`OutOfRange`] exactly if the address of one of these bytes isn't below the size; then `into` is unchanged.
     pub fn load(&self, address: u64, into: &mut [u8]) -> Result<(), OutOfRange>
         ensures in_range { IsOk result ↔ LiesIn self.now address (length into.old) }
         ensures loaded { OnOk result (into.new ≡ bytes_at self.now address (length into.old)) }
@@ -71,12 +69,11 @@ impl HostMemory {
         Ok(())
     }
 
-    /// Puts `bytes` in place of those from `address` on.
+    /// Writes `bytes` from `address` on.
     ///
     /// # Errors
     ///
-    /// E1 [`OutOfRange`] exactly if one of these bytes doesn't lie below the size; the memory is
-    /// then as it was.
+    /// E1 [`OutOfRange`] exactly if the address of one of these bytes isn't below the size; then memory is unchanged.
     pub fn store(&mut self, address: u64, bytes: &[u8]) -> Result<(), OutOfRange>
         ensures in_range { IsOk result ↔ LiesIn self.old address (length bytes.now) }
         ensures stored { OnOk result (self.new ≡ with_bytes self.old address bytes.now) }
@@ -96,7 +93,7 @@ impl HostMemory {
     ///
     /// # Errors
     ///
-    /// E1 [`OutOfRange`] exactly if one of these bytes doesn't lie below the size.
+    /// E1 [`OutOfRange`] exactly if the address of one of these bytes isn't below the size.
     pub fn view(&self, address: u64, count: usize) -> Result<&[u8], OutOfRange>
         ensures in_range { IsOk result ↔ LiesIn self.now address count }
         ensures viewed { IfOk result (λ bytes. bytes.now ≡ bytes_at self.now address count) }

@@ -4,11 +4,11 @@ ghost use Rattle.dma_memory.specs.Owners.{OneOwnerCounts, NoSecondOwnerBounds, M
 ghost use Rattle.dma_memory.specs.Stores.{LieWhereEachLies, StoreKeepsSize, StoredIsLoaded, OthersStay};
 ghost use Rattle.dma_memory.specs.Stores.{AdjacentStoresAreOne, StoreOfNoneStays};
 
-/// Laws of memory, over all memories, addresses and bytes: bytes lie in it exactly if each of them lies below its
-/// size; a store keeps the size; what was stored is what is loaded; all other bytes stay; two stores side by side are
-/// one; a store of no bytes changes nothing, whatever its address.
+/// Laws of memory, for all memories, addresses and bytes. Bytes are in memory exactly if the address of each is below
+/// the memory's size. A store doesn't change the size or other bytes, and a load returns what was stored. Two stores,
+/// the second right after the first, are equal to one store. A store of no bytes changes nothing, whatever its address.
 ///
-/// It does nothing: its contract is the laws.
+/// The function does nothing: its contract is the laws.
 pub fn stores_are_loaded()
     ensures lies { LieWhereEachLies }
     ensures size { StoreKeepsSize }
@@ -18,21 +18,22 @@ pub fn stores_are_loaded()
     ensures none { StoreOfNoneStays }
 {}
 
-/// Laws of layouts: any two of a layout's rings and buffers are apart, each lies below the size that it needs,
-/// and the buffers begin at the first multiple of 2,048 at or after the end of the rings.
+/// Laws of layouts. No two of a layout's rings and buffers overlap. Each ends at or before the end of the memory that
+/// the layout needs. The buffers begin at the first multiple of 2,048 at or after the end of the rings.
 ///
-/// It does nothing: its contract is the laws.
+/// The function does nothing: its contract is the laws.
 pub fn places_are_apart()
     ensures apart { PlacesAreApart }
     ensures below_size { PlacesLieBelowSize }
     ensures next_multiple { (counts : Counts) → BeginsAtNextMultiple counts }
 {}
 
-/// Laws of owners, over all lists of numbers: one owner by counts is one owner by places; what two owners have adds up;
-/// a number that is handed on still has one owner; what one owner has, no other has; with one owner for each of n
-/// numbers the list is n long; with no second owner it is at most n long, and shorter if a number is missing.
+/// Laws of owners, for all lists of numbers. Each number has one owner by counts exactly if it has one by places. The
+/// counts of two owners add up. A number that moves to another owner still has one owner. If one owner has a number, no
+/// other owner has it. If each of n numbers has one owner, the list has n numbers. If no number has a second owner, the
+/// list has at most n numbers, and fewer if a number is missing.
 ///
-/// It does nothing: its contract is the laws.
+/// The function does nothing: its contract is the laws.
 pub fn numbers_have_one_owner()
     ensures places { CountsArePlaces }
     ensures sums { OwnersAddUp }

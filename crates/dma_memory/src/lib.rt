@@ -1,9 +1,9 @@
-//! The memory that a host shares with its network adapter, where the rings and buffers of a driver
-//! stand in it, and who has which receive buffer.
+//! The memory that a host shares with its network adapter, the places of a driver's rings and buffers
+//! in it, and the owners of receive buffers.
 //!
-//! A [`HostMemory`] is a number of bytes, which host and adapter load and store by their addresses. A [`Layout`] places
-//! the descriptor rings and the packet buffers of one driver in such a memory, apart from one another. A [`Pool`] has
-//! the numbers of the receive buffers, and hands each to one owner at a time.
+//! A [`HostMemory`] is a sequence of bytes, which host and adapter load and store by address. A [`Layout`] places the
+//! descriptor rings and the packet buffers of one driver in such a memory, without overlaps. A [`Pool`] contains the
+//! numbers of free receive buffers, and passes each number to one owner at a time.
 #![tactic(auto)]
 
 mod host_memory;

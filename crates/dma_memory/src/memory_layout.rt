@@ -6,30 +6,30 @@ ghost use Rattle.dma_memory.specs.Layout.{receive_buffer_bytes, transmit_buffer_
 use std::marker::Model;
 use thiserror::Error;
 
-/// The bytes of a descriptor (Intel's manual, "3.2.3 Receive Descriptor Format").
+/// The number of bytes of a descriptor (Intel's manual, "3.2.3 Receive Descriptor Format").
 pub const DESCRIPTOR_BYTES: u64 = 16;
 
-/// The bytes of a transmit buffer, which has room for the longest frame (our choice).
+/// The number of bytes of a transmit buffer, which has room for the longest frame (our choice).
 pub const TRANSMIT_BUFFER_BYTES: u64 = 2048;
 
-/// The bytes of a receive buffer (Intel's manual, "13.4.22 Receive Control", BSIZE 11b). So the longest frame, of
-/// 1,518 bytes, needs six receive buffers.
+/// The number of bytes of a receive buffer (Intel's manual, "13.4.22 Receive Control", BSIZE 11b). So the longest
+/// frame, of 1,518 bytes, needs six receive buffers.
 pub const RECEIVE_BUFFER_BYTES: u64 = 256;
 
-/// The number of descriptors of a ring is a multiple of this number, and at least this number (Intel's manual, "13.4.27
-/// Receive Descriptor Length": 128 bytes).
+/// The number of descriptors of a ring is a positive multiple of this number: its length in bytes is a multiple of 128
+/// (Intel's manual, "13.4.27 Receive Descriptor Length").
 pub const RING_STEP: u16 = 8;
 
-/// The most descriptors of a ring (our choice).
+/// The greatest number of descriptors of a ring (our choice).
 pub const MOST_DESCRIPTORS: u16 = 4096;
 
-/// The most receive buffers of a layout (our choice).
+/// The greatest number of receive buffers of a layout (our choice).
 pub const MOST_BUFFERS: u16 = 8192;
 
 /// The address of the receive ring (our choice).
 const RECEIVE_RING: u64 = 0;
 
-/// Why [`Layout::of`] refuses.
+/// Why [`Layout::of`] returns an error.
 #[derive(Clone, Copy, Debug, PartialEq, Eq, Error)]
 pub enum LayoutError {
     /// A ring's number of descriptors isn't a multiple of 8 from 8 to 4,096.
@@ -42,9 +42,9 @@ pub enum LayoutError {
 
 /// Where the rings and buffers of one driver are in its host's memory, by byte addresses.
 ///
-/// The receive ring stands at 0, the transmit ring right after it, 16 bytes for each descriptor. Then, from the next
-/// multiple of 2,048 on, follow a transmit buffer of 2,048 bytes for each transmit descriptor, and the receive buffers
-/// of 256 bytes each.
+/// The receive ring is at address 0, and the transmit ring follows it. Each descriptor has 16 bytes. The transmit
+/// buffers begin at the next multiple of 2,048: one of 2,048 bytes for each transmit descriptor. The receive buffers
+/// follow them, each of 256 bytes.
 #[derive(Clone, Copy, Debug, PartialEq, Eq)]
 pub struct Layout {
     rx: u16,
@@ -82,8 +82,8 @@ impl Layout {
     ///
     /// # Errors
     ///
-    /// E2 [`RingSize`](LayoutError::RingSize) exactly if `rx` or `tx` isn't a multiple of 8 from 8 to 4,096, and
-    /// otherwise E3 [`BufferCount`](LayoutError::BufferCount) exactly if `buffers` is below `rx` or above 8,192.
+    /// E2 [`RingSize`](LayoutError::RingSize) exactly if `rx` or `tx` isn't a multiple of 8 from 8 to 4,096. Otherwise
+    /// E3 [`BufferCount`](LayoutError::BufferCount) exactly if `buffers` is below `rx` or above 8,192.
     pub fn of(rx: u16, tx: u16, buffers: u16) -> Result<Layout, LayoutError>
         ensures allowed { IsOk result ↔ IsAllowed (record { rx = rx; tx = tx; buffers = buffers }) }
         ensures counts { IfOk result (λ layout. layout ≡ record { rx = rx; tx = tx; buffers = buffers }) }
@@ -100,7 +100,7 @@ impl Layout {
         Ok(Layout { rx, tx, buffers })
     }
 
-    /// How many descriptors the receive ring has.
+    /// The number of descriptors of the receive ring.
     pub fn rx(&self) -> u16
         ensures count { result ≡ self.now.rx }
         ensures allowed { IsRingSize result }
@@ -108,7 +108,7 @@ impl Layout {
         self.rx
     }
 
-    /// How many descriptors the transmit ring has, and how many transmit buffers there are.
+    /// The number of descriptors of the transmit ring, which is also the number of transmit buffers.
     pub fn tx(&self) -> u16
         ensures count { result ≡ self.now.tx }
         ensures allowed { IsRingSize result }
@@ -116,7 +116,7 @@ impl Layout {
         self.tx
     }
 
-    /// How many receive buffers there are.
+    /// The number of receive buffers.
     pub fn buffers(&self) -> u16
         ensures count { result ≡ self.now.buffers }
         ensures allowed { IsBufferCount self.now.rx result }
@@ -156,11 +156,11 @@ impl Layout {
         self.first_receive_buffer() + RECEIVE_BUFFER_BYTES * u64::from(number)
     }
 
-    /// How many bytes of memory the layout needs: from address 0 to the end of the last receive buffer.
+    /// The number of bytes of memory that the layout needs: from address 0 to the end of the last receive buffer.
     pub fn size(&self) -> u64
         ensures end { result ≡ size_of self.now }
 
-        // Rings of 4,096 and 8,192 receive buffers need the most.
+        // The greatest size, in bytes: two rings of 4,096 descriptors, and 8,192 receive buffers.
         ensures most { result ≤ 10616832 }
     {
         self.first_receive_buffer() + RECEIVE_BUFFER_BYTES * u64::from(self.buffers)

@@ -4,9 +4,9 @@ ghost use Rattle.dma_memory.specs.Owners.{copies, HasOneOwner, HaveSameNumbers};
 use std::alloc::{AllocError, Global};
 use std::marker::Model;
 
-/// The number of a receive buffer, in the hands of its one owner.
+/// The number of a receive buffer. Its holder is the only owner of the buffer.
 ///
-/// It can't be copied, and a [`Pool`] alone makes one. If it is dropped, the number is lost.
+/// A `BufId` can't be copied, and only a [`Pool`] makes one. If a `BufId` is dropped, its number is lost.
 #[derive(Drop)]
 pub struct BufId {
     number: u16,
@@ -21,7 +21,7 @@ impl Model for BufId {
 }
 
 impl BufId {
-    /// The number itself, which names the place of the buffer in a [`Layout`](crate::Layout).
+    /// The number itself, from which a [`Layout`](crate::Layout) computes the buffer's address.
     pub fn number(&self) -> u16
         ensures { result ≡ self.now }
     {
@@ -29,10 +29,8 @@ impl BufId {
     }
 }
 
-/// The numbers of the receive buffers that nobody else owns. A new pool contains all numbers below a count. Later each
-/// number is in the pool, or the caller that took it is its one owner.
-///
-/// It is made with all numbers below a count. Each is in it or out, at the one owner to whom it was given.
+/// The numbers of the free receive buffers. A new pool contains all numbers below a count. Later each number is in the
+/// pool, or belongs to the caller that took it.
 #[derive(Drop)]
 pub struct Pool {
     free: Vec<BufId>,
@@ -56,7 +54,7 @@ impl Pool {
     ///
     /// # Errors
     ///
-    /// Only if memory is refused.
+    /// Returns an error only if an allocation fails.
     pub fn new(alloc: Global, buffers: u16) -> Result<Pool, AllocError>
         ensures buffers { IfOk result (λ pool. pool.buffers ≡ buffers) }
         ensures all_in { IfOk result (λ pool. HasOneOwner buffers pool.free) }
@@ -83,8 +81,8 @@ impl Pool {
         self.free.is_empty()
     }
 
-    /// Takes a number out of the pool; `None` exactly if the pool is empty. The contract doesn't state which of its
-    /// numbers.
+    /// Removes a number from the pool and returns it; `None` exactly if the pool is empty. The contract doesn't state
+    /// which number.
     pub fn take(&mut self) -> Option<BufId>
         ensures none { IsNone result ↔ (self.old.free ≡ []) }
         ensures taken { IfSome result (λ number. HaveSameNumbers self.old.free (number ∷ self.new.free)) }
@@ -96,7 +94,7 @@ impl Pool {
         self.free.pop()
     }
 
-    /// Returns a number that was taken from this pool to it. It takes no memory and never fails.
+    /// Puts a number back into the pool from which it was taken. The call allocates no memory and never fails.
     pub fn give(&mut self, buffer: BufId)
         requires known { buffer < self.old.buffers }
         requires out { copies buffer self.old.free ≡ 0 }

@@ -4,15 +4,15 @@ use Rattle.eeprom.specs.declared.eerd.ReadState.{ReadState}
 use Rattle.eeprom.specs.declared.eerd.ReadState.TheVariants.{Idle, Pending, Done}
 use Rattle.eeprom.specs.Image.{word_at}
 
--- START, bit 0 of what is written (13.4.4).
+-- START, bit 0 of the written value (13.4.4).
 abbrev pub has_start : ℕ → Bool
 has_start value = value % 2 == 1
 
--- ADDR, bits 15:8 of what is written (13.4.4).
+-- ADDR, bits 15:8 of the written value (13.4.4).
 abbrev pub addr : ℕ → ℕ
 addr value = value / 256 % 256
 
--- A write with START begins a read, in place of one that is pending; one without it is ignored (our choice).
+-- A write with START begins a read, and drops a pending read. A write without START is ignored (our choice).
 abbrev pub after_write : ℕ → ReadState → ReadState
 after_write value state = if has_start value then Pending (addr value) else state
 
@@ -22,21 +22,21 @@ after_tick words Idle = Idle
 after_tick words (Pending address) = Done address (word_at words address)
 after_tick words (Done address word) = Done address word
 
--- whether a read hasn't ended yet
+-- Whether a read is pending: it hasn't ended yet.
 abbrev pub is_pending : ReadState → Bool
 is_pending Idle = false
 is_pending (Pending _) = true
 is_pending (Done _ _) = false
 
--- While a read is pending the register shows its ADDR alone.
+-- While a read is pending, the register shows only its ADDR.
 abbrev pub shown_before : ℕ → ℕ
 shown_before address = address * 256
 
--- When it has ended, it shows DATA in bits 31:16, ADDR in bits 15:8, and DONE, bit 4 (13.4.4).
+-- After the read has ended, the register shows DATA in bits 31:16, ADDR in bits 15:8, and DONE, bit 4 (13.4.4).
 abbrev pub shown_after : ℕ → ℕ → ℕ
 shown_after address word = word * 65536 + address * 256 + 16
 
--- What the register reads; START reads 0, and a new register reads 0 (our choice).
+-- The value that a read of the register returns; START reads 0, and a new register reads 0 (our choice).
 abbrev pub shown : ReadState → ℕ
 shown Idle = 0
 shown (Pending address) = shown_before address

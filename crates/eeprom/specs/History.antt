@@ -1,4 +1,4 @@
--- What EERD reads, said of the list of all writes and ticks since it was new.
+-- The value of EERD, from the list of all writes and ticks since it was new.
 use Rattle.std.specs.Prelude.{◌≡◌, ℕ, Bool, true, false, List, [], ◌∷◌, ◌++◌, IsTrue}
 use Rattle.std.specs.List.{list_any}
 use Rattle.eeprom.specs.declared.eerd.ReadState.{ReadState}
@@ -6,7 +6,7 @@ use Rattle.eeprom.specs.declared.eerd.ReadState.TheVariants.{Idle}
 use Rattle.eeprom.specs.Image.{word_at}
 use Rattle.eeprom.specs.Eerd.{has_start, addr, after_write, after_tick, shown, shown_before, shown_after}
 
--- What may happen to the register: a write of a value, or a tick of the EEPROM. A read changes nothing.
+-- An operation on the register: a write of a value, or a tick of the EEPROM. A read changes nothing.
 pub data Operation : Type 0 where
   Write : ℕ → Operation
   Tick : Operation
@@ -28,33 +28,32 @@ abbrev pub is_tick : Operation → Bool
 is_tick (Write value) = false
 is_tick Tick = true
 
--- Among these operations there is no write with START.
+-- No operation of the list is a write with START.
 abbrev pub NoStart : List Operation → Type 0
 NoStart operations = list_any is_start operations ≡ false
 
--- Among these operations there is no tick.
+-- No operation of the list is a tick.
 abbrev pub NoTick : List Operation → Type 0
 NoTick operations = list_any is_tick operations ≡ false
 
--- Among these operations there is a tick.
+-- At least one operation of the list is a tick.
 abbrev pub HasTick : List Operation → Type 0
 HasTick operations = IsTrue (list_any is_tick operations)
 
--- What a register that was new reads after a list of operations.
+-- The value of a register that was new, after a list of operations.
 abbrev pub reads_after : List ℕ → List Operation → ℕ
 reads_after words operations = shown (after_all words operations Idle)
 
--- What EERD reads follows from its history alone: from the last write with START, and from whether a tick came after it
--- (manual, 13.4.4; that a later START replaces a pending one, and that a write without START does nothing, is our
--- choice).
+-- The value of EERD depends only on the last write with START, and on whether a tick came after it (manual, 13.4.4; that a later START
+-- replaces a pending one, and that a write without START does nothing, is our choice).
 pub record AnswersByHistory : Type 0 where
-  -- Without a write with START the register reads 0.
+  -- Without a write with START, the register reads 0.
   pub never_asked : (words : List ℕ) (all : List Operation) → NoStart all → reads_after words all ≡ 0
-  -- After the last write with START, and no tick yet, it reads that write's ADDR in its place.
+  -- If no tick came after the last write with START, the register reads only the ADDR of this write.
   pub no_tick_yet : (words : List ℕ) (before : List Operation) (value : ℕ) (after : List Operation) → IsTrue (has_start value)
       → NoStart after → NoTick after
       → reads_after words (before ++ Write value ∷ after) ≡ shown_before (addr value)
-  -- After the last write with START and a tick, it reads the word at that write's ADDR, the ADDR, and DONE.
+  -- If a tick came after the last write with START, the register reads the word at the ADDR of this write, the ADDR, and DONE.
   pub ticked : (words : List ℕ) (before : List Operation) (value : ℕ) (after : List Operation) → IsTrue (has_start value) → NoStart after
       → HasTick after
       → reads_after words (before ++ Write value ∷ after) ≡ shown_after (addr value) (word_at words (addr value))

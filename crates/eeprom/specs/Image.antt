@@ -1,8 +1,8 @@
 -- The contents of an EEPROM, as the list of its words.
 use Rattle.std.specs.Prelude.{◌≡◌, ℕ, ◌+◌, ◌-◌, ◌*◌, ◌/◌, ◌%◌, List, [], ◌∷◌, ◌++◌, sum, replicate, slice_index, nat_lt, if◌then◌else◌}
 
--- Two bytes a word, the earlier byte in the low half: word k of an Ethernet address
--- (manual, "EEPROM Interface": "Ethernet Address (Words 00h-02h)").
+-- Word k of an Ethernet address: two bytes in each word, the earlier byte in the low half (manual, "EEPROM Interface": "Ethernet Address
+-- (Words 00h-02h)").
 abbrev pub address_word : List ℕ → ℕ → ℕ
 address_word address k = slice_index address (2 * k) + 256 * slice_index address (2 * k + 1)
 
@@ -21,12 +21,12 @@ HasRightSum words = sum words % 65536 ≡ 0xBABA
 abbrev pub checksum_word : ℕ → ℕ → ℕ → ℕ
 checksum_word first second third = (0xBABA + 3 * 65536 - first - second - third) % 65536
 
--- The image of an address: its three words, 60 words of 0, and the checksum's (our choice).
+-- The image of an address: the three words of the address, 60 words of 0, and the checksum word (our choice).
 abbrev pub image_with : List ℕ → List ℕ
 image_with address =
     let word : ℕ → ℕ = address_word address in
     (word 0 ∷ word 1 ∷ word 2 ∷ []) ++ replicate 60 0 ++ checksum_word (word 0) (word 1) (word 2) ∷ []
 
--- The word at an address: there are 64, and past them a read gives FFFFh (our choice).
+-- The word at an address. There are 64 words; a read at a higher address returns FFFFh (our choice).
 abbrev pub word_at : List ℕ → ℕ → ℕ
 word_at words address = if nat_lt address 64 then slice_index words address else 0xFFFF

@@ -1,4 +1,4 @@
--- The law of EERD's history, and the lemmas that lead to it, for proofs of the crates above too.
+-- The law of EERD's history, and the lemmas that lead to it. Other crates use them, too.
 use Rattle.std.proofs.Common.{◌≡◌, ℕ, true, false, List, [], ◌∷◌, ◌++◌, refl, ap, ◌∙◌}
 use Rattle.std.specs.List.{list_any}
 use Rattle.std.proofs.lemmas.Bool.{false≢true, true≢false, or_parts}
@@ -8,21 +8,21 @@ use Rattle.eeprom.specs.Image.{word_at}
 use Rattle.eeprom.specs.Eerd.{has_start, addr, after_write, shown}
 use Rattle.eeprom.specs.History.{Operation, Write, Tick, after_operation, after_all, is_start, NoStart, NoTick, HasTick, AnswersByHistory}
 
--- one list of operations after another
+-- The register after two lists of operations, one after the other.
 pub after_all-append : (words : List ℕ) (before after : List Operation) (state : ReadState)
     → after_all words (before ++ after) state ≡ after_all words after (after_all words before state)
 after_all-append words [] after state = refl
 after_all-append words (operation ∷ before) after state = after_all-append words before after (after_operation words operation state)
 
--- a write without START doesn't change the register
+-- A write without START doesn't change the register.
 pub after_write-no_start : (value : ℕ) (state : ReadState) → has_start value ≡ false → after_write value state ≡ state
 after_write-no_start value state none = rw none refl
 
--- a write with START begins a read
+-- A write with START begins a read.
 pub after_write-start : (value : ℕ) (state : ReadState) → has_start value ≡ true → after_write value state ≡ Pending (addr value)
 after_write-start value state starts = rw starts refl
 
--- without a write with START, a register for which no read was begun stays so
+-- Without a write with START, a register for which no read was begun remains in this state.
 pub stays_idle : (words : List ℕ) (all : List Operation) → NoStart all → after_all words all Idle ≡ Idle
 stays_idle words [] none = refl
 stays_idle words (Write value ∷ all) none =
@@ -30,7 +30,7 @@ stays_idle words (Write value ∷ all) none =
     ap (after_all words all) (after_write-no_start value Idle parts.0) ∙ stays_idle words all parts.1
 stays_idle words (Tick ∷ all) none = stays_idle words all none
 
--- without a write with START, a register that has read a word keeps it
+-- Without a write with START, a register that has read a word keeps it.
 pub stays_done : (words : List ℕ) (all : List Operation) (address word : ℕ) → NoStart all
     → after_all words all (Done address word) ≡ Done address word
 stays_done words [] address word none = refl
@@ -39,7 +39,7 @@ stays_done words (Write value ∷ all) address word none =
     ap (after_all words all) (after_write-no_start value (Done address word) parts.0) ∙ stays_done words all address word parts.1
 stays_done words (Tick ∷ all) address word none = stays_done words all address word none
 
--- without a tick and a write with START, a pending read stays pending
+-- Without a tick and a write with START, a pending read remains pending.
 pub stays_pending : (words : List ℕ) (all : List Operation) (address : ℕ) → NoStart all → NoTick all
     → after_all words all (Pending address) ≡ Pending address
 stays_pending words [] address none still = refl
@@ -48,7 +48,7 @@ stays_pending words (Write value ∷ all) address none still =
     ap (after_all words all) (after_write-no_start value (Pending address) parts.0) ∙ stays_pending words all address parts.1 still
 stays_pending words (Tick ∷ all) address none still = absurd (true≢false still)
 
--- without a write with START, the first tick ends a pending read
+-- Without a write with START, the first tick ends a pending read.
 pub ends_pending : (words : List ℕ) (all : List Operation) (address : ℕ) → NoStart all → HasTick all
     → after_all words all (Pending address) ≡ Done address (word_at words address)
 ends_pending words [] address none ticks = absurd (false≢true ticks)
@@ -57,7 +57,7 @@ ends_pending words (Write value ∷ all) address none ticks =
     ap (after_all words all) (after_write-no_start value (Pending address) parts.0) ∙ ends_pending words all address parts.1 ticks
 ends_pending words (Tick ∷ all) address none ticks = stays_done words all address (word_at words address) none
 
--- the register after a write with START and what came after it
+-- The register after a write with START and the operations that follow.
 pub after_all-start : (words : List ℕ) (before : List Operation) (value : ℕ) (after : List Operation) → has_start value ≡ true
     → after_all words (before ++ Write value ∷ after) Idle ≡ after_all words after (Pending (addr value))
 after_all-start words before value after starts =

@@ -5,16 +5,16 @@ use crate::Image;
 use std::hash::Hasher;
 use std::marker::Model;
 
-/// START, bit 0: a write with it begins a read.
+/// START, bit 0: a write with START set begins a read.
 const START: u32 = 1 << 0;
 
 /// DONE, bit 4: the read has ended.
 const DONE: u32 = 1 << 4;
 
-/// The lowest bit of ADDR, bits 15:8.
+/// The place of the lowest bit of ADDR, bits 15:8.
 const ADDR_SHIFT: u32 = 8;
 
-/// The lowest bit of DATA, bits 31:16.
+/// The place of the lowest bit of DATA, bits 31:16.
 const DATA_SHIFT: u32 = 16;
 
 /// The tag of `Idle` in a hash.
@@ -26,7 +26,7 @@ const PENDING_TAG: u8 = 1;
 /// The tag of `Done` in a hash.
 const DONE_TAG: u8 = 2;
 
-/// The state of EERD: whether it was asked to read a word, and whether the read has ended.
+/// The state of the EEPROM read that a write of EERD requested.
 #[derive(Clone, Copy, Debug, PartialEq, Eq)]
 pub enum ReadState {
     /// No read was begun.
@@ -39,8 +39,7 @@ pub enum ReadState {
 
 /// EERD, the EEPROM read register (manual, 13.4.4).
 ///
-/// START is bit 0, DONE bit 4, ADDR bits 15:8 and DATA bits 31:16. A contract sees the register
-/// as its [`ReadState`].
+/// START is bit 0, DONE bit 4, ADDR bits 15:8 and DATA bits 31:16. In contracts, the value is a [`ReadState`].
 #[derive(Clone, Copy, Debug, PartialEq, Eq)]
 pub struct Eerd {
     state: ReadState,
@@ -70,8 +69,8 @@ impl Eerd {
         }
     }
 
-    /// A write with START begins a read of the word at ADDR, in place of one that is pending. A write without START is
-    /// ignored (both are our choice).
+    /// A write with START begins a read of the word at ADDR, and drops a pending read. A write without START is ignored
+    /// (both are our choice).
     pub fn write(&mut self, value: u32)
         ensures { self.new ≡ after_write value self.old }
     {
@@ -81,8 +80,8 @@ impl Eerd {
         }
     }
 
-    /// What the register reads: 0 if no read was begun, ADDR alone while a read is pending, and DATA, ADDR and DONE
-    /// once it has ended. START reads 0 (our choice).
+    /// The value of the register. It is 0 if no read was begun, and only ADDR while a read is pending. After the read
+    /// has ended, it is DATA, ADDR and DONE. START reads 0 (our choice).
     #[tactic(auto, using(crate::proofs::Fields::or_fields))]
     pub fn read(&self) -> u32
         ensures { result ≡ shown self.now }
@@ -103,7 +102,7 @@ impl Eerd {
         matches!(self.state, ReadState::Pending(_))
     }
 
-    /// Ends a pending read with its word of the image. Answers whether there was one; if not,
+    /// Ends a pending read: the register then shows the word of the image. Returns whether a read was pending; if not,
     /// nothing changes.
     pub fn tick(&mut self, image: &Image) -> bool
         ensures state { self.new ≡ after_tick image.now self.old }

@@ -6,22 +6,22 @@ use std::marker::Model;
 /// The number of words of an image.
 pub const WORDS: usize = 64;
 
-/// The place of the word that makes the sum of all words right, 3Fh.
+/// The index of the checksum word, 3Fh.
 const CHECKSUM_WORD: usize = 63;
 
 /// The sum of the 64 words, modulo 65,536.
 const CHECKSUM: u16 = 0xBABA;
 
-/// The sum of the words counts modulo this number.
+/// The sum of the words is taken modulo this number.
 const MODULUS: u32 = 1 << 16;
 
-/// What a read past the last word gives.
+/// The word that a read after the last word returns.
 const NO_WORD: u16 = 0xFFFF;
 
 /// The contents of an EEPROM: 64 words of 16 bits.
 ///
-/// Words 0 to 2 hold the Ethernet address, two bytes a word, the earlier byte in the low half
-/// (manual: "Ethernet Address (Words 00h-02h)"). A contract sees the list of the words.
+/// Words 0 to 2 contain the Ethernet address, two bytes in each word, the earlier byte in the low half (manual:
+/// "Ethernet Address (Words 00h-02h)"). In contracts, the value is the list of the words.
 #[derive(Clone, Copy, Debug, PartialEq, Eq)]
 pub struct Image {
     words: [u16; WORDS],
@@ -38,7 +38,7 @@ impl Model for Image {
 }
 
 impl Image {
-    /// The image of these words.
+    /// The image with these words.
     pub fn from_words(words: [u16; WORDS]) -> Self
         ensures words { result ≡ words }
         ensures size { length result ≡ 64 }
@@ -46,8 +46,7 @@ impl Image {
         Image { words }
     }
 
-    /// The image that holds an Ethernet address: words 0 to 2 from the address, the last word
-    /// such that the sum is right, the others 0.
+    /// The image with an Ethernet address in words 0 to 2, the checksum in the last word, and 0 in the other words.
     pub fn with_address(address: [u8; 6]) -> Self
         ensures words { result ≡ image_with address }
         ensures checksum { HasRightSum result }
@@ -74,7 +73,7 @@ impl Image {
         [b0, b1, b2, b3, b4, b5]
     }
 
-    /// The word at an address; past the last word 0xFFFF (our choice).
+    /// The word at an address; after the last word, 0xFFFF (our choice).
     pub fn word(&self, address: u8) -> u16
         ensures word { result ≡ word_at self.now address }
         ensures size { length self.now ≡ 64 }
@@ -93,7 +92,7 @@ pub fn checksum_ok(image: &Image) -> bool
     sum_of(&image.words) % MODULUS == u32::from(CHECKSUM)
 }
 
-/// The sum of the words: 32 bits have room for it.
+/// The sum of the words, which fits into 32 bits.
 fn sum_of(words: &[u16]) -> u32
     requires { length words.now ≤ WORDS }
     ensures { result ≡ sum words.now }

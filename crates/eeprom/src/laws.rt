@@ -2,8 +2,9 @@
 
 ghost use Rattle.eeprom.specs.History.{AnswersByHistory};
 
-/// What EERD reads after any list of writes and ticks, by the history alone: 0 without a write with START; else the
-/// ADDR of the last such write, and, if a tick came after it, also the word at that address and DONE.
+/// The value of EERD after any list of writes and ticks. Without a write with START, the value is 0. Otherwise it
+/// contains the ADDR of the last such write. If a tick followed this write, it also contains the word at this ADDR, and
+/// DONE.
 pub fn answers_by_history()
     ensures { AnswersByHistory }
 {}

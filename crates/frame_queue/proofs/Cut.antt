@@ -18,7 +18,7 @@ total-cons m ns = sum_by-cons (λ (n : ℕ). n) m ns
 drop-total : (ns : List ℕ) (m : ℕ) (bytes : List ℕ) → drop (total ns) (drop m bytes) ≡ drop (total (m ∷ ns)) bytes
 drop-total ns m bytes = drop-drop (total ns) m bytes ∙ ap (λ (k : ℕ). drop k bytes) (sym (total-cons m ns))
 
--- One more length is one more frame, behind the others.
+-- One more length is one more frame, after the others.
 pub cut-append : (ns bytes : List ℕ) (n : ℕ) → cut (ns ++ n ∷ []) bytes ≡ cut ns bytes ++ take n (drop (total ns) bytes) ∷ []
 unfolding cut
 cut-append [] bytes n = refl
@@ -27,7 +27,7 @@ cut-append (m ∷ ns) bytes n =
     (cut-append ns (drop m bytes) n
     ∙ ap (λ (rest : List ℕ). cut ns (drop m bytes) ++ take n rest ∷ []) (drop-total ns m bytes))
 
--- What lies after the last frame doesn't matter.
+-- The bytes after the last frame don't matter.
 pub cut-agree : (ns a b : List ℕ) → take (total ns) a ≡ take (total ns) b → cut ns a ≡ cut ns b
 unfolding cut
 cut-agree [] a b same = refl
@@ -39,7 +39,7 @@ cut-agree (n ∷ ns) a b same =
     sym (drop-take n (total ns) a) ∙ ap (drop n) joined ∙ drop-take n (total ns) b in
     rw (first, cut-agree ns (drop n a) (drop n b) rest) refl
 
--- The frames have as many bytes as their lengths say.
+-- The frames have together as many bytes as the sum of their lengths.
 pub sum-cut : (ns bytes : List ℕ) → total ns ≤ length bytes → sum_by (λ (frame : List ℕ). length frame) (cut ns bytes) ≡ total ns
 unfolding cut
 sum-cut [] bytes fits = refl
@@ -49,7 +49,7 @@ sum-cut (n ∷ ns) bytes fits =
     let later = sum-cut ns (drop n bytes) (omega (arith, fits, length-drop n bytes, all)) in
     omega (arith, first, later, all, sum_by-cons (λ (frame : List ℕ). length frame) (take n bytes) (cut ns (drop n bytes)))
 
--- Without the first length the frames are those behind the first.
+-- Without the first length the frames are those after the first.
 pub cut-drop : (ns bytes : List ℕ) (n : ℕ) → slice_get ns 0 ≡ Some n → cut (drop 1 ns) (drop n bytes) ≡ drop 1 (cut ns bytes)
 unfolding cut
 cut-drop [] bytes n first = absurd (cc)
@@ -97,7 +97,7 @@ pub none-in-sum : (ns : List ℕ) → length ns ≡ 0 → total ns ≡ 0
 none-in-sum [] none = refl
 none-in-sum (n ∷ ns) none = absurd (omega (arith, none))
 
--- A frame appended to the bytes is behind the others.
+-- A frame appended to the bytes is after the others.
 pub cut-pushed : (ns before after frame : List ℕ) (n : ℕ) → length frame ≡ n → total ns ≤ length before
     → take (total ns + n) after ≡ take (total ns) before ++ frame → cut (ns ++ n ∷ []) after ≡ cut ns before ++ frame ∷ []
 cut-pushed ns before after frame n count fits appended =
@@ -137,7 +137,7 @@ total-more ns i n is =
 pub total-part : (ns : List ℕ) (i : ℕ) → total (take i ns) ≤ total ns
 total-part ns i = sum_by-take-le (λ (n : ℕ). n) ns i
 
--- The frame at an index, by where it begins.
+-- The frame at an index, by the place at which it begins.
 pub frame-at : (ns bytes : List ℕ) (first start i n : ℕ) → slice_get ns i ≡ Some n → start ≡ first + total (take i ns)
     → slice_get (cut ns (drop first bytes)) i ≡ Some (take n (drop start bytes))
 frame-at ns bytes first start i n is begins =

@@ -1,4 +1,4 @@
--- What stands in the places of a queue, after a frame is written behind the others and after the first is dropped.
+-- The frames in the places of a queue, after a frame is written after the others and after the first is dropped.
 use Rattle.std.proofs.Common.{◌≡◌, ◌≤◌, ◌<◌, ◌+◌, ◌-◌, ◌*◌, ◌⊎◌, inl, inr, ◌++◌, ◌∷◌, [], ℕ, zero, suc, List, length, take, drop}
 use Rattle.std.proofs.Common.{All, refl, sym, ap}
 use Rattle.std.proofs.Common.{◌∙◌, arith}
@@ -19,7 +19,7 @@ wrapped-below c p below = sym (cond_below p c p (p - c) below)
 pub wrapped-past : (c p : ℕ) → c ≤ p → wrapped c p ≡ p - c
 wrapped-past c p past = sym (cond_above p c p (p - c) (p - c) past refl)
 
--- A place counted on at most once round is one of the places.
+-- A number that wraps at most once is one of the places.
 pub wrapped-within : (c p : ℕ) → p < c + c → wrapped c p < c
 wrapped-within c p once = elim
     (below_or_past p c) [
@@ -28,7 +28,7 @@ wrapped-within c p once = elim
           (arith, past, wrapped-past c p past)
     ]
 
--- Two places that are less than once round from each other are two.
+-- Two numbers whose difference is below the number of places are two places.
 wrapped-apart : (c p q : ℕ) → p < q → q < p + c → q < c + c → (wrapped c p < wrapped c q) ⊎ (wrapped c q < wrapped c p)
 wrapped-apart c p q before near once =
     elim (below_or_past q c) [
@@ -39,13 +39,13 @@ wrapped-apart c p q before near once =
       ]
     ]
 
--- There are as many frames as lengths.
+-- The number of frames is the number of lengths.
 pub length-frames_from : (bytes : List ℕ) (c p : ℕ) (ns : List ℕ) → length (frames_from bytes c p ns) ≡ length ns
 unfolding frames_from
 length-frames_from bytes c p [] = refl
 length-frames_from bytes c p (n ∷ ns) = ap (λ (k : ℕ). suc k) (length-frames_from bytes c (p + 1) ns)
 
--- One more length is one more frame, behind the others.
+-- One more length is one more frame, after the others.
 pub frames_from-append : (bytes : List ℕ) (c p n : ℕ) (ns : List ℕ)
     → frames_from bytes c p (ns ++ n ∷ []) ≡ frames_from bytes c p ns ++ take n (drop (wrapped c (p + length ns) * 1518) bytes) ∷ []
 unfolding frames_from
@@ -58,7 +58,7 @@ frames_from-append bytes c p n (m ∷ ns) =
     (frames_from-append bytes c (p + 1) n ns
     ∙ ap (λ (q : ℕ). frames_from bytes c (p + 1) ns ++ take n (drop (wrapped c q * 1518) bytes) ∷ []) here)
 
--- Once round the frames are those from the first place on.
+-- The frames from a place after the last one are those from the place to which it wraps.
 pub frames_from-round : (bytes : List ℕ) (c p i : ℕ) (ns : List ℕ) → p ≡ c + i → i + length ns ≤ c
     → frames_from bytes c p ns ≡ frames_from bytes c i ns
 unfolding frames_from
@@ -69,7 +69,7 @@ frames_from-round bytes c p i (n ∷ ns) round fits =
     let rest = frames_from-round bytes c (p + 1) (i + 1) ns (omega arith) (omega arith) in
     rw (here, rest) refl
 
--- Bytes written at a place leave what is at another one.
+-- Bytes written at a place don't change the bytes at another place.
 bytes-other_place : (bytes written : List ℕ) (place n m other : ℕ) → length written ≡ n → place * 1518 + n ≤ length bytes → n ≤ 1518
     → m ≤ 1518 → (other < place) ⊎ (place < other)
     → take m (drop (other * 1518) (take (place * 1518) bytes ++ written ++ drop (place * 1518 + n) bytes))
@@ -79,7 +79,7 @@ bytes-other_place bytes written place n m other count lies short fits (inl befor
 bytes-other_place bytes written place n m other count lies short fits (inr after) = bytes-after bytes written (place * 1518) n
     (other * 1518) m count lies (omega arith)
 
--- Bytes written at the place behind the frames leave them.
+-- Bytes written at the place after the frames don't change the frames.
 pub frames_from-kept : (bytes written ns : List ℕ) (c p q n : ℕ) → length written ≡ n → wrapped c q * 1518 + n ≤ length bytes → n ≤ 1518
     → All (λ (m : ℕ). m ≤ 1518) ns → p + length ns ≡ q → q < p + c → q < c + c
     → frames_from (take (wrapped c q * 1518) bytes ++ written ++ drop (wrapped c q * 1518 + n) bytes) c p ns ≡ frames_from bytes c p ns
@@ -92,7 +92,7 @@ frames_from-kept bytes written (m ∷ ns) c p q n count lies short fits end near
     (omega arith) once in
     rw (here, rest) refl
 
--- The oldest frame stands in the first place.
+-- The oldest frame is in the first place.
 pub slice_get-frames_from : (bytes : List ℕ) (c p n : ℕ) (ns : List ℕ) → p < c → slice_get ns 0 ≡ Some n
     → slice_get (frames_from bytes c p ns) 0 ≡ Some (take n (drop (p * 1518) bytes))
 unfolding frames_from
@@ -101,7 +101,7 @@ slice_get-frames_from bytes c p n (m ∷ ns) below is =
     let same : m ≡ n = cc in
     rw (wrapped-below c p below, same) refl
 
--- The frame at an index stands so many places behind the first.
+-- The frame at an index is that number of places after the first.
 pub slice_get-frames_from-at : (bytes : List ℕ) (c p i n : ℕ) (ns : List ℕ) → slice_get ns i ≡ Some n
     → slice_get (frames_from bytes c p ns) i ≡ Some (take n (drop (wrapped c (p + i) * 1518) bytes))
 unfolding frames_from
@@ -115,7 +115,7 @@ slice_get-frames_from-at bytes c p (suc i) n (m ∷ ns) is =
     slice_get-frames_from-at bytes c (p + 1) i n ns is
     ∙ ap (λ (q : ℕ). Some (take n (drop (wrapped c q * 1518) bytes))) here
 
--- Without the first length the frames are those behind the first.
+-- Without the first length the frames are those after the first.
 pub frames_from-drop : (bytes : List ℕ) (c p : ℕ) (ns : List ℕ) → p < c → length ns ≤ c
     → frames_from bytes c (wrapped c (p + 1)) (drop 1 ns) ≡ drop 1 (frames_from bytes c p ns)
 unfolding frames_from
@@ -128,7 +128,7 @@ frames_from-drop bytes c p (n ∷ ns) below fits =
           ap (λ (q : ℕ). frames_from bytes c q ns) first ∙ sym (frames_from-round bytes c (p + 1) 0 ns (omega arith) (omega arith))
     ]
 
--- A list is empty exactly where its length is 0.
+-- A list is empty if and only if its length is 0.
 pub empty_from_length : (frames : List (List ℕ)) (n : ℕ) (b : Bool) → length frames ≡ n → b ≡ (n == 0) → IsTrue b ↔ (frames ≡ [])
 empty_from_length [] n b count is = ((λ _. refl), (λ _. let none : n ≡ 0 = omega arith in rw (is, none) refl))
 empty_from_length (f ∷ fs) n b count is = (
@@ -153,7 +153,7 @@ unfolding frames_from
 frames_from-some bytes c p n [] some none = absurd (cc)
 frames_from-some bytes c p n (m ∷ ns) some none = absurd (cc)
 
--- A frame written at the place behind the others is behind the others.
+-- A frame written at the place after the others is after the others.
 pub frames_from-pushed : (bytes written ns : List ℕ) (c p n : ℕ) → length bytes ≡ c * 1518 → p < c → length ns < c
     → All (λ (m : ℕ). m ≤ 1518) ns → length written ≡ n → n ≤ 1518
     → frames_from
@@ -168,12 +168,12 @@ frames_from-pushed bytes written ns c p n size first room fits count short =
     let kept = frames_from-kept bytes written ns c p q n count lies short fits refl (omega arith) (omega arith) in
     frames_from-append (take start bytes ++ written ++ drop (start + n) bytes) c p n ns ∙ rw (kept, stored) refl
 
--- Where there is a first length, there is one.
+-- If there is a first length, the list isn't empty.
 pub some_below : (ns : List ℕ) → is_some (slice_get ns 0) ≡ true → 0 < length ns
 some_below [] some = absurd (cc)
 some_below (n ∷ ns) some = omega arith
 
--- Where there is none, nothing is dropped.
+-- If there is no first length, nothing is dropped.
 pub drop-none : (bytes : List ℕ) (c p : ℕ) (ns : List ℕ) → is_some (slice_get ns 0) ≡ false
     → frames_from bytes c p (drop 1 ns) ≡ drop 1 (frames_from bytes c p ns)
 unfolding frames_from

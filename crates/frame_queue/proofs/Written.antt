@@ -1,4 +1,4 @@
--- What is in a list of bytes after n of them, from `start` on, are overwritten.
+-- A list of bytes after n of them, from `start` on, are overwritten.
 use Rattle.std.proofs.Common.{◌≡◌, ◌≤◌, ◌+◌, ◌-◌, ◌++◌, ℕ, List, length, take, drop, sym, ap, ◌∙◌, arith}
 use Rattle.std.proofs.lemmas.List.{length-append, length-take-le, length-drop, take-take, take_at, drop_at, take-append-le}
 use Rattle.std.proofs.lemmas.List.{drop-append-le, drop-drop, drop-take}
@@ -9,7 +9,7 @@ length-front : (bytes written : List ℕ) (start n : ℕ) → length written ≡
 length-front bytes written start n count fits = omega
     (arith, count, fits, length-append (take start bytes) written, length-take-le start bytes (omega (arith, fits)))
 
--- There are as many bytes as before.
+-- The number of bytes doesn't change.
 pub length-written : (bytes written : List ℕ) (start n : ℕ) → length written ≡ n → start + n ≤ length bytes
     → length (take start bytes ++ written ++ drop (start + n) bytes) ≡ length bytes
 length-written bytes written start n count fits = omega (

@@ -1,9 +1,9 @@
--- What a queue of frames is to its callers (our choice).
+-- A queue of frames in contracts (our choice).
 use Rattle.std.specs.Prelude.{ℕ, List}
 
--- The capacity of a queue and its frames.
+-- A queue's capacity, and the frames in it.
 pub record Frames : Type 0 where
-  -- the most frames that it can hold
+  -- The greatest number of frames in the queue.
   pub capacity : ℕ
-  -- the frames in it, the oldest first, each a list of bytes
+  -- The frames in the queue, the oldest first, each a list of bytes.
   pub frames : List (List ℕ)

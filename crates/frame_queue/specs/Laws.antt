@@ -1,4 +1,4 @@
--- Lemmas on queues of a fixed room and on what items feed to a hasher, for proofs of this crate and of those above it.
+-- Lemmas about queues of a fixed capacity and about what items feed to a hasher. Other crates use them, too.
 use Rattle.std.proofs.Common.{◌≡◌, ◌<◌, ◌+◌, ◌-◌, ◌++◌, ◌∷◌, [], ℕ, List, length, drop, take, get_or, flat_map, fold, ap, ◌∙◌, arith}
 use Rattle.std.proofs.lemmas.List.{length-append, take_more}
 use Rattle.std.proofs.lemmas.List.Sums.{fold-append}
@@ -13,7 +13,7 @@ keep_last-room items capacity item room =
     let none : length (items ++ item ∷ []) - capacity ≡ 0 = omega (arith, length-append items (item ∷ [])) in
     ap (λ (n : ℕ). drop n (items ++ item ∷ [])) none
 
--- One item more feeds its writes after those of the items before it.
+-- The writes of one more item follow the writes of the items before it.
 pub fed-more : {S A : Type 0} (write : S → List ℕ → S) (writes : A → HashWrites) (s : S) (items : List A) (i : ℕ) (item : A)
     → i < length items → get_or items i item ≡ item
     → fold write s (flat_map writes (take (i + 1) items)) ≡ fold write (fold write s (flat_map writes (take i items))) (writes item)

@@ -2,25 +2,25 @@
 use Rattle.std.specs.Prelude.{◌≡◌, ◌+◌, ◌<◌, ◌≤◌, ℕ, List, [], ◌∷◌, length, take, drop, sum_by}
 use Rattle.frame_queue.specs.declared.packed.PackedQueue.TheInside.{Inside}
 
--- The limits of a queue and its frames.
+-- A queue's limits, and the frames in it.
 pub record PackedFrames : Type 0 where
-  -- the most frames that it can hold
+  -- The greatest number of frames in the queue.
   pub capacity : ℕ
-  -- the most bytes that all frames can have together
+  -- The greatest number of bytes that all frames in the queue have together.
   pub room : ℕ
-  -- the frames in it, the oldest first, each a list of bytes
+  -- The frames in the queue, the oldest first, each a list of bytes.
   pub frames : List (List ℕ)
 
--- the number of bytes of frames with these lengths
+-- The number of bytes of frames with these lengths.
 abbrev pub total : List ℕ → ℕ
 total ns = sum_by (λ (n : ℕ). n) ns
 
--- the frames of these lengths whose bytes follow one another in a list of bytes
+-- The frames of these lengths whose bytes follow one another in a list of bytes.
 unfoldable pub cut : List ℕ → List ℕ → List (List ℕ)
 cut [] bytes = []
 cut (n ∷ ns) bytes = take n bytes ∷ cut ns (drop n bytes)
 
--- The plain data of a queue, as contracts see it.
+-- The plain data of a queue, in contracts.
 abbrev pub packed_of : Inside → PackedFrames
 packed_of queue = record {
   capacity = queue.lengths.capacity;
@@ -28,13 +28,13 @@ packed_of queue = record {
   frames = cut queue.lengths.items (drop queue.first queue.bytes.items);
 }
 
--- What holds of the fields at all times.
+-- The invariant of the fields.
 pub record IsPacked (queue : Inside) : Type 0 where
   -- The bytes of the frames follow one another from `first` up to `end`.
   pub end_is : queue.end ≡ queue.first + total queue.lengths.items
   -- These bytes are inside the queue's memory.
   pub fits : queue.end ≤ length queue.bytes.items
-  -- There are at most as many frames as the capacity.
+  -- The number of frames is at most the capacity.
   pub count : length queue.lengths.items ≤ queue.lengths.capacity
   -- The capacity is below 65,536.
   pub most : queue.lengths.capacity < 65536

@@ -1,6 +1,6 @@
 -- Places that wrap (our choice).
 use Rattle.std.specs.Prelude.{◌-◌, ℕ, nat_lt, if◌then◌else◌}
 
--- the place that a number means: past the last place the numbers go on at the first one, once at most
+-- The place with this number. A number after the last place wraps to the first place, at most once.
 abbrev pub wrapped : ℕ → ℕ → ℕ
 wrapped capacity place = if nat_lt place capacity then place else place - capacity

@@ -5,11 +5,11 @@ ghost use Rattle.std.specs.Prelude.{◌≡◌, IfOk};
 use circular_buffer::HeapCircularBuffer;
 use std::alloc::AllocError;
 
-/// A buffer of the same capacity with the same items.
+/// A copy of a buffer, with the same capacity and the same items.
 ///
 /// # Errors
 ///
-/// If memory was refused.
+/// Returns an error only if an allocation fails.
 pub fn copy_of<T: Copy>(buffer: &HeapCircularBuffer<T>) -> Result<HeapCircularBuffer<T>, AllocError>
     ensures { IfOk result (λ copy. copy ≡ buffer.now) }
 {

@@ -1,6 +1,6 @@
-//! Queues of Ethernet frames, with their memory taken once.
+//! Queues of Ethernet frames, whose memory is allocated once.
 //!
-//! A [`FrameQueue`] is what a packet buffer of a network adapter is: a limited number of frames, first in, first out.
+//! The packet buffers of a network adapter are such queues: first in, first out, for a limited number of frames.
 #![tactic(auto)]
 
 mod buffers;

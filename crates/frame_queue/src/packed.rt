@@ -41,11 +41,11 @@ impl Model for PackedQueue {
 impl Clone for PackedQueue {
     ghost is_clone = { λ queue copy. copy ≡ queue };
 
-    /// A queue for as many frames and bytes, with the same frames.
+    /// A queue with the same limits and the same frames.
     ///
     /// # Errors
     ///
-    /// If memory runs out.
+    /// Returns an error only if an allocation fails.
     fn clone(&self) -> Result<PackedQueue, AllocError> {
         Ok(PackedQueue {
             bytes: self.bytes.clone()?,
@@ -61,7 +61,7 @@ impl PackedQueue {
     ///
     /// # Errors
     ///
-    /// Only if memory runs out.
+    /// Returns an error only if an allocation fails.
     pub fn new(alloc: Global, capacity: u16, room: usize) -> Result<PackedQueue, AllocError>
         ensures empty { IfOk result (λ queue. queue ≡ record { capacity = capacity; room = room; frames = [] }) }
     {
@@ -158,7 +158,7 @@ impl PackedQueue {
 }
 
 /// Moves the bytes from `first` up to `end` to the start of the memory, if fewer than `more` bytes follow them. Returns
-/// the index of the first of them.
+/// the new index of the first of these bytes.
 fn make_room(bytes: &mut [u8], first: usize, end: usize, more: usize) -> usize
     requires order { first ≤ end }
     requires lies { end ≤ length bytes.old }
@@ -174,8 +174,8 @@ fn make_room(bytes: &mut [u8], first: usize, end: usize, more: usize) -> usize
     0
 }
 
-/// Writes a frame after the bytes from `first` up to `end`. If it doesn't fit there, first moves these bytes to the
-/// start of the memory. Returns the index of the first of them.
+/// Writes a frame after the bytes from `first` up to `end`. If the frame doesn't fit there, first moves these bytes to
+/// the start of the memory. Returns the new index of the first of these bytes.
 fn append(bytes: &mut [u8], first: usize, end: usize, frame: &[u8]) -> usize
     requires order { first ≤ end }
     requires lies { end ≤ length bytes.old }

@@ -10,13 +10,13 @@ use std::alloc::{AllocError, Global};
 use std::hash::Hasher;
 use std::marker::Model;
 
-/// The room for one frame in bytes, the most that a legal frame has (IEEE 802.3, 4.4.2, with a VLAN tag and without
-/// the check sequence).
+/// The number of bytes for one frame: the greatest length of a legal frame (IEEE 802.3, 4.4.2, with a VLAN tag and
+/// without the check sequence).
 pub const PLACE_BYTES: usize = 1518;
 
-/// At most so many frames of at most 1,518 bytes each, first in, first out.
+/// A queue for a limited number of frames, each of at most 1,518 bytes, first in, first out.
 ///
-/// Its memory is taken when it is made. A frame is copied once, when it is pushed, and can be read without a copy.
+/// `new` allocates its memory. A frame is copied once, when it is pushed, and can be read without a copy.
 #[derive(Debug, Drop)]
 pub struct FrameQueue {
     bytes: Vec<u8>,
@@ -43,7 +43,7 @@ impl Clone for FrameQueue {
     ///
     /// # Errors
     ///
-    /// If memory was refused.
+    /// Returns an error only if an allocation fails.
     fn clone(&self) -> Result<FrameQueue, AllocError> {
         Ok(FrameQueue {
             bytes: self.bytes.clone()?,
@@ -58,7 +58,7 @@ impl FrameQueue {
     ///
     /// # Errors
     ///
-    /// Only if memory is refused.
+    /// Returns an error only if an allocation fails.
     #[tactic(auto, unfolding(crate::specs::Places::frames_from))]
     pub fn new(alloc: Global, capacity: u8) -> Result<FrameQueue, AllocError>
         ensures empty { IfOk result (λ queue. queue ≡ record { capacity = capacity; frames = [] }) }
@@ -71,14 +71,14 @@ impl FrameQueue {
         })
     }
 
-    /// The most frames that the queue can hold, which never changes.
+    /// The greatest number of frames in the queue, which never changes.
     pub fn capacity(&self) -> u8
         ensures { result ≡ self.now.capacity }
     {
         self.lengths.capacity() as u8
     }
 
-    /// How many frames the queue holds.
+    /// The number of frames in the queue.
     pub fn len(&self) -> u8
         ensures count { result ≡ length self.now.frames }
         ensures fits { result ≤ self.now.capacity }
@@ -86,14 +86,14 @@ impl FrameQueue {
         self.lengths.len() as u8
     }
 
-    /// Whether the queue holds no frame.
+    /// Whether no frame is in the queue.
     pub fn is_empty(&self) -> bool
         ensures { IsTrue result ↔ (self.now.frames ≡ []) }
     {
         self.lengths.is_empty()
     }
 
-    /// Whether the queue holds as many frames as it can.
+    /// Whether the number of frames in the queue is its capacity.
     pub fn is_full(&self) -> bool
         ensures { IsTrue result ↔ (length self.now.frames ≡ self.now.capacity) }
     {
@@ -111,7 +111,7 @@ impl FrameQueue {
         Some(&self.bytes.as_slice()[start..start + length])
     }
 
-    /// Puts a frame after the others. The queue isn't full, and the frame has at most 1,518 bytes.
+    /// Appends a frame of at most 1,518 bytes. The queue must not be full.
     pub fn push(&mut self, frame: &[u8])
         requires room { length self.old.frames < self.old.capacity }
         requires fits { length frame.now ≤ PLACE_BYTES }
@@ -120,8 +120,8 @@ impl FrameQueue {
         self.push_padded(frame, 0);
     }
 
-    /// Puts a frame after the others, followed by zeros up to `least` bytes if it has fewer. The queue isn't full, and
-    /// neither the frame nor `least` is above 1,518 bytes.
+    /// Appends a frame, followed by zeros up to `least` bytes if it is shorter. The queue must not be full, and neither
+    /// the frame nor `least` may exceed 1,518 bytes.
     pub fn push_padded(&mut self, frame: &[u8], least: usize)
         requires room { length self.old.frames < self.old.capacity }
         requires fits { length frame.now ≤ PLACE_BYTES }
@@ -137,7 +137,7 @@ impl FrameQueue {
         let _ = self.lengths.push_back(length as u16);
     }
 
-    /// Drops the oldest frame, if there is one.
+    /// Removes the oldest frame, if there is one.
     pub fn pop(&mut self)
         ensures { self.new ≡ record self.old { frames = drop 1 self.old.frames } }
     {
@@ -146,7 +146,7 @@ impl FrameQueue {
         }
     }
 
-    /// Drops all frames.
+    /// Removes all frames.
     #[tactic(auto, unfolding(crate::specs::Places::frames_from))]
     pub fn clear(&mut self)
         ensures { self.new ≡ record self.old { frames = [] } }
@@ -180,7 +180,7 @@ impl FrameQueue {
     }
 }
 
-/// The place that a number means: past the last place the numbers go on at the first one, once at most.
+/// The place with this number. Numbers after the last place wrap to the first place, at most once.
 fn wrap(place: usize, capacity: usize) -> usize
     ensures { result ≡ wrapped capacity place }
 {
@@ -191,7 +191,7 @@ fn wrap(place: usize, capacity: usize) -> usize
     }
 }
 
-/// Writes a frame, followed by zeros up to `length` bytes, at `start`.
+/// Writes a frame at `start`, followed by zeros up to `total` bytes.
 fn write_padded(bytes: &mut [u8], start: usize, frame: &[u8], total: usize)
     requires lies { start + total ≤ length bytes.old }
     requires fits { length frame.now ≤ total }

@@ -1,4 +1,4 @@
--- What MDIC reads, and what comes to the PHY, said of the list of all writes and ticks since the register was new.
+-- The value of MDIC, and the events at the PHY, from the list of all writes and ticks since the register was new.
 use Rattle.std.specs.Prelude.{◌≡◌, ◌≢◌, ℕ, Bool, true, false, List, [], ◌∷◌, ◌++◌, Option, Some, None, if◌then◌else◌}
 use Rattle.std.specs.List.{list_any}
 use Rattle.registers.specs.Bits.{is_set}
@@ -12,12 +12,12 @@ use Rattle.mdic_phy.specs.PhyHistory.{PhyEvent, after_events}
 use Rattle.mdic_phy.specs.PhyHistory as phy
 use Rattle.mdic_phy.specs.Places.{mdic_i}
 
--- What may come to the register: a write of a value, or a tick of the PHY. A read changes nothing.
+-- An event at the register: a write of a value, or a tick of the PHY. A read changes nothing.
 pub data MdicEvent : Type 0 where
   Write : ℕ → MdicEvent
   Tick : MdicEvent
 
--- The register and its PHY.
+-- The register MDIC and its PHY.
 pub record MdicAndPhy : Type 0 where
   pub mdic : MdicState
   pub phy : PhyState
@@ -31,18 +31,18 @@ abbrev pub after_mdic_events : List MdicEvent → MdicAndPhy → MdicAndPhy
 after_mdic_events [] both = both
 after_mdic_events (event ∷ later) both = after_mdic_events later (after_mdic_event event both)
 
--- A new register, and this PHY, after a list of events.
+-- A new register MDIC and this PHY, after a list of events.
 abbrev pub both_behind : PhyState → List MdicEvent → MdicAndPhy
 both_behind state events = after_mdic_events events (record { mdic = new_mdic; phy = state })
 
--- What a command does at the PHY: its read or its write, if it is for address 1 (manual, 13.4.7).
+-- The access of a command to the PHY: a read or a write, if PHYADD is 1 (manual, 13.4.7).
 abbrev pub access_of : Option Operation → ℕ → List PhyEvent
 access_of None value = []
 access_of (Some operation.Write) value = if reaches_phy value then phy.Write (regadd value) (data_of value) ∷ [] else []
 access_of (Some operation.Read) value = if reaches_phy value then phy.Read (regadd value) ∷ [] else []
 
--- What comes to the PHY: each tick, and after it the access of the write that is right before that tick. A write with
--- another one after it, or with no tick yet, comes to nothing.
+-- The events at the PHY: each tick, and after it the access of the write that is right before this tick. A write makes no access if another
+-- write follows it before a tick, or if no tick has followed yet.
 abbrev pub accesses : List MdicEvent → List PhyEvent
 accesses [] = []
 accesses (Tick ∷ later) = phy.Tick ∷ accesses later
@@ -57,11 +57,11 @@ abbrev pub is_write : MdicEvent → Bool
 is_write (Write value) = true
 is_write Tick = false
 
--- Among these events there is no write.
+-- No event of the list is a write.
 abbrev pub NoWrite : List MdicEvent → Type 0
 NoWrite events = list_any is_write events ≡ false
 
--- What MDIC reads after a list of events.
+-- The value of MDIC after a list of events.
 abbrev pub mdic_reads : PhyState → List MdicEvent → ℕ
 mdic_reads state events = (both_behind state events).mdic.value
 
@@ -69,7 +69,7 @@ mdic_reads state events = (both_behind state events).mdic.value
 abbrev pub ticked_phy : PhyState → List MdicEvent → PhyState
 ticked_phy state events = after_events (accesses events ++ phy.Tick ∷ []) state
 
--- What a tick gives the adapter to record, after a list of events.
+-- What a tick reports to the adapter, after a list of events.
 abbrev pub told_behind : PhyState → List MdicEvent → Option Ticked
 told_behind state events = told (both_behind state events).mdic (both_behind state events).phy
 
@@ -77,13 +77,13 @@ told_behind state events = told (both_behind state events).mdic (both_behind sta
 abbrev pub phy_of : PhyState → List MdicEvent → PhyState
 phy_of state events = after_events (accesses events) state
 
--- What a tick gives the adapter to record if no command was written right before it: that the link came up, or nothing
--- if no count ran.
+-- What a tick reports to the adapter if no command was written right before the tick: whether the link changed from down to up. `None` if
+-- no count ran.
 abbrev pub told_of_link : PhyState → Option Ticked
 told_of_link phy = if is_counting phy then Some (record { link_changed = comes_up phy; access_complete = false }) else None
 
--- A tick reports that the link came up (the cause LSC), and that a command ended whose I is set (the cause MDAC;
--- manual, 13.4.7): the command of the write right before that tick, and no other.
+-- A tick reports LSC if the link changed from down to up. It reports MDAC if a command ended whose I is set (manual, 13.4.7): the command
+-- of the write right before this tick, and no other.
 pub record ToldByHistory : Type 0 where
   pub first : (state : PhyState) → told_behind state [] ≡ told_of_link state
   pub ticked : (state : PhyState) (before : List MdicEvent)
@@ -94,27 +94,27 @@ pub record ToldByHistory : Type 0 where
       → told_behind state (before ++ Write value ∷ [])
       ≡ Some (record { link_changed = comes_up (phy_of state (before ++ Write value ∷ [])); access_complete = is_set value mdic_i })
 
--- What MDIC reads follows from the last write, from whether a tick came after it, and from what the PHY's register was
--- at that tick (manual, 13.4.7). Commands of earlier writes don't matter.
+-- The value of MDIC depends only on the last write, on whether a tick came after it, and on the PHY's register at this tick (manual,
+-- 13.4.7). Commands of earlier writes don't matter.
 pub record MdicByHistory : Type 0 where
-  -- Without a write it reads 0.
+  -- Without a write, the register reads 0.
   pub never_written : (state : PhyState) (all : List MdicEvent) → NoWrite all → mdic_reads state all ≡ 0
-  -- Until a tick it reads what was last written, without R, E and bit 31.
+  -- Until a tick, the register reads the last written value, without R, E and bit 31.
   pub no_tick_yet : (state : PhyState) (before : List MdicEvent) (value : ℕ) → mdic_reads state (before ++ Write value ∷ []) ≡ kept value
-  -- If OP of the last write is 00 or 11, it reads so after ticks, too.
+  -- If OP of the last write is 00 or 11, ticks don't change the value.
   pub no_command : (state : PhyState) (before : List MdicEvent) (value : ℕ) (after : List MdicEvent) → operation_of value ≡ None
       → NoWrite after
       → mdic_reads state (before ++ Write value ∷ after) ≡ kept value
-  -- After a tick, a write command has R set.
+  -- After a tick has ended a write command, R is set.
   pub written : (state : PhyState) (before : List MdicEvent) (value : ℕ) (after : List MdicEvent)
       → operation_of value ≡ Some operation.Write → phyadd value ≡ 1 → NoWrite after
       → mdic_reads state (before ++ Write value ∷ Tick ∷ after) ≡ with_ready (kept value)
-  -- After a tick, a read command has R set, and in DATA the PHY's register as it was at that tick.
+  -- After a tick has ended a read command, R is set, and DATA is the PHY's register as it was at this tick.
   pub read : (state : PhyState) (before : List MdicEvent) (value : ℕ) (after : List MdicEvent) → operation_of value ≡ Some operation.Read
       → phyadd value ≡ 1 → NoWrite after
       → mdic_reads state (before ++ Write value ∷ Tick ∷ after)
       ≡ with_ready (with_data (read_value (regadd value) (ticked_phy state before)) (kept value))
-  -- After a tick, a command for another PHY has R and E set, and the DATA that was written.
+  -- After a tick has ended a command for another PHY, R and E are set, and DATA is as written.
   pub not_there : (state : PhyState) (before : List MdicEvent) (value : ℕ) (asked : Operation) (after : List MdicEvent)
       → operation_of value ≡ Some asked → phyadd value ≢ 1 → NoWrite after
       → mdic_reads state (before ++ Write value ∷ Tick ∷ after) ≡ with_error (kept value)

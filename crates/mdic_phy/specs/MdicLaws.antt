@@ -1,4 +1,4 @@
--- The laws of the history of MDIC, and the lemmas that lead to them, for proofs of the crates above too.
+-- The laws of the history of MDIC, and the lemmas that lead to them. Other crates use them, too.
 use Rattle.std.proofs.Common.{◌≡◌, ◌≢◌, ℕ, ◌-◌, ◌%◌, ◌^◌, ◌||◌, ◌==◌, bit_and, Bool, true, false, cond, List, [], ◌∷◌, ◌++◌, Option, Some}
 use Rattle.std.proofs.Common.{None, refl, sym, ap, ◌∙◌, arith}
 use Rattle.std.proofs.lemmas.Bool.{true≢false}
@@ -20,8 +20,6 @@ use Rattle.mdic_phy.specs.MdicHistory.{accesses, AccessesByHistory, NoWrite, mdi
 use Rattle.mdic_phy.specs.MdicHistory.{ToldByHistory}
 use Rattle.mdic_phy.specs.PhyLaws.{after_events-append}
 use Rattle.mdic_phy.specs.Places.{mdic_i}
-
--- ---- the fields of what a write keeps are those of what was written
 
 low-kept : (value : ℕ) → kept value % 2 ^ 28 ≡ value % 2 ^ 28
 low-kept value =
@@ -48,14 +46,12 @@ regadd-kept value = regadd-low (kept value) value (low-kept value)
 pub data-kept : (value : ℕ) → data_of (kept value) ≡ data_of value
 data-kept value = data-low (kept value) value (low-kept value)
 
--- ---- what comes to the PHY
-
 after_events-if : (b : Bool) (event : PhyEvent) (phy : PhyState)
     → after_events (cond b (event ∷ []) []) phy ≡ cond b (after_event event phy) phy
 after_events-if true event phy = refl
 after_events-if false event phy = refl
 
--- the access of a command is what its end does to the PHY
+-- The access of a command changes the PHY as the end of the command does.
 pub after_access : (asked : Option Operation) (value : ℕ) (phy : PhyState)
     → after_events (access_of asked value) phy ≡ phy_ended asked (kept value) phy
 after_access None value phy = refl
@@ -69,7 +65,7 @@ after_access (Some operation.Read) value s =
     ∙ ap (λ (p : ℕ). cond (p == 1) (state.after_read (regadd value) s) s) (sym (phyadd-kept value))
     ∙ ap (λ (r : ℕ). cond (reaches_phy (kept value)) (state.after_read r s) s) (sym (regadd-kept value))
 
--- a register without a pending command
+-- A register MDIC without a pending command, and its PHY.
 abbrev without_command : ℕ → PhyState → MdicAndPhy
 without_command value phy = record { mdic = record { value = value; pending = None }; phy = phy }
 
@@ -88,31 +84,29 @@ accesses-run (Write written ∷ Write next ∷ later) value s = accesses-run (Wr
 pub accesses_by_history : AccessesByHistory
 accesses_by_history s all = accesses-run all 0 s
 
--- ---- what MDIC reads
-
 pub after_mdic_events-append : (before after : List MdicEvent) (both : MdicAndPhy)
     → after_mdic_events (before ++ after) both ≡ after_mdic_events after (after_mdic_events before both)
 after_mdic_events-append [] after both = refl
 after_mdic_events-append (event ∷ before) after both = after_mdic_events-append before after (after_mdic_event event both)
 
--- without a command and without a write the register doesn't change
+-- Without a pending command and without a write, the value doesn't change.
 pub value-stays : (after : List MdicEvent) (value : ℕ) (s : PhyState) → NoWrite after
     → (after_mdic_events after (without_command value s)).mdic.value ≡ value
 value-stays [] value s none = refl
 value-stays (Tick ∷ later) value s none = value-stays later value (after_tick s) none
 value-stays (Write written ∷ later) value s none = absurd (true≢false none)
 
--- the register after its last write
+-- The value of MDIC after two lists of events, one after the other.
 pub reads-behind : (state : PhyState) (before after : List MdicEvent)
     → mdic_reads state (before ++ after) ≡ (after_mdic_events after (both_behind state before)).mdic.value
 reads-behind state before after = ap (λ (both : MdicAndPhy). both.mdic.value)
     (after_mdic_events-append before after (record { mdic = new_mdic; phy = state }))
 
--- the PHY at the tick that ends a command
+-- The PHY at the tick that ends a command.
 phy-ticked : (s : PhyState) (before : List MdicEvent) → after_tick (both_behind s before).phy ≡ ticked_phy s before
 phy-ticked s before = ap after_tick (accesses_by_history s before) ∙ sym (after_events-append (accesses before) (phy.Tick ∷ []) s)
 
--- the register after a write and a tick
+-- The value of MDIC after a write and a tick.
 pub reads-ended : (s : PhyState) (before : List MdicEvent) (value : ℕ) (after : List MdicEvent) → NoWrite after
     → mdic_reads s (before ++ Write value ∷ Tick ∷ after) ≡ ended (operation_of value) (kept value) (ticked_phy s before)
 reads-ended s before value after none =
@@ -124,7 +118,7 @@ reads-ended s before value after none =
 is_not : (p : ℕ) → p ≢ 1 → (p == 1) ≡ false
 is_not p other = grind (arith, nat_tests)
 
--- another PHY doesn't answer
+-- A command for another PHY sets R and E.
 ended_value-not_there : (asked : Operation) (s : PhyState) (value : ℕ) → reaches_phy value ≡ false
     → ended_value asked s value ≡ with_error value
 ended_value-not_there operation.Write s value other = ap (λ (b : Bool). cond b (with_ready value) (with_error value)) other
@@ -159,14 +153,12 @@ mdic_by_history = record {
       ∙ is_not (phyadd value) other);
 }
 
--- ---- what a tick tells
-
--- the register and its PHY after a list and one event more
+-- MDIC and its PHY after a list of events and one more event.
 pub both-behind : (s : PhyState) (before : List MdicEvent) (event : MdicEvent)
     → both_behind s (before ++ event ∷ []) ≡ after_mdic_event event (both_behind s before)
 both-behind s before event = after_mdic_events-append before (event ∷ []) (record { mdic = new_mdic; phy = s })
 
--- bit 29 is kept
+-- A write stores bit 29.
 pub interrupt-kept : (value : ℕ) → is_set (kept value) mdic_i ≡ is_set value mdic_i
 interrupt-kept value =
     sym (contains_is_set (kept value) mdic_i) ∙ ap (λ (bit : ℕ). bit == 2 ^ 29) (and_assoc (2 ^ 29) value 0x2FFF_FFFF)
@@ -175,7 +167,7 @@ interrupt-kept value =
 abbrev told_by : Bool → Bool → Option Ticked
 told_by up complete = Some (record { link_changed = up; access_complete = complete })
 
--- if no command is pending, a tick has something to do only if a count runs
+-- If no command is pending, a tick has something to do only if a count runs.
 told-counting : (counts up : Bool) → cond (counts || false) (told_by up false) None ≡ cond counts (told_by up false) None
 told-counting true up = refl
 told-counting false up = refl

@@ -1,4 +1,4 @@
--- A PHY with the registers of IEEE 802.3, clause 22, as far as link up, one step at a time.
+-- A PHY with the registers of IEEE 802.3, clause 22, as far as they concern the link, one step at a time.
 use Rattle.std.specs.Prelude.{ℕ, ◌-◌, ◌==◌, ◌&&◌, Bool, true, false, nat_le, not, if◌then◌else◌}
 use Rattle.registers.specs.Bits.{is_set, union}
 use Rattle.registers.specs.Places.{alone}
@@ -10,21 +10,21 @@ use Rattle.mdic_phy.specs.Places.{control_enable, control_reset, control_restart
 
 -- The state of a PHY.
 pub record PhyState : Type 0 where
-  -- when the link is up
+  -- How long negotiation takes until the link is up.
   pub link : Link
-  -- whether negotiation is enabled (register 0, bit 12)
+  -- Whether negotiation is enabled (register 0, bit 12).
   pub negotiation_enabled : Bool
-  -- how far negotiation has come
+  -- The state of negotiation.
   pub negotiation : Negotiation
-  -- whether the link status (register 1, bit 2) is latched low
+  -- Whether the link status (register 1, bit 2) is latched low.
   pub latched_low : Bool
 
--- A PHY that is new or reset has no link, its negotiation is enabled but not started, and the link status is
--- latched low (our choice: a PHY of clause 22 would begin negotiation by itself).
+-- A PHY that is new or reset. Its link is down, its negotiation is enabled but not started, and the link status is latched low. That
+-- negotiation doesn't begin without a write is our choice: a PHY of clause 22 begins negotiation by itself.
 abbrev pub new_phy : Link → PhyState
 new_phy link = record { link = link; negotiation_enabled = true; negotiation = NotStarted; latched_low = true }
 
--- whether negotiation has ended
+-- Whether negotiation has ended.
 abbrev pub is_complete : Negotiation → Bool
 is_complete NotStarted = false
 is_complete (Running left) = false
@@ -34,7 +34,7 @@ is_complete Complete = true
 abbrev pub link_is_up : PhyState → Bool
 link_is_up phy = is_complete phy.negotiation
 
--- A negotiation that is started ends after the ticks of the setting, or never (our choice).
+-- Negotiation that is started ends after the number of ticks of the setting, or never (our choice).
 abbrev pub negotiation_of : Link → Negotiation
 negotiation_of (After ticks) = Running ticks
 negotiation_of Never = NotStarted
@@ -44,19 +44,19 @@ negotiation_of Never = NotStarted
 abbrev pub restarted : PhyState → PhyState
 restarted phy = record phy { negotiation = negotiation_of phy.link; latched_low = true }
 
--- A write of register 0 (22.2.4.1): bit 15 resets the PHY, and nothing else happens (our choice); else bit 12 is kept,
--- and with it bit 9 restarts negotiation; bit 9 without bit 12 does nothing.
+-- A write of register 0 (22.2.4.1). Bit 15 resets the PHY, and the other bits then have no effect (our choice). Otherwise bit 12 is stored,
+-- and bit 9 restarts negotiation if bit 12 is set.
 abbrev pub after_control : ℕ → PhyState → PhyState
 after_control value phy =
     if is_set value control_reset then new_phy phy.link else
     (let kept : PhyState = record phy { negotiation_enabled = is_set value control_enable } in
     if is_set value control_enable && is_set value control_restart then restarted kept else kept)
 
--- All registers but 0 ignore a write (our choice).
+-- All registers except 0 ignore a write (our choice).
 abbrev pub after_write : ℕ → ℕ → PhyState → PhyState
 after_write register value phy = if register == 0 then after_control value phy else phy
 
--- Register 0 reads its bit 12; its other bits read 0 (our choice).
+-- The value of register 0: the stored bit 12; the other bits read 0 (our choice).
 abbrev pub control_value : PhyState → ℕ
 control_value phy = if phy.negotiation_enabled then alone control_enable else 0
 
@@ -73,7 +73,7 @@ link_seen = union (alone status_complete) (alone status_link)
 abbrev pub status_value : PhyState → ℕ
 status_value phy = if link_is_up phy then (if phy.latched_low then link_unseen else link_seen) else 0
 
--- What a register reads: control, status, the two identifiers (22.2.4.3.1), and 0 for each other register (our choice).
+-- The value of a register: control, status, the two identifiers (22.2.4.3.1), and 0 for each other register (our choice).
 abbrev pub read_value : ℕ → PhyState → ℕ
 read_value register phy =
     if register == 0 then control_value phy else
@@ -81,30 +81,30 @@ read_value register phy =
     (if register == 2 then 0x0141 else
     (if register == 3 then 0x0C20 else 0)))
 
--- A read of register 1 clears the latch, also if the link is down (22.2.4.2, "Link Status").
+-- A read of register 1 clears the latch, even if the link is down (22.2.4.2, "Link Status").
 abbrev pub after_read : ℕ → PhyState → PhyState
 after_read register phy = if register == 1 then record phy { latched_low = false } else phy
 
--- whether negotiation is counting ticks
+-- Whether negotiation is counting ticks.
 abbrev pub is_running : Negotiation → Bool
 is_running NotStarted = false
 is_running (Running left) = true
 is_running Complete = false
 
--- whether the PHY's negotiation is counting ticks
+-- Whether the PHY's negotiation is counting ticks.
 abbrev pub is_counting : PhyState → Bool
 is_counting phy = is_running phy.negotiation
 
--- A tick lowers a running count; at 0 negotiation is complete (our choice: how long it takes).
+-- A tick lowers a running count. At 0, negotiation is complete (how long it takes is our choice).
 abbrev pub counted : Negotiation → Negotiation
 counted NotStarted = NotStarted
 counted (Running left) = if nat_le left 1 then Complete else Running (left - 1)
 counted Complete = Complete
 
--- the PHY after a tick
+-- The PHY after a tick.
 abbrev pub after_tick : PhyState → PhyState
 after_tick phy = record phy { negotiation = counted phy.negotiation }
 
--- Whether a tick brings up a link that was down.
+-- Whether a tick changes the link from down to up.
 abbrev pub comes_up : PhyState → Bool
 comes_up phy = link_is_up (after_tick phy) && not (link_is_up phy)

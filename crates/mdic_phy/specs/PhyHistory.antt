@@ -1,4 +1,4 @@
--- What a PHY shows, said of the list of all that came to it since it was new.
+-- The values of a PHY's registers, from the list of all events at the PHY since it was new.
 use Rattle.std.specs.Prelude.{◌≡◌, ℕ, ◌≤◌, ◌==◌, ◌&&◌, ◌||◌, Bool, true, false, not, List, [], ◌∷◌, ◌++◌, count_by, nat_le, IsTrue}
 use Rattle.std.specs.Prelude.{if◌then◌else◌}
 use Rattle.std.specs.List.{list_any}
@@ -9,7 +9,7 @@ use Rattle.mdic_phy.specs.declared.phy.Link.TheVariants.{After, Never}
 use Rattle.mdic_phy.specs.Phy.{PhyState, new_phy, after_write, after_read, after_tick, read_value, link_is_up, link_seen, link_unseen}
 use Rattle.mdic_phy.specs.Places.{control_enable, control_reset, control_restart}
 
--- What may come to a PHY: a tick, a read of a register, a write of a value to a register.
+-- An event at a PHY: a tick, a read of a register, or a write of a value to a register.
 pub data PhyEvent : Type 0 where
   Tick : PhyEvent
   Read : ℕ → PhyEvent
@@ -57,7 +57,7 @@ is_restart (Read register) = false
 is_restart (Write register value) = register == 0 && (not
     (is_set value control_reset) && (is_set value control_enable && is_set value control_restart))
 
--- A reset or a restart: whatever takes the link down.
+-- A reset or a restart: the events that take the link down.
 abbrev pub takes_down : PhyEvent → Bool
 takes_down event = is_reset event || is_restart event
 
@@ -65,7 +65,7 @@ takes_down event = is_reset event || is_restart event
 abbrev pub HasNo : (PhyEvent → Bool) → List PhyEvent → Type 0
 HasNo test events = list_any test events ≡ false
 
--- The link is up exactly if at least d ticks came since the write that last started negotiation, with no reset after it.
+-- The link is up exactly if at least d ticks came after the last write that started negotiation, and no reset did.
 pub record LinkByHistory : Type 0 where
   -- The link is down if negotiation was never started.
   pub never_started : (link : Link) (all : List PhyEvent) → HasNo is_restart all → link_is_up (phy_behind link all) ≡ false
@@ -73,41 +73,40 @@ pub record LinkByHistory : Type 0 where
   pub reset : (link : Link) (before : List PhyEvent) (event : PhyEvent) (after : List PhyEvent) → IsTrue (is_reset event)
       → HasNo is_restart after
       → link_is_up (phy_behind link (before ++ event ∷ after)) ≡ false
-  -- From the last start of negotiation on, if no reset came after it, the link is up once there were d ticks.
+  -- If neither a reset nor a restart came after negotiation was started, the link is up after d ticks.
   pub started : (d : ℕ) (before : List PhyEvent) (event : PhyEvent) (after : List PhyEvent) → 1 ≤ d → IsTrue (is_restart event)
       → HasNo takes_down after
       → link_is_up (phy_behind (After d) (before ++ event ∷ after)) ≡ nat_le d (count_by is_tick after)
   -- A link that is set to `Never` is down.
   pub never : (all : List PhyEvent) → link_is_up (phy_behind Never all) ≡ false
 
--- What the status register reads after a list of events.
+-- The value of the status register after a list of events.
 abbrev pub status_behind : Link → List PhyEvent → ℕ
 status_behind link events = read_value 1 (phy_behind link events)
 
--- This value if the link is up after the events, and 0 if it is down.
+-- `value` if the link is up after the events, and 0 if the link is down.
 abbrev pub where_up : Link → List PhyEvent → ℕ → ℕ
 where_up link events value = if link_is_up (phy_behind link events) then value else 0
 
--- A read of the status register has bit 2 exactly if the link is up, the register was read before, and neither a reset nor a
--- restart came since that read (22.2.4.2, "Link Status": latched low until read); and bit 5 exactly if the link is up.
+-- Bit 5 of the status register is set exactly if the link is up. Bit 2 is set exactly if the link is up and the register was read after the
+-- last reset or restart (22.2.4.2, "Link Status": latched low until read).
 pub record LatchByHistory : Type 0 where
-  -- The first read has no bit 2.
+  -- Bit 2 is 0 before the first read.
   pub never_read : (link : Link) (all : List PhyEvent) → HasNo is_status_read all → status_behind link all ≡ where_up link all link_unseen
-  -- A read has no bit 2 if a reset or a restart came and no read after it.
+  -- Bit 2 is 0 if no read came after a reset or a restart.
   pub taken_down : (link : Link) (before : List PhyEvent) (event : PhyEvent) (after : List PhyEvent) → IsTrue (takes_down event)
       → HasNo is_status_read after
       → status_behind link (before ++ event ∷ after) ≡ where_up link (before ++ event ∷ after) link_unseen
-  -- A read has bit 2 if the link is up, a read came before it, and neither a reset nor a restart came after that read.
+  -- Bit 2 is 1 if the link is up and neither a reset nor a restart came after a read.
   pub stayed : (link : Link) (before : List PhyEvent) (event : PhyEvent) (after : List PhyEvent) → IsTrue (is_status_read event)
       → HasNo takes_down after
       → status_behind link (before ++ event ∷ after) ≡ where_up link (before ++ event ∷ after) link_seen
 
--- What the control register reads after a list of events.
+-- The value of the control register after a list of events.
 abbrev pub control_behind : Link → List PhyEvent → ℕ
 control_behind link events = read_value 0 (phy_behind link events)
 
--- The control register reads bit 12 of what was last written to it, or bit 12 alone if that was a reset or nothing was
--- written.
+-- The control register reads bit 12 of the last value written to it. If this write was a reset, or nothing was written, bit 12 is 1.
 pub record ControlByHistory : Type 0 where
   pub never_written : (link : Link) (all : List PhyEvent) → HasNo is_control_write all → control_behind link all ≡ alone control_enable
   pub reset : (link : Link) (before : List PhyEvent) (value : ℕ) (after : List PhyEvent) → is_set value control_reset ≡ true

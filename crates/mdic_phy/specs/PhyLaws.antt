@@ -1,4 +1,4 @@
--- The laws of the history of a PHY, and the lemmas that lead to them, for proofs of the crates above too.
+-- The laws of the history of a PHY, and the lemmas that lead to them. Other crates use them, too.
 use Rattle.std.proofs.Common.{◌≡◌, ℕ, ◌+◌, ◌-◌, ◌≤◌, ◌==◌, Bool, true, false, cond, List, [], ◌∷◌, ◌++◌, count_by, nat_le, refl, ap, ◌∙◌}
 use Rattle.std.proofs.Common.{◌⊎◌, inl, inr, arith}
 use Rattle.std.specs.List.{list_any}
@@ -19,7 +19,7 @@ use Rattle.mdic_phy.specs.WriteLaws.{latch-by_tests, latched-by_tests, still_lat
 use Rattle.mdic_phy.specs.WriteLaws.{enabled_stays-by_tests}
 use Rattle.mdic_phy.specs.Places.{control_enable, control_reset, control_restart}
 
--- one list of events after another
+-- The PHY after two lists of events, one after the other.
 pub after_events-append : (before after : List PhyEvent) (phy : PhyState)
     → after_events (before ++ after) phy ≡ after_events after (after_events before phy)
 after_events-append [] after phy = refl
@@ -30,8 +30,6 @@ first_fails test event later none = (or_parts (test event) (list_any test later)
 
 later_fail : (test : PhyEvent → Bool) (event : PhyEvent) (later : List PhyEvent) → HasNo test (event ∷ later) → HasNo test later
 later_fail test event later none = (or_parts (test event) (list_any test later) none).1
-
--- ---- the setting of the link stays
 
 link-after_read : (b : Bool) (phy : PhyState)
     → (let after : PhyState = cond b (record phy { latched_low = false }) phy in after.link) ≡ phy.link
@@ -48,14 +46,12 @@ pub link-after_events : (events : List PhyEvent) (phy : PhyState) → (after_eve
 link-after_events [] phy = refl
 link-after_events (event ∷ later) phy = link-after_events later (after_event event phy) ∙ link-after_event event phy
 
--- ---- negotiation
-
 negotiation-after_read : (b : Bool) (phy : PhyState)
     → (let after : PhyState = cond b (record phy { latched_low = false }) phy in after.negotiation) ≡ phy.negotiation
 negotiation-after_read true phy = refl
 negotiation-after_read false phy = refl
 
--- without a restart, negotiation that was not started stays so
+-- Without a restart, negotiation that was not started remains not started.
 pub not_started-after_event : (event : PhyEvent) (phy : PhyState) → is_restart event ≡ false → phy.negotiation ≡ NotStarted
     → (after_event event phy).negotiation ≡ NotStarted
 not_started-after_event Tick phy none idle = ap counted idle
@@ -83,7 +79,7 @@ restart-after_event (Read register) phy is = absurd (false≢true is)
 restart-after_event (Write register value) phy is = restart-by_tests (register == 0) (is_set value control_reset)
     (is_set value control_enable) (is_set value control_restart) phy is
 
--- a link that is set to `Never` stays down
+-- A link that is set to `Never` remains down.
 pub never-after_event : (event : PhyEvent) (phy : PhyState) → phy.link ≡ Never → phy.negotiation ≡ NotStarted
     → (after_event event phy).negotiation ≡ NotStarted
 never-after_event Tick phy never idle = ap counted idle
@@ -97,9 +93,7 @@ never-after_events [] phy never idle = idle
 never-after_events (event ∷ later) phy never idle =
     never-after_events later (after_event event phy) (link-after_event event phy ∙ never) (never-after_event event phy never idle)
 
--- ---- the count
-
--- whatever neither resets, restarts nor ticks leaves negotiation as it is
+-- An event that is no reset, no restart and no tick doesn't change negotiation.
 pub counted-after_event : (event : PhyEvent) (phy : PhyState) → takes_down event ≡ false → is_tick event ≡ false
     → (after_event event phy).negotiation ≡ phy.negotiation
 counted-after_event Tick phy none still = absurd (true≢false still)
@@ -107,7 +101,7 @@ counted-after_event (Read register) phy none still = negotiation-after_read (reg
 counted-after_event (Write register value) phy none still = negotiation-by_tests (register == 0) (is_set value control_reset)
     (is_set value control_enable) (is_set value control_restart) phy none
 
--- complete negotiation stays complete
+-- Without a reset or a restart, complete negotiation remains complete.
 pub complete-after_events : (events : List PhyEvent) (phy : PhyState) → HasNo takes_down events → phy.negotiation ≡ Complete
     → (after_events events phy).negotiation ≡ Complete
 complete-after_events [] phy none up = up
@@ -118,14 +112,14 @@ complete-after_events (Write register value ∷ later) phy none up =
     complete-after_events later (after_write register value phy) (later_fail takes_down (Write register value) later none)
     (counted-after_event (Write register value) phy (first_fails takes_down (Write register value) later none) refl ∙ up)
 
--- a tick of a count that runs
+-- A tick ends a count of at most 1, and lowers a greater count by one.
 counted-last : (left : ℕ) → nat_le left 1 ≡ true → counted (Running left) ≡ Complete
 counted-last left last = rw last refl
 
 counted-more : (left : ℕ) → nat_le left 1 ≡ false → counted (Running left) ≡ Running (left - 1)
 counted-more left more = rw more refl
 
--- the ticks of a list that begins with one
+-- The number of ticks of a list that begins with a tick.
 count_ticks : (later : List PhyEvent) → count_by is_tick (Tick ∷ later) ≡ 1 + count_by is_tick later
 count_ticks later = sum_by-cons (λ (event : PhyEvent). cond (is_tick event) 1 0) Tick later
 
@@ -138,12 +132,12 @@ enough-one_less left n m some more = grind (arith, nat_tests)
 still_some : (left : ℕ) → nat_le left 1 ≡ false → 1 ≤ left - 1
 still_some left more = grind (arith, nat_tests)
 
--- a test passes or fails
+-- A test passes or fails.
 either : (b : Bool) → (b ≡ true) ⊎ (b ≡ false)
 either true = inl refl
 either false = inr refl
 
--- a count that runs is over once there were as many ticks
+-- Without a reset or a restart, a count that runs ends after this number of ticks.
 pub running-after_events : (events : List PhyEvent) (phy : PhyState) (left : ℕ) → HasNo takes_down events → 1 ≤ left
     → phy.negotiation ≡ Running left
     → is_complete (after_events events phy).negotiation ≡ nat_le left (count_by is_tick events)
@@ -174,8 +168,6 @@ link_by_history = record {
   never = λ all. ap is_complete (never-after_events all (new_phy Never) refl refl);
 }
 
--- ---- the latch
-
 latched-after_read : (b : Bool) (phy : PhyState) → b ≡ false
     → (let after : PhyState = cond b (record phy { latched_low = false }) phy in after.latched_low) ≡ phy.latched_low
 latched-after_read true phy none = absurd (true≢false none)
@@ -186,7 +178,7 @@ unlatched-after_read : (b : Bool) (phy : PhyState) → phy.latched_low ≡ false
 unlatched-after_read true phy was = refl
 unlatched-after_read false phy was = was
 
--- only a read of the status register unlatches
+-- Only a read of the status register clears the latch.
 pub latched-after_event : (event : PhyEvent) (phy : PhyState) → is_status_read event ≡ false → phy.latched_low ≡ true
     → (after_event event phy).latched_low ≡ true
 latched-after_event Tick phy none was = was
@@ -201,14 +193,14 @@ latched-after_events (event ∷ later) phy none was =
     latched-after_events later (after_event event phy) (later_fail is_status_read event later none)
     (latched-after_event event phy (first_fails is_status_read event later none) was)
 
--- an event that takes the link down latches the link status low
+-- An event that takes the link down latches the link status low.
 pub taken_down-after_event : (event : PhyEvent) (phy : PhyState) → takes_down event ≡ true → (after_event event phy).latched_low ≡ true
 taken_down-after_event Tick phy is = absurd (false≢true is)
 taken_down-after_event (Read register) phy is = absurd (false≢true is)
 taken_down-after_event (Write register value) phy is = latched-by_tests (register == 0) (is_set value control_reset)
     (is_set value control_enable) (is_set value control_restart) phy is
 
--- an event that doesn't take the link down doesn't latch the link status low
+-- An event that doesn't take the link down doesn't latch the link status low.
 pub unlatched-after_event : (event : PhyEvent) (phy : PhyState) → takes_down event ≡ false → phy.latched_low ≡ false
     → (after_event event phy).latched_low ≡ false
 unlatched-after_event Tick phy none was = was
@@ -234,7 +226,7 @@ status_read-after_event Tick phy is = absurd (false≢true is)
 status_read-after_event (Read register) phy is = read-unlatches (register == 1) phy is
 status_read-after_event (Write register value) phy is = absurd (false≢true is)
 
--- what the status register reads, by the latch
+-- The value of the status register if the latch is set, and if the latch is clear.
 pub status-latched : (phy : PhyState) → phy.latched_low ≡ true → status_value phy ≡ cond (link_is_up phy) 0x20 0
 status-latched phy latched = ap (λ (b : Bool). cond (link_is_up phy) (cond b 0x20 0x24) 0) latched
 
@@ -256,8 +248,6 @@ latch_by_history = record {
       (status_read-after_event event (phy_behind link before) is));
 }
 
--- ---- the control register
-
 enabled-after_read : (b : Bool) (phy : PhyState)
     → (let after : PhyState = cond b (record phy { latched_low = false }) phy in after.negotiation_enabled) ≡ phy.negotiation_enabled
 enabled-after_read true phy = refl
@@ -277,7 +267,7 @@ enabled-after_events (event ∷ later) phy none =
     enabled-after_events later (after_event event phy) (later_fail is_control_write event later none)
     ∙ enabled-after_event event phy (first_fails is_control_write event later none)
 
--- bit 12 after the last write of the control register
+-- After the last write of the control register, bit 12 is set if and only if this write was a reset or set bit 12.
 enabled-behind : (link : Link) (before : List PhyEvent) (value : ℕ) (after : List PhyEvent) → HasNo is_control_write after
     → (phy_behind link (before ++ Write 0 value ∷ after)).negotiation_enabled
     ≡ cond (is_set value control_reset) true (is_set value control_enable)

@@ -10,11 +10,11 @@ pub(crate) struct Control(u16);
 
 bitflag_items! {
     impl Control: u16 {
-        /// Restart autonegotiation; clears itself.
+        /// Restart autonegotiation. The bit clears itself.
         const RESTART = 1 << 9;
         /// Autonegotiation is enabled.
         const ENABLE = 1 << 12;
-        /// Reset the PHY; clears itself.
+        /// Reset the PHY. The bit clears itself.
         const RESET = 1 << 15;
     }
 }
@@ -47,8 +47,7 @@ pub(crate) struct Status(u16);
 
 bitflag_items! {
     impl Status: u16 {
-        /// The link is up, the register was read before, and neither a reset nor a restart came
-        /// since that read.
+        /// Link status: the link is up, and the register was read after the last reset or restart.
         const LINK = 1 << 2;
         /// Autonegotiation is complete.
         const NEGOTIATED = 1 << 5;

@@ -3,40 +3,39 @@
 ghost use Rattle.mdic_phy.specs.MdicHistory.{AccessesByHistory, MdicByHistory, ToldByHistory};
 ghost use Rattle.mdic_phy.specs.PhyHistory.{ControlByHistory, LatchByHistory, LinkByHistory};
 
-/// When the link is up, by the history alone: at least d ticks came since the write that last started negotiation, with
-/// no reset after it; and never, if the setting of the link is `Never`.
+/// When the link is up, for every history. With `After(d)`, the link is up if at least d ticks came after the last
+/// write that started negotiation, and no reset did. With `Never`, the link is always down.
 pub fn link_by_history()
     ensures { LinkByHistory }
 {}
 
-/// What the status register reads, by the history alone: bit 2 exactly if the link is up, the
-/// register was read before, and neither a reset nor a restart came since that read; and bit 5
-/// exactly if the link is up.
+/// The value of the status register, which depends only on the history. Bit 5 is set exactly if the link is up. Bit 2
+/// is set exactly if the link is up and the register was read after the last reset or restart.
 pub fn latch_by_history()
     ensures { LatchByHistory }
 {}
 
-/// What the control register reads, by the history alone: bit 12 of what was last written, or
-/// 0x1000.
+/// The value of the control register, which depends only on the history: bit 12 of the last written value. Without a
+/// write, and after a reset, the value is 0x1000.
 pub fn control_by_history()
     ensures { ControlByHistory }
 {}
 
-/// What comes to the PHY, by the history of MDIC alone: each tick, and after it the access of
-/// the command that was written right before that tick. A write with another one after it
-/// comes to nothing.
+/// The events at the PHY, which depend only on the history of MDIC: each tick, followed by the access of the command
+/// that was written right before the tick. A write that is followed by another write before a tick makes no access.
 pub fn accesses_by_history()
     ensures { AccessesByHistory }
 {}
 
-/// What MDIC reads, by its history alone: what was last written, whether a tick came after it,
-/// and what the register of the PHY was at that tick.
+/// The value of MDIC. It depends only on the last written value, on whether a tick came after this write, and on the
+/// PHY's register at this tick.
 pub fn mdic_by_history()
     ensures { MdicByHistory }
 {}
 
-/// What a tick gives the adapter to record, by the history of MDIC alone: that the link came up,
-/// and that the command written right before the tick has ended, if its I is set.
+/// The causes that the adapter records after a tick, which depend only on the history of MDIC. LSC is recorded if the
+/// link is now up and was down. MDAC is recorded if the command written right before the tick has ended, and its I is
+/// set.
 pub fn told_by_history()
     ensures { ToldByHistory }
 {}

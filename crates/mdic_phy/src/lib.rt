@@ -1,5 +1,5 @@
-//! The PHY of the 82540EM, as far as link up, and MDIC, the register through which a driver
-//! reads and writes the PHY's registers.
+//! The PHY of the 82540EM, as far as it concerns the link, and MDIC, the register through which a driver reads and
+//! writes the PHY's registers.
 //!
 //! Manual: section 13.4.7, "MDI Control Register"; IEEE 802.3, clause 22.
 #![tactic(auto)]

@@ -8,25 +8,25 @@ use std::marker::Model;
 /// DATA, bits 15:0.
 const DATA: u32 = 0xFFFF;
 
-/// The lowest bit of REGADD, bits 20:16.
+/// The place of the lowest bit of REGADD, bits 20:16.
 const REGADD_SHIFT: u32 = 16;
 
-/// The lowest bit of PHYADD, bits 25:21.
+/// The place of the lowest bit of PHYADD, bits 25:21.
 const PHYADD_SHIFT: u32 = 21;
 
-/// The bits of an address, in REGADD and in PHYADD.
+/// The five bits of REGADD or PHYADD, moved to the lowest places.
 const ADDRESS: u32 = 0x1F;
 
-/// The lowest bit of OP, bits 27:26.
+/// The place of the lowest bit of OP, bits 27:26.
 const OP_SHIFT: u32 = 26;
 
 /// The bits of OP, moved to the lowest places.
 const OP: u32 = 0b11;
 
-/// OP of a write.
+/// OP of a write command.
 const OP_WRITE: u32 = 0b01;
 
-/// OP of a read.
+/// OP of a read command.
 const OP_READ: u32 = 0b10;
 
 /// R, bit 28: the command has ended.
@@ -38,36 +38,36 @@ const INTERRUPT: u32 = 1 << 29;
 /// E, bit 30: the command has failed.
 const ERROR: u32 = 1 << 30;
 
-/// The bits that a write keeps: all but R, E and bit 31.
+/// The bits that a write stores: all except R, E and bit 31.
 const KEPT: u32 = 0x2FFF_FFFF;
 
 /// The address of the PHY.
 const PHY_ADDRESS: u32 = 1;
 
-/// The tag of no pending command in a hash.
+/// The tag in a hash if no command is pending.
 const NO_COMMAND_TAG: u8 = 0;
 
-/// The tag of a pending write in a hash.
+/// The tag in a hash if a write is pending.
 const WRITE_TAG: u8 = 1;
 
-/// The tag of a pending read in a hash.
+/// The tag in a hash if a read is pending.
 const READ_TAG: u8 = 2;
 
-/// What a command asks of the PHY.
+/// The access that a command makes to a register of the PHY.
 #[derive(Clone, Copy, Debug, PartialEq, Eq)]
 pub enum Operation {
-    /// OP 01: DATA goes into the register.
+    /// OP 01: DATA is written to the register.
     Write,
-    /// OP 10: the register goes into DATA.
+    /// OP 10: the register is read into DATA.
     Read,
 }
 
-/// What a tick of the PHY gives the adapter to record.
+/// What the adapter records after a tick of the PHY.
 #[derive(Clone, Copy, Debug, PartialEq, Eq)]
 pub struct Ticked {
-    /// The link came up: the cause LSC.
+    /// Whether the link is now up and was down: the cause LSC.
     pub link_changed: bool,
-    /// A command ended whose I was set: the cause MDAC.
+    /// Whether a command ended whose I was set: the cause MDAC.
     pub access_complete: bool,
 }
 
@@ -104,8 +104,7 @@ impl Mdic {
         }
     }
 
-    /// A write begins the command of its OP; one that was pending is dropped (our choice). R, E and
-    /// bit 31 are not kept.
+    /// Begins the command of the written OP, and drops a pending command (our choice). R, E and bit 31 aren't stored.
     pub fn write(&mut self, value: u32)
         ensures { self.new ≡ after_write value }
     {
@@ -117,8 +116,8 @@ impl Mdic {
         };
     }
 
-    /// What the register reads: what was written, and once the command has ended also R, and the DATA that was read or
-    /// E.
+    /// The value of the register: the written value, without R, E and bit 31. After the command has ended, R is set. A
+    /// read command stores the PHY's register in DATA. A command for another PHY sets E instead.
     pub fn read(&self) -> u32
         ensures { result ≡ self.now.value }
     {
@@ -132,7 +131,7 @@ impl Mdic {
         phy.is_counting() || self.pending.is_some()
     }
 
-    /// A tick: the PHY's count is lowered, and then a pending command ends. Returns what the adapter has to record, or
+    /// Plays a tick: lowers the PHY's count, and then ends a pending command. Returns what the adapter must record, or
     /// `None` if no count ran and no command was pending: then nothing changes.
     pub fn tick(&mut self, phy: &mut Phy) -> Option<Ticked>
         ensures mdic { self.new ≡ mdic_after_tick self.old phy.old }
@@ -182,8 +181,8 @@ impl Default for Mdic {
     }
 }
 
-/// Ends a command at the PHY. Returns what the register then reads: with R, and with the register of the PHY in DATA or
-/// with E.
+/// Ends a command at the PHY. Returns the new value of MDIC, with R set. A read stores the PHY's register in DATA. A
+/// command for another PHY sets E instead.
 fn end(operation: Operation, value: u32, phy: &mut Phy) -> u32
     ensures value { result ≡ ended_value operation phy.old value }
     ensures phy { phy.new ≡ ended_phy operation value phy.old }
@@ -201,7 +200,7 @@ fn end(operation: Operation, value: u32, phy: &mut Phy) -> u32
     }
 }
 
-/// The register with other DATA.
+/// A value of MDIC with this word as DATA.
 #[tactic(auto, using(crate::proofs::Fields::other_data))]
 fn with_data(value: u32, word: u16) -> u32
     ensures { result ≡ with_data word value }

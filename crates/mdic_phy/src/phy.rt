@@ -18,7 +18,7 @@ const IDENTIFIER_HIGH: u8 = 2;
 /// The number of the second identifier register.
 const IDENTIFIER_LOW: u8 = 3;
 
-/// What the identifier registers read.
+/// The values of the identifier registers.
 const IDENTIFIERS: [u16; 2] = [0x0141, 0x0C20];
 
 /// The tag of `After` in a hash.
@@ -36,30 +36,29 @@ const RUNNING_TAG: u8 = 1;
 /// The tag of `Complete` in a hash.
 const COMPLETE_TAG: u8 = 2;
 
-/// How long negotiation takes until the link is up.
+/// The time that negotiation takes until the link is up.
 #[derive(Clone, Copy, Debug, PartialEq, Eq)]
 pub enum Link {
-    /// After this number of ticks of the PHY, 1 to 65,535. (0 acts as 1.)
+    /// The link is up after this number of ticks of the PHY, 1 to 65,535. (0 acts as 1.)
     After(u16),
-    /// Never.
+    /// The link is never up.
     Never,
 }
 
 /// The state of negotiation. The link is up exactly if it is complete (our choice).
 #[derive(Clone, Copy, Debug, PartialEq, Eq)]
 pub enum Negotiation {
-    /// It was not started since the PHY was new or reset, or it never ends.
+    /// Negotiation was not started since the PHY was new or reset, or the setting of the link is `Never`.
     NotStarted,
-    /// It ends after this number of ticks.
+    /// Negotiation ends after this number of ticks.
     Running(u16),
-    /// It has ended, and the link is up.
+    /// Negotiation has ended, and the link is up.
     Complete,
 }
 
 /// A PHY with the registers of IEEE 802.3, clause 22.
-///
-/// Register 0 is control, register 1 status, registers 2 and 3 identify the PHY, and the others
-/// read 0. Only register 0 takes a write.
+/// Register 0 is control, register 1 is status, registers 2 and 3 identify the PHY, and the others read 0. Only
+/// register 0 can be written.
 #[derive(Clone, Copy, Debug, PartialEq, Eq)]
 pub struct Phy {
     link: Link,
@@ -94,7 +93,7 @@ impl Phy {
     ghost use Rattle.mdic_phy.specs.Hashed.{phy_writes};
     ghost use Rattle.mdic_phy.specs.Phy.{comes_up, is_counting};
 
-    /// A PHY without link, whose negotiation was not started. Its link is up after the ticks of `link`, or never.
+    /// A PHY whose link is down and whose negotiation was not started. `link` is how long negotiation takes.
     pub fn new(link: Link) -> Self
         ensures { result ≡ new_phy link }
     {
@@ -138,7 +137,7 @@ impl Phy {
         }
     }
 
-    /// Writes a register. All but control ignore it.
+    /// Writes a register. All registers except control ignore the write.
     pub fn write(&mut self, register: u8, value: u16)
         ensures { self.new ≡ after_write register value self.old }
     {
@@ -147,7 +146,7 @@ impl Phy {
         }
     }
 
-    /// A tick: a running count is lowered, and at 0 the link is up. Returns whether the link came up.
+    /// Plays a tick: lowers a running count, and at 0 the link is up. Returns whether the link changed from down to up.
     pub fn tick(&mut self) -> bool
         ensures state { self.new ≡ after_tick self.old }
         ensures came_up { result ≡ comes_up self.old }
@@ -174,7 +173,7 @@ impl Phy {
     }
 }
 
-/// Feeds the kind of a link to a hasher.
+/// Feeds the setting of the link to a hasher.
 fn feed_link<H: Hasher>(link: Link, hasher: &mut H)
     ensures { hasher.new ≡ fold H.write hasher.old (link_writes link) }
 {
@@ -201,11 +200,11 @@ fn feed_negotiation<H: Hasher>(negotiation: Negotiation, hasher: &mut H)
     }
 }
 
-/// The state of the PHY that its registers show.
+/// The part of the state that the PHY's registers show.
 impl Phy {
     ghost use Rattle.mdic_phy.specs.Phy.{after_control, control_value, restarted, status_value};
 
-    /// What the control register reads: the bits that clear themselves read 0.
+    /// The value of the control register: the bits that clear themselves read 0.
     fn control(&self) -> Control
         ensures { result.0 ≡ control_value self.now }
     {
@@ -216,7 +215,7 @@ impl Phy {
         }
     }
 
-    /// What the status register reads now.
+    /// The value of the status register now.
     fn status(&self) -> Status
         ensures { result.0 ≡ status_value self.now }
     {
@@ -230,8 +229,8 @@ impl Phy {
         status
     }
 
-    /// A write of the control register resets the PHY, or sets whether negotiation is enabled and may start negotiation
-    /// again if it is enabled.
+    /// A write of the control register. Bit 15 resets the PHY. Otherwise bit 12 is stored, and bits 12 and 9 together
+    /// restart negotiation.
     fn write_control(&mut self, control: Control)
         ensures { self.new ≡ after_control control.0 self.old }
     {
@@ -245,7 +244,7 @@ impl Phy {
         }
     }
 
-    /// Takes the link down, and begins the count after which it is up.
+    /// Takes the link down, and begins the count of ticks after which the link is up again.
     fn restart(&mut self)
         ensures { self.new ≡ restarted self.old }
     {

@@ -37,7 +37,8 @@ pub taken_from_both : (one other left others : Numbers) (number another : Option
     → IfSome another (λ number. HaveSameNumbers other.free (number ∷ others.free)) → IfNone another (others ≡ other)
     → HaveSameNumbers left.free others.free
 taken_from_both one other left others number another same same_number taken stays taken' stays' =
-    let taken' = subst (λ (n : Option ℕ). IfSome n (λ number. HaveSameNumbers other.free (number ∷ others.free))) (sym same_number) taken' in
+    let taken' = subst (λ (n : Option ℕ). IfSome n (λ number. HaveSameNumbers other.free (number ∷ others.free))) (sym same_number) taken'
+    in
     let stays' = subst (λ (n : Option ℕ). IfNone n (others ≡ other)) (sym same_number) stays' in
     let taken' = subst (λ (pool : Numbers). IfSome number (λ number. HaveSameNumbers pool.free (number ∷ others.free))) (sym same) taken' in
     let stays' = subst (λ (pool : Numbers). IfNone number (others ≡ pool)) (sym same) stays' in

@@ -5,7 +5,7 @@ ghost use Rattle.descriptors.specs.Ring.{count_of};
 
 use descriptors::{Frame, Ring, RxDesc, TxDesc};
 
-/// [`RxDesc::to_bytes`] twice.
+/// Calls [`RxDesc::to_bytes`] twice.
 pub fn receive_bytes(one: &RxDesc, other: &RxDesc) -> ([u8; 16], [u8; 16])
     requires { one.now ≡ other.now }
     ensures { result.0 ≡ result.1 }
@@ -13,7 +13,7 @@ pub fn receive_bytes(one: &RxDesc, other: &RxDesc) -> ([u8; 16], [u8; 16])
     (one.to_bytes(), other.to_bytes())
 }
 
-/// [`TxDesc::to_bytes`] twice.
+/// Calls [`TxDesc::to_bytes`] twice.
 pub fn transmit_bytes(one: &TxDesc, other: &TxDesc) -> ([u8; 16], [u8; 16])
     requires { one.now ≡ other.now }
     ensures { result.0 ≡ result.1 }
@@ -21,7 +21,7 @@ pub fn transmit_bytes(one: &TxDesc, other: &TxDesc) -> ([u8; 16], [u8; 16])
     (one.to_bytes(), other.to_bytes())
 }
 
-/// [`RxDesc::from_bytes`] and [`TxDesc::from_bytes`], each twice.
+/// Calls [`RxDesc::from_bytes`] and [`TxDesc::from_bytes`], each twice.
 pub fn of_bytes(one: &[u8; 16], other: &[u8; 16]) -> ((RxDesc, RxDesc), (TxDesc, TxDesc))
     requires { one.now ≡ other.now }
     ensures receive { result.0.0 ≡ result.0.1 }
@@ -33,7 +33,7 @@ pub fn of_bytes(one: &[u8; 16], other: &[u8; 16]) -> ((RxDesc, RxDesc), (TxDesc,
     )
 }
 
-/// [`Ring::has_valid_indices`] twice.
+/// Calls [`Ring::has_valid_indices`] twice.
 pub fn has_valid_indices(one: &Ring, other: &Ring) -> (bool, bool)
     requires { one.now ≡ other.now }
     ensures { result.0 ≡ result.1 }
@@ -41,7 +41,7 @@ pub fn has_valid_indices(one: &Ring, other: &Ring) -> (bool, bool)
     (one.has_valid_indices(), other.has_valid_indices())
 }
 
-/// [`Ring::next`] twice.
+/// Calls [`Ring::next`] twice.
 pub fn next(one: &Ring, other: &Ring, index: u16) -> (u16, u16)
     requires ring { one.now ≡ other.now }
     requires slot { index < count_of one.now }
@@ -50,7 +50,7 @@ pub fn next(one: &Ring, other: &Ring, index: u16) -> (u16, u16)
     (one.next(index), other.next(index))
 }
 
-/// [`Ring::distance`] twice.
+/// Calls [`Ring::distance`] twice.
 pub fn distance(one: &Ring, other: &Ring, from: u16, to: u16) -> (u32, u32)
     requires ring { one.now ≡ other.now }
     requires from_slot { from < count_of one.now }
@@ -60,7 +60,7 @@ pub fn distance(one: &Ring, other: &Ring, from: u16, to: u16) -> (u32, u32)
     (one.distance(from, to), other.distance(from, to))
 }
 
-/// [`Ring::descriptor`] twice.
+/// Calls [`Ring::descriptor`] twice.
 pub fn descriptor(one: &Ring, other: &Ring, index: u16) -> (Option<u64>, Option<u64>)
     requires { one.now ≡ other.now }
     ensures { result.0 ≡ result.1 }
@@ -68,7 +68,7 @@ pub fn descriptor(one: &Ring, other: &Ring, index: u16) -> (Option<u64>, Option<
     (one.descriptor(index), other.descriptor(index))
 }
 
-/// [`Frame::try_from_slice`] twice.
+/// Calls [`Frame::try_from_slice`] twice.
 pub fn frame(one: &[u8], other: &[u8]) -> (Option<Frame>, Option<Frame>)
     requires { one.now ≡ other.now }
     ensures { result.0 ≡ result.1 }

@@ -4,7 +4,7 @@ ghost use Rattle.std.specs.Prelude.{◌≡◌};
 
 use eeprom::{Eerd, Image};
 
-/// [`Image::address`] twice.
+/// Calls [`Image::address`] twice.
 pub fn address(one: &Image, other: &Image) -> ([u8; 6], [u8; 6])
     requires { one.now ≡ other.now }
     ensures { result.0 ≡ result.1 }
@@ -12,7 +12,7 @@ pub fn address(one: &Image, other: &Image) -> ([u8; 6], [u8; 6])
     (one.address(), other.address())
 }
 
-/// [`eeprom::checksum_ok`] twice.
+/// Calls [`eeprom::checksum_ok`] twice.
 pub fn checksum_ok(one: &Image, other: &Image) -> (bool, bool)
     requires { one.now ≡ other.now }
     ensures { result.0 ≡ result.1 }
@@ -20,7 +20,7 @@ pub fn checksum_ok(one: &Image, other: &Image) -> (bool, bool)
     (eeprom::checksum_ok(one), eeprom::checksum_ok(other))
 }
 
-/// [`Eerd::write`] twice.
+/// Calls [`Eerd::write`] twice.
 pub fn write(one: &mut Eerd, other: &mut Eerd, value: u32)
     requires { one.old ≡ other.old }
     ensures { one.new ≡ other.new }
@@ -29,7 +29,7 @@ pub fn write(one: &mut Eerd, other: &mut Eerd, value: u32)
     other.write(value);
 }
 
-/// [`Eerd::read`] twice.
+/// Calls [`Eerd::read`] twice.
 pub fn read(one: &Eerd, other: &Eerd) -> (u32, u32)
     requires { one.now ≡ other.now }
     ensures { result.0 ≡ result.1 }
@@ -37,7 +37,7 @@ pub fn read(one: &Eerd, other: &Eerd) -> (u32, u32)
     (one.read(), other.read())
 }
 
-/// [`Eerd::tick`] twice.
+/// Calls [`Eerd::tick`] twice.
 pub fn tick(one: &mut Eerd, other: &mut Eerd, image: &Image) -> (bool, bool)
     requires { one.old ≡ other.old }
     ensures outcome { result.0 ≡ result.1 }

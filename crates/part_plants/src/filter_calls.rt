@@ -5,7 +5,7 @@ ghost use Rattle.std.specs.Prelude.{◌≡◌, ◌≤◌, length};
 use registers::GroupOffset;
 use rx_engine::Filter;
 
-/// [`Filter::passes`] twice.
+/// Calls [`Filter::passes`] twice.
 pub fn passes(one: &Filter, other: &Filter, frame: &[u8]) -> (bool, bool)
     requires filter { one.now ≡ other.now }
     requires frame { 16 ≤ length frame.now }
@@ -14,7 +14,7 @@ pub fn passes(one: &Filter, other: &Filter, frame: &[u8]) -> (bool, bool)
     (one.passes(frame), other.passes(frame))
 }
 
-/// [`rx_engine::hash_of`] twice.
+/// Calls [`rx_engine::hash_of`] twice.
 pub fn hash_of(mo: GroupOffset, address: &[u8; 6]) -> (u16, u16)
     ensures { result.0 ≡ result.1 }
 {

@@ -5,7 +5,7 @@ ghost use Rattle.dma_memory.specs.Owners.{HaveSameNumbers, copies};
 
 use dma_memory::{BufId, HostMemory, Layout, LayoutError, OutOfRange, Pool};
 
-/// [`HostMemory::load`] twice.
+/// Calls [`HostMemory::load`] twice.
 pub fn load(
     one: &HostMemory,
     other: &HostMemory,
@@ -21,7 +21,7 @@ pub fn load(
     (one.load(address, into), other.load(address, other_into))
 }
 
-/// [`HostMemory::store`] twice.
+/// Calls [`HostMemory::store`] twice.
 pub fn store(
     one: &mut HostMemory,
     other: &mut HostMemory,
@@ -35,7 +35,7 @@ pub fn store(
     (one.store(address, bytes), other.store(address, bytes))
 }
 
-/// [`HostMemory::view`] twice.
+/// Calls [`HostMemory::view`] twice.
 pub fn view<'a>(
     one: &'a HostMemory,
     other: &'a HostMemory,
@@ -49,7 +49,7 @@ pub fn view<'a>(
     (one.view(address, count), other.view(address, count))
 }
 
-/// [`Layout::of`] twice.
+/// Calls [`Layout::of`] twice.
 pub fn layout(
     rx: u16,
     tx: u16,
@@ -60,7 +60,7 @@ pub fn layout(
     (Layout::of(rx, tx, buffers), Layout::of(rx, tx, buffers))
 }
 
-/// [`Layout::transmit_buffer`] twice.
+/// Calls [`Layout::transmit_buffer`] twice.
 pub fn transmit_buffer(one: &Layout, other: &Layout, slot: u16) -> (u64, u64)
     requires layout { one.now ≡ other.now }
     requires known { slot < one.now.tx }
@@ -69,7 +69,7 @@ pub fn transmit_buffer(one: &Layout, other: &Layout, slot: u16) -> (u64, u64)
     (one.transmit_buffer(slot), other.transmit_buffer(slot))
 }
 
-/// [`Layout::receive_buffer`] twice.
+/// Calls [`Layout::receive_buffer`] twice.
 pub fn receive_buffer(one: &Layout, other: &Layout, number: u16) -> (u64, u64)
     requires layout { one.now ≡ other.now }
     requires known { number < one.now.buffers }
@@ -78,7 +78,7 @@ pub fn receive_buffer(one: &Layout, other: &Layout, number: u16) -> (u64, u64)
     (one.receive_buffer(number), other.receive_buffer(number))
 }
 
-/// [`Layout::size`] twice.
+/// Calls [`Layout::size`] twice.
 pub fn size(one: &Layout, other: &Layout) -> (u64, u64)
     requires { one.now ≡ other.now }
     ensures { result.0 ≡ result.1 }
@@ -86,7 +86,7 @@ pub fn size(one: &Layout, other: &Layout) -> (u64, u64)
     (one.size(), other.size())
 }
 
-/// [`Pool::take`] twice. Which number it takes is open; all else is determined by this number.
+/// Calls [`Pool::take`] twice. The contract doesn't state which number `take` returns; this number determines the rest.
 pub fn take(one: &mut Pool, other: &mut Pool) -> (Option<BufId>, Option<BufId>)
     requires { one.old ≡ other.old }
     ensures outcome { IsNone result.0 ↔ IsNone result.1 }
@@ -96,7 +96,7 @@ pub fn take(one: &mut Pool, other: &mut Pool) -> (Option<BufId>, Option<BufId>)
     (one.take(), other.take())
 }
 
-/// [`Pool::give`] twice. The order of the numbers is open.
+/// Calls [`Pool::give`] twice. The contract doesn't state the order of the numbers.
 pub fn give(one: &mut Pool, other: &mut Pool, buffer: BufId, other_buffer: BufId)
     requires pool { one.old ≡ other.old }
     requires buffer { buffer ≡ other_buffer }

@@ -4,7 +4,7 @@ ghost use Rattle.std.specs.Prelude.{◌≡◌};
 
 use pci_function::{PciFunction, PortWidth};
 
-/// [`PciFunction::read_port`] twice.
+/// Calls [`PciFunction::read_port`] twice.
 pub fn read_port(
     one: &PciFunction,
     other: &PciFunction,
@@ -21,7 +21,7 @@ pub fn read_port(
     )
 }
 
-/// [`PciFunction::write_port`] twice.
+/// Calls [`PciFunction::write_port`] twice.
 pub fn write_port(
     one: &mut PciFunction,
     other: &mut PciFunction,
@@ -36,7 +36,7 @@ pub fn write_port(
     other.write_port(port, width, value);
 }
 
-/// [`PciFunction::registers`] twice.
+/// Calls [`PciFunction::registers`] twice.
 pub fn registers(one: &PciFunction, other: &PciFunction) -> (Option<u64>, Option<u64>)
     requires { one.now ≡ other.now }
     ensures { result.0 ≡ result.1 }

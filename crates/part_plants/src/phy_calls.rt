@@ -4,14 +4,14 @@ ghost use Rattle.std.specs.Prelude.{◌≡◌};
 
 use mdic_phy::{Link, Mdic, Phy, Ticked};
 
-/// [`Phy::new`] twice.
+/// Calls [`Phy::new`] twice.
 pub fn new(link: Link) -> (Phy, Phy)
     ensures { result.0 ≡ result.1 }
 {
     (Phy::new(link), Phy::new(link))
 }
 
-/// [`Phy::read`] twice.
+/// Calls [`Phy::read`] twice.
 pub fn read(one: &mut Phy, other: &mut Phy, register: u8) -> (u16, u16)
     requires { one.old ≡ other.old }
     ensures answer { result.0 ≡ result.1 }
@@ -20,7 +20,7 @@ pub fn read(one: &mut Phy, other: &mut Phy, register: u8) -> (u16, u16)
     (one.read(register), other.read(register))
 }
 
-/// [`Phy::write`] twice.
+/// Calls [`Phy::write`] twice.
 pub fn write(one: &mut Phy, other: &mut Phy, register: u8, value: u16)
     requires { one.old ≡ other.old }
     ensures { one.new ≡ other.new }
@@ -29,7 +29,7 @@ pub fn write(one: &mut Phy, other: &mut Phy, register: u8, value: u16)
     other.write(register, value);
 }
 
-/// [`Phy::tick`] twice.
+/// Calls [`Phy::tick`] twice.
 pub fn tick(one: &mut Phy, other: &mut Phy) -> (bool, bool)
     requires { one.old ≡ other.old }
     ensures outcome { result.0 ≡ result.1 }
@@ -38,7 +38,7 @@ pub fn tick(one: &mut Phy, other: &mut Phy) -> (bool, bool)
     (one.tick(), other.tick())
 }
 
-/// [`Mdic::write`] twice.
+/// Calls [`Mdic::write`] twice.
 pub fn write_mdic(one: &mut Mdic, other: &mut Mdic, value: u32)
     requires { one.old ≡ other.old }
     ensures { one.new ≡ other.new }
@@ -47,7 +47,7 @@ pub fn write_mdic(one: &mut Mdic, other: &mut Mdic, value: u32)
     other.write(value);
 }
 
-/// [`Mdic::tick`] twice.
+/// Calls [`Mdic::tick`] twice.
 pub fn tick_mdic(
     one: &mut Mdic,
     other: &mut Mdic,

@@ -5,7 +5,7 @@ ghost use Rattle.std.specs.Prelude.{◌≡◌, ◌+◌, ◌<◌, ◌≤◌, ◌�
 use frame_queue::{FrameQueue, PLACE_BYTES, PackedQueue};
 use std::hash::Hasher;
 
-/// [`FrameQueue::front`] twice.
+/// Calls [`FrameQueue::front`] twice.
 pub fn front<'a>(one: &'a FrameQueue, other: &'a FrameQueue) -> (Option<&'a [u8]>, Option<&'a [u8]>)
     requires { one.now ≡ other.now }
     ensures none { IsNone result.0 ↔ IsNone result.1 }
@@ -14,7 +14,7 @@ pub fn front<'a>(one: &'a FrameQueue, other: &'a FrameQueue) -> (Option<&'a [u8]
     (one.front(), other.front())
 }
 
-/// [`FrameQueue::push`] twice.
+/// Calls [`FrameQueue::push`] twice.
 pub fn push(one: &mut FrameQueue, other: &mut FrameQueue, frame: &[u8])
     requires queue { one.old ≡ other.old }
     requires room { length one.old.frames < one.old.capacity }
@@ -25,7 +25,7 @@ pub fn push(one: &mut FrameQueue, other: &mut FrameQueue, frame: &[u8])
     other.push(frame);
 }
 
-/// [`FrameQueue::push_padded`] twice.
+/// Calls [`FrameQueue::push_padded`] twice.
 pub fn push_padded(one: &mut FrameQueue, other: &mut FrameQueue, frame: &[u8], least: usize)
     requires queue { one.old ≡ other.old }
     requires room { length one.old.frames < one.old.capacity }
@@ -37,7 +37,7 @@ pub fn push_padded(one: &mut FrameQueue, other: &mut FrameQueue, frame: &[u8], l
     other.push_padded(frame, least);
 }
 
-/// [`FrameQueue::pop`] twice.
+/// Calls [`FrameQueue::pop`] twice.
 pub fn pop(one: &mut FrameQueue, other: &mut FrameQueue)
     requires { one.old ≡ other.old }
     ensures { one.new ≡ other.new }
@@ -46,7 +46,7 @@ pub fn pop(one: &mut FrameQueue, other: &mut FrameQueue)
     other.pop();
 }
 
-/// [`PackedQueue::front`] twice.
+/// Calls [`PackedQueue::front`] twice.
 pub fn packed_front<'a>(
     one: &'a PackedQueue,
     other: &'a PackedQueue,
@@ -58,7 +58,7 @@ pub fn packed_front<'a>(
     (one.front(), other.front())
 }
 
-/// [`PackedQueue::push`] twice.
+/// Calls [`PackedQueue::push`] twice.
 pub fn packed_push(one: &mut PackedQueue, other: &mut PackedQueue, frame: &[u8])
     requires queue { one.old ≡ other.old }
     requires place { length one.old.frames < one.old.capacity }
@@ -70,7 +70,7 @@ pub fn packed_push(one: &mut PackedQueue, other: &mut PackedQueue, frame: &[u8])
     other.push(frame);
 }
 
-/// [`PackedQueue::pop`] twice.
+/// Calls [`PackedQueue::pop`] twice.
 pub fn packed_pop(one: &mut PackedQueue, other: &mut PackedQueue)
     requires { one.old ≡ other.old }
     ensures { one.new ≡ other.new }
@@ -79,7 +79,7 @@ pub fn packed_pop(one: &mut PackedQueue, other: &mut PackedQueue)
     other.pop();
 }
 
-/// [`PackedQueue::feed`] twice.
+/// Calls [`PackedQueue::feed`] twice.
 pub fn packed_feed<H: Hasher>(
     one: &PackedQueue,
     other: &PackedQueue,

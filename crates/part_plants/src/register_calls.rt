@@ -4,7 +4,7 @@ ghost use Rattle.std.specs.Prelude.{◌≡◌};
 
 use registers::{Cause, Causes, Counter, Ctrl, GroupOffset, Rctl, Tctl};
 
-/// [`Ctrl::kept`], [`Rctl::kept`] and [`Tctl::kept`], each twice.
+/// Calls [`Ctrl::kept`], [`Rctl::kept`] and [`Tctl::kept`], each twice.
 pub fn kept(value: u32) -> ((Ctrl, Ctrl), (Rctl, Rctl), (Tctl, Tctl))
     ensures control { result.0.0 ≡ result.0.1 }
     ensures receive { result.1.0 ≡ result.1.1 }
@@ -17,14 +17,14 @@ pub fn kept(value: u32) -> ((Ctrl, Ctrl), (Rctl, Rctl), (Tctl, Tctl))
     )
 }
 
-/// [`Rctl::group_offset`] twice.
+/// Calls [`Rctl::group_offset`] twice.
 pub fn group_offset(rctl: Rctl) -> (GroupOffset, GroupOffset)
     ensures { result.0 ≡ result.1 }
 {
     (rctl.group_offset(), rctl.group_offset())
 }
 
-/// [`Counter::bump`] twice.
+/// Calls [`Counter::bump`] twice.
 pub fn bump(one: &mut Counter, other: &mut Counter)
     requires { one.old ≡ other.old }
     ensures { one.new ≡ other.new }
@@ -33,7 +33,7 @@ pub fn bump(one: &mut Counter, other: &mut Counter)
     other.bump();
 }
 
-/// [`Causes::raise`] twice.
+/// Calls [`Causes::raise`] twice.
 pub fn raise(one: &mut Causes, other: &mut Causes, cause: Cause)
     requires { one.old ≡ other.old }
     ensures { one.new ≡ other.new }
@@ -42,7 +42,7 @@ pub fn raise(one: &mut Causes, other: &mut Causes, cause: Cause)
     other.raise(cause);
 }
 
-/// [`Causes::read`] twice.
+/// Calls [`Causes::read`] twice.
 pub fn read(one: &mut Causes, other: &mut Causes) -> (u32, u32)
     requires { one.old ≡ other.old }
     ensures answer { result.0 ≡ result.1 }
@@ -51,7 +51,7 @@ pub fn read(one: &mut Causes, other: &mut Causes) -> (u32, u32)
     (one.read(), other.read())
 }
 
-/// [`Causes::clear_written`] twice.
+/// Calls [`Causes::clear_written`] twice.
 pub fn clear_written(one: &mut Causes, other: &mut Causes, value: u32)
     requires { one.old ≡ other.old }
     ensures { one.new ≡ other.new }
@@ -60,7 +60,7 @@ pub fn clear_written(one: &mut Causes, other: &mut Causes, value: u32)
     other.clear_written(value);
 }
 
-/// [`Causes::set`] twice.
+/// Calls [`Causes::set`] twice.
 pub fn set(one: &mut Causes, other: &mut Causes, value: u32)
     requires { one.old ≡ other.old }
     ensures { one.new ≡ other.new }
@@ -69,7 +69,7 @@ pub fn set(one: &mut Causes, other: &mut Causes, value: u32)
     other.set(value);
 }
 
-/// [`Causes::mask`] twice.
+/// Calls [`Causes::mask`] twice.
 pub fn mask(one: &mut Causes, other: &mut Causes, value: u32)
     requires { one.old ≡ other.old }
     ensures { one.new ≡ other.new }
@@ -78,7 +78,7 @@ pub fn mask(one: &mut Causes, other: &mut Causes, value: u32)
     other.mask(value);
 }
 
-/// [`Causes::unmask`] twice.
+/// Calls [`Causes::unmask`] twice.
 pub fn unmask(one: &mut Causes, other: &mut Causes, value: u32)
     requires { one.old ≡ other.old }
     ensures { one.new ≡ other.new }
@@ -87,7 +87,7 @@ pub fn unmask(one: &mut Causes, other: &mut Causes, value: u32)
     other.unmask(value);
 }
 
-/// [`Causes::line`] twice.
+/// Calls [`Causes::line`] twice.
 pub fn line(one: &Causes, other: &Causes) -> (bool, bool)
     requires { one.now ≡ other.now }
     ensures { result.0 ≡ result.1 }

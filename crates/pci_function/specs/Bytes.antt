@@ -4,25 +4,25 @@ use Rattle.std.specs.Int.{from_le_bytes, to_le_bytes, w32}
 use Rattle.pci_function.specs.declared.port_width.PortWidth.{PortWidth}
 use Rattle.pci_function.specs.declared.port_width.PortWidth.TheVariants.{Byte, Word, Long}
 
--- the number of bytes of a width
+-- The number of bytes of a width.
 abbrev pub size_of : PortWidth → ℕ
 size_of Byte = 1
 size_of Word = 2
 size_of Long = 4
 
--- the greatest number of a width
+-- The greatest number of a width: all its bits are 1.
 abbrev pub ones_of : PortWidth → ℕ
 ones_of width = 2 ^ (8 * size_of width) - 1
 
--- the number in the bytes from byte `first` on
+-- The number in the bytes from byte `first` on.
 abbrev pub bytes_at : ℕ → PortWidth → ℕ → ℕ
 bytes_at first width word = word / 2 ^ (8 * first) % 2 ^ (8 * size_of width)
 
--- the bytes of a dword in which these replace those from byte `first` on
+-- The bytes of a dword after these bytes have replaced the bytes from byte `first` on.
 abbrev pub replaced : ℕ → List ℕ → List ℕ → List ℕ
 replaced first bytes old = take first old ++ bytes ++ drop (first + length bytes) old
 
--- the dword in which the bytes from byte `first` on are the low bytes of a value
+-- The dword after the low bytes of a value have replaced its bytes from byte `first` on.
 abbrev pub with_bytes : ℕ → PortWidth → ℕ → ℕ → ℕ
 with_bytes first width value word =
     let written : List ℕ = take (size_of width) (to_le_bytes w32 value) in

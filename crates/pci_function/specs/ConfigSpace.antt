@@ -4,34 +4,34 @@
 -- Software Developer's Manual".
 use Rattle.std.specs.Prelude.{◌==◌, ℕ, Bool, Option, Some, None, bit_and, bit_or, if◌then◌else◌}
 
--- what a function stores
+-- The state that a function stores.
 pub record PciState : Type 0 where
-  -- CONFIG_ADDRESS
+  -- The contents of CONFIG_ADDRESS.
   pub address : ℕ
-  -- the command register
+  -- The contents of the command register.
   pub command : ℕ
-  -- the address of the adapter's first register, a part of which is in base address register 0
+  -- The address of the adapter's first register. Base address register 0 shows a part of it.
   pub registers : ℕ
-  -- the interrupt line register
+  -- The contents of the interrupt line register.
   pub interrupt_line : ℕ
 
--- the command register keeps bits 0, 1, 2, 4, 6 and 8 (6.2.2 "Device Control"; manual, 4.1)
+-- The command register stores bits 0, 1, 2, 4, 6 and 8 (6.2.2 "Device Control"; manual, 4.1).
 abbrev pub kept_command : ℕ → ℕ
 kept_command word = bit_and word 0x157
 
--- bit 1 of the command register, Memory Space (6.2.2)
+-- Bit 1 of the command register, Memory Space (6.2.2).
 abbrev pub has_memory_space : ℕ → Bool
 has_memory_space command = bit_and command 2 == 2
 
--- base address register 0: the registers take 128 KB, so bits 16:0 are 0 (6.2.5.1 "Address Maps"; manual, 4.1)
+-- Base address register 0: the registers take 128 KB, so bits 16:0 are 0 (6.2.5.1 "Address Maps"; manual, 4.1).
 abbrev pub base_of : ℕ → ℕ
 base_of address = bit_and address 0xFFFE0000
 
--- Interrupt Status, bit 3 of the status register (manual, 4.1), which is the high half of the dword at 04h
+-- Interrupt Status, bit 3 of the status register (manual, 4.1), which is the high half of the dword at 04h.
 abbrev pub interrupt_status : Bool → ℕ
 interrupt_status asserted = if asserted then 0x80000 else 0
 
--- The table of configuration space: the dword at an offset. `asserted` is the interrupt line. The other dwords are 0
+-- The table of configuration space: the dword at an offset. `asserted` is whether the interrupt line is asserted. The other dwords are 0
 -- (6.1; that the adapter has no capabilities, no ROM and no registers in I/O space is our choice).
 abbrev pub config_word : PciState → Bool → ℕ → ℕ
 config_word function asserted offset =
@@ -49,7 +49,7 @@ config_word function asserted offset =
     else if offset == 0x3C then bit_or 0x00FF0100 function.interrupt_line
     else 0
 
--- A write of the dword at an offset. The other rows of the table can't be written.
+-- The state after a write of the dword at an offset. Only these three dwords can be written.
 abbrev pub after_write_of : ℕ → ℕ → PciState → PciState
 after_write_of offset word function =
     if offset == 0x04 then record function { command = kept_command word }
@@ -57,11 +57,11 @@ after_write_of offset word function =
     else if offset == 0x3C then record function { interrupt_line = bit_and word 0xFF }
     else function
 
--- A function whose firmware has enabled memory space and bus mastering (our choice). The address of the registers may
--- be one that the base address register can't show, until that register is written.
+-- A function whose firmware has enabled memory space and bus mastering (our choice). Until base address register 0 is written, the
+-- registers may be at an address that this register can't show.
 abbrev pub new_function : ℕ → PciState
 new_function registers = record { address = 0; command = 0x6; registers = registers; interrupt_line = 0 }
 
--- where the registers begin, while the function answers in memory space
+-- The address of the first register, while the function answers in memory space.
 abbrev pub registers_of : PciState → Option ℕ
 registers_of function = if has_memory_space function.command then Some function.registers else None

@@ -11,17 +11,17 @@ pub(crate) struct Command(pub u32);
 
 bitflag_items! {
     impl Command: u32 {
-        /// The device answers in I/O space. It is kept and has no effect.
+        /// The device answers in I/O space. The bit is stored, but has no effect.
         const IO_SPACE = 1 << 0;
         /// The device answers in memory space.
         const MEMORY_SPACE = 1 << 1;
-        /// The device may access memory. It is kept and has no effect.
+        /// The device may access memory. The bit is stored, but has no effect.
         const BUS_MASTER = 1 << 2;
-        /// Memory Write and Invalidate. It is kept and has no effect.
+        /// Memory Write and Invalidate. The bit is stored, but has no effect.
         const WRITE_AND_INVALIDATE = 1 << 4;
-        /// Response to parity errors. It is kept and has no effect.
+        /// Response to parity errors. The bit is stored, but has no effect.
         const PARITY_ERROR = 1 << 6;
-        /// SERR#. It is kept and has no effect.
+        /// SERR#. The bit is stored, but has no effect.
         const SYSTEM_ERROR = 1 << 8;
     }
 }

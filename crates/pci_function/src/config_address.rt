@@ -3,14 +3,14 @@
 ghost use Rattle.std.specs.Prelude.{◌≡◌};
 ghost use Rattle.pci_function.specs.Ports.{kept_address, offset_in, selects_function};
 
-/// The bits of CONFIG_ADDRESS that are kept: all but bits 30:24, which are reserved, and bits 1:0.
+/// The bits of CONFIG_ADDRESS that a write stores: all except bits 30:24, which are reserved, and bits 1:0.
 const KEPT: u32 = 0x80FF_FFFC;
 
 /// The device number of the adapter.
 const DEVICE: u32 = 4;
 
-/// What CONFIG_ADDRESS contains (PCI 2.2, 3.2.2.3.2 "Software Generation of Configuration Transactions"): an enable bit
-/// (31), and the numbers of a bus (23:16), a device (15:11), a function (10:8) and a dword (7:2).
+/// The contents of CONFIG_ADDRESS (PCI 2.2, 3.2.2.3.2 "Software Generation of Configuration Transactions"): an enable
+/// bit (31), and the numbers of a bus (23:16), a device (15:11), a function (10:8) and a dword (7:2).
 #[derive(Clone, Copy, PartialEq, Eq, Debug)]
 pub(crate) struct ConfigAddress(pub u32);
 
@@ -22,7 +22,7 @@ impl ConfigAddress {
         ConfigAddress(value & KEPT)
     }
 
-    /// Whether accesses of the data port are enabled, and the numbers are those of the adapter.
+    /// Whether accesses of the data port are enabled, and the numbers select the adapter.
     pub(crate) fn selects_function(self) -> bool
         ensures { result ≡ selects_function self.0 }
     {
@@ -33,7 +33,7 @@ impl ConfigAddress {
         is_enabled && bus == 0 && device == DEVICE && function == 0
     }
 
-    /// Where the dword begins in configuration space.
+    /// The offset of the dword in configuration space.
     pub(crate) fn offset(self) -> u8
         ensures { result ≡ offset_in self.0 }
     {

@@ -40,7 +40,7 @@ const BASE_BITS: u64 = 0xFFFE_0000;
 
 /// Function 0 of device 4 of bus 0: the adapter as a PCI device.
 ///
-/// In contracts it is a `PciState` (`specs/ConfigSpace.antt`).
+/// In contracts, the value is a `PciState` (`specs/ConfigSpace.antt`).
 #[derive(Clone, Copy, Debug, PartialEq, Eq)]
 pub struct PciFunction {
     address: ConfigAddress,
@@ -73,7 +73,7 @@ impl PciFunction {
     ghost use Rattle.pci_function.specs.ConfigSpace.{after_write_of, config_word, new_function, registers_of};
     ghost use Rattle.pci_function.specs.Ports.{after_write};
 
-    /// A function whose registers begin at this address. Memory space and bus mastering are enabled, as by firmware.
+    /// A function whose registers begin at this address. Memory space and bus mastering are enabled, as firmware does.
     pub fn new(registers: u64) -> PciFunction
         ensures { result ≡ new_function registers }
     {
@@ -85,7 +85,8 @@ impl PciFunction {
         }
     }
 
-    /// Reads an I/O port. `asserted` is the interrupt line. The result is all ones if nothing answers.
+    /// Reads an I/O port. `asserted` is whether the interrupt line is asserted. If nothing answers, all bits of the
+    /// result are 1.
     pub fn read_port(&self, port: u16, width: PortWidth, asserted: bool) -> u32
         ensures { result ≡ answer_at port width asserted self.now }
     {
@@ -98,7 +99,7 @@ impl PciFunction {
         }
     }
 
-    /// Writes an I/O port. Only the low bytes of the value that the width has are used.
+    /// Writes an I/O port. Of the value, only the low bytes are used: one, two or four, by the width.
     pub fn write_port(&mut self, port: u16, width: PortWidth, value: u32)
         ensures { self.new ≡ after_write port width value self.old }
     {
@@ -112,8 +113,8 @@ impl PciFunction {
         }
     }
 
-    /// The address of the adapter's first register. `None` while memory space is disabled: no address is a register
-    /// then.
+    /// The address of the adapter's first register. `None` while memory space is disabled: then no address is that of a
+    /// register.
     pub fn registers(&self) -> Option<u64>
         ensures { result ≡ registers_of self.now }
     {
@@ -124,7 +125,8 @@ impl PciFunction {
         }
     }
 
-    /// The first byte of the dword that an access of the data port is for, if it is for this function.
+    /// The first byte of the dword that an access of the data port reads or writes; `None` if the access isn't for this
+    /// function.
     fn first_byte(&self, port: u16, width: PortWidth) -> Option<usize>
         ensures { result ≡ first_byte port width self.now.address }
     {
@@ -166,14 +168,14 @@ impl PciFunction {
     }
 }
 
-/// Bit 3 of the status register, in the dword at 04h.
+/// Interrupt Status, bit 3 of the status register, as a bit of the dword at 04h.
 fn interrupt_status(asserted: bool) -> u32
     ensures { result ≡ interrupt_status asserted }
 {
     if asserted { INTERRUPT_STATUS } else { 0 }
 }
 
-/// Whether an access is one of CONFIG_ADDRESS, which only accesses of four bytes reach.
+/// Whether an access is for CONFIG_ADDRESS, which only accesses of four bytes reach.
 fn is_address_port(port: u16, width: PortWidth) -> bool
     ensures { result ≡ is_address_port port width }
 {

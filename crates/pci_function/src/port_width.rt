@@ -3,7 +3,7 @@
 ghost use Rattle.std.specs.Prelude.{◌≡◌, ◌≤◌, ◌+◌};
 ghost use Rattle.pci_function.specs.Bytes.{bytes_at, ones_of, size_of, with_bytes};
 
-/// How many bytes an access of an I/O port has.
+/// The number of bytes of an access of an I/O port.
 #[derive(Clone, Copy, PartialEq, Eq, Debug)]
 pub enum PortWidth {
     /// One byte.
@@ -26,7 +26,7 @@ impl PortWidth {
         }
     }
 
-    /// The greatest number of this width.
+    /// The greatest number of this width: all its bits are 1.
     pub(crate) fn ones(self) -> u32
         ensures { result ≡ ones_of self }
     {

@@ -1,40 +1,38 @@
 -- The bits of a register: one bit, a field of several bits, and the bits that are 1 as a set of places.
--- Places are counted from 0, the lowest bit. (our choice)
+-- Places are counted from 0, the lowest bit (our choice).
 use Rattle.std.specs.Prelude.{◌≡◌, ◌==◌, ◌<◌, ◌-◌, ◌/◌, ◌%◌, ◌^◌, ◌↔◌, ◌⊎◌, ℕ, Bool, bit_and, bit_or}
 
--- the bit at this place is 1
+-- The bit at this place is 1.
 abbrev pub HasBit : ℕ → ℕ → Type 0
 HasBit value place = value / 2 ^ place % 2 ≡ 1
 
--- whether the bit at this place is 1
+-- Whether the bit at this place is 1.
 abbrev pub is_set : ℕ → ℕ → Bool
 is_set value place = value / 2 ^ place % 2 == 1
 
--- the number in the `width` bits from the place `lowest` on
+-- The number in the `width` bits from the place `lowest` on.
 abbrev pub field : ℕ → ℕ → ℕ → ℕ
 field value lowest width = value / 2 ^ lowest % 2 ^ width
 
--- the places of either set
+-- The places of either set.
 abbrev pub union : ℕ → ℕ → ℕ
 union a b = bit_or a b
 
--- the places of both sets
+-- The places of both sets.
 abbrev pub intersection : ℕ → ℕ → ℕ
 intersection a b = bit_and a b
 
--- the places of the first set that are not in the second, in a register of 32 bits
+-- The places of the first set that are not in the second, in a register of 32 bits.
 abbrev pub difference : ℕ → ℕ → ℕ
 difference a b = bit_and a (2 ^ 32 - 1 - b)
 
--- the two sets have a place in common
+-- The two sets have a place in common.
 abbrev pub Meet : ℕ → ℕ → Type 0
 Meet a b = 0 < bit_and a b
 
--- each place of the first set is in the second
+-- Each place of the first set is in the second.
 abbrev pub IsSubset : ℕ → ℕ → Type 0
 IsSubset a b = bit_and a b ≡ a
-
--- What these words mean, place by place.
 
 -- A bit is 1 in the union of two sets if and only if it is 1 in one of them.
 abbrev pub UnionByPlaces : Type 0

@@ -1,34 +1,33 @@
--- What a write leaves in each register. The bits' places are those of chapter 13, "Register Descriptions", of Intel's
--- "PCI/PCI-X Family of Gigabit Ethernet Controllers Software Developer's Manual"; that the other bits read 0 is our
--- choice.
+-- The bits of each register that a write stores. Their places are those of chapter 13, "Register Descriptions", of Intel's "PCI/PCI-X
+-- Family of Gigabit Ethernet Controllers Software Developer's Manual". That the other bits read 0 is our choice.
 use Rattle.std.specs.Prelude.{ℕ, bit_and}
 
--- CTRL (13.4.1 "Device Control Register"): FD 0, ASDE 5, SLU 6, VME 30; RST 26 resets and isn't kept
+-- CTRL (13.4.1 "Device Control Register"): FD 0, ASDE 5, SLU 6, VME 30. RST 26 resets the adapter and isn't stored.
 abbrev pub control_mask : ℕ
 control_mask = 0x40000061
 
--- CTRL as it is written, with RST
+-- The bits that CTRL stores, and RST.
 abbrev pub written_control_mask : ℕ
 written_control_mask = 0x44000061
 
 -- RCTL (13.4.22 "Receive Control Register"): EN 1, UPE 3, MPE 4, LPE 5, RDMTS 9:8, MO 13:12, BAM 15, BSIZE 17:16,
--- VFE 18, BSEX 25, SECRC 26
+-- VFE 18, BSEX 25, SECRC 26.
 abbrev pub receive_control_mask : ℕ
 receive_control_mask = 0x0607B33A
 
--- TCTL (13.4.33 "Transmit Control Register"): EN 1, PSP 3, CT 11:4, COLD 21:12
+-- TCTL (13.4.33 "Transmit Control Register"): EN 1, PSP 3, CT 11:4, COLD 21:12.
 abbrev pub transmit_control_mask : ℕ
 transmit_control_mask = 0x003FFFFA
 
 -- ICR, ICS, IMS, IMC (13.4.17 to 13.4.21, "Interrupt Cause Read Register" and its neighbours): TXDW 0, TXQE 1, LSC 2,
--- RXDMT0 4, RXO 6, RXT0 7, MDAC 9
+-- RXDMT0 4, RXO 6, RXT0 7, MDAC 9.
 abbrev pub all_causes : ℕ
 all_causes = 0x2D7
 
--- the causes that a written word names
+-- The causes that a written word names.
 abbrev pub causes_of : ℕ → ℕ
 causes_of written = bit_and written all_causes
 
--- STATUS (13.4.2 "Device Status Register") while the link is up: FD, LU, SPEED 10; while it is down it reads 0 (our choice)
+-- STATUS (13.4.2 "Device Status Register") while the link is up: FD, LU, SPEED 10. While the link is down, STATUS reads 0 (our choice).
 abbrev pub status_of_link_up : ℕ
 status_of_link_up = 0x83

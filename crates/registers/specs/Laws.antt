@@ -1,4 +1,4 @@
--- Lemmas on the bits of a register, for this crate and those above it.
+-- Lemmas about the bits of a register. Other crates use them, too.
 use Rattle.std.proofs.Common.{◌≡◌, ◌<◌, ◌^◌, ◌*◌, ◌-◌, ◌↔◌, ℕ, zero, suc, min, IsTrue, ◌==◌, bit_and, bit_or, refl, sym, ◌∙◌, ap, subst}
 use Rattle.std.proofs.Common.{inl, inr, arith}
 use Rattle.std.specs.Int.{bit_at, trailing_zeros, w32}
@@ -10,13 +10,13 @@ use Rattle.std.proofs.lemmas.Nat.Bits.{bit_at-trailing_zeros, same_from_bits}
 use Rattle.registers.specs.Bits.{HasBit, is_set, union, intersection, difference, IsSubset, UnionByPlaces, IntersectionByPlaces}
 use Rattle.registers.specs.Bits.{DifferenceByPlaces, MeetByPlaces, SubsetByPlaces, EmptyByPlaces, SameByPlaces}
 
--- a bit times a power that is the power again is 1
+-- If a bit times a positive number is this number, the bit is 1.
 bit_of_product : (bit power : ℕ) → bit < 2 → 0 < power → bit * power ≡ power → bit ≡ 1
 bit_of_product zero power below positive same = absurd (omega arith)
 bit_of_product (suc zero) power below positive same = refl
 bit_of_product (suc (suc bit)) power below positive same = absurd (omega arith)
 
--- to contain a flag of one bit is to have that bit
+-- A word contains a flag of one bit if and only if this bit of the word is 1.
 pub contains_bit : (value place : ℕ) → IsTrue (bit_and value (2 ^ place) == 2 ^ place) ↔ HasBit value place
 contains_bit value place =
     let product : bit_and value (2 ^ place) ≡ bit_at value place * 2 ^ place = and_pow value place in (
@@ -46,7 +46,7 @@ HasBit-intersection a b place =
       (λ both. omega arith),
     )
 
--- the bit of a difference, at the places of a register
+-- The bit of a difference at a place below 32.
 bit_at-difference : (a b place : ℕ) → b < 2 ^ 32 → place < 32 → bit_at (difference a b) place ≡ min (bit_at a place) (1 - bit_at b place)
 bit_at-difference a b place fits within =
     bit_at_and a (2 ^ 32 - 1 - b) place ∙ ap (λ bit. min (bit_at a place) bit) (bit_at_not w32 b place fits within)
@@ -145,5 +145,5 @@ IsSubset-masked value set = same_from_bits (bit_and (bit_and value set) set) (bi
     let both = bit_at_and value set place in
     omega arith)
 
--- rules for subsets of the causes
+-- Rules that show that a set is a subset of another.
 pub ruleset subsets = (IsSubset-union, IsSubset-intersection, IsSubset-masked)

@@ -1,8 +1,8 @@
--- The places of the bits of registers, by the names of chapter 13, "Register Descriptions", of Intel's "PCI/PCI-X Family of Gigabit
--- Ethernet Controllers Software Developer's Manual". Of a field of several bits it is the lowest place.
+-- The places of register bits, with the names of chapter 13, "Register Descriptions", of Intel's "PCI/PCI-X Family of Gigabit Ethernet
+-- Controllers Software Developer's Manual". The place of a field of several bits is the place of its lowest bit.
 use Rattle.std.specs.Prelude.{ℕ, ◌^◌}
 
--- the word in which only the bit at this place is 1
+-- The word in which only the bit at this place is 1.
 abbrev pub alone : ℕ → ℕ
 alone place = 2 ^ place
 
@@ -14,7 +14,7 @@ ctrl_asde = 5
 abbrev pub ctrl_slu : ℕ
 ctrl_slu = 6
 
--- Device reset.
+-- Device reset: a write of 1 resets the adapter.
 abbrev pub ctrl_rst : ℕ
 ctrl_rst = 26
 
@@ -51,7 +51,7 @@ rctl_bam = 15
 abbrev pub rctl_bsize : ℕ
 rctl_bsize = 16
 
--- VLAN filter enable: a frame with a VLAN tag passes only if the VLAN table has its number.
+-- VLAN filter enable: a frame with a VLAN tag passes only if the VLAN table contains its VLAN number.
 abbrev pub rctl_vfe : ℕ
 rctl_vfe = 18
 
@@ -59,7 +59,7 @@ rctl_vfe = 18
 abbrev pub rctl_bsex : ℕ
 rctl_bsex = 25
 
--- Strip the CRC. The model's frames have none.
+-- Strip the CRC, which has no effect in the model: its frames have no CRC.
 abbrev pub rctl_secrc : ℕ
 rctl_secrc = 26
 
@@ -91,7 +91,7 @@ txdw = 0
 abbrev pub txqe : ℕ
 txqe = 1
 
--- Link status change: the link came up.
+-- Link status change: the link changed from down to up.
 abbrev pub lsc : ℕ
 lsc = 2
 
@@ -107,6 +107,6 @@ rxo = 6
 abbrev pub rxt0 : ℕ
 rxt0 = 7
 
--- MDI/O access complete: an MDIC command whose I bit is set ended.
+-- MDI/O access complete: an MDIC command with bit I set has ended.
 abbrev pub mdac : ℕ
 mdac = 9

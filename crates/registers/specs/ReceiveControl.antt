@@ -5,22 +5,22 @@ use Rattle.registers.specs.declared.receive_control.GroupOffset.TheVariants.{Bit
 use Rattle.registers.specs.declared.device_control.Speed.{Speed}
 use Rattle.registers.specs.declared.device_control.Speed.TheVariants.{Mbps10, Mbps100, Mbps1000}
 
--- RCTL.MO (13.4.22): which 12 bits of the destination are the group's number
+-- RCTL.MO (13.4.22): which 12 bits of a group address are its number.
 abbrev pub group_offset_of : ℕ → GroupOffset
 group_offset_of code =
     if code == 0 then Bits47To36 else if code == 1 then Bits46To35 else if code == 2 then Bits45To34 else Bits43To32
 
--- by how many places the last two bytes of the destination are shifted to get that number (13.5.1 "Multicast Table Array")
+-- The number of places by which the last two bytes of the address are shifted to get this number (13.5.1 "Multicast Table Array").
 abbrev pub shift_of : GroupOffset → ℕ
 shift_of Bits47To36 = 4
 shift_of Bits46To35 = 3
 shift_of Bits45To34 = 2
 shift_of Bits43To32 = 0
 
--- RCTL.BSIZE with BSEX 0 (13.4.22): 2,048, 1,024, 512 or 256 bytes
+-- RCTL.BSIZE if BSEX is 0 (13.4.22): 2,048, 1,024, 512 or 256 bytes.
 abbrev pub buffer_size_of : ℕ → ℕ
 buffer_size_of code = 2048 / 2 ^ code
 
--- STATUS.SPEED (13.4.2): 00 is 10 Mb/s, 01 is 100 Mb/s, 10 and 11 are 1000 Mb/s
+-- STATUS.SPEED (13.4.2): 00 is 10 Mb/s, 01 is 100 Mb/s, 10 and 11 are 1000 Mb/s.
 abbrev pub speed_of : ℕ → Speed
 speed_of code = if code == 0 then Mbps10 else if code == 1 then Mbps100 else Mbps1000

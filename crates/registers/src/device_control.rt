@@ -14,15 +14,15 @@ pub struct Ctrl(pub u32);
 
 bitflag_items! {
     impl Ctrl: u32 {
-        /// Full duplex. It is kept and has no effect.
+        /// Full duplex. The bit is stored, but has no effect.
         const FD = 1 << 0;
-        /// Automatic speed detection. It is kept and has no effect.
+        /// Automatic speed detection. The bit is stored, but has no effect.
         const ASDE = 1 << 5;
         /// Set link up.
         const SLU = 1 << 6;
-        /// Device reset: acts when it is written, and reads 0.
+        /// Device reset. A write of 1 resets the adapter, and the bit reads 0.
         const RST = 1 << 26;
-        /// VLAN mode. It is kept and has no effect.
+        /// VLAN mode. The bit is stored, but has no effect.
         const VME = 1 << 30;
     }
 }
@@ -51,29 +51,29 @@ impl Flags for Ctrl {
 }
 
 impl Ctrl {
-    /// The named bits of a word that is written to CTRL, RST among them.
+    /// The bits of a word written to CTRL that have a name here, including RST.
     pub fn written(value: u32) -> Ctrl
         ensures { result.0 ≡ bit_and value written_control_mask }
     {
         Ctrl::from_bits_truncate(value)
     }
 
-    /// What a write of this word leaves in CTRL. RST is not kept; if it is set the whole write is a reset
-    /// ([`Ctrl::resets`]).
+    /// The value of CTRL after a write of this word, unless RST is set: then the write is a reset ([`Ctrl::resets`]).
+    /// RST isn't stored.
     pub fn kept(value: u32) -> Ctrl
         ensures { result.0 ≡ bit_and value control_mask }
     {
         Ctrl::written(value).difference(Ctrl::RST)
     }
 
-    /// Whether RST is set in what was written.
+    /// Whether RST is set in the written word.
     pub fn resets(self) -> bool
         ensures { IsTrue result ↔ HasBit self.0 ctrl_rst }
     {
         self.contains(Ctrl::RST)
     }
 
-    /// Whether SLU is set, without which STATUS shows no link.
+    /// Whether SLU is set. While SLU is clear, STATUS shows no link.
     pub fn sets_link_up(self) -> bool
         ensures { IsTrue result ↔ HasBit self.0 ctrl_slu }
     {
@@ -135,7 +135,7 @@ impl Status {
     /// The code of 1000 Mb/s in SPEED.
     const MBPS_1000: Status = Status(2 << 6);
 
-    /// What STATUS reads: full duplex at 1000 Mb/s while `link_up`, else 0.
+    /// The value of STATUS: full duplex at 1000 Mb/s while `link_up`, else 0.
     pub fn of_link(link_up: bool) -> Status
         ensures { result.0 ≡ (if link_up then status_of_link_up else 0) }
     {

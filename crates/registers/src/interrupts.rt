@@ -7,8 +7,8 @@ ghost use Rattle.registers.specs.Kept.{all_causes, causes_of};
 use bitflags::{Flag, Flags, bitflag_items};
 use std::marker::Model;
 
-/// Interrupt causes, a set by the places that ICR, ICS, IMS and IMC share (13.4.17). The field holds a register's 32
-/// bits.
+/// A set of interrupt causes. The bit of a cause has the same place in ICR, ICS, IMS and IMC (13.4.17). The field holds
+/// the register's 32 bits.
 #[derive(Clone, Copy, PartialEq, Eq, Debug)]
 pub struct Cause(pub u32);
 
@@ -96,14 +96,14 @@ impl Causes {
         }
     }
 
-    /// Records causes that came up in the adapter, in the mask or not.
+    /// Records causes, whether they are in the mask or not.
     pub fn raise(&mut self, cause: Cause)
         ensures { self.new ≡ record self.old { recorded = union self.old.recorded (causes_of cause.0) } }
     {
         self.set(cause.bits());
     }
 
-    /// A read of ICR: answers all recorded causes, in the mask or not, and clears them.
+    /// A read of ICR: returns all recorded causes, in the mask or not, and clears them.
     pub fn read(&mut self) -> u32
         ensures answer { result ≡ self.old.recorded }
         ensures cleared { self.new ≡ record self.old { recorded = 0 } }
@@ -114,7 +114,7 @@ impl Causes {
         recorded.bits()
     }
 
-    /// A write of ICR: a 1 clears that cause, in the mask or not; a 0 leaves it.
+    /// A write of ICR: clears each cause whose bit is 1, in the mask or not. The other causes don't change.
     pub fn clear_written(&mut self, value: u32)
         ensures { self.new ≡ record self.old { recorded = difference self.old.recorded (causes_of value) } }
     {
@@ -135,7 +135,7 @@ impl Causes {
         self.mask = self.mask.union(Cause::kept(value));
     }
 
-    /// A write of IMC: takes the causes that the word names out of the mask.
+    /// A write of IMC: removes the causes that the word names from the mask.
     pub fn unmask(&mut self, value: u32)
         ensures { self.new ≡ record self.old { mask = difference self.old.mask (causes_of value) } }
     {
@@ -150,7 +150,7 @@ impl Causes {
         self.recorded.bits()
     }
 
-    /// A read of IMS: answers the mask.
+    /// A read of IMS: returns the mask.
     pub fn masked(&self) -> u32
         ensures answer { result ≡ self.now.mask }
         ensures causes_alone { IsSubset result all_causes }

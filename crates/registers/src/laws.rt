@@ -1,11 +1,13 @@
-// What the words on sets of bits mean.
+// The operations on sets of bits, place by place.
 
 ghost use Rattle.registers.specs.Bits.{UnionByPlaces, IntersectionByPlaces, DifferenceByPlaces, MeetByPlaces};
 ghost use Rattle.registers.specs.Bits.{SubsetByPlaces, EmptyByPlaces, SameByPlaces};
 
-/// A law, with nothing to run: the bits of a register that are 1 are a set of places. The words in which the contracts
-/// of this crate speak of causes and masks (union, intersection, difference, to meet, to be a subset) mean at each
-/// place what they mean of sets, and registers with the same places are equal.
+/// The law of sets of bits. The contracts of this crate treat the bits of a register that are 1 as a set of places.
+/// They use union, intersection, difference, `Meet` and `IsSubset`, which are defined by arithmetic. The law states
+/// these operations place by place, and that registers with the same places are equal.
+///
+/// The function does nothing: its contract is the law.
 pub fn sets_of_places()
     ensures union { UnionByPlaces }
     ensures intersection { IntersectionByPlaces }

@@ -1,5 +1,4 @@
-//! Register bits of the Intel 82540EM that have behaviour of their own, its interrupt causes and its statistics
-//! counters.
+//! The bits of registers of the Intel 82540EM, its interrupt causes and its statistics counters.
 //!
 //! Section numbers are those of Intel's "PCI/PCI-X Family of Gigabit Ethernet Controllers Software Developer's Manual".
 #![tactic(auto)]
@@ -8,6 +7,7 @@ mod device_control;
 mod fields;
 mod interrupts;
 mod laws;
+mod packet_buffer;
 mod receive_control;
 mod statistics;
 mod transmit_control;
@@ -15,6 +15,7 @@ mod transmit_control;
 pub use device_control::{Ctrl, Speed, Status};
 pub use interrupts::{Cause, Causes};
 pub use laws::sets_of_places;
+pub use packet_buffer::PacketBufferAllocation;
 pub use receive_control::{GroupOffset, Rctl};
 pub use statistics::Counter;
 pub use transmit_control::Tctl;

@@ -21,7 +21,7 @@ bitflag_items! {
         const UPE = 1 << 3;
         /// Multicast promiscuous: accept every group address.
         const MPE = 1 << 4;
-        /// Long packet reception. It is kept and has no effect.
+        /// Long packet reception. The bit is stored, but has no effect.
         const LPE = 1 << 5;
         /// Receive descriptor minimum threshold, a field of two bits. Each value acts as 00, half the ring.
         const RDMTS = 3 << 8;
@@ -35,7 +35,7 @@ bitflag_items! {
         const VFE = 1 << 18;
         /// Buffer size extension.
         const BSEX = 1 << 25;
-        /// Strip the check sequence. It is kept and has no effect, as frames here have none.
+        /// Strip the check sequence. The bit is stored, but has no effect, because frames here have no check sequence.
         const SECRC = 1 << 26;
     }
 }
@@ -64,8 +64,8 @@ impl Flags for Rctl {
     }
 }
 
-/// Which 12 bits of a group address are its number in the group table, as RCTL.MO names them. An address has the bits
-/// 47:0, its last byte in 47:40.
+/// Which 12 bits of a group address are its number in the group table (RCTL.MO). An address has bits 47:0; its last
+/// byte is bits 47:40.
 #[derive(Clone, Copy, PartialEq, Eq, Debug)]
 pub enum GroupOffset {
     /// MO 00.
@@ -81,7 +81,8 @@ pub enum GroupOffset {
 impl GroupOffset {
     ghost use Rattle.registers.specs.ReceiveControl.{shift_of};
 
-    /// By how many places the address's bits 47:32 are shifted down for the number to be the low 12 bits.
+    /// The number of places by which bits 47:32 of the address are shifted down, so that the number is in the low 12
+    /// bits.
     pub fn shift(self) -> u32
         ensures { result ≡ shift_of self }
     {
@@ -97,14 +98,14 @@ impl GroupOffset {
 impl Rctl {
     ghost use Rattle.registers.specs.ReceiveControl.{group_offset_of, buffer_size_of};
 
-    /// What a write of this word leaves in RCTL.
+    /// The value of RCTL after a write of this word.
     pub fn kept(value: u32) -> Rctl
         ensures { result.0 ≡ bit_and value receive_control_mask }
     {
         Rctl::from_bits_truncate(value)
     }
 
-    /// Whether EN is set: frames are received at all.
+    /// Whether EN is set: frames are received.
     pub fn is_enabled(self) -> bool
         ensures { IsTrue result ↔ HasBit self.0 rctl_en }
     {
@@ -132,21 +133,21 @@ impl Rctl {
         self.contains(Rctl::BAM)
     }
 
-    /// Whether VFE is set: tagged frames are asked for their VLAN.
+    /// Whether VFE is set: a tagged frame passes only if the VLAN table contains its VLAN number.
     pub fn filters_vlans(self) -> bool
         ensures { IsTrue result ↔ HasBit self.0 rctl_vfe }
     {
         self.contains(Rctl::VFE)
     }
 
-    /// Whether BSEX is set, with which BSIZE would name larger buffers.
+    /// Whether BSEX is set. By the manual, BSIZE then selects larger buffers.
     pub fn extends_buffer_size(self) -> bool
         ensures { IsTrue result ↔ HasBit self.0 rctl_bsex }
     {
         self.contains(Rctl::BSEX)
     }
 
-    /// Which bits of a group address are its number, MO (bits 13:12).
+    /// Which bits of a group address are its number: MO (bits 13:12).
     pub fn group_offset(self) -> GroupOffset
         ensures { result ≡ group_offset_of (field self.0 rctl_mo 2) }
     {
@@ -158,7 +159,7 @@ impl Rctl {
         }
     }
 
-    /// The size of a receive buffer in bytes that BSIZE (bits 17:16) names while BSEX is clear.
+    /// The size of a receive buffer in bytes that BSIZE (bits 17:16) selects while BSEX is clear.
     pub fn buffer_size(self) -> u16
         ensures { result ≡ buffer_size_of (field self.0 rctl_bsize 2) }
     {

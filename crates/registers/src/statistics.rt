@@ -6,7 +6,7 @@ ghost use Rattle.registers.specs.Counting.{greatest_count};
 use std::marker::Model;
 use std::mem;
 
-/// A statistics counter of 32 bits, as MPC, GPRC, GPTC and RNBC (13.7 "Statistics Registers"): it sticks at
+/// A statistics counter of 32 bits, such as MPC, GPRC, GPTC or RNBC (13.7 "Statistics Registers"). It sticks at
 /// 0xFFFF_FFFF, and a read clears it.
 #[derive(Clone, Copy, PartialEq, Eq, Debug)]
 pub struct Counter {
@@ -38,14 +38,14 @@ impl Counter {
         Counter { count }
     }
 
-    /// Counts one more, up to 0xFFFF_FFFF.
+    /// Increases the count by one, up to 0xFFFF_FFFF.
     pub fn bump(&mut self)
         ensures { self.new ≡ min (self.old + 1) greatest_count }
     {
         self.count = self.count.saturating_add(1);
     }
 
-    /// A read of the register: answers the count, and clears it.
+    /// A read of the register: returns the count, and clears it.
     pub fn read(&mut self) -> u32
         ensures answer { result ≡ self.old }
         ensures cleared { self.new ≡ 0 }

@@ -17,9 +17,9 @@ bitflag_items! {
         const EN = 1 << 1;
         /// Pad short packets to 60 bytes.
         const PSP = 1 << 3;
-        /// Collision threshold, a field of eight bits. It is kept and has no effect.
+        /// Collision threshold, a field of eight bits. The field is stored, but has no effect.
         const CT = 0xFF << 4;
-        /// Collision distance, a field of ten bits. It is kept and has no effect.
+        /// Collision distance, a field of ten bits. The field is stored, but has no effect.
         const COLD = 0x3FF << 12;
     }
 }
@@ -47,14 +47,14 @@ impl Flags for Tctl {
 }
 
 impl Tctl {
-    /// What a write of this word leaves in TCTL.
+    /// The value of TCTL after a write of this word.
     pub fn kept(value: u32) -> Tctl
         ensures { result.0 ≡ bit_and value transmit_control_mask }
     {
         Tctl::from_bits_truncate(value)
     }
 
-    /// Whether EN is set: frames are transmitted at all.
+    /// Whether EN is set: frames are taken from the transmit ring.
     pub fn is_enabled(self) -> bool
         ensures { IsTrue result ↔ HasBit self.0 tctl_en }
     {

@@ -1,11 +1,11 @@
 -- Parts of a frame, a list of bytes that begins with its destination (IEEE 802.3 clause 3.2; tags: IEEE 802.1Q).
 use Rattle.std.specs.Prelude.{◌≡◌, ◌<◌, ◌+◌, ◌*◌, ◌/◌, ◌%◌, ◌^◌, ℕ, List, [], ◌∷◌, length, slice_index, take}
 
--- the destination address: bytes 0 to 5
+-- The destination address: bytes 0 to 5.
 abbrev pub destination : List ℕ → List ℕ
 destination frame = take 6 frame
 
--- the address is a group address: the low bit of byte 0 is 1
+-- The address is a group address: the low bit of byte 0 is 1.
 abbrev pub IsGroup : List ℕ → Type 0
 IsGroup address = slice_index address 0 % 2 ≡ 1
 
@@ -17,25 +17,25 @@ IsIndividual address = slice_index address 0 % 2 ≡ 0
 abbrev pub broadcast : List ℕ
 broadcast = 255 ∷ 255 ∷ 255 ∷ 255 ∷ 255 ∷ 255 ∷ []
 
--- an address's number in the group table: 12 bits of its last two bytes, the later byte the higher one
--- (13.5.1 "Multicast Table Array")
+-- The number of an address in the group table: 12 bits of its last two bytes, the later byte the higher one (13.5.1 "Multicast Table
+-- Array").
 abbrev pub group_number : ℕ → List ℕ → ℕ
 group_number shift address = (slice_index address 5 * 256 + slice_index address 4) / 2 ^ shift % 4096
 
--- the low word of an address in a receive address register pair: bytes 0 to 3, the earlier byte the lower one (13.5.2)
+-- The low word of an address in a receive address register pair: bytes 0 to 3, the earlier byte the lower one (13.5.2).
 abbrev pub low_word : List ℕ → ℕ
 low_word address =
     slice_index address 0 + slice_index address 1 * 2 ^ 8 + slice_index address 2 * 2 ^ 16
     + slice_index address 3 * 2 ^ 24
 
--- the high word of an address in a receive address register pair: bytes 4 and 5, the earlier byte the lower one
--- (13.5.3)
+-- The high word of an address in a receive address register pair: bytes 4 and 5, the earlier byte the lower one
+-- (13.5.3).
 abbrev pub high_word : List ℕ → ℕ
 high_word address = slice_index address 4 + slice_index address 5 * 2 ^ 8
 
--- an address is 6 bytes
+-- An address is 6 bytes.
 pub record IsAddress (address : List ℕ) : Type 0 where
-  -- It has six bytes.
+  -- The address has six bytes.
   pub size : length address ≡ 6
   -- Each byte is below 256.
   pub bytes : (k : ℕ) → slice_index address k < 256

@@ -1,4 +1,4 @@
--- Lemmas on filters and their registers, for this crate and those above it.
+-- Lemmas about filters and their registers. Other crates use them, too.
 use Rattle.std.proofs.Common.{◌≡◌, ◌+◌, ◌/◌, ◌%◌, ◌^◌, ◌<◌, ◌≤◌, ◌↔◌, ℕ, List, [], ◌∷◌, length, set, replicate, slice_index, refl, sym, ◌∙◌}
 use Rattle.std.proofs.Common.{ap, subst, inl, inr, arith}
 use Rattle.std.proofs.lemmas.Bool.{cases_eq, cases_lt}
@@ -12,7 +12,7 @@ use Rattle.rx_engine.specs.Passing.{ReceiveFilter, AcceptsAddress, AcceptsVlan, 
 use Rattle.rx_engine.specs.Registers.{HoldsAddress, entry_address}
 use Rattle.rx_engine.specs.Writing.{with_number, NoAddressAtFirst, AddressIsAdded, NoNumberAtFirst, NumberIsAdded}
 
--- Filters of the same sets pass the same frames.
+-- Filters with the same sets pass the same frames.
 
 -- Two filters treat VLANs in the same way.
 pub record SameVlans (a b : ReceiveFilter) : Type 0 where
@@ -25,7 +25,7 @@ pub record SameVlans (a b : ReceiveFilter) : Type 0 where
 
 -- Two filters contain the same addresses, groups and VLANs, and have the same switches.
 pub record SameSets (a b : ReceiveFilter) : Type 0 where
-  -- Both filters contain the same exact addresses.
+  -- Both filters contain the same receive addresses.
   pub addresses : (address : List ℕ) → a.addresses address ↔ b.addresses address
   -- Both filters contain the same group numbers.
   pub groups : (number : ℕ) → number < 4096 → a.groups number ↔ b.groups number
@@ -98,8 +98,6 @@ Passes-same a b frame same passes = record {
   vlan = AcceptsVlan-same a b frame same passes.vlan;
 }
 
--- Tables.
-
 slice_index-zeros : (n k : ℕ) → slice_index (replicate n 0) k ≡ 0
 slice_index-zeros n k = elim (cases_lt k n) [
   | inl within ↦ get_or-replicate n k 0 0 within
@@ -112,7 +110,7 @@ pub HasTableBit-zeros : NoNumberAtFirst
 HasTableBit-zeros n number set =
     HasBit-zero (number % 32) (subst (λ (word : ℕ). HasBit word (number % 32)) (slice_index-zeros n (number / 32)) set)
 
--- the bits of a power of two
+-- Exactly one bit of a power of two is 1.
 HasBit-power : (power place : ℕ) → HasBit (2 ^ power) place ↔ (place ≡ power)
 HasBit-power power place = (
   (λ set. elim (cases_eq place power) [
@@ -152,8 +150,6 @@ HasTableBit-with_number table number other within =
           )
     ]
 
--- Exact addresses.
-
 pub HasEntry-zeros : NoAddressAtFirst
 HasEntry-zeros n address has =
     HasBit-zero 31 (subst (λ (word : ℕ). HasBit word 31) (slice_index-zeros n has.0) has.2.valid)
@@ -168,7 +164,7 @@ six_items : (xs : List ℕ) → length xs ≡ 6
 six_items (a ∷ b ∷ c ∷ d ∷ e ∷ f ∷ []) size = refl
 six_items _ size = absurd (omega arith)
 
--- the entry with the two words of an address, and AV, holds the address
+-- The entry with the two words of an address, and AV, holds the address.
 pub entry_address-words : (address : List ℕ) → IsAddress address → entry_address (low_word address) (high_word address + 2 ^ 31) ≡ address
 entry_address-words address is =
     let b0 = is.bytes 0 in

@@ -11,20 +11,20 @@ use Rattle.rx_engine.specs.Descriptors.{descriptor_at, named_address}
 use Rattle.rx_engine.specs.Receiver.{Receiver}
 use Rattle.rx_engine.specs.declared.engine.Work.{Work}
 
--- the status of a finished descriptor: DD, and EOP if the frame ends in it (3.2.3.1)
+-- The status of a finished descriptor: DD, and EOP if the frame ends in this descriptor (3.2.3.1).
 abbrev pub finished_status : Bool → ℕ
 finished_status true = union (alone dd) (alone eop)
 finished_status false = alone dd
 
--- bytes 8 to 15 of a finished descriptor: the length, checksum 0, the status, errors 0, special 0
+-- Bytes 8 to 15 of a finished descriptor: the length, checksum 0, the status, errors 0, special 0.
 abbrev pub finished_bytes : ℕ → Bool → List ℕ
 finished_bytes n ends = little_bytes 2 n ++ 0 ∷ 0 ∷ finished_status ends ∷ 0 ∷ 0 ∷ 0 ∷ []
 
--- the engine after a done step: no piece is in progress
+-- The engine after a done step: no piece is in progress.
 abbrev pub engine_after_done : Receiver → Receiver
 engine_after_done engine = record engine { work = None }
 
--- Memory after a done step: bytes 8 to 15 of the descriptor in progress are written. In a memory that ends before the descriptor's end
+-- Memory after a done step: bytes 8 to 15 of the descriptor in progress are written. If memory ends before the end of the descriptor,
 -- nothing is written.
 abbrev pub memory_after_done : Option Work → List ℕ → List ℕ
 memory_after_done None memory = memory
@@ -33,15 +33,15 @@ memory_after_done (Some work) memory =
     then with_bytes memory (work.descriptor + 8) (finished_bytes work.length work.ends)
     else memory
 
--- so many bytes at the address that a descriptor names lie in memory, apart from that descriptor
+-- The n bytes at the address that a descriptor names are inside memory, and apart from this descriptor.
 pub record StandsApart (memory : List ℕ) (descriptor n : ℕ) : Type 0 where
   -- The bytes are in memory.
   pub place : LiesIn memory (named_address memory descriptor) n
-  -- They don't overlap the descriptor.
+  -- The bytes don't overlap the descriptor.
   pub apart : AreApart (area_at (named_address memory descriptor) n) (descriptor_area descriptor)
 
--- the descriptor at an address is finished with a piece of a frame: it is done, shows whether the frame ends in it, has
--- no error, and its address and length name the piece
+-- The descriptor at an address is finished with a piece of a frame: DD is set, EOP shows whether the frame ends in the piece, there is no
+-- error, and address and length name the piece.
 pub record IsFinished (memory : List ℕ) (descriptor : ℕ) (ends : Bool) (piece : List ℕ) : Type 0 where
   -- DD is set (3.2.3.1).
   pub done : HasBit (status_bits (descriptor_at memory descriptor).status) dd
@@ -49,7 +49,7 @@ pub record IsFinished (memory : List ℕ) (descriptor : ℕ) (ends : Bool) (piec
   pub ended : is_set (status_bits (descriptor_at memory descriptor).status) eop ≡ ends
   -- The errors byte is 0.
   pub has_no_errors : (descriptor_at memory descriptor).errors ≡ 0
-  -- The length is the piece's.
+  -- The length is the number of bytes of the piece.
   pub length : (descriptor_at memory descriptor).length ≡ length piece
   -- The address and the length name the bytes of the piece.
   pub bytes : bytes_at memory (named_address memory descriptor) (descriptor_at memory descriptor).length ≡ piece

@@ -1,4 +1,4 @@
--- What the receive filter and the receive engine feed to a hasher: the whole of their states (our choice).
+-- The values that the receive filter and the receive engine write to a hasher: their whole states (our choice).
 use Rattle.std.specs.Prelude.{◌++◌, true, false, Option, Some, None}
 use Rattle.std.specs.Hash.{HashWrites, bool, slice, u16, u32, u64}
 use Rattle.frame_queue.specs.Hashed.{frames_writes}
@@ -6,7 +6,7 @@ use Rattle.rx_engine.specs.Receiver.{Receiver}
 use Rattle.rx_engine.specs.Registers.{FilterRegisters}
 use Rattle.rx_engine.specs.declared.engine.Work.{Work}
 
--- what the filter feeds: its registers, each table after the number of its words
+-- What the filter feeds: RCTL, VET and its tables, each table after the number of its words.
 abbrev pub filter_writes : FilterRegisters → HashWrites
 filter_writes registers = u32 registers.rctl
     ++ u16 registers.vet
@@ -15,11 +15,11 @@ filter_writes registers = u32 registers.rctl
     ++ slice u32 registers.mta
     ++ slice u32 registers.vfta
 
--- what the piece in progress feeds: whether there is one, and then the piece
+-- What the piece in progress feeds: whether there is a piece, and then the piece.
 abbrev pub work_writes : Option Work → HashWrites
 work_writes None = bool false
 work_writes (Some work) = bool true ++ u64 work.descriptor ++ u16 work.length ++ bool work.ends
 
--- What the hasher gets for the state of the receive engine.
+-- What the receive engine feeds: its whole state.
 abbrev pub receiver_writes : Receiver → HashWrites
 receiver_writes engine = bool engine.stopped ++ u16 engine.moved ++ work_writes engine.work ++ frames_writes engine.buffer

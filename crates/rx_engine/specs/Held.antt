@@ -1,5 +1,5 @@
--- The frames between the wire and the driver: in finished slots that the driver hasn't taken, in progress, and in the packet buffer (our
--- choice).
+-- The frames between the wire and the driver (our choice): frames in finished slots that the driver hasn't taken, in progress, and in the
+-- packet buffer.
 use Rattle.std.specs.Prelude.{◌≡◌, ◌++◌, ℕ, Bool, true, false, List, [], ◌∷◌, length, take, Option, None, Some}
 use Rattle.std.specs.Option.{ForSome}
 use Rattle.dma_memory.specs.Areas.{Area, area_at, descriptor_area, AreApart, ChangesOnly}
@@ -18,11 +18,11 @@ use Rattle.rx_engine.specs.declared.data.Data.{Data}
 use Rattle.rx_engine.specs.declared.data.Data.TheVariants as answers
 use Rattle.rx_engine.specs.declared.engine.Work.{Work}
 
--- the bytes of the piece in progress, at the address that its descriptor names
+-- The bytes of the piece in progress, at the address that its descriptor names.
 abbrev pub bytes_of_work : List ℕ → Work → List ℕ
 bytes_of_work memory work = bytes_at memory (named_address memory work.descriptor) work.length
 
--- a piece with these bytes, in which its frame ends or not
+-- A piece with these bytes. The flag is whether the frame ends in the piece.
 abbrev pub piece_of : Bool → List ℕ → Piece
 piece_of true bytes = Last bytes
 piece_of false bytes = Part bytes
@@ -32,37 +32,35 @@ abbrev pub in_work : List ℕ → Option Work → List Piece
 in_work memory None = []
 in_work memory (Some work) = piece_of work.ends (bytes_of_work memory work) ∷ []
 
--- the pieces in slots: the finished ones, and then the one in progress
+-- The pieces in slots: the finished ones, and then the piece in progress.
 abbrev pub in_slots : List ℕ → List Piece → Receiver → List Piece
 in_slots memory finished engine = finished ++ in_work memory engine.work
 
--- the frames held: those that end in slots, each with its pieces joined, then those in the packet buffer, whose oldest one counts whole
--- until its last piece is moved
+-- The frames held: first the frames that end in slots, each with its pieces joined, then the frames in the packet buffer. The oldest frame
+-- in the packet buffer is complete in this list until its last piece is moved.
 abbrev pub held : List ℕ → List Piece → Receiver → List (List ℕ)
 held memory finished engine = frames_of (in_slots memory finished engine) ++ engine.buffer
 
--- After the last end, the slots contain the bytes of the packet buffer's oldest frame that are moved.
+-- After the last end of a frame, the slots contain the moved bytes of the packet buffer's oldest frame.
 abbrev pub HasBegun : List ℕ → List Piece → Receiver → Type 0
 HasBegun memory finished engine = begun_of (in_slots memory finished engine) ≡ take engine.moved (oldest engine.buffer)
 
--- the same frames are held, and then these; and the slots contain the bytes of the oldest frame that are moved
+-- The frames held afterwards are those from before, followed by these frames. The slots contain the moved bytes of the oldest frame.
 pub record Holds (before after : List (List ℕ)) (more : List (List ℕ)) (memory : List ℕ) (finished : List Piece)
     (engine : Receiver) : Type 0 where
-  -- The frames afterwards are those from before, and then the additional ones.
+  -- The frames afterwards are those from before, followed by the additional ones.
   pub frames : after ≡ before ++ more
   -- The slots contain the moved bytes of the oldest frame.
   pub begun : HasBegun memory finished engine
 
--- What the steps do to the list of frames held, whichever slots are finished.
-
--- A frame that is stored is after the others; any other fate doesn't change them.
+-- A stored frame is added after the others. Any other fate doesn't change the frames held.
 abbrev pub ArrivalGrowsHeld : Type 0
 ArrivalGrowsHeld =
     (fate : Fate) (frame memory : List ℕ) (finished : List Piece) (engine : Receiver) → IsReceiver engine → HasBegun memory finished engine
     → Holds (held memory finished engine) (held memory finished (after_arrival fate frame engine)) (kept fate frame)
     memory finished (after_arrival fate frame engine)
 
--- the step had a piece to move, and a place for it in memory that is apart from its descriptor
+-- The step had a piece to move, and a place for the piece in memory that is apart from the piece's descriptor.
 pub record MovesApart (control : ℕ) (ring : Ring) (engine : Receiver) (memory : List ℕ) (last : Bool) : Type 0 where
   -- The outcome of the step isn't `Nothing`.
   pub has : HasFrameToMove control ring engine
@@ -74,15 +72,15 @@ pub record MovesApart (control : ℕ) (ring : Ring) (engine : Receiver) (memory 
   pub apart : AreApart (area_at (named_address memory (address_of ring ring.head)) (length (next_piece control engine)))
       (descriptor_area (address_of ring ring.head))
 
--- If a data step moved a piece, the fact of that step; a step that moved no piece needs no fact.
+-- If a data step moved a piece, the step meets `MovesApart`. If it moved no piece, nothing is required.
 abbrev pub MovesBy : Data → ℕ → Ring → Receiver → List ℕ → Type 0
 MovesBy answers.Nothing control ring engine memory = Unit {0}
 MovesBy (answers.Part low) control ring engine memory = MovesApart control ring engine memory false
 MovesBy (answers.Moved low) control ring engine memory = MovesApart control ring engine memory true
 MovesBy answers.Fault control ring engine memory = Unit {0}
 
--- A data step doesn't change the frames held: the next piece of the packet buffer's oldest frame becomes the piece in progress, and with
--- its last piece the frame leaves the packet buffer. The pieces in finished slots are the same before and after.
+-- A data step doesn't change the frames held: the next piece of the packet buffer's oldest frame becomes the piece in progress. After its
+-- last piece, the frame is removed from the packet buffer. The pieces in finished slots are the same before and after.
 abbrev pub DataKeepsHeld : Type 0
 DataKeepsHeld =
     (control : ℕ) (ring : Ring) (engine : Receiver) (memory : List ℕ) (finished : List Piece) (answer : Data)
@@ -91,7 +89,7 @@ DataKeepsHeld =
     (held (memory_after_data answer control ring engine memory) finished (engine_after_data answer control ring engine)) []
     (memory_after_data answer control ring engine memory) finished (engine_after_data answer control ring engine)
 
--- the piece in progress is finished at its descriptor, and with it among the finished ones the same frames are held
+-- The piece in progress is finished at its descriptor. If the piece is added to the finished ones, the same frames are held.
 pub record Finishes (memory : List ℕ) (finished : List Piece) (engine : Receiver) (work : Work) : Type 0 where
   -- The descriptor is finished with the bytes of the piece.
   pub stands : IsFinished (memory_after_done engine.work memory) work.descriptor work.ends (bytes_of_work memory work)
@@ -102,28 +100,28 @@ pub record Finishes (memory : List ℕ) (finished : List Piece) (engine : Receiv
       (engine_after_done engine))
       [] (memory_after_done engine.work memory) (finished ++ piece_of work.ends (bytes_of_work memory work) ∷ []) (engine_after_done engine)
 
--- A done step doesn't change the frames held: the piece in progress is then a finished one, if it is apart from its descriptor.
+-- If the piece in progress is apart from its descriptor, a done step doesn't change the frames held. The piece is then a finished piece.
 abbrev pub DoneKeepsHeld : Type 0
 DoneKeepsHeld =
     (engine : Receiver) (memory : List ℕ) (finished : List Piece) → IsReceiver engine → HasBegun memory finished engine
     → ForSome engine.work (λ work. LiesIn memory work.descriptor 16 → StandsApart memory work.descriptor work.length
     → Finishes memory finished engine work)
 
--- an area is apart from the descriptor of the piece in progress, and from the piece
+-- An area is apart from the piece in progress and from its descriptor.
 pub record IsAwayFromWork (memory : List ℕ) (area : Area) (work : Work) : Type 0 where
   -- The area doesn't overlap the descriptor.
   pub descriptor : AreApart area (descriptor_area work.descriptor)
   -- The area doesn't overlap the piece.
   pub piece : AreApart area (area_at (named_address memory work.descriptor) work.length)
 
--- Bytes written apart from the piece in progress and its descriptor don't change the piece.
+-- A write apart from the piece in progress and its descriptor doesn't change the piece.
 abbrev pub OtherBytesLeaveSlots : Type 0
 OtherBytesLeaveSlots =
     (memory : List ℕ) (engine : Receiver) (place : ℕ) (bytes : List ℕ)
     → LiesIn memory place (length bytes) → ForSome engine.work (IsAwayFromWork memory (area_at place (length bytes)))
     → in_work (with_bytes memory place bytes) engine.work ≡ in_work memory engine.work
 
--- A descriptor that is finished with a piece stays so while only bytes change that are apart from it and from the piece.
+-- A finished descriptor remains finished with its piece while only bytes change that are apart from the descriptor and from the piece.
 abbrev pub FinishedStays : Type 0
 FinishedStays =
     (memory memory' : List ℕ) (area : Area) (descriptor : ℕ) (ends : Bool) (piece : List ℕ)

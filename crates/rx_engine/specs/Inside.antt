@@ -1,20 +1,20 @@
--- What the fields of a receive engine stand for (our choice).
+-- The plain data of the fields of a receive engine (our choice).
 use Rattle.std.specs.Prelude.{◌≡◌}
 use Rattle.rx_engine.specs.Receiver.{Receiver, IsReceiver}
 use Rattle.rx_engine.specs.Room.{occupied_by}
 use Rattle.rx_engine.specs.declared.engine.RxEngine.TheInside.{Inside}
 
--- The plain data of a receive engine, as contracts see it.
+-- The plain data of a receive engine, in contracts.
 abbrev pub receiver_of : Inside → Receiver
 receiver_of engine = record { buffer = engine.buffer.frames; moved = engine.moved; work = engine.work; stopped = engine.stopped }
 
--- What holds of the fields at all times.
+-- The invariant of the fields.
 pub record IsConsistent (engine : Inside) : Type 0 where
   -- The packet buffer has room for 614 frames.
   pub capacity : engine.buffer.capacity ≡ 614
   -- The memory of the packet buffer has 65,536 bytes.
   pub bytes : engine.buffer.room ≡ 65536
-  -- The stored number of occupied bytes is that of the frames in the packet buffer.
+  -- The stored number of occupied bytes is the number that the frames in the packet buffer occupy.
   pub occupied : engine.occupied ≡ occupied_by engine.buffer.frames
-  -- The plain data is that of a receive engine.
+  -- The plain data meets the invariant of receive engines.
   pub keeps : IsReceiver (receiver_of engine)

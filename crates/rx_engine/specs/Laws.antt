@@ -1,4 +1,4 @@
--- What the engine's steps do to the frames that it holds, and to descriptors.
+-- Lemmas: the effect of the engine's steps on the frames that it holds, and on descriptors.
 use Rattle.std.proofs.Common.{◌≡◌, ◌≤◌, ◌<◌, ◌+◌, ◌/◌, ◌%◌, ◌^◌, ◌++◌, ◌∷◌, []}
 use Rattle.std.proofs.Common.{inl, inr, Option, None, Some, ℕ, List, length, take, drop}
 use Rattle.std.proofs.Common.{◌-◌, true, false, append_assoc, length-take, length-drop}
@@ -31,7 +31,7 @@ use Rattle.rx_engine.specs.declared.arrival.Fate.TheVariants.{Off, Illegal, Filt
 use Rattle.rx_engine.specs.declared.data.Data.TheVariants.{Nothing, Part, Moved, Fault}
 use Rattle.rx_engine.specs.declared.engine.Work.{Work}
 
--- If the bytes of a descriptor don't change, its fields don't.
+-- If the bytes of a descriptor don't change, its fields don't change.
 pub descriptor_at-kept : (memory memory' : List ℕ) (at : ℕ) → bytes_at memory' at 16 ≡ bytes_at memory at 16
     → descriptor_at memory' at ≡ descriptor_at memory at
 descriptor_at-kept memory memory' at same = ap rx_desc_of same
@@ -60,12 +60,12 @@ bytes_of_work-moved memory piece at ends lies apart =
     ap (λ (address : ℕ). bytes_at (with_bytes memory (named_address memory at) piece) address (length piece)) same
     ∙ bytes_at-stored memory piece (named_address memory at) lies
 
--- A packet buffer that isn't empty is its oldest frame and the others.
+-- A packet buffer that isn't empty consists of its oldest frame and the others.
 pub oldest-drop : (frames : List (List ℕ)) → ¬ (frames ≡ []) → oldest frames ∷ drop 1 frames ≡ frames
 oldest-drop [] some = absurd (some refl)
 oldest-drop (frame ∷ frames) some = refl
 
--- A frame that arrives doesn't change which bytes of the oldest one are moved.
+-- The arrival of a frame doesn't change which bytes of the oldest frame are moved.
 oldest-arrived : (frames : List (List ℕ)) (frame : List ℕ) (moved : ℕ) → moved ≤ length (oldest frames) - 1
     → take moved (oldest (frames ++ frame ∷ [])) ≡ take moved (oldest frames)
 oldest-arrived [] frame moved begun = let none : moved ≡ 0 = omega (arith, begun) in rw none refl
@@ -93,7 +93,7 @@ held-after_arrival Stored frame memory finished engine is begun = record {
   begun = begun ∙ sym (oldest-arrived engine.buffer frame engine.moved is.begun);
 }
 
--- What is in slots after a data step, if no piece was in progress before.
+-- The pieces in slots after a data step, if no piece was in progress before the step.
 slots-moved : (control : ℕ) (ring : Ring) (engine : Receiver) (memory : List ℕ) (finished : List Piece) (ends : Bool)
     → MovesApart control ring engine memory ends
     → finished ++ in_work (with_bytes memory (named_address memory (address_of ring ring.head)) (next_piece control engine))
@@ -105,7 +105,7 @@ slots-moved control ring engine memory finished ends step =
 slots-free : (memory : List ℕ) (finished : List Piece) (work : Option Work) → work ≡ None → finished ++ in_work memory work ≡ finished
 slots-free memory finished work none = ap (λ (there : Option Work). finished ++ in_work memory there) none ∙ append-nil finished
 
--- If more is left than a buffer's size, a buffer is filled.
+-- If more bytes are left than fit into a buffer, the next piece fills the buffer.
 piece-full : (size moved : ℕ) (frame : List ℕ) → size < length frame - moved → length (take size (drop moved frame)) ≡ size
 piece-full size moved frame more = omega (arith, length-take size (drop moved frame), length-drop moved frame)
 
@@ -156,13 +156,13 @@ held-after_data control ring engine memory finished (Moved low) begun step =
       begun = ap begun_of there ∙ last-begun finished piece;
     }
 
--- Descriptors with the same fields are the same.
+-- Descriptors with equal fields are equal.
 same_fields : (a a' n n' c c' s s' e e' x x' : ℕ) → a ≡ a' → n ≡ n' → c ≡ c' → s ≡ s' → e ≡ e' → x ≡ x'
     → (let d : RxDesc = record { address = a; length = n; checksum = c; status = status_of s; errors = e; special = x } in d)
     ≡ record { address = a'; length = n'; checksum = c'; status = status_of s'; errors = e'; special = x' }
 same_fields a a' n n' c c' s s' e e' x x' ea en ec es ee ex = rw (ea, en, ec, es, ee, ex) refl
 
--- Eight bytes with the buffer's address, then a finished descriptor's eight.
+-- Eight bytes with the buffer's address, followed by bytes 8 to 15 of a finished descriptor, as a descriptor.
 rx_desc_of-finished : (front : List ℕ) (n : ℕ) (ends : Bool) → length front ≡ 8 → n < 2 ^ 16
     → rx_desc_of (front ++ finished_bytes n ends)
     ≡ record {
@@ -193,7 +193,7 @@ unfolding rx_desc_of
 named_address-front memory at = little_from-take 0 8 16 (drop at memory) (omega arith)
     ∙ sym (little_from-take 0 8 8 (drop at memory) (omega arith))
 
--- Once the bytes of a finished descriptor are written, it names the same buffer, and its other fields are those written.
+-- After bytes 8 to 15 of a finished descriptor are written, it names the same buffer, and its other fields are the written ones.
 pub descriptor_at-finished : (memory : List ℕ) (at n : ℕ) (ends : Bool) → n < 2 ^ 16 → LiesIn memory at 16
     → descriptor_at (with_bytes memory (at + 8) (finished_bytes n ends)) at
     ≡ record {
@@ -225,7 +225,7 @@ ended-set : (ends : Bool) → is_set (finished_status ends) 1 ≡ ends
 ended-set true = refl
 ended-set false = refl
 
--- A descriptor that names a piece, apart from it, is finished with the piece once it is written back.
+-- If a descriptor is apart from its piece, it is finished with this piece after it is written back.
 pub written_back-finished : (memory : List ℕ) (at n : ℕ) (ends : Bool) → n < 2 ^ 16 → LiesIn memory at 16 → StandsApart memory at n
     → IsFinished (with_bytes memory (at + 8) (finished_bytes n ends)) at ends (bytes_at memory (named_address memory at) n)
 written_back-finished memory at n ends short lies stands =
@@ -252,7 +252,7 @@ memory_after_done-lies memory work lies =
     ap (λ (test : Bool). if test then with_bytes memory (work.descriptor + 8) (finished_bytes work.length work.ends) else memory)
     (le-leb (work.descriptor + 16) (length memory) (omega arith))
 
--- A done step makes the piece in progress a finished one.
+-- A done step makes the piece in progress a finished piece.
 pub held-after_done : DoneKeepsHeld
 held-after_done engine memory finished sound begun work is lies stands =
     let most : work.length ≤ 1518 = sound.most work is in
@@ -271,7 +271,7 @@ held-after_done engine memory finished sound begun work is lies stands =
       };
     }
 
--- Bytes away from the piece in progress and its descriptor don't change the piece.
+-- A write apart from the piece in progress and its descriptor doesn't change the piece.
 bytes_of_work-away : (memory bytes : List ℕ) (place : ℕ) (work : Work) → LiesIn memory place (length bytes)
     → IsAwayFromWork memory (area_at place (length bytes)) work
     → bytes_of_work (with_bytes memory place bytes) work ≡ bytes_of_work memory work
@@ -292,7 +292,7 @@ in_work-away memory bytes place (Some work) lies away = ap (λ (piece : List ℕ
 pub slots-elsewhere : OtherBytesLeaveSlots
 slots-elsewhere memory engine place bytes lies away = in_work-away memory bytes place engine.work lies away
 
--- A finished descriptor stays finished while bytes change that are apart from it and from its piece.
+-- A finished descriptor remains finished while only bytes change that are apart from the descriptor and from its piece.
 pub finished-kept : FinishedStays
 finished-kept memory memory' area descriptor ends frame only apart away finished =
     let same = descriptor_at-kept memory memory' descriptor (only.others (descriptor_area descriptor) apart) in

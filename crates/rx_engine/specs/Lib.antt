@@ -2,11 +2,14 @@ pub mod Addresses
 pub mod Arriving
 pub mod Descriptors
 pub mod FilterLaws
+pub mod FinishedSlots
 pub mod Finishing
 pub mod GroupLists
 pub mod Hashed
 pub mod Held
 pub mod Inside
+pub mod JoinedLaws
+pub mod JoinedPieces
 pub mod Laws
 pub mod Moving
 pub mod NumberTables
@@ -17,4 +20,5 @@ pub mod Receiver
 pub mod Registers
 pub mod Room
 pub mod RoomLaws
+pub mod Slots
 pub mod Writing

@@ -13,32 +13,32 @@ use Rattle.rx_engine.specs.declared.data.Data.{Data}
 use Rattle.rx_engine.specs.declared.engine.Work.{Work}
 use Rattle.rx_engine.specs.declared.data.Data.TheVariants.{Nothing, Part, Moved, Fault}
 
--- with RCTL at this word there is a frame to move, and a descriptor for it
+-- If RCTL is this word, there is a frame to move, and a descriptor for its next piece.
 pub record HasFrameToMove (control : ℕ) (ring : Ring) (engine : Receiver) : Type 0 where
   -- RCTL.EN is set (13.4.22).
   pub enabled : HasBit control rctl_en
-  -- The engine is running and free, and a frame waits in the packet buffer.
+  -- The engine is running, no piece is in progress, and a frame is in the packet buffer.
   pub ready : IsReady engine
   -- At least one descriptor is offered: RDH isn't RDT.
   pub offered : ring.head ≢ ring.tail
 
--- the size of a receive buffer in bytes, by RCTL.BSIZE
+-- The size of a receive buffer in bytes, by RCTL.BSIZE.
 abbrev pub buffer_bytes : ℕ → ℕ
 buffer_bytes control = buffer_size_of (field control rctl_bsize 2)
 
--- how many bytes of the oldest frame haven't been moved yet
+-- The number of bytes of the oldest frame that haven't been moved yet.
 abbrev pub left_bytes : Receiver → ℕ
 left_bytes engine = length (oldest engine.buffer) - engine.moved
 
--- the next piece of the oldest frame: the bytes that haven't been moved yet, at most a buffer's size
+-- The next piece of the oldest frame: the bytes that haven't been moved yet, at most a buffer's size.
 abbrev pub next_piece : ℕ → Receiver → List ℕ
 next_piece control engine = take (buffer_bytes control) (drop engine.moved (oldest engine.buffer))
 
--- whether the next piece of the oldest frame is its last one: the rest of the frame fits into a buffer
+-- Whether the next piece of the oldest frame is its last one: the rest of the frame fits into a buffer.
 abbrev pub is_last : ℕ → Receiver → Bool
 is_last control engine = nat_le (left_bytes engine) (buffer_bytes control)
 
--- with RCTL at this word a piece of n bytes can be moved; otherwise the step is a fault (our choice)
+-- If RCTL is this word, a piece of n bytes can be moved. Otherwise the step is a fault (our choice).
 pub record CanMove (control : ℕ) (ring : Ring) (memory : List ℕ) (n : ℕ) : Type 0 where
   -- RDH and RDT are indices of descriptors in the ring.
   pub indices : HasValidIndices ring
@@ -49,43 +49,43 @@ pub record CanMove (control : ℕ) (ring : Ring) (memory : List ℕ) (n : ℕ) :
   -- RCTL.BSEX is 0.
   pub not_extended : ¬ (HasBit control rctl_bsex)
 
--- the free descriptors, those from head to tail, are half the ring (13.4.22, RDMTS 00)
-abbrev pub is_half_free : Ring → Bool
-is_half_free ring = 2 * distance_of ring ring.head ring.tail == count_of ring
+-- The number of free descriptors, from head to tail, is half the ring (13.4.22, RDMTS 00).
+abbrev pub is_half_offered : Ring → Bool
+is_half_offered ring = 2 * distance_of ring ring.head ring.tail == count_of ring
 
--- the step moved a piece, and more of its frame is left
+-- The step moved a piece, and more pieces of its frame follow.
 abbrev pub IsPartMoved : Data → Type 0
 IsPartMoved Nothing = ⊥
 IsPartMoved (Part low) = ⊤
 IsPartMoved (Moved low) = ⊥
 IsPartMoved Fault = ⊥
 
--- the step moved the last piece of a frame
+-- The step moved the last piece of a frame.
 abbrev pub IsMoved : Data → Type 0
 IsMoved Nothing = ⊥
 IsMoved (Part low) = ⊥
 IsMoved (Moved low) = ⊤
 IsMoved Fault = ⊥
 
--- if the step moved a piece, the fact of its `low`: whether the free descriptors have become half the ring
+-- If the step moved a piece, the fact is true for its `low`: whether the free descriptors are now half the ring.
 abbrev pub IfMoved : Data → (Bool → Type 0) → Type 0
 IfMoved Nothing fact = ⊤
 IfMoved (Part low) fact = fact low
 IfMoved (Moved low) fact = fact low
 IfMoved Fault fact = ⊤
 
--- the next piece, in progress at the head's descriptor
+-- The next piece, in progress with the descriptor at the head.
 abbrev pub work_at : ℕ → Ring → Receiver → Bool → Work
 work_at control ring engine ends =
     record { descriptor = address_of ring ring.head; length = length (next_piece control engine); ends = ends }
 
--- the engine with a piece in progress: with the last one the frame leaves the packet buffer
+-- The engine after a piece is in progress. If the frame ends in the piece, the frame is removed from the packet buffer.
 abbrev pub begun_with : Work → Receiver → Receiver
 begun_with work engine = if work.ends then record engine { buffer = drop 1 engine.buffer; moved = 0; work = Some work }
     else record engine { moved = engine.moved + work.length; work = Some work }
 
--- the engine after a step with this answer: a piece of the oldest frame is in progress, and with the last one the frame leaves the packet
--- buffer; after a fault the data step is stopped
+-- The engine after a step with this answer. After `Part` or `Moved`, the piece is in progress. After `Moved`, its frame is removed from the
+-- packet buffer. After `Fault`, the data step is stopped.
 abbrev pub engine_after_data : Data → ℕ → Ring → Receiver → Receiver
 engine_after_data Nothing control ring engine = engine
 engine_after_data (Part low) control ring engine = record engine {
@@ -99,14 +99,14 @@ engine_after_data (Moved low) control ring engine = record engine {
 }
 engine_after_data Fault control ring engine = record engine { stopped = true }
 
--- the ring after a step with this answer: if a piece was moved, head is the next slot
+-- The ring after a step with this answer: if a piece was moved, head is the next slot.
 abbrev pub ring_after_data : Data → Ring → Ring
 ring_after_data Nothing ring = ring
 ring_after_data (Part low) ring = record ring { head = next_of ring ring.head }
 ring_after_data (Moved low) ring = record ring { head = next_of ring ring.head }
 ring_after_data Fault ring = ring
 
--- the memory after a step with this answer: a piece that was moved is in the buffer that the descriptor at the head names
+-- The memory after a step with this answer: a piece that was moved is in the buffer that the descriptor at the head names.
 abbrev pub memory_after_data : Data → ℕ → Ring → Receiver → List ℕ → List ℕ
 memory_after_data Nothing control ring engine memory = memory
 memory_after_data (Part low) control ring engine memory = with_bytes memory (named_address memory (address_of ring ring.head))

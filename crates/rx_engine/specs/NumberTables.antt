@@ -1,5 +1,5 @@
--- The tables of numbers of the receive filter: the groups' (13.5.1 "Multicast Table Array") and the VLANs' (13.5.4
--- "VLAN Filter Table Array"), each with a bit for every number.
+-- The tables of the receive filter, each with a bit for every number: the group table (13.5.1 "Multicast Table Array") and the VLAN table
+-- (13.5.4 "VLAN Filter Table Array").
 use Rattle.std.specs.Prelude.{◌≡◌, ◌<◌, ◌↔◌, ℕ, List, length, map}
 use Rattle.std.specs.List.{Contains}
 use Rattle.registers.specs.ReceiveControl.{shift_of}
@@ -12,13 +12,13 @@ use Rattle.rx_engine.specs.declared.filter.TheConstants.{TABLE_WORDS}
 abbrev pub table_numbers : ℕ
 table_numbers = 4096
 
--- A table of 128 words has the bits of these numbers, and no other.
+-- In a table of 128 words, exactly the bits of these numbers are 1.
 pub record HasNumbers (table numbers : List ℕ) : Type 0 where
   -- The table has 128 words.
   pub words : length table ≡ TABLE_WORDS
   -- The bit of a number is 1 if and only if the number is in the list.
   pub bits : (number : ℕ) → number < table_numbers → HasTableBit table number ↔ Contains numbers number
 
--- the numbers of groups if RCTL.MO is 00
+-- The numbers of groups if RCTL.MO is 00.
 abbrev pub numbers_of_groups : List (List ℕ) → List ℕ
 numbers_of_groups groups = map (group_number (shift_of Bits47To36)) groups

@@ -2,29 +2,28 @@
 use Rattle.std.specs.Prelude.{◌≡◌, ◌≢◌, ◌⊎◌, ℕ, List}
 use Rattle.rx_engine.specs.Addresses.{destination, IsGroup, IsIndividual, broadcast, group_number, ether_type, vlan_number}
 
--- The sets and switches of a receive filter.
+-- The sets of a receive filter, and its switches.
 pub record ReceiveFilter : Type 1 where
-  -- the exact addresses, of 6 bytes
+  -- The receive addresses, of 6 bytes each.
   pub addresses : List ℕ → Type 0
-  -- the group numbers, each below 4,096
+  -- The group numbers, each below 4,096.
   pub groups : ℕ → Type 0
-  -- by how many bits the last two bytes of an address are shifted for its group number
+  -- The number of bits by which the last two bytes of an address are shifted for its group number.
   pub shift : ℕ
-  -- frames of every VLAN pass: the VLAN filter is off (RCTL.VFE 0)
+  -- Frames of every VLAN pass: the VLAN filter is off (RCTL.VFE 0).
   pub every_vlan : Type 0
-  -- the VLAN numbers that pass while the VLAN filter is on, each below 4,096
+  -- The VLAN numbers that pass while the VLAN filter is on, each below 4,096.
   pub vlans : ℕ → Type 0
-  -- bytes 12 and 13 of a tagged frame
+  -- Bytes 12 and 13 of a tagged frame.
   pub vlan_type : ℕ
-  -- every individual address is accepted
+  -- Every individual address is accepted.
   pub all_individuals : Type 0
-  -- every group address is accepted, broadcast among them
+  -- Every group address is accepted, including broadcast.
   pub all_groups : Type 0
-  -- the broadcast address is accepted
+  -- The broadcast address is accepted.
   pub broadcasts : Type 0
 
--- an address that the filter accepts. The group table counts for group addresses alone, the broadcast address among
--- them (our choice)
+-- The filter accepts an address. The group table is used only for group addresses, including the broadcast address (our choice).
 unfoldable pub AcceptsAddress : ReceiveFilter → List ℕ → Type 0
 AcceptsAddress filter address =
     filter.addresses address
@@ -33,21 +32,21 @@ AcceptsAddress filter address =
     ⊎ ((IsGroup address × filter.all_groups)
     ⊎ ((address ≡ broadcast) × filter.broadcasts))))
 
--- what a filter accepts a group address by, other than as one of its exact addresses
+-- The filter accepts a group address by MPE, BAM, or the group table.
 unfoldable pub AcceptsGroup : ReceiveFilter → List ℕ → Type 0
 AcceptsGroup filter address =
     filter.all_groups
     ⊎ (((address ≡ broadcast) × filter.broadcasts)
     ⊎ filter.groups (group_number filter.shift address))
 
--- a frame whose VLAN is accepted: each frame without a tag is
+-- The filter accepts the VLAN of a frame. It accepts each frame without a tag.
 unfoldable pub AcceptsVlan : ReceiveFilter → List ℕ → Type 0
 AcceptsVlan filter frame =
     filter.every_vlan
     ⊎ ((ether_type frame ≢ filter.vlan_type)
     ⊎ filter.vlans (vlan_number frame))
 
--- a frame passes if the filter accepts both its destination and its VLAN
+-- A frame passes if the filter accepts both its destination and its VLAN.
 pub record Passes (filter : ReceiveFilter) (frame : List ℕ) : Type 0 where
   -- The filter accepts the frame's destination address.
   pub address : AcceptsAddress filter (destination frame)

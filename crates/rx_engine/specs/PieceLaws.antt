@@ -1,4 +1,4 @@
--- Lists of pieces: what they join to, proved.
+-- Lemmas: which frames lists of pieces join to.
 use Rattle.std.proofs.Common.{◌≡◌, ◌≤◌, ◌+◌, ◌-◌, [], ◌∷◌, ◌++◌, ◌∙◌}
 use Rattle.std.proofs.Common.{ℕ, List, length, length-drop, take, drop, refl, sym, ap}
 use Rattle.std.proofs.Common.{append_assoc, arith}
@@ -20,7 +20,7 @@ begun-append begun [] later = refl
 begun-append begun (Part bytes ∷ first) later = begun-append (begun ++ bytes) first later
 begun-append begun (Last bytes ∷ first) later = begun-append [] first later
 
--- Parts end no frame.
+-- No frame ends in a list of parts, and the bytes after the last end are all their bytes.
 pub frames-parts : (begun : List ℕ) (seen : List (List ℕ)) → frames_from begun (parts seen) ≡ []
 frames-parts begun [] = refl
 frames-parts begun (bytes ∷ seen) = frames-parts (begun ++ bytes) seen
@@ -29,9 +29,7 @@ pub begun-parts : (begun : List ℕ) (seen : List (List ℕ)) → begun_from beg
 begun-parts begun [] = sym (append-nil begun)
 begun-parts begun (bytes ∷ seen) = begun-parts (begun ++ bytes) seen ∙ append_assoc begun bytes (concat seen)
 
--- The steps of an engine, over plain lists.
-
--- the first bytes of a frame, and then the next ones
+-- The first bytes of a frame, followed by the next bytes, are the beginning of the frame.
 pub take-next : (moved size : ℕ) (frame : List ℕ) → take moved frame ++ take size (drop moved frame) ≡ take (moved + size) frame
 take-next moved size frame =
     let first : take moved (take (moved + size) frame) ≡ take moved frame = take-take moved (moved + size) frame (omega arith) in
@@ -40,7 +38,7 @@ take-next moved size frame =
     ∙ ap (λ (behind : List ℕ). take moved (take (moved + size) frame) ++ behind) (sym next)
     ∙ take-append-drop moved (take (moved + size) frame)
 
--- A piece that isn't the last: no frame ends, and more bytes come after the last end.
+-- If a piece that isn't the last of its frame is added, no frame ends, and its bytes are added after the last end.
 pub part-frames : (pieces : List Piece) (bytes : List ℕ) → frames_of (pieces ++ Part bytes ∷ []) ≡ frames_of pieces
 part-frames pieces bytes = frames-append [] pieces (Part bytes ∷ []) ∙ append-nil (frames_of pieces)
 
@@ -51,7 +49,7 @@ part-begun pieces frame moved size begun =
     ∙ ap (λ (bytes : List ℕ). bytes ++ take size (drop moved frame)) begun
     ∙ take-next moved size frame
 
--- The last piece: the frame ends, and no bytes are after the last end.
+-- If the last piece of a frame is added, the frame ends, and no bytes are after the last end.
 pub last-frames : (pieces : List Piece) (frame : List ℕ) (moved size : ℕ) → begun_of pieces ≡ take moved frame
     → length frame - moved ≤ size
     → frames_of (pieces ++ Last (take size (drop moved frame)) ∷ []) ≡ frames_of pieces ++ frame ∷ []

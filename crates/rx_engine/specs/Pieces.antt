@@ -1,45 +1,45 @@
--- Frames in pieces: each piece is in a buffer of its own, and the descriptor of a frame's last piece has EOP ("3.2.3.1 Receive Descriptor
--- Status Field"; the words for lists of pieces are our choice).
+-- Frames in pieces. Each piece is in its own buffer, and the descriptor of a frame's last piece has EOP ("3.2.3.1 Receive Descriptor Status
+-- Field"; the words for lists of pieces are our choice).
 use Rattle.std.specs.Prelude.{◌≡◌, ◌≤◌, ⊤, ℕ, List, [], ◌∷◌, ◌++◌, length}
 
 -- A piece of a frame: the bytes that one receive buffer contains.
 pub data Piece : Type 0 where
-  -- bytes of a frame that goes on in the next piece
+  -- Bytes of a frame that continues in the next piece.
   Part : (bytes : List ℕ) → Piece
-  -- the last bytes of a frame: EOP
+  -- The last bytes of a frame: EOP is set.
   Last : (bytes : List ℕ) → Piece
 
--- the frames that end in these pieces, if the first frame began with `begun`
+-- The frames that end in these pieces, if the first frame began with `begun`.
 abbrev pub frames_from : List ℕ → List Piece → List (List ℕ)
 frames_from begun [] = []
 frames_from begun (Part bytes ∷ later) = frames_from (begun ++ bytes) later
 frames_from begun (Last bytes ∷ later) = (begun ++ bytes) ∷ frames_from [] later
 
--- the bytes of the frame that doesn't end in them, after the last end
+-- The bytes after the last end of a frame: the beginning of a frame that doesn't end in these pieces.
 abbrev pub begun_from : List ℕ → List Piece → List ℕ
 begun_from begun [] = begun
 begun_from begun (Part bytes ∷ later) = begun_from (begun ++ bytes) later
 begun_from begun (Last bytes ∷ later) = begun_from [] later
 
--- the frames that end in these pieces, each with its pieces joined
+-- The frames that end in these pieces, each with its pieces joined.
 abbrev pub frames_of : List Piece → List (List ℕ)
 frames_of pieces = frames_from [] pieces
 
--- the bytes after the last end, joined
+-- The bytes after the last end of a frame, joined.
 abbrev pub begun_of : List Piece → List ℕ
 begun_of pieces = begun_from [] pieces
 
--- whether the frame of the piece continues in the next piece
+-- Whether the frame of the piece continues in the next piece.
 abbrev pub IsPart : Piece → Type 0
 IsPart (Part bytes) = ⊤
 IsPart (Last bytes) = ⊥
 
--- whether a frame ends in the piece
+-- Whether a frame ends in the piece.
 abbrev pub IsLast : Piece → Type 0
 IsLast (Part bytes) = ⊥
 IsLast (Last bytes) = ⊤
 
--- the size of a frame's last piece
+-- A size that the last piece of a frame can have, for buffers of one size.
 pub record IsLastSize (size n : ℕ) : Type 0 where
   -- The piece has at least one byte.
   pub least : 1 ≤ n
@@ -51,7 +51,7 @@ abbrev pub IsCut : ℕ → Piece → Type 0
 IsCut size (Part bytes) = length bytes ≡ size
 IsCut size (Last bytes) = IsLastSize size (length bytes)
 
--- these lists of bytes as pieces, none of them the last of its frame
+-- These lists of bytes as pieces, none of them the last of its frame.
 abbrev pub parts : List (List ℕ) → List Piece
 parts [] = []
 parts (bytes ∷ later) = Part bytes ∷ parts later

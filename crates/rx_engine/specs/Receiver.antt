@@ -1,4 +1,4 @@
--- What the receive engine holds (our choice; "3.2 Packet Reception" of Intel's manual has one packet buffer and one engine).
+-- The state of the receive engine (our choice; "3.2 Packet Reception" of Intel's manual has one packet buffer and one engine).
 use Rattle.std.specs.Prelude.{◌≡◌, ◌≢◌, ◌≤◌, ◌-◌, ℕ, List, [], ◌∷◌, All, length, Bool, false, Option, None}
 use Rattle.std.specs.Option.{ForSome}
 use Rattle.descriptors.specs.Frames.{IsLegal, longest_frame}
@@ -7,25 +7,25 @@ use Rattle.rx_engine.specs.declared.engine.Work.{Work}
 
 -- The state of the receive engine.
 pub record Receiver : Type 0 where
-  -- the receive packet buffer: the frames in it, oldest first
+  -- The receive packet buffer: the frames in it, oldest first.
   pub buffer : List (List ℕ)
-  -- how many bytes of the oldest of them have been moved to memory
+  -- The number of bytes of the oldest of these frames that have been moved to memory.
   pub moved : ℕ
-  -- the piece in progress: it is in memory, and its descriptor isn't written back yet
+  -- The piece in progress: it is in memory, and its descriptor isn't written back yet.
   pub work : Option Work
-  -- whether a fault has stopped the data step
+  -- Whether a fault has stopped the data step.
   pub stopped : Bool
 
--- an engine that holds no frame, and that no fault has stopped
+-- An engine that holds no frame, and that no fault has stopped.
 abbrev pub new_receiver : Receiver
 new_receiver = record { buffer = []; moved = 0; work = None; stopped = false }
 
--- the oldest frame of a packet buffer that isn't empty
+-- The oldest frame of a packet buffer that isn't empty.
 abbrev pub oldest : List (List ℕ) → List ℕ
 oldest [] = []
 oldest (frame ∷ frames) = frame
 
--- the engine can begin with the next piece of its oldest frame, be it the frame's first piece or a later one
+-- The engine can begin with the next piece of its oldest frame.
 pub record IsReady (engine : Receiver) : Type 0 where
   -- No fault has stopped the data step.
   pub running : engine.stopped ≡ false
@@ -34,14 +34,14 @@ pub record IsReady (engine : Receiver) : Type 0 where
   -- A frame is in the packet buffer.
   pub frames : engine.buffer ≢ []
 
--- what holds of every engine, whatever its steps: its frames occupy at most 48 kilobytes, each has a legal length, and a piece in progress
--- isn't empty
+-- What is true of every engine after any steps: its frames occupy at most 48 kilobytes, each has a legal length, and a piece in
+-- progress isn't empty.
 pub record IsReceiver (engine : Receiver) : Type 0 where
-  -- The frames in the packet buffer occupy at most 48 kilobytes of it.
+  -- The frames in the packet buffer occupy at most 48 kilobytes.
   pub room : occupied_by engine.buffer ≤ most_room
   -- Each frame in the packet buffer has a legal length.
   pub frames : All IsLegal engine.buffer
-  -- At least one byte of the oldest frame isn't moved yet. If there is no frame, none is moved.
+  -- At least one byte of the oldest frame isn't moved yet. If there is no frame, no byte is moved.
   pub begun : engine.moved ≤ length (oldest engine.buffer) - 1
   -- A piece in progress has at least one byte.
   pub least : ForSome engine.work (λ work. 1 ≤ work.length)

@@ -1,4 +1,4 @@
--- The registers of the receive filter, and the filter that their contents set.
+-- The registers of the receive filter, and the filter that they define.
 use Rattle.std.specs.Prelude.{◌≡◌, ◌<◌, ◌/◌, ◌%◌, ◌^◌, ℕ, List, [], ◌∷◌, slice_index}
 use Rattle.registers.specs.Bits.{HasBit, field}
 use Rattle.registers.specs.Places.{rah_av, rctl_bam, rctl_mo, rctl_mpe, rctl_upe, rctl_vfe}
@@ -7,47 +7,47 @@ use Rattle.rx_engine.specs.Passing.{ReceiveFilter}
 
 -- The registers of the receive filter.
 pub record FilterRegisters : Type 0 where
-  -- RAL(0) to RAL(15), receive address low (13.5.2)
+  -- RAL(0) to RAL(15), receive address low (13.5.2).
   pub ral : List ℕ
-  -- RAH(0) to RAH(15), receive address high (13.5.3)
+  -- RAH(0) to RAH(15), receive address high (13.5.3).
   pub rah : List ℕ
-  -- MTA, the multicast table array of 128 words (13.5.1)
+  -- MTA, the multicast table array of 128 words (13.5.1).
   pub mta : List ℕ
-  -- VFTA, the VLAN filter table array of 128 words (13.5.4)
+  -- VFTA, the VLAN filter table array of 128 words (13.5.4).
   pub vfta : List ℕ
-  -- RCTL (13.4.22), of which the filter reads UPE 3, MPE 4, MO 13:12, BAM 15 and VFE 18
+  -- RCTL (13.4.22), of which the filter reads UPE 3, MPE 4, MO 13:12, BAM 15 and VFE 18.
   pub rctl : ℕ
-  -- VET, the VLAN type (13.4.11)
+  -- VET, the VLAN type (13.4.11).
   pub vet : ℕ
 
--- what a write leaves in RAH: the address bits 15:0 and AV, bit 31
+-- The bits of RAH that a write stores: the address bits 15:0 and AV, bit 31.
 abbrev pub address_high_mask : ℕ
 address_high_mask = 0x8000FFFF
 
--- byte k of a number, counted from the lowest
+-- Byte k of a number, counted from the lowest.
 abbrev pub byte : ℕ → ℕ → ℕ
 byte k number = number / 256 ^ k % 256
 
--- the address of an entry: bytes 0 to 3 in RAL, bytes 4 and 5 in RAH, the earlier byte the lower one
+-- The address of an entry: bytes 0 to 3 in RAL, bytes 4 and 5 in RAH, the earlier byte the lower one.
 abbrev pub entry_address : ℕ → ℕ → List ℕ
 entry_address low high = byte 0 low ∷ byte 1 low ∷ byte 2 low ∷ byte 3 low ∷ byte 0 high ∷ byte 1 high ∷ []
 
--- an entry whose AV is set holds this address
+-- An entry whose AV is set holds this address.
 pub record HoldsAddress (low high : ℕ) (address : List ℕ) : Type 0 where
   -- AV is set in RAH.
   pub valid : HasBit high rah_av
   -- The address is that of the entry.
   pub equal : address ≡ entry_address low high
 
--- one of the 16 entries holds this address
+-- One of the 16 entries holds this address.
 abbrev pub HasEntry : List ℕ → List ℕ → List ℕ → Type 0
 HasEntry ral rah address = (n : ℕ) × (n < 16) × HoldsAddress (slice_index ral n) (slice_index rah n) address
 
--- a number's bit in a table of words of 32 bits is 1
+-- A number's bit in a table of words of 32 bits is 1.
 abbrev pub HasTableBit : List ℕ → ℕ → Type 0
 HasTableBit table number = HasBit (slice_index table (number / 32)) (number % 32)
 
--- the filter that the registers set
+-- The filter that the registers define.
 unfoldable pub filter_of : FilterRegisters → ReceiveFilter
 filter_of registers = record {
   addresses = HasEntry registers.ral registers.rah;

@@ -1,5 +1,4 @@
--- Lemmas on the room in the receive packet buffer, for proofs of this crate and of those above it: how many frames fit, and how many bytes
--- they have.
+-- Lemmas about the room in the receive packet buffer: how many frames fit, and how many bytes they have. Other crates use them, too.
 use Rattle.std.proofs.Common.{◌≡◌, ◌≢◌, ◌≤◌, ◌+◌, ◌*◌, ◌++◌, ◌∷◌, [], ℕ, List, All, length, drop, refl, sym, ap, ◌∙◌, arith, suc}
 use Rattle.std.specs.Prelude.{sum_by, slice_get, Some}
 use Rattle.std.proofs.lemmas.List.Sums.{sum_by-append, sum_by-cons}
@@ -37,7 +36,7 @@ count-occupied (frame ∷ later) legal =
       sum_by-cons cost frame later,
     )
 
--- The packet buffer contains at most 614 frames.
+-- A packet buffer of 48 kilobytes contains at most 614 legal frames.
 pub count-fits : (frames : List (List ℕ)) → All IsLegal frames → occupied_by frames ≤ most_room → length frames ≤ 614
 count-fits frames legal room = omega (arith, count-occupied frames legal)
 
@@ -47,7 +46,7 @@ occupied-append frames frame =
     sum_by-append cost frames (frame ∷ []) ∙ ap (λ (n : ℕ). occupied_by frames + n)
     (sum_by-cons cost frame [] ∙ (let e : cost frame + 0 ≡ cost frame = omega arith in e))
 
--- Without the oldest frame, the bytes that it occupied are free.
+-- After the oldest frame is removed, the bytes that it occupied are free.
 pub occupied-first : (frames : List (List ℕ)) (frame : List ℕ) → slice_get frames 0 ≡ Some frame
     → cost frame + occupied_by (drop 1 frames) ≡ occupied_by frames
 occupied-first [] frame is = absurd (cc)
@@ -55,7 +54,7 @@ occupied-first (first ∷ later) frame is =
     let same : first ≡ frame = cc in
     ap (λ (f : List ℕ). cost f + occupied_by later) (sym same) ∙ sym (sum_by-cons cost first later)
 
--- Without the oldest frame of a buffer that isn't empty, its bytes are free.
+-- If the packet buffer isn't empty and its oldest frame is removed, the bytes that this frame occupied are free.
 pub occupied_oldest : (frames : List (List ℕ)) → frames ≢ [] → cost (oldest frames) + occupied_by (drop 1 frames) ≡ occupied_by frames
 occupied_oldest [] some = absurd (some refl)
 occupied_oldest (first ∷ later) some = sym (sum_by-cons cost first later)

@@ -1,4 +1,4 @@
-// Ethernet addresses as the filter reads them.
+// Ethernet addresses, and the parts of a frame that the filter reads.
 
 ghost use Rattle.std.specs.Prelude.{◌≡◌, ◌+◌, ◌*◌, ◌/◌, ◌%◌, ◌^◌, ◌≤◌, ◌<◌, ◌↔◌, IsTrue, length, slice_index};
 ghost use Rattle.registers.specs.Bits.{HasBit};
@@ -8,7 +8,7 @@ ghost use Rattle.rx_engine.specs.Addresses.{destination, IsAddress, IsGroup, bro
 ghost use Rattle.rx_engine.specs.Addresses.{high_word, ether_type, vlan_number};
 ghost use Rattle.rx_engine.specs.Registers.{HasEntry, HoldsAddress};
 
-use crate::filter::EXACT_ADDRESSES;
+use crate::filter::RECEIVE_ADDRESSES;
 use crate::table::{NUMBERS, has_bit};
 use registers::GroupOffset;
 
@@ -18,7 +18,7 @@ const BROADCAST: [u8; 6] = [0xFF; 6];
 /// AV, bit 31 of RAH: the entry is valid.
 const ADDRESS_VALID: u32 = 1 << 31;
 
-/// The two words of an entry of the exact addresses.
+/// The two words of an entry of the receive addresses.
 #[derive(Clone, Copy, Debug, PartialEq, Eq)]
 pub struct AddressWords {
     /// RAL: bytes 0 to 3 of the address, the earlier byte the lower one (13.5.2).
@@ -42,8 +42,9 @@ impl AddressWords {
     }
 }
 
-/// The number of an address in the group table: the 12 of its last 16 bits that RCTL.MO names (13.5.1 "Multicast Table
-/// Array"). The word of the table is the number divided by 32, the bit in it the remainder.
+/// The number of an address in the group table: 12 of the last 16 bits of the address, selected by RCTL.MO (13.5.1
+/// "Multicast Table Array"). The number divided by 32 is the index of a word of the table. The remainder is the place
+/// of a bit in this word.
 pub fn hash_of(mo: GroupOffset, address: &[u8; 6]) -> u16
     ensures { result ≡ group_number (shift_of mo) address.now }
 {
@@ -83,8 +84,8 @@ fn holds_address(low: u32, high: u32, address: &[u8; 6]) -> bool
 
 /// Whether one of the 16 register pairs is valid and holds this address.
 pub(crate) fn has_entry(
-    ral: &[u32; EXACT_ADDRESSES],
-    rah: &[u32; EXACT_ADDRESSES],
+    ral: &[u32; RECEIVE_ADDRESSES],
+    rah: &[u32; RECEIVE_ADDRESSES],
     address: &[u8; 6],
 ) -> bool
     ensures { IsTrue result ↔ HasEntry ral.now rah.now address.now }
@@ -94,7 +95,7 @@ pub(crate) fn has_entry(
         .any(|(low, high)| holds_address(*low, *high, address))
 }
 
-/// Bytes 12 and 13 of a frame.
+/// The type of a frame: bytes 12 and 13, the higher one first.
 pub(crate) fn ether_type_of(frame: &[u8]) -> u16
     requires { 16 ≤ length frame.now }
     ensures { result ≡ ether_type frame.now }

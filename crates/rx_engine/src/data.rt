@@ -1,4 +1,4 @@
-// The data step: a piece of a frame goes into a host's memory.
+// The data step, which writes a piece of a frame to a host's memory.
 
 ghost use Rattle.std.specs.Prelude.{◌≡◌, ◌≤◌, ◌*◌, ◌↔◌, length, nat_le, true, false, IsTrue, IsNone, IsSome, IfSome};
 ghost use Rattle.registers.specs.Bits.{HasBit, field};
@@ -10,7 +10,7 @@ ghost use Rattle.rx_engine.specs.Descriptors.{named_address};
 ghost use Rattle.rx_engine.specs.Receiver.{IsReceiver};
 ghost use Rattle.rx_engine.specs.Moving.{HasFrameToMove, CanMove, engine_after_data, is_last, next_piece};
 ghost use Rattle.rx_engine.specs.Moving.{ring_after_data};
-ghost use Rattle.rx_engine.specs.Moving.{memory_after_data, IsMoved, IsPartMoved, IfMoved, is_half_free};
+ghost use Rattle.rx_engine.specs.Moving.{memory_after_data, IsMoved, IsPartMoved, IfMoved, is_half_offered};
 
 use crate::storing::store_in;
 use crate::{RxEngine, Work};
@@ -18,33 +18,37 @@ use descriptors::{RX_DESC_BYTES, Ring, RxDesc};
 use dma_memory::HostMemory;
 use registers::Rctl;
 
-/// What a data step did.
+/// The result of a data step.
 #[derive(Clone, Copy, Debug, PartialEq, Eq)]
 pub enum Data {
     /// There is nothing to do, and nothing changed.
     Nothing,
-    /// A piece of the oldest frame is in memory and in progress, and more of the frame is left.
+    /// A piece of the oldest frame is in memory and in progress. More pieces of this frame follow.
     Part {
-        /// The free descriptors have become half the ring ("13.4.17 Interrupt Cause Read Register", RXDMT0).
+        /// Whether the number of free descriptors is now half the ring ("13.4.17 Interrupt Cause Read Register",
+        /// RXDMT0).
         low: bool,
     },
     /// The last piece of the oldest frame is in memory and in progress.
     Moved {
-        /// The free descriptors have become half the ring, as for `Part`.
+        /// Whether the number of free descriptors is now half the ring, as for `Part`.
         low: bool,
     },
     /// The engine moved no piece, and moves none until a reset (our choice).
     Fault,
 }
 
-/// Writes the next piece of the packet buffer's oldest frame to the buffer that the descriptor at the head names: the
-/// rest of the frame, at most the buffer size of RCTL.BSIZE. The piece is then in progress, and head moves on ("3.2.6
-/// Receive Descriptor Queue Structure"). With its last piece the frame leaves the packet buffer.
+/// Writes the next piece of the packet buffer's oldest frame to the buffer that the descriptor at the head names. The
+/// piece is the rest of the frame, but at most the number of bytes that RCTL.BSIZE selects. The piece is then in
+/// progress, and the head advances ("3.2.6 Receive Descriptor Queue Structure"). After its last piece, the frame is
+/// removed from the packet buffer.
 ///
 /// Returns `Nothing` if RCTL.EN is 0, a fault has stopped the engine, a piece is in progress, the packet buffer is
-/// empty, or head equals tail. Otherwise returns `Fault` if head or tail isn't a slot of the ring, the descriptor or
-/// the place of the piece isn't in memory, or RCTL.BSEX is set. A fault changes neither memory nor ring nor packet
-/// buffer; after it, this step does nothing until a reset (our choice).
+/// empty, or head equals tail.
+///
+/// Otherwise returns `Fault` if head or tail isn't a slot of the ring, if the descriptor or the place of the piece
+/// isn't in memory, or if RCTL.BSEX is set. A fault changes neither memory nor ring nor packet buffer. After a fault,
+/// this step does nothing until a reset (our choice).
 pub fn rx_data(
     engine: &mut RxEngine,
     ring: &mut Ring,
@@ -63,7 +67,7 @@ pub fn rx_data(
         ↔ (HasFrameToMove control.0 ring.old engine.old
         × CanMove control.0 ring.old memory.old (length (next_piece control.0 engine.old))
         × (is_last control.0 engine.old ≡ true)) }
-    ensures low { IfMoved result (λ low. low ≡ is_half_free ring.new) }
+    ensures low { IfMoved result (λ low. low ≡ is_half_offered ring.new) }
     ensures engine { engine.new ≡ engine_after_data result control.0 ring.old engine.old }
     ensures ring { ring.new ≡ ring_after_data result ring.old }
     ensures memory { memory.new ≡ memory_after_data result control.0 ring.old engine.old memory.old }
@@ -93,7 +97,7 @@ pub fn rx_data(
         ends,
     });
     ring.head = ring.next(ring.head);
-    let low = is_half_free(ring);
+    let low = is_half_offered(ring);
     if ends {
         Data::Moved { low }
     } else {
@@ -101,14 +105,14 @@ pub fn rx_data(
     }
 }
 
-/// Whether [`rx_data`] has something to do: it would not be `Nothing`.
+/// Whether [`rx_data`] has a frame to move: it would not return `Nothing`.
 pub fn has_frame_to_move(engine: &RxEngine, ring: &Ring, control: Rctl) -> bool
     ensures { IsTrue result ↔ HasFrameToMove control.0 ring.now engine.now }
 {
     engine.left().is_some() && control.is_enabled() && ring.head != ring.tail
 }
 
-/// Whether the next piece is the last of a frame of which `left` bytes are left, for buffers of this size.
+/// Whether `left` bytes, the rest of a frame, fit into a buffer of `size` bytes: the next piece is then the last one.
 fn is_last_piece(left: usize, size: usize) -> bool
     ensures { result ≡ nat_le left size }
 {
@@ -148,10 +152,10 @@ fn buffer_named_at(memory: &HostMemory, descriptor: u64) -> Option<u64>
     Some(RxDesc::from_bytes(bytes.first_chunk()?).address)
 }
 
-/// Whether the free descriptors, those from head to tail, are half the ring.
-fn is_half_free(ring: &Ring) -> bool
+/// Whether the number of free descriptors, from head to tail, is half the ring.
+fn is_half_offered(ring: &Ring) -> bool
     requires { HasValidIndices ring.now }
-    ensures { result ≡ is_half_free ring.now }
+    ensures { result ≡ is_half_offered ring.now }
 {
     2 * ring.distance(ring.head, ring.tail) == ring.count()
 }

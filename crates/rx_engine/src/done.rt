@@ -1,4 +1,4 @@
-// The done step: a descriptor is written back.
+// The done step, which writes back a descriptor.
 
 ghost use Rattle.std.specs.Prelude.{◌≡◌, ◌+◌, ◌↔◌, None, IfSome};
 ghost use Rattle.dma_memory.specs.Areas.{ChangesOnly, area_at};
@@ -16,10 +16,10 @@ use bitflags::Flags;
 use descriptors::{RX_DESC_BYTES, RxDesc, RxStatus};
 use dma_memory::HostMemory;
 
-/// The place of the length in a receive descriptor, in bytes: all from there on is written back.
+/// The offset of the length in a receive descriptor, in bytes. All bytes from this offset on are written back.
 const LENGTH_PLACE: u64 = 8;
 
-/// What a done step did.
+/// The result of a done step.
 #[derive(Clone, Copy, Debug, PartialEq, Eq)]
 pub enum Done {
     /// No piece was in progress, and nothing changed.
@@ -28,11 +28,11 @@ pub enum Done {
     Done,
 }
 
-/// Writes the descriptor of the piece in progress back ("3.2.3 Receive Descriptor Format"): the length of the piece,
-/// DD, no error, and EOP if the frame ends in it. Returns `Nothing` if no piece is in progress.
+/// Writes back the descriptor of the piece in progress ("3.2.3 Receive Descriptor Format"): the length of the piece,
+/// DD, no error, and EOP if the frame ends in this piece. Returns `Nothing` if no piece is in progress.
 ///
-/// If `memory` has the size that it had for [`rx_data`](crate::rx_data), the descriptor is in it. In a memory that ends
-/// before the descriptor's end nothing is written.
+/// If `memory` has the same size as in the call of [`rx_data`](crate::rx_data), the descriptor is inside it. If memory
+/// ends before the end of the descriptor, nothing is written.
 pub fn rx_done(engine: &mut RxEngine, memory: &mut HostMemory) -> Done
     ensures nothing { (result ≡ Done.Nothing) ↔ (engine.old.work ≡ None) }
     ensures engine { engine.new ≡ engine_after_done engine.old }
@@ -56,7 +56,7 @@ pub fn rx_done(engine: &mut RxEngine, memory: &mut HostMemory) -> Done
     Done::Done
 }
 
-/// The status of a finished descriptor: DD, and EOP if its frame ends in it.
+/// The status of a finished descriptor: DD, and EOP if its frame ends in this descriptor.
 fn status(ends: bool) -> RxStatus
     ensures { result ≡ status_of (finished_status ends) }
 {
@@ -67,7 +67,7 @@ fn status(ends: bool) -> RxStatus
     }
 }
 
-/// Writes bytes 8 to 15 of the descriptor at an address, finished with a piece of this length.
+/// Writes bytes 8 to 15 of the descriptor at an address, which is then finished with a piece of this length.
 fn write_back(memory: &mut HostMemory, descriptor: u64, length: u16, ends: bool)
     requires { LiesIn memory.old descriptor 16 }
     ensures memory { memory.new ≡ with_bytes memory.old (descriptor + 8) (finished_bytes length ends) }

@@ -1,4 +1,4 @@
-// What the receive engine holds.
+// The state of the receive engine.
 
 ghost use Rattle.std.specs.Prelude.{◌≡◌, ◌≢◌, ◌+◌, ◌<◌, ◌≤◌, ◌↔◌, [], ◌∷◌, ◌++◌, true, false, drop, fold, length};
 ghost use Rattle.std.specs.Prelude.{All, IsSome, Some, option_copied, slice_get};
@@ -15,7 +15,7 @@ use std::marker::Model;
 /// The maximum number of frames in the receive packet buffer: 48 kilobytes have room for 614 frames of 60 bytes.
 pub const MOST_FRAMES: u16 = 614;
 
-/// The memory for the bytes of the frames. It is larger than 48 kilobytes, so that a push seldom has to move frames.
+/// The number of bytes of memory for frames. It is more than 48 kilobytes, so that a push seldom has to move frames.
 const QUEUE_BYTES: usize = 65_536;
 
 /// The number of bytes that a frame occupies is a multiple of this number.
@@ -24,22 +24,22 @@ const UNIT_BYTES: u32 = 16;
 /// The piece of a frame in progress: it is in memory, and its descriptor isn't written back yet.
 #[derive(Clone, Copy, Debug, PartialEq, Eq)]
 pub struct Work {
-    /// The address at which its descriptor was read.
+    /// The address at which the piece's descriptor was read.
     pub descriptor: u64,
-    /// How many bytes the piece has.
+    /// The number of bytes of the piece.
     pub length: u16,
-    /// Whether the frame ends in it.
+    /// Whether the frame ends in this piece.
     pub ends: bool,
 }
 
-/// The receive engine: its packet buffer, how much of its oldest frame is moved, the piece in progress, and whether a
-/// fault has stopped it.
+/// The receive engine: its packet buffer, the number of moved bytes of the oldest frame, the piece in progress, and
+/// whether a fault has stopped the engine.
 #[derive(Clone, Debug, Drop)]
 pub struct RxEngine {
     buffer: PackedQueue,
-    /// The number of bytes that the frames in it occupy.
+    /// The number of bytes that the frames in `buffer` occupy.
     occupied: u32,
-    /// How many bytes of the oldest frame are moved to memory.
+    /// The number of bytes of the oldest frame that are moved to memory.
     moved: u16,
     work: Option<Work>,
     stopped: bool,
@@ -66,7 +66,7 @@ impl RxEngine {
     ///
     /// # Errors
     ///
-    /// Only if memory is refused.
+    /// Returns an error only if an allocation fails.
     pub fn new(alloc: Global) -> Result<RxEngine, AllocError>
         ensures { IfOk result (λ engine. engine ≡ new_receiver) }
     {
@@ -91,7 +91,7 @@ impl RxEngine {
         self.stopped = false;
     }
 
-    /// How many frames wait in the packet buffer. A frame of which pieces are moved counts until its last piece is.
+    /// The number of frames in the packet buffer. A frame counts until its last piece is moved.
     pub fn buffered(&self) -> u16
         ensures count { result ≡ length self.now.buffer }
         ensures fits { result ≤ MOST_FRAMES }
@@ -109,8 +109,8 @@ impl RxEngine {
         self.buffer.frame_at(index)
     }
 
-    /// The number of bytes of the packet buffer that its frames occupy. A frame of which pieces are moved occupies its
-    /// room until its last piece is.
+    /// The number of bytes of the packet buffer that its frames occupy. A frame occupies its bytes until its last piece
+    /// is moved.
     pub fn occupied(&self) -> u32
         ensures occupied { result ≡ occupied_by self.now.buffer }
         ensures fits { result ≤ most_room }
@@ -137,7 +137,7 @@ impl RxEngine {
         self.buffer.feed(hasher);
     }
 
-    /// Puts a frame of a legal length after the others in the packet buffer, which has room for it.
+    /// Appends a frame of a legal length to the packet buffer, which has room for it.
     pub(crate) fn store(&mut self, frame: &[u8])
         requires room { occupied_by self.old.buffer + cost frame.now ≤ most_room }
         requires legal { IsLegal frame.now }
@@ -148,8 +148,8 @@ impl RxEngine {
         self.buffer.push(frame);
     }
 
-    /// The bytes of the packet buffer's oldest frame that aren't moved yet, if the engine can move them: no fault has
-    /// stopped it, and no piece is in progress.
+    /// The bytes of the packet buffer's oldest frame that aren't moved yet. `None` if the engine can't move them: a
+    /// fault has stopped it, a piece is in progress, or there is no frame.
     pub(crate) fn left(&self) -> Option<&[u8]>
         ensures ready { IsSome result ↔ IsReady self.now }
         ensures left { IfSome result (λ bytes. bytes.now ≡ drop self.now.moved (oldest self.now.buffer)) }
@@ -165,7 +165,8 @@ impl RxEngine {
         Some(&frame[usize::from(self.moved)..])
     }
 
-    /// A piece of the oldest frame is in progress. With the last one the frame leaves the packet buffer.
+    /// Records that a piece of the oldest frame is in progress. After its last piece, the frame is removed from the
+    /// packet buffer.
     #[tactic(auto, using(crate::specs::RoomLaws::legal_oldest))]
     pub(crate) fn begin(&mut self, work: Work)
         requires least { 1 ≤ work.length }
@@ -183,7 +184,8 @@ impl RxEngine {
         self.work = Some(work);
     }
 
-    /// The oldest frame, which has `size` bytes, leaves the packet buffer. No byte of the next one is moved yet.
+    /// Removes the oldest frame, which has `size` bytes, from the packet buffer. No byte of the next frame is moved
+    /// yet.
     #[tactic(auto, using(crate::specs::RoomLaws::occupied_oldest))]
     fn drop_oldest(&mut self, size: u16)
         requires some { self.old.buffer ≢ [] }
@@ -196,7 +198,7 @@ impl RxEngine {
         self.moved = 0;
     }
 
-    /// No piece is in progress any more.
+    /// Records that no piece is in progress any more.
     pub(crate) fn end(&mut self)
         ensures ended { self.new ≡ record self.old { work = None } }
         ensures sound { IsReceiver self.new }
@@ -204,7 +206,7 @@ impl RxEngine {
         self.work = None;
     }
 
-    /// After a fault: the engine moves no piece until a reset.
+    /// Stops the engine after a fault: it moves no piece until a reset.
     pub(crate) fn stop(&mut self)
         ensures stopped { self.new ≡ record self.old { stopped = true } }
         ensures sound { IsReceiver self.new }
@@ -225,8 +227,8 @@ fn feed_work<H: Hasher>(work: Option<Work>, hasher: &mut H)
     }
 }
 
-/// The number of bytes of the packet buffer that a frame of this length occupies: its length, rounded up to a multiple
-/// of 16, and 16 more (our choice).
+/// The number of bytes of the packet buffer that a frame of this length occupies (our choice): its length, rounded up
+/// to a multiple of 16, and 16 more.
 pub(crate) fn cost(length: usize) -> u32
     requires { length ≤ 65535 }
     ensures { result ≡ cost_of_length length }

@@ -1,4 +1,4 @@
-// The filter's registers, and which frames pass.
+// The registers of the receive filter, and the frames that pass.
 
 ghost use Rattle.std.specs.Prelude.{◌≡◌, ◌<◌, ◌≤◌, ◌↔◌, IsTrue, bit_and, fold, length, replicate};
 ghost use Rattle.std.specs.Prelude.{slice_index, slice_set};
@@ -17,10 +17,10 @@ use registers::Rctl;
 use std::hash::{Hash, Hasher};
 use std::marker::Model;
 
-/// How many exact addresses the filter has room for: the number of pairs RAL(n), RAH(n).
-pub const EXACT_ADDRESSES: usize = 16;
+/// The number of receive addresses of the filter: the number of pairs RAL(n), RAH(n).
+pub const RECEIVE_ADDRESSES: usize = 16;
 
-/// How many words MTA and VFTA each have.
+/// The number of words of MTA, and also of VFTA.
 pub const TABLE_WORDS: usize = 128;
 
 /// The VLAN type of IEEE 802.1Q, for VET: bytes 12 and 13 of a tagged frame.
@@ -29,11 +29,11 @@ pub const VLAN_TYPE: u16 = 0x8100;
 /// The bits of RAH that a write changes and a read shows: address bytes 4 and 5, and AV.
 const ADDRESS_HIGH_BITS: u32 = 0x8000_FFFF;
 
-/// The receive filter: its registers, and the frames that pass. It takes no memory.
+/// The receive filter: its registers, and the frames that pass. It allocates no memory.
 #[derive(Clone, PartialEq, Eq, Debug, Drop)]
 pub struct Filter {
-    ral: [u32; EXACT_ADDRESSES],
-    rah: [u32; EXACT_ADDRESSES],
+    ral: [u32; RECEIVE_ADDRESSES],
+    rah: [u32; RECEIVE_ADDRESSES],
     mta: [u32; TABLE_WORDS],
     vfta: [u32; TABLE_WORDS],
     rctl: Rctl,
@@ -55,8 +55,8 @@ impl Filter {
     /// A filter whose registers are all 0: no frame passes.
     pub fn new() -> Filter
         ensures { result ≡ record {
-          ral = replicate EXACT_ADDRESSES 0;
-          rah = replicate EXACT_ADDRESSES 0;
+          ral = replicate RECEIVE_ADDRESSES 0;
+          rah = replicate RECEIVE_ADDRESSES 0;
           mta = replicate TABLE_WORDS 0;
           vfta = replicate TABLE_WORDS 0;
           rctl = 0;
@@ -64,8 +64,8 @@ impl Filter {
         } }
     {
         Filter {
-            ral: [0; EXACT_ADDRESSES],
-            rah: [0; EXACT_ADDRESSES],
+            ral: [0; RECEIVE_ADDRESSES],
+            rah: [0; RECEIVE_ADDRESSES],
             mta: [0; TABLE_WORDS],
             vfta: [0; TABLE_WORDS],
             rctl: Rctl(0),
@@ -75,7 +75,7 @@ impl Filter {
 
     /// A write of RAL(n), address bytes 0 to 3 of entry `n` (13.5.2). `n` is below 16.
     pub fn write_ral(&mut self, n: usize, value: u32)
-        requires { n < EXACT_ADDRESSES }
+        requires { n < RECEIVE_ADDRESSES }
         ensures { self.new ≡ record self.old { ral = slice_set self.old.ral n value } }
     {
         self.ral[n] = value;
@@ -84,7 +84,7 @@ impl Filter {
     /// A write of RAH(n), address bytes 4 and 5 of entry `n` in bits 15:0 and AV in bit 31 (13.5.3); the other bits
     /// aren't kept. `n` is below 16.
     pub fn write_rah(&mut self, n: usize, value: u32)
-        requires { n < EXACT_ADDRESSES }
+        requires { n < RECEIVE_ADDRESSES }
         ensures { self.new ≡ record self.old { rah = slice_set self.old.rah n (bit_and value address_high_mask) } }
     {
         self.rah[n] = value & ADDRESS_HIGH_BITS;
@@ -106,7 +106,7 @@ impl Filter {
         self.vfta[i] = value;
     }
 
-    /// A write of RCTL, which keeps its bits of the word (13.4.22).
+    /// A write of RCTL, which stores only the bits that the register has (13.4.22).
     pub fn write_rctl(&mut self, value: u32)
         ensures { self.new ≡ record self.old { rctl = bit_and value receive_control_mask } }
     {
@@ -122,7 +122,7 @@ impl Filter {
 
     /// A read of RAL(n). `n` is below 16.
     pub fn ral(&self, n: usize) -> u32
-        requires { n < EXACT_ADDRESSES }
+        requires { n < RECEIVE_ADDRESSES }
         ensures { result ≡ slice_index self.now.ral n }
     {
         self.ral[n]
@@ -130,7 +130,7 @@ impl Filter {
 
     /// A read of RAH(n). `n` is below 16.
     pub fn rah(&self, n: usize) -> u32
-        requires { n < EXACT_ADDRESSES }
+        requires { n < RECEIVE_ADDRESSES }
         ensures { result ≡ slice_index self.now.rah n }
     {
         self.rah[n]
@@ -198,7 +198,7 @@ impl Filter {
         accepted || has_entry(&self.ral, &self.rah, address)
     }
 
-    /// Whether a group address is accepted other than as an exact address.
+    /// Whether the filter accepts a group address by MPE, BAM or the group table.
     #[tactic(auto, unfolding(crate::specs::Registers::filter_of, crate::specs::Passing::AcceptsGroup))]
     fn accepts_group(&self, address: &[u8; 6]) -> bool
         ensures { IsTrue result ↔ AcceptsGroup (filter_of self.now) address.now }

@@ -1,10 +1,12 @@
-// What registers make of a filter's sets.
+// The sets that the filter's registers define.
 
 ghost use Rattle.rx_engine.specs.Writing.{NoAddressAtFirst, AddressIsAdded, NoNumberAtFirst, NumberIsAdded};
 
-/// A law, with nothing to run: what the registers are as sets. Registers that are 0 hold no address and no number. The
-/// two words of an address, written to an entry that isn't valid, add exactly that address; a bit set in MTA or VFTA
+/// The law of the sets that the filter's registers define. Registers that are 0 contain no address and no number. The
+/// two words of an address, written to an entry that isn't valid, add exactly that address. A bit set in MTA or VFTA
 /// adds exactly its number.
+///
+/// The function does nothing: its contract is the law.
 pub fn sets_of_registers()
     ensures no_address { NoAddressAtFirst }
     ensures address { AddressIsAdded }

@@ -1,4 +1,4 @@
-// Tables of one bit a number.
+// Tables with one bit for each number.
 
 ghost use Rattle.std.specs.Prelude.{◌≡◌, ◌<◌, ◌/◌, ◌%◌, ◌^◌, ◌↔◌, IsTrue};
 ghost use Rattle.registers.specs.Bits.{HasBit};
@@ -6,23 +6,23 @@ ghost use Rattle.rx_engine.specs.Registers.{HasTableBit};
 
 use crate::filter::TABLE_WORDS;
 
-/// How many numbers the group table and the VLAN table have.
+/// The number of bits of the group table, and of the VLAN table: one for each number of 12 bits.
 pub(crate) const NUMBERS: u16 = 4096;
 
-/// How many numbers a word of a table has bits for.
+/// The number of bits of a word of a table.
 const WORD_NUMBERS: u16 = 32;
 
-/// Where the bit of a number is in MTA or VFTA.
+/// The place of a number's bit in MTA or VFTA.
 #[derive(Clone, Copy, Debug, PartialEq, Eq)]
 pub struct TableBit {
     /// The word of the table, 0 to 127.
     pub word: u8,
-    /// The bit in that word: a word with this bit alone.
+    /// A word in which only this bit is 1.
     pub mask: u32,
 }
 
 impl TableBit {
-    /// Where the bit of a number is (13.5.1, 13.5.4). The number is below 4,096.
+    /// The place of a number's bit (13.5.1, 13.5.4). The number is below 4,096.
     pub fn of(number: u16) -> TableBit
         requires { number < 4096 }
         ensures word { result.word ≡ number / 32 }

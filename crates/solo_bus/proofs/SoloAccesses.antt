@@ -1,10 +1,10 @@
--- An access over a solo bus, behind what comes before it.
+-- An access over a solo bus, after what comes before it.
 use Rattle.std.proofs.Common.{◌≡◌, ◌+◌, ◌++◌, ◌∷◌, [], Bool, true, List, length, if◌then◌else◌, refl, ap, ◌∙◌, arith}
 use Rattle.std.specs.Bool.{⊤}
 use Rattle.std.proofs.lemmas.List.{map-append}
 use Rattle.bus.specs.BusMembers.{StaysWhole}
 use Rattle.bus.specs.Law.{Acts, view}
-use Rattle.bus.specs.PastOfStretch.{Past}
+use Rattle.bus.specs.Pasts.{Past}
 use Rattle.bus.specs.declared.event.Access.{Access}
 use Rattle.bus.specs.TickGroups.{group_of}
 use Rattle.solo_bus.specs.SoloBuses.{Prepared, Recounts, SoloState, is_go, lively_ticks, solo_tick_of}
@@ -69,11 +69,11 @@ acts_on a p b access effect prepared after answered adapter does =
       effect_is = does;
     }
 
--- The size of memory stays while ticks are played.
+-- The size of memory doesn't change while ticks are played.
 pub size_prepared : (a p : SoloState) → Prepared a p → length p.world.memory ≡ length a.world.memory
 size_prepared a p prepared = (trail_happens prepared.plays.events a.world p.world prepared.plays.are prepared.plays.trail).steady.size
 
--- What an access leaves of the bus itself, after the ticks before it.
+-- The bus itself after an access and the ticks before it.
 pub access_keeps : (a p b : SoloState) (w : World) → Prepared a p → b ≡ record p { world = w } → length w.memory ≡ length p.world.memory
     → StaysWhole (λ (bus : SoloState). length bus.world.memory) (λ (old new : SoloState). new.lively ≡ old.lively)
     (λ (bus : SoloState). ⊤) (λ (bus : SoloState). bus.lively ≡ true) a b

@@ -15,7 +15,7 @@ use Rattle.adapter.specs.declared.outcome.Outcome.TheVariants.{Put}
 use Rattle.eeprom.specs.Eerd.{is_pending}
 use Rattle.mdic_phy.specs.Mdic.{has_work}
 use Rattle.bus.specs.TickGroups.{behind_group, group_of, without_go}
-use Rattle.bus.specs.PastOfStretch.{Past}
+use Rattle.bus.specs.Pasts.{Past}
 use Rattle.bus.specs.LivelyBuses.{most_accesses}
 use Rattle.solo_bus.specs.SoloBuses.{PlaysSoloTicks, Prepared, SoloState, has_room, is_go, lively_ticks, solo_after_arrival}
 use Rattle.solo_bus.specs.SoloBuses.{solo_after_step}
@@ -51,12 +51,12 @@ plays_trans first later left left' a b c one two = record {
   accesses = two.accesses ∙ one.accesses;
 }
 
--- The front of a list and what is behind it.
+-- The first items of a list and the items after them.
 front_rest : {X : Type 0} (xs : List X) (x : X) → slice_get xs 0 ≡ Some x → xs ≡ x ∷ drop 1 xs
 front_rest [] x is = absurd (cc)
 front_rest (y ∷ ys) x is = cc
 
--- What a step puts is what happened in it.
+-- The frame that a step puts is a frame that was put in this interval.
 put_alone : (kind : StepKind) (wire_free : Bool) (answer : FrameOutcome) (solo : SoloState)
     → Answers kind wire_free solo.world.memory solo.world.adapter answer → put_by answer ≡ (past_of (Steps kind wire_free answer ∷ [])).put
 put_alone TxPut wire_free answer solo answers = sym (append-nil (put_by answer))
@@ -77,7 +77,7 @@ put_alone PhyTick wire_free answer solo answers = ap put_by answers ∙ put_none
     put_none true = refl
     put_none false = refl
 
--- A step, with the ticks that wait behind it.
+-- A step, with the ticks that wait after it.
 pub plays_step :
     (a : SoloState) (kind : StepKind) (answer : FrameOutcome) (left : List SoloTick) → IsAdapter a.world.adapter
     → Answers kind (has_room a) a.world.memory a.world.adapter answer
@@ -143,7 +143,7 @@ group_goes_on = record { played = played; left = left }
     left (Step kind) later is = refl
     left (Arrive frame) later is = refl
 
--- where all are played none waits
+-- if all ticks are played, none waits
 abbrev pub none_left : List SoloTick → List SoloTick
 none_left ticks = []
 
@@ -172,7 +172,7 @@ on_more plays waits a s b tick left on before isnt front behind one = record {
   to_wait = before.to_wait ∙ ap waits front ∙ on.left tick left isnt ∙ ap waits (sym behind);
 }
 
--- A step whose tick was the next, as the code leaves it.
+-- The bus after a step whose tick was the next one.
 pub step_on :
     (plays waits : List SoloTick → List SoloTick) (a s s' b : SoloState) (kind : StepKind) (answer : FrameOutcome) (next : Option SoloTick)
     (tick : SoloTick)

@@ -1,4 +1,4 @@
--- The buses of `src/sound_buses.rt`: what their registers say, and that the laws apply to them.
+-- The buses of `src/sound_buses.rt`: the values of their registers, and that the laws apply to them.
 use Rattle.std.proofs.Common.{◌≡◌, ◌≤◌, ◌+◌, false, inl, inr, ◌++◌, ◌∷◌, [], true, ℕ, Bool, List, length, replicate, slice_index, refl, sym}
 use Rattle.std.proofs.Common.{ap, subst, ◌∙◌, arith}
 use Rattle.std.specs.List.{All}
@@ -129,7 +129,7 @@ pub ready-sound : (size : ℕ) (words : List ℕ) → 4096 ≤ size → Sound 0 
 ready-sound size words fits =
     (slots_can_be_offered 0 0 (resting size words) (resting-sound size words fits) (resting-can_offer size words fits)).same.sound
 
--- It alone is offered.
+-- Only this slot is offered.
 
 pub ready-has_rings : (size : ℕ) (words : List ℕ) → HasRings (ready size words)
 unfolding offered_places
@@ -176,7 +176,7 @@ called-can_move size words fits =
       not_extended = λ set. absurd (omega (arith, set));
     }
 
--- It is moved in one piece.
+-- The frame is moved in one piece.
 pub called-last : (size : ℕ) (words : List ℕ) → is_last_piece (called size words).adapter ≡ true
 called-last size words = refl
 
@@ -215,7 +215,7 @@ pub arrived-sound : (fate : Fate) (frame : List ℕ) (world : World) → IsAdapt
     → Sound 0 0 world → Sound 0 0 (world_after_arrival fate frame world)
 arrived-sound fate frame world running is sound = ((arrivals_happen world fate frame running is).between 0 0 sound).sound
 
--- What a call leaves, by what the adapter answers.
+-- The state after a call, by the adapter's answer.
 
 pub working-found : (size : ℕ) (words : List ℕ) (fate : Fate) (answer : FrameOutcome) (a b d : World) → 4096 ≤ size → a ≡ ready size words
     → IsFate a.adapter call fate → b ≡ world_after_arrival fate call a → DataAnswers b.memory b.adapter answer

@@ -9,7 +9,7 @@ use Rattle.descriptors.specs.Ring.{offered_places}
 use Rattle.descriptors.specs.Frames.{IsLegal}
 use Rattle.rx_engine.specs.Finishing.{finished_bytes}
 use Rattle.rx_engine.specs.Laws.{held-after_data}
-use Rattle.rx_engine.specs.Moving.{is_half_free}
+use Rattle.rx_engine.specs.Moving.{is_half_offered}
 use Rattle.rx_engine.specs.Receiver.{IsReceiver}
 use Rattle.rx_engine.specs.declared.data.Data.TheVariants.{Moved}
 use Rattle.rx_engine.specs.declared.engine.Work.{Work}
@@ -22,7 +22,7 @@ use Rattle.adapter.specs.Transmitting.{moved_on}
 use Rattle.adapter.specs.Slots.{finished, is_done, written_back}
 use Rattle.adapter.specs.Conditions.{FitBuffers, Sound}
 use Rattle.bus.specs.Law.{Between}
-use Rattle.bus.specs.PastOfStretch.{Past, nothing}
+use Rattle.bus.specs.Pasts.{Past, nothing}
 use Rattle.adapter.specs.Running.{CanRun, CanTransmit}
 use Rattle.solo_bus.specs.SoundBuses.{call, called, ready, requested, resting, sending, working}
 use Rattle.adapter.specs.World.{receive_ring, transmit_ring, World}
@@ -131,7 +131,7 @@ working-between size words fits =
     between_moved true [] 0 0 0 w (called-has_frame size words) (called-can_move size words fits) (called-last size words)
     (called-receiver size words)
     (held-after_data w.adapter.filter.rctl (receive_ring w) w.adapter.receiver w.memory (finished_pieces 0 w)
-    (Moved (is_half_free (ring_of (moved_on w.adapter.receive_ring)))) sound.begun)
+    (Moved (is_half_offered (ring_of (moved_on w.adapter.receive_ring)))) sound.begun)
     sound
 
 working-runs : (size : ℕ) (words : List ℕ) → 4096 ≤ size → CanRun (working size words)

@@ -1,4 +1,4 @@
--- A solo bus, and how its calls change it.
+-- The state of a solo bus, and how its calls change it.
 use Rattle.std.specs.Prelude.{⊤, ◌≡◌, ◌+◌, ◌++◌, ℕ, Bool, true, false, List, [], ◌∷◌, All, length, map, min, nat_lt, sum_by}
 use Rattle.std.specs.Prelude.{if◌then◌else◌}
 use Rattle.rx_engine.specs.declared.arrival.Fate.{Fate}
@@ -11,7 +11,7 @@ use Rattle.adapter.specs.declared.outcome.Outcome.{Outcome}
 use Rattle.adapter.specs.Outcomes.{FrameOutcome}
 use Rattle.bus.specs.LivelyBuses.{most_accesses}
 use Rattle.bus.specs.TickGroups.{behind_group, group_of, groups_of, played_in, waiting_after}
-use Rattle.bus.specs.PastOfStretch.{Past}
+use Rattle.bus.specs.Pasts.{Past}
 use Rattle.bus.specs.declared.event.Access.{Access}
 use Rattle.bus.specs.StepsAndArrivals.{past_of_step, world_after_arrival, world_after_step}
 use Rattle.bus.specs.Trails.{IsStep, Trail, past_of}
@@ -22,60 +22,60 @@ use Rattle.solo_bus.specs.declared.solo_bus.SoloTick.TheVariants.{Arrive, Go, St
 
 pub record SoloState : Type 0 where
   pub world : World
-  -- whether a tick of the EEPROM and one of the PHY come before each access
+  -- Whether the bus plays a tick of the EEPROM and a tick of the PHY before each access.
   pub lively : Bool
-  -- the ticks that are still to be played
+  -- The ticks that are still to be played.
   pub waiting : List SoloTick
-  -- the frames that were put and not yet taken away, the oldest first
+  -- The frames on the wire that haven't been removed, the oldest first.
   pub wire : List (List ℕ)
-  -- how many accesses there were
+  -- The number of accesses so far, up to the greatest u64.
   pub accesses : ℕ
 
--- the number of frames for which the wire has room (our choice)
+-- The number of frames for which the wire has room (our choice).
 abbrev pub wire_frames : ℕ
 wire_frames = 64
 
 abbrev pub most_ticks : ℕ
 most_ticks = 32
 
--- the wire has room while it has fewer than `wire_frames` frames
+-- Whether the wire has room: it has fewer than `wire_frames` frames.
 abbrev pub has_room : SoloState → Bool
 has_room solo = nat_lt (length solo.wire) wire_frames
 
--- the answer of a step with this outcome
+-- The outcome of a step, with its frame.
 abbrev pub solo_framed : Outcome (Unit {0}) → SoloState → FrameOutcome
 solo_framed outcome solo = framed outcome solo.world.adapter
 
--- the frame that is put next, the oldest of a packet buffer, if there is one
+-- The frame that is put next, as a list: the oldest frame of a packet buffer, if there is one.
 abbrev pub next_frames : List Queued → List (List ℕ)
 next_frames [] = []
 next_frames (queued ∷ later) = queued.frame ∷ []
 
--- a frame that a step put comes after the others on the wire
+-- The bus after a step. A frame that the step put is after the others on the wire.
 abbrev pub solo_after_step : StepKind → FrameOutcome → SoloState → SoloState
 solo_after_step kind answer solo = record solo { world = world_after_step kind answer solo.world; wire = solo.wire ++ put_by answer }
 
 abbrev pub solo_after_arrival : Fate → List ℕ → SoloState → SoloState
 solo_after_arrival fate frame solo = record solo { world = world_after_arrival fate frame solo.world }
 
--- Ticks and events.
-
 abbrev pub is_go : SoloTick → Bool
 is_go Go = true
 is_go (Step kind) = false
 is_go (Arrive frame) = false
 
--- the tick that an event is of; an access is that of Go
+-- The tick of an event. The tick of an access is `Go`.
 abbrev pub solo_tick_of : Event → SoloTick
 solo_tick_of (Steps kind wire_free answer) = Step kind
 solo_tick_of (Arrives frame fate) = Arrive frame
 solo_tick_of (Accesses access) = Go
 
--- what a bus plays by itself before each access: if it is lively, a tick of the EEPROM and then one of the PHY
+-- The ticks that a bus plays by itself before each access. A lively bus plays a tick of the EEPROM and then a tick of the PHY. Another bus
+-- plays no tick.
 abbrev pub lively_ticks : Bool → List SoloTick
 lively_ticks lively = if lively then Step EepromTick ∷ Step PhyTick ∷ [] else []
 
--- each step found the wire free exactly if it had room, if this number of frames was on it before the first
+-- Each step was played with a free wire if and only if the wire had room. `frames` is the number of frames on the wire before the first
+-- step.
 abbrev pub AreFree : List Event → ℕ → Type 0
 AreFree [] frames = ⊤
 AreFree (Steps kind wire_free answer ∷ later) frames =
@@ -83,27 +83,29 @@ AreFree (Steps kind wire_free answer ∷ later) frames =
 AreFree (Arrives frame fate ∷ later) frames = AreFree later frames
 AreFree (Accesses access ∷ later) frames = AreFree later frames
 
--- What events put on the wire.
+-- The frames that events put on the wire.
 pub record PutOnWire (a b : SoloState) (events : List Event) (put : List (List ℕ)) : Type 0 where
-  -- Each step found the wire free exactly if it had room.
+  -- Each step was played with the wire free if and only if the wire had room.
   pub free : AreFree events (length a.wire)
-  -- These frames come after those that were there.
+  -- The wire contains the frames that it contained before, followed by these.
   pub frames : b.wire ≡ a.wire ++ put
 
--- What happened from one state to another: these events, of these ticks, what they put on the wire, and their accesses in the count.
+-- The record of what happened between two states: the events, the ticks that they play, the frames that they put on the wire, and the
+-- accesses that they count.
 pub record Recounts (a b : SoloState) (past : Past) : Type 0 where
   pub events : List Event
   pub trail : Trail events a.world b.world
   pub past_is : past ≡ past_of events
-  -- before each access the bus's own ticks and those of the next group, one event for each in order; nothing after the last access
+  -- Before each access, the bus's own ticks and those of the next group were played, one event for each tick, in order. No event followed
+  -- the last access.
   pub played : map solo_tick_of events ≡ played_in is_go Go (lively_ticks a.lively) past.accesses a.waiting
-  -- one group for each access was played; all other ticks still wait
+  -- One group was played for each access. All other ticks still wait.
   pub waiting : b.waiting ≡ waiting_after is_go past.accesses a.waiting
   pub wire : PutOnWire a b events past.put
   pub lively : b.lively ≡ a.lively
   pub count : min b.accesses most_accesses ≡ min (a.accesses + length past.accesses) most_accesses
 
--- 1 if the tick is one of the EEPROM, else 0
+-- 1 if the tick is a tick of the EEPROM, else 0.
 abbrev pub eeprom_tick : SoloTick → ℕ
 eeprom_tick (Step EepromTick) = 1
 eeprom_tick _ = 0
@@ -112,18 +114,17 @@ abbrev pub phy_tick : SoloTick → ℕ
 phy_tick (Step PhyTick) = 1
 phy_tick _ = 0
 
--- how many ticks of each kind a bus plays by itself in these accesses
+-- The number of ticks of each kind that a bus plays by itself for these accesses.
 abbrev pub lively_count : Bool → List Access → ℕ
 lively_count lively accesses = if lively then length accesses else 0
 
--- A lively bus plays exactly one tick of each kind by itself for each access, and all other ticks are those of the
+-- For each access, a lively bus plays exactly one tick of the EEPROM and one tick of the PHY by itself. All other ticks are those of the
 -- groups that waited.
 pub record PlaysLively (a : SoloState) (past : Past) : Type 0 where
   pub eeprom : past.eeprom_ticks ≡ lively_count a.lively past.accesses + sum_by eeprom_tick (groups_of is_go past.accesses a.waiting)
   pub phy : past.phy_ticks ≡ lively_count a.lively past.accesses + sum_by phy_tick (groups_of is_go past.accesses a.waiting)
 
--- From one state to another exactly these ticks are played, one event for each and no access, and then the ticks `left`
--- wait.
+-- From one state to another, exactly these ticks are played, with one event for each tick and no access. Then the ticks `left` wait.
 pub record PlaysSoloTicks (ticks left : List SoloTick) (a b : SoloState) : Type 0 where
   pub events : List Event
   pub are : All IsStep events
@@ -134,7 +135,7 @@ pub record PlaysSoloTicks (ticks left : List SoloTick) (a b : SoloState) : Type 
   pub lively : b.lively ≡ a.lively
   pub accesses : b.accesses ≡ a.accesses
 
--- Before an access, the bus's own ticks and the next group are played, and the access is counted.
+-- Before an access, the bus's own ticks and the next group are played, and the access is counted, up to the greatest u64.
 pub record Prepared (a b : SoloState) : Type 0 where
   pub plays : PlaysSoloTicks (lively_ticks a.lively ++ group_of is_go a.waiting) (behind_group is_go a.waiting) a
       (record b { accesses = a.accesses })

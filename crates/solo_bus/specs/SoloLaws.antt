@@ -1,9 +1,9 @@
--- The record of a solo bus over two intervals is the two records joined.
+-- Lemmas: the records of a solo bus over two intervals, joined, are its record over both.
 use Rattle.std.proofs.Common.{◌≡◌, ◌+◌, ◌++◌, ◌∷◌, [], Bool, true, false, List, ℕ, length, map, min, sum_by, if◌then◌else◌, refl, sym, ap}
 use Rattle.std.proofs.Common.{subst, ◌∙◌, append_assoc, arith, length-append}
 use Rattle.std.proofs.lemmas.List.{append-nil, map-append}
 use Rattle.std.proofs.lemmas.List.Sums.{sum_by-cons}
-use Rattle.bus.specs.PastOfStretch.{Past, joined, nothing}
+use Rattle.bus.specs.Pasts.{Past, joined, nothing}
 use Rattle.adapter.specs.declared.step.StepKind.TheVariants.{TxTake, TxPut, RxData, RxDone, EepromTick, PhyTick}
 use Rattle.bus.specs.TickGroupLaws.{played_counts, played_joins, waiting_joins}
 use Rattle.bus.specs.TickGroups.{played_in, waiting_after}
@@ -66,12 +66,10 @@ recounts_join a b c first later one two = record {
   count = omega (arith, one.count, two.count, length-append first.accesses later.accesses);
 }
 
--- Each access raises the count of a solo bus by one.
+-- Each access increases the count of a solo bus by one.
 pub recounts_count : (a b : SoloState) (past : Past) → Recounts a b past
     → min b.accesses most_accesses ≡ min (min a.accesses most_accesses + length past.accesses) most_accesses
 recounts_count a b past recounts = omega (arith, recounts.count)
-
--- The ticks of each kind among some events are those that were played.
 
 is_eeprom_tick : (event : Event) → (past_of_event event).eeprom_ticks ≡ eeprom_tick (solo_tick_of event)
 is_eeprom_tick (Steps TxTake wire_free answer) = refl
@@ -111,7 +109,7 @@ lively_phy_tick : (lively : Bool) → sum_by phy_tick (lively_ticks lively) ≡ 
 lively_phy_tick true = refl
 lively_phy_tick false = refl
 
--- The record of a lively bus contains its own ticks.
+-- The record of a lively bus contains the ticks that the bus plays by itself.
 pub recounts_lively : (a b : SoloState) (past : Past) → Recounts a b past → PlaysLively a past
 recounts_lively a b past recounts = record {
   eeprom =

@@ -1,4 +1,4 @@
--- How the fields of a solo bus are the plain data of its contracts (our choice).
+-- The value of a solo bus in contracts, from its fields (our choice).
 use Rattle.std.specs.Prelude.{◌≡◌}
 use Rattle.solo_bus.specs.SoloBuses.{SoloState, most_ticks, wire_frames}
 use Rattle.solo_bus.specs.declared.solo_bus.SoloBus.TheInside.{Inside}

@@ -13,7 +13,7 @@ use Rattle.bus.specs.StepsAndArrivals.{world_after_arrival, world_after_step}
 use Rattle.adapter.specs.World.{World, world_after_store}
 use Rattle.solo_bus.specs.declared.sound_buses.TheConstants.{RECEIVE_RING, RING_BYTES, TRANSMIT_RING}
 
--- both rings set up and nothing offered: RCTL.EN and BAM, with buffers of 2,048 bytes, and TCTL.EN and PSP
+-- Both rings are set up, and no slot is offered: RCTL has EN and BAM, with buffers of 2,048 bytes, and TCTL has EN and PSP.
 abbrev pub resting : ℕ → List ℕ → World
 resting size words = record {
   memory = replicate size 0;
@@ -25,38 +25,38 @@ resting size words = record {
   };
 }
 
--- the first receive slot offered
+-- The first receive slot is offered.
 abbrev pub ready : ℕ → List ℕ → World
 ready size words = offering (resting size words)
 
--- a broadcast frame
+-- A broadcast frame.
 abbrev pub call : List ℕ
 call = replicate shortest_frame 255
 
--- the frame has arrived
+-- The frame has arrived.
 abbrev pub called : ℕ → List ℕ → World
 called size words = world_after_arrival Stored call (ready size words)
 
--- the piece of the frame is in progress
+-- The piece of the frame is in progress.
 abbrev pub working : ℕ → List ℕ → World
 working size words = world_after_step RxData Moved (called size words)
 
--- the slot of the frame is finished
+-- The slot of the frame is finished.
 abbrev pub finished_slot : ℕ → List ℕ → World
 finished_slot size words = world_after_step RxDone Done (working size words)
 
--- a transmit descriptor of 60 bytes at 2,304, with EOP, IFCS and RS
+-- A transmit descriptor of 60 bytes at 2,304, with EOP, IFCS and RS.
 abbrev pub request : List ℕ
 request = 0 ∷ 9 ∷ 0 ∷ 0 ∷ 0 ∷ 0 ∷ 0 ∷ 0 ∷ 60 ∷ 0 ∷ 0 ∷ 11 ∷ 0 ∷ 0 ∷ 0 ∷ 0 ∷ []
 
--- the transmit descriptor is stored in the first slot
+-- The transmit descriptor is stored in the first slot.
 abbrev pub requested : ℕ → List ℕ → World
 requested size words = world_after_store TRANSMIT_RING request (resting size words)
 
--- the transmit slot is offered
+-- The transmit slot is offered.
 abbrev pub sending : ℕ → List ℕ → World
 sending size words = offering_frame (requested size words)
 
--- the frame of the transmit slot is taken
+-- The frame of the transmit slot is taken.
 abbrev pub taken : ℕ → List ℕ → World
 taken size words = world_after_step TxTake Took (sending size words)

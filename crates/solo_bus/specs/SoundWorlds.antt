@@ -1,4 +1,4 @@
--- The conditions of the law hold of some worlds whose engines can run, so they can be met.
+-- The conditions of the law hold in some worlds whose engines can run, so they can be met.
 use Rattle.std.specs.Prelude.{◌≢◌, ◌<◌, []}
 use Rattle.descriptors.specs.Ring.{count_of}
 use Rattle.adapter.specs.Slots.{buffered, finished, in_work, offered, written_back}
@@ -8,12 +8,12 @@ use Rattle.adapter.specs.Conditions.{FitBuffers, Sound}
 use Rattle.adapter.specs.Running.{CanRun}
 use Rattle.adapter.specs.World.{receive_ring, transmit_ring, World}
 
--- A world of which the conditions hold, with the first slot of each ring as the oldest, whose frames fit into buffers of the size that
--- RCTL.BSIZE names and whose engines can run, has this.
+-- Some world has this property and meets the conditions, with the first slot of each ring as the oldest one. Its frames fit into buffers of
+-- the size that RCTL.BSIZE selects, and its engines can run.
 abbrev pub SomeSound : (World → Type 0) → Type 0
 SomeSound Has = (world : World) × Sound 0 0 world × FitBuffers (buffer_size world) 0 world × CanRun world × Has world
 
--- both rings have slots, and some of the receive ring are offered
+-- Both rings have slots, and some slots of the receive ring are offered.
 pub record HasRings (world : World) : Type 0 where
   pub receives : 0 < count_of (receive_ring world)
   pub transmits : 0 < count_of (transmit_ring world)
@@ -28,11 +28,11 @@ HasFinished world = finished 0 world ≢ []
 abbrev pub HasWrittenBack : World → Type 0
 HasWrittenBack world = written_back 0 world ≢ []
 
--- there are frames to be taken, named by descriptors from TDH to TDT
+-- Frames are to be taken: the descriptors from TDH to TDT name them.
 pub record HasFramesInRing (world : World) : Type 0 where
   pub slots : offered (transmit_ring world) ≢ []
   pub frames : frames_to_send world ≢ []
 
--- there are frames in the transmit packet buffer
+-- There are frames in the transmit packet buffer.
 abbrev pub HasFramesInBuffer : World → Type 0
 HasFramesInBuffer world = buffered world ≢ []

@@ -1,5 +1,5 @@
 //! A bus with one adapter and its memory, and no other device at its wire, which obeys the law of the crate `bus`; and
-//! some such buses on which the conditions of the law hold.
+//! examples of such buses on which the conditions of the law hold.
 //!
 //! Section numbers are those of Intel's "PCI/PCI-X Family of Gigabit Ethernet Controllers Software
 //! Developer's Manual".

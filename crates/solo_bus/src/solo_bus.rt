@@ -13,13 +13,13 @@ use frame_queue::FrameQueue;
 use std::alloc::{AllocError, Global};
 use std::marker::Model;
 
-/// How many ticks may wait to be played.
+/// The maximum number of ticks that wait to be played.
 pub const MOST_TICKS: usize = 32;
 
-/// How many frames fit on the wire of a solo bus.
+/// The number of frames for which the wire of a solo bus has room.
 pub const WIRE_FRAMES: u8 = 64;
 
-/// What is played before an access.
+/// A tick of a solo bus: what is played before an access.
 #[derive(Debug, Drop, PartialEq, Eq)]
 pub enum SoloTick {
     /// The next access of the driver is made here.
@@ -32,8 +32,8 @@ pub enum SoloTick {
 
 /// A bus with one adapter and its memory, and no other device at its wire.
 ///
-/// In contracts it is a `SoloState`, plain data that `specs/SoloBuses.antt` lists. All memory is taken when
-/// it is made.
+/// In contracts, the value is a `SoloState`, plain data that `specs/SoloBuses.antt` defines. All memory is allocated
+/// when the bus is made.
 #[derive(Drop)]
 pub struct SoloBus {
     machine: Machine,
@@ -67,12 +67,12 @@ impl SoloBus {
     ghost use Rattle.adapter.specs.World.{world_after_read, world_after_store, world_after_write};
     ghost use Rattle.dma_memory.specs.HostMemory.{bytes_at, LiesIn};
 
-    /// A bus with no ticks to be played and an empty wire. A lively one plays a tick of the EEPROM and
-    /// one of the PHY before each access.
+    /// A bus without ticks to be played, and with an empty wire. A lively bus plays a tick of the EEPROM and a tick of
+    /// the PHY before each access.
     ///
     /// # Errors
     ///
-    /// Only if memory is refused.
+    /// Returns an error only if an allocation fails.
     pub fn new(
         alloc: Global,
         adapter: Adapter,
@@ -96,8 +96,8 @@ impl SoloBus {
         })
     }
 
-    /// A step of the adapter. The wire has room while fewer than 64 frames are on it. A frame that is put waits there
-    /// after the others, until [`take_put`](SoloBus::take_put) takes it.
+    /// Plays a step of the adapter. The wire has room while fewer than 64 frames are on it. If the step puts a frame,
+    /// the frame waits on the wire after the others, until [`take_put`](SoloBus::take_put) removes it.
     pub fn step(&mut self, kind: StepKind) -> Outcome<()>
         ensures answer { Answers kind (has_room self.old) self.old.world.memory self.old.world.adapter
             (solo_framed result self.old) }
@@ -111,7 +111,8 @@ impl SoloBus {
         self.machine.step(kind, wire_free)
     }
 
-    /// Copies the frame that the adapter puts next, if there is one, to the end of those on the wire, which has room.
+    /// Copies the frame that the adapter puts next, if there is one, to the end of the frames on the wire, which must
+    /// have room.
     fn put_oldest(&mut self)
         requires { length self.old.wire < WIRE_FRAMES }
         ensures { self.new ≡ record self.old {
@@ -123,7 +124,7 @@ impl SoloBus {
         }
     }
 
-    /// A frame is delivered to the adapter, and meets its fate.
+    /// Delivers a frame to the adapter. Returns the frame's fate.
     pub fn arrive(&mut self, frame: &[u8]) -> Fate
         ensures fate { IsFate self.old.world.adapter frame.now result }
         ensures state { self.new ≡ solo_after_arrival result frame.now self.old }
@@ -132,7 +133,7 @@ impl SoloBus {
         self.machine.arrive(frame)
     }
 
-    /// Takes the oldest frame off the wire; `None` exactly if there is none.
+    /// Removes the oldest frame from the wire. Returns `None` if and only if there is no frame.
     pub fn take_put(&mut self) -> Option<Frame>
         ensures none { IsNone result ↔ (self.old.wire ≡ []) }
         ensures oldest { IfSome result (λ frame. slice_get self.old.wire 0 ≡ Some frame) }
@@ -154,7 +155,7 @@ impl SoloBus {
         }
     }
 
-    /// How many ticks wait to be played.
+    /// The number of ticks that wait to be played.
     pub fn waiting(&self) -> usize
         ensures count { result ≡ length self.now.waiting }
         ensures fits { result ≤ MOST_TICKS }
@@ -162,7 +163,7 @@ impl SoloBus {
         self.waiting.len()
     }
 
-    /// Plays all ticks that wait, with [`Go`](SoloTick::Go) skipped.
+    /// Plays all ticks that wait, and skips each [`Go`](SoloTick::Go).
     pub fn finish(&mut self)
         ensures { PlaysSoloTicks (without_go is_go self.old.waiting) [] self.old self.new }
     {
@@ -197,7 +198,7 @@ impl SoloBus {
         }
     }
 
-    /// A lively bus plays a tick of the EEPROM, and then one of the PHY.
+    /// If the bus is lively, plays a tick of the EEPROM, and then a tick of the PHY.
     fn live(&mut self)
         ensures { PlaysSoloTicks (lively_ticks self.old.lively) self.old.waiting self.old self.new }
     {
@@ -224,7 +225,7 @@ impl SoloBus {
         self.count_access();
     }
 
-    /// Whether the bus plays a tick of the EEPROM and one of the PHY before each access.
+    /// Whether the bus plays a tick of the EEPROM and a tick of the PHY before each access.
     pub fn is_lively(&self) -> bool
         ensures { result ≡ self.now.lively }
     {
@@ -238,7 +239,7 @@ impl SoloBus {
         self.machine.line()
     }
 
-    /// The adapter and its memory, without the ticks that wait and the frames on the wire.
+    /// Returns the adapter and its memory. The ticks that wait and the frames on the wire are dropped.
     pub fn into_parts(self) -> (Adapter, HostMemory)
         ensures adapter { result.0 ≡ self.world.adapter }
         ensures memory { result.1 ≡ self.world.memory }
@@ -246,21 +247,21 @@ impl SoloBus {
         self.machine.into_parts()
     }
 
-    /// How many bytes the memory has.
+    /// The number of bytes of memory.
     pub(crate) fn memory_size(&self) -> u64
         ensures { result ≡ length self.now.world.memory }
     {
         self.machine.size()
     }
 
-    /// How many accesses there were, up to the greatest `u64`.
+    /// The number of accesses so far, up to the greatest `u64`.
     pub(crate) fn access_count(&self) -> u64
         ensures { result ≡ self.now.accesses }
     {
         self.accesses
     }
 
-    /// Reads a register. No tick is played before it.
+    /// Reads a register. No tick is played before the read.
     pub(crate) fn read_now(&mut self, offset: u32) -> u32
         ensures answer { result ≡ answer_at offset self.old.world.adapter }
         ensures state { self.new ≡ record self.old { world = world_after_read offset self.old.world } }
@@ -269,7 +270,7 @@ impl SoloBus {
         self.machine.read(offset)
     }
 
-    /// Writes a register. No tick is played before it.
+    /// Writes a register. No tick is played before the write.
     pub(crate) fn write_now(&mut self, offset: u32, value: u32)
         ensures state { self.new ≡ record self.old { world = world_after_write offset value self.old.world } }
         ensures adapter { IsAdapter self.old.world.adapter }
@@ -277,7 +278,7 @@ impl SoloBus {
         self.machine.write(offset, value);
     }
 
-    /// Loads bytes inside memory. No tick is played before it.
+    /// Loads bytes inside memory. No tick is played before the load.
     pub(crate) fn load_now(&self, address: u64, into: &mut [u8])
         requires lies { LiesIn self.now.world.memory address (length into.old) }
         ensures loaded { into.new ≡ bytes_at self.now.world.memory address (length into.old) }
@@ -286,7 +287,7 @@ impl SoloBus {
         self.machine.load(address, into);
     }
 
-    /// Stores bytes inside memory. No tick is played before it.
+    /// Stores bytes inside memory. No tick is played before the store.
     pub(crate) fn store_now(&mut self, address: u64, bytes: &[u8])
         requires lies { LiesIn self.old.world.memory address (length bytes.now) }
         ensures state { self.new ≡ record self.old { world = world_after_store address bytes.now self.old.world } }
@@ -295,7 +296,7 @@ impl SoloBus {
         self.machine.store(address, bytes);
     }
 
-    /// Removes the next tick, and returns it, if one waits.
+    /// Removes and returns the next tick, if a tick waits.
     fn next_tick(&mut self) -> Option<SoloTick>
         ensures next { result ≡ slice_get self.old.waiting 0 }
         ensures state { self.new ≡ record self.old { waiting = drop 1 self.old.waiting } }

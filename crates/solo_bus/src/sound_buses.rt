@@ -1,8 +1,8 @@
-//! Buses on which the conditions of the law hold, each for a condition that must be possible.
+//! Buses on which the conditions of the law hold, each with slots or frames of another kind.
 //!
-//! Each has a new adapter whose link is never up, and 4,096 bytes of memory: a receive buffer at 0,
-//! the receive ring of eight slots at 2,048, the transmit ring of eight at 2,176, and data to be sent at
-//! 2,304. Slot 0 is the driver's oldest in both rings.
+//! Each bus has a new adapter whose link is never up, and 4,096 bytes of memory. A receive buffer is at 0, and the
+//! receive ring of eight slots at 2,048. The transmit ring of eight slots is at 2,176, and data to be sent at 2,304.
+//! Slot 0 is the driver's oldest slot in both rings.
 
 ghost use Rattle.std.specs.Prelude.{◌≡◌, IfOk};
 ghost use Rattle.solo_bus.specs.SoundWorlds.{HasFinished, HasFramesInBuffer, HasFramesInRing, HasRings, HasWork};
@@ -17,7 +17,7 @@ use eeprom::Image;
 use mdic_phy::Link;
 use std::alloc::{AllocError, Global};
 
-/// The bytes of memory.
+/// The number of bytes of memory.
 const MEMORY_BYTES: u64 = 4096;
 
 /// The address of the receive ring, after the buffer at 0.
@@ -26,7 +26,7 @@ const RECEIVE_RING: u32 = 2048;
 /// The address of the transmit ring.
 const TRANSMIT_RING: u32 = 2176;
 
-/// The bytes of a ring of eight slots.
+/// The number of bytes of a ring of eight slots.
 const RING_BYTES: u32 = 128;
 
 /// RCTL with EN and BAM, and buffers of 2,048 bytes.
@@ -45,7 +45,7 @@ const REQUEST: [u8; 16] = [0, 9, 0, 0, 0, 0, 0, 0, 60, 0, 0, 0x0B, 0, 0, 0, 0];
 ///
 /// # Errors
 ///
-/// Only if memory is refused.
+/// Returns an error only if an allocation fails.
 pub fn with_rings(alloc: Global, image: &Image) -> Result<SoloBus, AllocError>
     ensures world { IfOk result (λ bus. bus.world ≡ ready MEMORY_BYTES image.now) }
     ensures sound { IfOk result (λ bus. Sound 0 0 bus.world) }
@@ -60,7 +60,7 @@ pub fn with_rings(alloc: Global, image: &Image) -> Result<SoloBus, AllocError>
 ///
 /// # Errors
 ///
-/// Only if memory is refused.
+/// Returns an error only if an allocation fails.
 pub fn with_work(alloc: Global, image: &Image) -> Result<SoloBus, AllocError>
     ensures world { IfOk result (λ bus. bus.world ≡ working MEMORY_BYTES image.now) }
     ensures sound { IfOk result (λ bus. Sound 0 0 bus.world) }
@@ -76,7 +76,7 @@ pub fn with_work(alloc: Global, image: &Image) -> Result<SoloBus, AllocError>
 ///
 /// # Errors
 ///
-/// Only if memory is refused.
+/// Returns an error only if an allocation fails.
 pub fn with_finished_slot(alloc: Global, image: &Image) -> Result<SoloBus, AllocError>
     ensures world { IfOk result (λ bus. bus.world ≡ finished_slot MEMORY_BYTES image.now) }
     ensures sound { IfOk result (λ bus. Sound 0 0 bus.world) }
@@ -91,7 +91,7 @@ pub fn with_finished_slot(alloc: Global, image: &Image) -> Result<SoloBus, Alloc
 ///
 /// # Errors
 ///
-/// Only if memory is refused.
+/// Returns an error only if an allocation fails.
 pub fn with_frame_to_send(alloc: Global, image: &Image) -> Result<SoloBus, AllocError>
     ensures world { IfOk result (λ bus. bus.world ≡ sending MEMORY_BYTES image.now) }
     ensures sound { IfOk result (λ bus. Sound 0 0 bus.world) }
@@ -107,7 +107,7 @@ pub fn with_frame_to_send(alloc: Global, image: &Image) -> Result<SoloBus, Alloc
 ///
 /// # Errors
 ///
-/// Only if memory is refused.
+/// Returns an error only if an allocation fails.
 pub fn with_buffered_frame(alloc: Global, image: &Image) -> Result<SoloBus, AllocError>
     ensures world { IfOk result (λ bus. bus.world ≡ taken MEMORY_BYTES image.now) }
     ensures sound { IfOk result (λ bus. Sound 0 0 bus.world) }

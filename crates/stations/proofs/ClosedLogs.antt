@@ -1,4 +1,4 @@
--- A log that is closed up in place, and what each end reads in it.
+-- Entries are dropped from a log in place, and what each end reads in the log after that.
 use Rattle.std.proofs.Common.{◌≡◌, ◌≢◌, ◌<◌, ◌≤◌, ◌+◌, ◌-◌, not, Bool, true, false, ℕ, suc, List, [], ◌∷◌, ◌++◌, drop, take, length, map}
 use Rattle.std.proofs.Common.{slice_index_or, slice_set, if◌then◌else◌, inl, inr, refl, sym, ap, ◌∙◌, arith}
 use Rattle.std.proofs.Common.{append_assoc, append-nil, length-append}
@@ -13,7 +13,7 @@ use Rattle.std.proofs.Math.ListN.{drop_of_length-le}
 use Rattle.std.proofs.Math.Seq.{drop-append-add}
 use Rattle.stations.specs.WireLogs.{LogEntry, closed_up, entry_at, frames_of_others, is_of_other}
 
--- Whose an entry is.
+-- The sender of an entry
 
 module _ (r : ℕ) (ys : List LogEntry) (i : ℕ) (e : LogEntry) (below : i < length ys) (is : e ≡ slice_index_or ys i e) where
   at : entry_at i ys ≡ e
@@ -31,7 +31,7 @@ module _ (r : ℕ) (ys : List LogEntry) (i : ℕ) (e : LogEntry) (below : i < le
     | inr differs ↦ absurd (differs.1 own)
   ]
 
--- One entry more.
+-- One more entry
 
 before : (r f s : ℕ) (p : List LogEntry) (x : LogEntry) → f ≤ length p → length p < s
     → closed_up r f s (p ++ x ∷ []) ≡ closed_up r f s p ++ filter (is_of_other r) (x ∷ [])
@@ -57,9 +57,9 @@ behind r f s p x order past =
     let tail : drop s (p ++ x ∷ []) ≡ drop s p ++ x ∷ [] = drop-append-le s p (x ∷ []) past in
     rw (middle, tail) (sym (append_assoc (filter (is_of_other r) (take (s - f) (drop f p))) (drop s p) (x ∷ [])))
 
--- In place.
+-- In place
 
--- the first k places have what is kept of the first i entries
+-- The first k places contain the entries that are kept of the first i entries.
 pub record ClosesUp (r f s : ℕ) (xs ys : List LogEntry) (k i : ℕ) : Type 0 where
   pub front : take k ys ≡ closed_up r f s (take i xs)
   pub rest : drop i ys ≡ drop i xs
@@ -87,7 +87,7 @@ module _ (r f s : ℕ) (xs ys : List LogEntry) (k i : ℕ) (h : ClosesUp r f s x
   long-take : length (take i xs) ≡ i
   long-take = length-take-le i xs (omega (arith, h.long, below))
 
-  -- an entry that is kept
+  -- An entry is kept.
   pub keeps : (zs : List LogEntry) → SwappedAt ys zs k i
       → closed_up r f s (take i xs ++ x ∷ []) ≡ closed_up r f s (take i xs) ++ x ∷ [] → ClosesUp r f s xs zs (k + 1) (i + 1)
   keeps zs swapped longer =
@@ -121,7 +121,7 @@ module _ (r f s : ℕ) (xs ys : List LogEntry) (k i : ℕ) (h : ClosesUp r f s x
   pub keeps-behind : (zs : List LogEntry) → SwappedAt ys zs k i → f ≤ s → s ≤ i → ClosesUp r f s xs zs (k + 1) (i + 1)
   keeps-behind zs swapped order le = keeps zs swapped (behind r f s (take i xs) x order (omega (arith, long-take, le)))
 
-  -- one that is dropped
+  -- An entry is dropped.
   pub drops : i < s → is_of_other r x ≡ false → ClosesUp r f s xs ys k (i + 1)
   drops le own = record {
     front = h.front
@@ -135,7 +135,7 @@ module _ (r f s : ℕ) (xs ys : List LogEntry) (k i : ℕ) (h : ClosesUp r f s x
     long = h.long;
   }
 
--- Before the first look nothing is kept.
+-- Before the first entry is examined, no entry is kept.
 pub closes-none : (r f s : ℕ) (xs : List LogEntry) → f ≤ s → f ≤ length xs → ClosesUp r f s xs xs 0 f
 closes-none r f s xs order there =
     let long : length (take f xs) ≡ f = length-take-le f xs there in
@@ -151,11 +151,11 @@ closes-none r f s xs order there =
       long = refl;
     }
 
--- After the last entry all are looked at.
+-- After the last entry, all entries have been examined.
 pub closes-all : (r f s : ℕ) (xs ys : List LogEntry) (k i : ℕ) → ClosesUp r f s xs ys k i → length xs ≤ i → take k ys ≡ closed_up r f s xs
 closes-all r f s xs ys k i h all = h.front ∙ ap (closed_up r f s) (take_all i xs all)
 
--- What the ends read.
+-- What the ends read
 
 pub frames-append : (k : ℕ) (xs ys : List LogEntry) → frames_of_others k (xs ++ ys) ≡ frames_of_others k xs ++ frames_of_others k ys
 frames-append k xs ys =
@@ -163,7 +163,7 @@ frames-append k xs ys =
     ap (map frame) (filter-append (is_of_other k) xs ys)
     ∙ map-append frame (filter (is_of_other k) xs) (filter (is_of_other k) ys)
 
--- a frame more, read from a place in the log
+-- The frames of others from a place in the log on, after an entry was appended.
 pub frames-appended : (k cursor : ℕ) (xs : List LogEntry) (x : LogEntry) → cursor ≤ length xs
     → frames_of_others k (drop cursor (xs ++ x ∷ [])) ≡ frames_of_others k (drop cursor xs) ++ frames_of_others k (x ∷ [])
 frames-appended k cursor xs x below =
@@ -179,7 +179,7 @@ filter-twice p (x ∷ xs) = by_case (filter-twice p xs) (p x) refl
         ∙ ap (λ (l : List LogEntry). x ∷ l) later
     by_case later false _ = later
 
--- of two hosts one at least reads an entry
+-- Of two hosts, at least one reads each entry.
 pub two-read : (j k : ℕ) → j ≢ k → (xs : List LogEntry)
     → length xs ≤ length (filter (is_of_other j) xs) + length (filter (is_of_other k) xs)
 two-read j k differ [] = omega arith
@@ -222,7 +222,7 @@ module _ (r f s : ℕ) (xs : List LogEntry) (order : f ≤ s) (there : s ≤ len
   pub long : length (closed_up r f s xs) ≡ length kept + (length xs - s)
   long = length-append kept (drop s xs) ∙ ap (λ (n : ℕ). length kept + n) (length-drop s xs)
 
-  -- the slowest end reads all from the front on
+  -- The slowest end reads from the front on.
   pub slowest-reads : frames_of_others r (drop (f - (length xs - length (closed_up r f s xs))) (closed_up r f s xs))
       ≡ frames_of_others r (drop f xs)
   slowest-reads =
@@ -234,7 +234,7 @@ module _ (r f s : ℕ) (xs : List LogEntry) (order : f ≤ s) (there : s ≤ len
       ∙ sym (frames-append r middle (drop s xs))
       ∙ ap (frames_of_others r) (sym parts)
 
-  -- what stands from the least cursor of the others on stays
+  -- The entries from the least cursor of the other ends on don't change.
   pub others-read : (cursor : ℕ) → s ≤ cursor
       → drop (cursor - (length xs - length (closed_up r f s xs))) (closed_up r f s xs) ≡ drop cursor xs
   others-read cursor past =
@@ -245,7 +245,7 @@ module _ (r f s : ℕ) (xs : List LogEntry) (order : f ≤ s) (there : s ≤ len
       ∙ drop-drop (cursor - s) s xs
       ∙ ap (λ (n : ℕ). drop n xs) on
 
-  -- what is kept waits at one of two ends
+  -- Each kept entry waits at one of two ends.
   pub kept-waits : length (closed_up r f s xs) + length (filter (is_of_other r) (drop s xs))
       ≡ length (filter (is_of_other r) (drop f xs)) + length (drop s xs)
   kept-waits =

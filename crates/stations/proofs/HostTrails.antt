@@ -1,4 +1,4 @@
--- What atomic steps leave of each host: its world goes by a trail of events.
+-- The world of each host changes by the events at this host.
 use Rattle.std.proofs.Common.{◌≡◌, ◌==◌, ◌&&◌, ◌++◌, ◌∷◌, [], not, ℕ, Bool, true, false, List, All, Option, Some, None, slice_get}
 use Rattle.std.proofs.Common.{option_map}
 use Rattle.std.proofs.Common.{if◌then◌else◌, inl, inr, refl, sym, ap, subst, ◌∙◌}
@@ -16,7 +16,7 @@ use Rattle.stations.specs.Stations.{StationState, each_after, station_after, sta
 use Rattle.stations.specs.Stations.{world_of}
 use Rattle.stations.specs.AtomicRuns.{IsTick, LeadsTo, events_at}
 
--- Where a host is, what it has is found at its place.
+-- There is a host with this number, on this wire.
 record Stands (ss : List StationState) (host wire : ℕ) : Type 0 where
   station : StationState
   is : slice_get ss host ≡ Some station
@@ -36,7 +36,7 @@ at-place : (ss : List StationState) (host k : ℕ) (event : Event) (s : StationS
 at-place ss host k event s is =
     ap (λ (list : List StationState). slice_get list k) (after-is host event ss s is) ∙ get-at_each (each_after host s.wire event) ss k
 
--- The host itself.
+-- The host itself
 
 here : (host wire : ℕ) (event : Event) (s : StationState) → (host == host) ≡ true → each_after host wire event host s
     ≡ station_after event s
@@ -52,7 +52,7 @@ world-here ss host event itself occurs =
     ∙ ap Some (here host at.station.wire event at.station itself))
     ∙ ap (λ (o : Option StationState). world_after event (world_of o)) (sym at.is)
 
--- Another host.
+-- Another host
 
 frames-leave_world : (sender wire k : ℕ) (frames : List (List ℕ)) (s : StationState) → (with_frames sender wire frames k s).world ≡ s.world
 frames-leave_world sender wire k frames s =
@@ -71,7 +71,7 @@ world-elsewhere ss host k event other occurs =
     let at = stands ss host occurs.wire occurs.on_wire in
     ap world_of (at-place ss host k event at.station at.is) ∙ elsewhere host k at.station.wire event (slice_get ss k) other
 
--- Each host's world goes by the events there.
+-- Each host's world changes by the events at this host.
 pub trail-of : (caller k : ℕ) (steps : List AtomicStep) (a b : List StationState) → LeadsTo caller steps a b
     → Trail (events_at k steps) (world_at a k) (world_at b k)
 trail-of caller k [] a b leads = ap (λ (ss : List StationState). world_at ss k) leads
@@ -91,7 +91,7 @@ trail-of caller k (At host event ∷ later) a b leads =
     ]
 trail-of caller k (Idles tick ∷ later) a b leads = trail-of caller k later a b leads.2
 
--- Ticks are steps, and no accesses.
+-- The event of a tick is a step or an arrival, not an access.
 one-more : (here : Bool) (event : Event) (later : List Event) → IsStep event → All IsStep later
     → All IsStep ((if here then event ∷ [] else []) ++ later)
 one-more true event later is are = All-cons IsStep event later is are

@@ -11,7 +11,7 @@ use Rattle.stations.specs.StationsView.{station_of, stations_of}
 use Rattle.stations.specs.Stations.{StationState, backlog_after, stations_after, world_at, world_of}
 use Rattle.stations.proofs.Places.{set-after}
 
--- the host at a place
+-- the station of a machine and an end, if both exist
 abbrev pub both : Option MachineState → Option EndState → Option StationState
 both None end = None
 both (Some machine) None = None
@@ -37,7 +37,7 @@ length-both (m ∷ ms) (e ∷ es) same =
     let rest = length-both ms es later in
     omega (arith, rest)
 
--- A host that is there has a machine and an end.
+-- A host that exists has a machine and an end of a wire.
 pub record IsThere (ms : List MachineState) (es : List EndState) (host : ℕ) : Type 0 where
   pub machine : MachineState
   pub end : EndState
@@ -59,7 +59,7 @@ is-there ms es host same below =
           ∙ ap (both (Some machine.0)) end.1);
     }
 
--- A machine changed, and its end with it.
+-- A machine and its end of a wire changed.
 pub set-both : (ms : List MachineState) (es : List EndState) (host : ℕ) (m : MachineState) (e : EndState)
     → stations_of (slice_set ms host m) (slice_set es host e) ≡ slice_set (stations_of ms es) host (station_of m e)
 set-both [] es host m e = refl
@@ -68,13 +68,13 @@ set-both (x ∷ ms) [] (suc host) m e = refl
 set-both (x ∷ ms) (y ∷ es) zero m e = refl
 set-both (x ∷ ms) (y ∷ es) (suc host) m e = ap (λ (rest : List StationState). station_of x y ∷ rest) (set-both ms es host m e)
 
--- what an end is set to is what it was
+-- An end is set to its own value.
 pub set-end_same : (es : List EndState) (host : ℕ) (e : EndState) → slice_get es host ≡ Some e → slice_set es host e ≡ es
 set-end_same [] host e is = refl
 set-end_same (y ∷ es) zero e is = let same : y ≡ e = cc in ap (λ (x : EndState). x ∷ es) (sym same)
 set-end_same (y ∷ es) (suc host) e is = ap (λ (rest : List EndState). y ∷ rest) (set-end_same es host e is)
 
--- An event at one machine, after which its end is this.
+-- An event at one machine, with its end of the wire after the event.
 pub host-after : (ms : List MachineState) (es : List EndState) (host : ℕ) (event : Event) (new : MachineState) (end : EndState)
     → (there : IsThere ms es host) → host < length (stations_of ms es)
     → new ≡ after_event event there.machine → end ≡ record there.end { line = backlog_after event there.end.line }
@@ -86,7 +86,7 @@ host-after ms es host event new end there inside is line none =
     (ap (λ (machine : MachineState). station_of machine end) is
     ∙ ap (station_of (after_event event there.machine)) line) none
 
--- What a network shows of a machine that code has by its place.
+-- The host has this machine.
 pub record Shows (ms : List MachineState) (es : List EndState) (ss : List StationState) (host : ℕ) (m : MachineState) : Type 0 where
   pub there : IsThere ms es host
   pub inside : host < length (stations_of ms es)
@@ -115,7 +115,7 @@ shows ms es ss host m shown same below value =
           ∙ ap (λ (list : List StationState). world_at list host) shown;
     }
 
--- An event at one machine that leaves the ends as they are.
+-- An event at one machine that changes no end.
 pub machine-after : (ms : List MachineState) (es : List EndState) (ss : List StationState) (host : ℕ) (event : Event)
     (m new : MachineState) → stations_of ms es ≡ ss → Shows ms es ss host m → new ≡ after_event event m
     → ((line : List (List ℕ)) → backlog_after event line ≡ line) → (past_of_event event).put ≡ []
@@ -128,7 +128,7 @@ machine-after ms es ss host event m new shown shows is stays none =
     (ap (λ (line : List (List ℕ)). let e : EndState = record there.end { line = line } in e) (sym (stays there.end.line))) none
     ∙ ap (stations_after host event) shown
 
--- one host more
+-- One more host.
 pub append-both : (ms : List MachineState) (es : List EndState) (m : MachineState) (e : EndState) → length es ≡ length ms
     → stations_of (ms ++ m ∷ []) (es ++ e ∷ []) ≡ stations_of ms es ++ station_of m e ∷ []
 append-both [] [] m e same = refl

@@ -1,4 +1,4 @@
--- No event changes how many hosts there are.
+-- No event changes the number of hosts.
 use Rattle.std.proofs.Common.{◌≡◌, ℕ, List, [], ◌∷◌, Option, Some, None, length, refl, ap, suc, slice_get, ◌∙◌}
 use Rattle.bus.specs.declared.event.Event.{Event}
 use Rattle.stations.specs.AtomicRuns.{LeadsTo}

@@ -1,4 +1,4 @@
--- An access over a lent bus, behind what comes before it.
+-- An access over a lent bus, after the ticks that are played before it.
 use Rattle.std.proofs.Common.{◌≡◌, ◌<◌, ◌+◌, ◌++◌, ◌∷◌, [], ℕ, List, Bool, inl, inr, length, min}
 use Rattle.std.proofs.Common.{if◌then◌else◌, refl, sym, ap, subst, ◌∙◌, arith}
 use Rattle.std.specs.Bool.{⊤}
@@ -10,7 +10,7 @@ use Rattle.adapter.specs.World.{World}
 use Rattle.bus.proofs.Trails.{trail_happens}
 use Rattle.bus.specs.BusMembers.{StaysWhole}
 use Rattle.bus.specs.Law.{Acts, view}
-use Rattle.bus.specs.PastOfStretch.{joined}
+use Rattle.bus.specs.Pasts.{joined}
 use Rattle.bus.specs.TrailLaws.{past_of-append}
 use Rattle.bus.specs.Trails.{IsAnswered, Trail, past_of, world_after_access}
 use Rattle.bus.specs.declared.event.Access.{Access}
@@ -28,14 +28,14 @@ use Rattle.stations.proofs.TickLoops.{counted-ticks}
 use Rattle.stations.specs.AtomicRunLaws.{counted_join, leads_join, past_join, steps_told_join}
 use Rattle.bus.specs.LivelyBuses.{most_accesses}
 use Rattle.stations.specs.AtomicRuns.{counted_of, events_at, past_at, steps_told}
-use Rattle.stations.specs.Retelling.{Prepared, Retells, SameLent, bytes_here, world_here}
-use Rattle.stations.specs.RetellingLaws.{same_lent_on}
+use Rattle.stations.specs.LentBuses.{PreparedLent, HappenedLent, SameLent, bytes_here, world_here}
+use Rattle.stations.specs.LentBusLaws.{same_lent_on}
 use Rattle.stations.specs.declared.lent_bus.LentBus.{LentBus}
 
 past-here : (host : ℕ) (access : Access) → past_at host (At host (Accesses access) ∷ []) ≡ past_of (Accesses access ∷ [])
 past-here host access = ap (λ (b : Bool). past_of ((if b then Accesses access ∷ [] else []) ++ [])) (eq-eqb host host refl)
 
--- An access can happen where the host is.
+-- An access can happen at a host that exists.
 occurs-access : (ss : List StationState) (host : ℕ) (access : Access) → host < length ss → IsAnswered access (world_at ss host)
     → OccursAt host (Accesses access) ss
 occurs-access ss host access below answered =
@@ -44,7 +44,7 @@ occurs-access ss host access below answered =
       | inr none ↦ absurd (omega (arith, below, none.0))
     ]
 
--- What it leaves there.
+-- The world of the host after the access.
 pub world-there : (ss new : List StationState) (host : ℕ) (access : Access) → host < length ss → IsAnswered access (world_at ss host)
     → new ≡ stations_after host (Accesses access) ss → world_at new host ≡ world_after_access access (world_at ss host)
 world-there ss new host access below answered leaves =
@@ -61,7 +61,7 @@ load-leaves ss new host address size below same =
       | inr none ↦ absurd (omega (arith, below, none.0))
     ]
 
--- What the access leaves beside the network.
+-- What the access doesn't change, apart from the stations.
 pub record LeavesRest {O : Type 0} {g : OfObserver O} (p b : LentBus O g) : Type 0 where
   pub lent : SameLent p b
   pub ticks : b.ticks.now ≡ p.ticks.now
@@ -71,23 +71,23 @@ pub record LeavesRest {O : Type 0} {g : OfObserver O} (p b : LentBus O g) : Type
 abbrev pub never_lively : {O : Type 0} {g : OfObserver O} → LentBus O g → Type 0
 never_lively bus = ⊥
 
--- the calling host's trail up to the access
-trail-here : {O : Type 0} {g : OfObserver O} (a p : LentBus O g) (prepared : Prepared a p)
+-- The events at the calling host up to the access.
+trail-here : {O : Type 0} {g : OfObserver O} (a p : LentBus O g) (prepared : PreparedLent a p)
     → Trail (events_at a.host prepared.plays.steps) (world_here a) (world_here p)
 trail-here a p prepared =
     subst (λ (h : ℕ). Trail (events_at a.host prepared.plays.steps) (world_here a) (world_at p.stations.now h)) (sym prepared.lent.host)
     (trail-of a.host a.host prepared.plays.steps a.stations.now p.stations.now (prepared.plays.leads a.host))
 
--- The size of memory stays while ticks are played.
-pub size-prepared : {O : Type 0} {g : OfObserver O} (a p : LentBus O g) → Prepared a p → bytes_here p ≡ bytes_here a
+-- The size of the host's memory doesn't change while ticks are played.
+pub size-prepared : {O : Type 0} {g : OfObserver O} (a p : LentBus O g) → PreparedLent a p → bytes_here p ≡ bytes_here a
 size-prepared a p prepared =
     let steps = prepared.plays.steps in
     let happens = trail_happens (events_at a.host steps) (world_here a) (world_here p) (steps-alone a.host steps prepared.plays.are)
     (trail-here a p prepared) in
     happens.steady.size
 
--- What the access leaves of the bus itself, after the ticks before it.
-pub access-keeps : {O : Type 0} {g : OfObserver O} (a p b : LentBus O g) → Prepared a p → SameLent p b → bytes_here b ≡ bytes_here p
+-- What the access and the ticks before it don't change of the bus.
+pub access-keeps : {O : Type 0} {g : OfObserver O} (a p b : LentBus O g) → PreparedLent a p → SameLent p b → bytes_here b ≡ bytes_here p
     → StaysWhole bytes_here SameLent (λ (bus : LentBus O g). ⊤) never_lively a b
 access-keeps {O} {g} a p b prepared same size = record {
   extent = size ∙ size-prepared a p prepared;
@@ -96,12 +96,12 @@ access-keeps {O} {g} a p b prepared same size = record {
   lively = λ lively. lively;
 }
 
--- The access behind what comes before it is as the law says.
-pub acted : {O : Type 0} {g : OfObserver O} (a p b : LentBus O g) (access : Access) (effect : World → World → Type 0) → Prepared a p
+-- The access, after the ticks before it, obeys the bus law.
+pub acted : {O : Type 0} {g : OfObserver O} (a p b : LentBus O g) (access : Access) (effect : World → World → Type 0) → PreparedLent a p
     → LeavesRest p b
     → p.host < length p.stations.now → b.stations.now ≡ stations_after p.host (Accesses access) p.stations.now
     → IsAnswered access (world_here p) → IsAdapter (world_here p).adapter → effect (world_here p) (world_here b)
-    → Acts (view world_here Retells never_lively) a b access effect
+    → Acts (view world_here HappenedLent never_lively) a b access effect
 acted {O} {g} a p b access effect prepared leaves below state answered adapter does =
     let plays = prepared.plays in
     let steps = plays.steps in

@@ -18,7 +18,7 @@ pub on_err : {T E : Type 0} (result : Result T E) (P : Type 0) → P → OnErr r
 on_err (Ok value) P holds = tt
 on_err (Err error) P holds = holds
 
--- There are more logs.
+-- More logs than before
 module _ (logs more : List (List LogEntry)) (es : List End) (have : HaveLogs logs es) where
   pub more-logs : HaveLogs (logs ++ more) es
   more-logs = still-logs logs (logs ++ more) es es have (omega (arith, length-append logs more)) (λ k end is. record {
@@ -39,7 +39,7 @@ module _ (logs more : List (List LogEntry)) (es : List End) (have : HaveLogs log
           ap (λ (l : List LogEntry). Some (line_at end.wire (frames_of_others k (drop end.cursor l))))
           (log-more logs more end (have.there k end is))
 
--- The next end.
+-- The next end
 
 from-append : (es : List End) (new : End) (k : ℕ) (end : End) → slice_get (es ++ new ∷ []) k ≡ Some end
     → (slice_get es k ≡ Some end) ⊎ (end ≡ new)

@@ -17,20 +17,20 @@ use Rattle.adapter.specs.declared.outcome.Outcome.TheVariants as stepped
 use Rattle.bus.specs.Trails.{Occurs, past_of_event}
 use Rattle.bus.specs.declared.event.Event.{Event}
 use Rattle.bus.specs.declared.event.Event.TheVariants.{Arrives, Steps}
-use Rattle.stations.specs.AtomicSteps.{At, FindsNothing, Idles, IsDelivered, OccursAt, Plays, SuitsWire}
+use Rattle.stations.specs.AtomicSteps.{At, FindsNothing, Idles, IsDelivered, OccursAt, PlaysTick, SuitsWire}
 use Rattle.stations.specs.Stations.{StationState, WireHasRoom, backlog_of, station_after, wire_of, with_frames, world_of}
 use Rattle.adapter.specs.declared.outcome.Outcome.TheVariants.{Delivered, Nothing, WireFull}
 use Rattle.stations.specs.declared.tick.Tick.{Tick}
 use Rattle.stations.specs.declared.tick.Tick.TheVariants.{Deliver, Step}
 use Rattle.stations.proofs.Places.{none-anywhere, set-after, set-same, spread-after}
 
--- Steps and what they put.
+-- Steps and the frames that they put
 
 none-ticked : (works : Bool) → put_by (ticked works) ≡ []
 none-ticked true = refl
 none-ticked false = refl
 
--- what a step's answer tells of a frame is what happened
+-- The frame in a step's outcome is the frame that was put.
 pub put-is : (kind : StepKind) (free : Bool) (memory : List ℕ) (adapter : AdapterState) (answer : FrameOutcome)
     → Answers kind free memory adapter answer → put_by answer ≡ (past_of_event (Steps kind free answer)).put
 put-is TxPut free memory adapter answer answers = refl
@@ -43,7 +43,7 @@ put-is RxDone free memory adapter _ answers = refl
 put-is EepromTick free memory adapter answer answers = ap put_by answers ∙ none-ticked (is_pending adapter.eerd)
 put-is PhyTick free memory adapter answer answers = ap put_by answers ∙ none-ticked (has_work adapter.mdic adapter.phy)
 
--- a step of another kind than TxPut puts nothing
+-- A step of a kind other than TxPut puts no frame.
 pub put-none : (kind : StepKind) (free : Bool) (memory : List ℕ) (adapter : AdapterState) (answer : FrameOutcome) → kind ≢ TxPut
     → Answers kind free memory adapter answer → put_by answer ≡ []
 put-none TxPut free memory adapter answer other answers = absurd (other refl)
@@ -53,7 +53,7 @@ put-none RxDone free memory adapter answer other answers = put-is RxDone free me
 put-none EepromTick free memory adapter answer other answers = put-is EepromTick free memory adapter answer answers
 put-none PhyTick free memory adapter answer other answers = put-is PhyTick free memory adapter answer answers
 
--- the outcome of a tick of the EEPROM or the PHY has no frame
+-- The outcome of a tick of the EEPROM or the PHY has no frame.
 ticked-no_frame : (works : Bool) (outcome : Outcome (Unit {0})) (frame other : List ℕ) → with_frame frame outcome ≡ ticked works
     → with_frame frame outcome ≡ with_frame other outcome
 ticked-no_frame true (stepped.Put u) frame other is = absurd (cc)
@@ -63,7 +63,7 @@ ticked-no_frame false (stepped.Put u) frame other is = absurd (cc)
 ticked-no_frame false (stepped.Delivered u fate) frame other is = absurd (cc)
 ticked-no_frame false _ frame other is = refl
 
--- the outcome of a step of another kind than TxPut has no frame, so it is the same with any
+-- The outcome of a step of a kind other than TxPut has no frame, so it doesn't depend on the frame.
 pub no-frame : (kind : StepKind) (free : Bool) (memory : List ℕ) (adapter : AdapterState) (outcome : Outcome (Unit {0}))
     (frame other : List ℕ) → kind ≢ TxPut → Answers kind free memory adapter (with_frame frame outcome)
     → with_frame frame outcome ≡ with_frame other outcome
@@ -82,7 +82,7 @@ no-frame EepromTick free memory adapter outcome frame other stays answers =
 no-frame PhyTick free memory adapter outcome frame other stays answers =
     ticked-no_frame (has_work adapter.mdic adapter.phy) outcome frame other answers
 
--- a step TxPut that finds a frame and a free wire puts the oldest
+-- A step TxPut that finds a frame and a free wire puts the oldest frame.
 pub puts-oldest : (adapter : AdapterState) (outcome : Outcome (Unit {0})) → adapter.transmitter.buffer ≢ []
     → PutAnswers true adapter (framed outcome adapter) → framed outcome adapter ≡ stepped.Put (oldest adapter.transmitter.buffer)
 puts-oldest adapter (stepped.Put u) some answers = refl
@@ -90,11 +90,11 @@ puts-oldest adapter stepped.Nothing some answers = absurd (some answers)
 puts-oldest adapter stepped.WireFull some answers = let full = answers.1 in absurd (cc)
 puts-oldest adapter _ some answers = absurd answers
 
--- what is there isn't nothing
+-- A value that was found isn't missing.
 pub not-none : {A : Type 0} (found : Option A) (one : A) → found ≡ Some one → IsNone found → ⊥
 not-none found one is none = let no : true ≡ false = subst IsNone is none in cc
 
--- Ticks.
+-- Ticks
 
 occurs-at : (ss : List StationState) (host : ℕ) (s : StationState) (event : Event) → slice_get ss host ≡ Some s → Occurs event s.world
     → SuitsWire host s.wire event ss → OccursAt host event ss
@@ -105,11 +105,11 @@ occurs-at ss host s event there occurs suits = record {
   suits_wire = suits;
 }
 
-pub plays-nothing : (ss : List StationState) (tick : Tick) → FindsNothing tick ss → Plays ss tick Nothing ss
+pub plays-nothing : (ss : List StationState) (tick : Tick) → FindsNothing tick ss → PlaysTick ss tick Nothing ss
 plays-nothing ss tick idle = record { step = Idles tick; tick_is = refl; outcome_is = refl; no_access = tt; happens = idle; leaves = refl }
 
 pub plays-delivery : (ss : List StationState) (host : ℕ) (s new : StationState) (frame : List ℕ) (fate : Fate) → host < length ss
-    → slice_get ss host ≡ Some s → IsDelivered s frame fate new → Plays ss (Deliver host) (Delivered frame fate) (slice_set ss host new)
+    → slice_get ss host ≡ Some s → IsDelivered s frame fate new → PlaysTick ss (Deliver host) (Delivered frame fate) (slice_set ss host new)
 plays-delivery ss host s new frame fate below there is = record {
   step = At host (Arrives frame fate);
   tick_is = refl;
@@ -121,14 +121,14 @@ plays-delivery ss host s new frame fate below there is = record {
   leaves = set-after host (Arrives frame fate) ss s new below there is.leaves refl;
 }
 
--- a step whose frame, if it put one, then waits at each other end
+-- A step after which the frame that it put, if any, waits at each other end.
 pub plays-step : (ss final : List StationState) (host wire : ℕ) (s new : StationState) (kind : StepKind) (free : Bool)
     (answer : FrameOutcome) → host < length ss → slice_get ss host ≡ Some s → wire ≡ s.wire
     → (kind ≡ TxPut → IsTrue free ↔ WireHasRoom ss host wire)
     → IsAdapter s.world.adapter
     → Answers kind free s.world.memory s.world.adapter answer → new ≡ station_after (Steps kind free answer) s
     → ((k : ℕ) → slice_get final k ≡ option_map (with_frames host wire (put_by answer) k) (slice_get (slice_set ss host new) k))
-    → Plays ss (Step host kind) answer final
+    → PlaysTick ss (Step host kind) answer final
 plays-step ss final host wire s new kind free answer below there on finds adapter answers is each =
     let event = Steps kind free answer in
     let put = put-is kind free s.world.memory s.world.adapter answer answers in
@@ -146,22 +146,22 @@ plays-step ss final host wire s new kind free answer below there on finds adapte
           ∙ ap (λ (frames : List (List ℕ)). option_map (with_frames host s.wire frames k) (slice_get (slice_set ss host new) k)) put));
     }
 
--- a step of another kind, which asks for no room
+-- A step of a kind other than TxPut.
 pub plays-stays : (ss : List StationState) (host : ℕ) (s new : StationState) (kind : StepKind) (answer : FrameOutcome) → host < length ss
     → slice_get ss host ≡ Some s → kind ≢ TxPut → IsAdapter s.world.adapter → put_by answer ≡ []
     → Answers kind true s.world.memory s.world.adapter answer → new ≡ station_after (Steps kind true answer) s
-    → Plays ss (Step host kind) answer (slice_set ss host new)
+    → PlaysTick ss (Step host kind) answer (slice_set ss host new)
 plays-stays ss host s new kind answer below there other adapter none answers is =
     plays-step ss (slice_set ss host new) host s.wire s new kind true answer below there refl
     (λ same. absurd (other same)) adapter answers is
     (λ k. sym (ap (λ (put : List (List ℕ)). option_map (with_frames host s.wire put k) (slice_get (slice_set ss host new) k)) none
     ∙ none-anywhere host s.wire k (slice_get (slice_set ss host new) k)))
 
--- a step TxPut that puts nothing
+-- A step TxPut that puts no frame.
 plays-no_put : (ss : List StationState) (host wire : ℕ) (s : StationState) (free : Bool) (answer : FrameOutcome) → host < length ss
     → slice_get ss host ≡ Some s → wire ≡ s.wire → IsTrue free ↔ WireHasRoom ss host wire → IsAdapter s.world.adapter
     → Answers TxPut free s.world.memory s.world.adapter answer → station_after (Steps TxPut free answer) s ≡ s → put_by answer ≡ []
-    → Plays ss (Step host TxPut) answer ss
+    → PlaysTick ss (Step host TxPut) answer ss
 plays-no_put ss host wire s free answer below there on finds adapter answers stays none =
     plays-step ss ss host wire s s TxPut free answer below there on (λ kind. finds) adapter answers (sym stays)
     (λ k. sym (ap (λ (all : List StationState). option_map (with_frames host wire (put_by answer) k) (slice_get all k))
@@ -169,16 +169,16 @@ plays-no_put ss host wire s free answer below there on finds adapter answers sta
     ∙ ap (λ (put : List (List ℕ)). option_map (with_frames host wire put k) (slice_get ss k)) none
     ∙ none-anywhere host wire k (slice_get ss k)))
 
--- no frame is there
+-- A step TxPut without a frame to put.
 pub plays-no_frame : (ss : List StationState) (host wire : ℕ) (s : StationState) (free : Bool) → host < length ss
     → slice_get ss host ≡ Some s → wire ≡ s.wire → IsTrue free ↔ WireHasRoom ss host wire → IsAdapter s.world.adapter
-    → s.world.adapter.transmitter.buffer ≡ [] → Plays ss (Step host TxPut) Nothing ss
+    → s.world.adapter.transmitter.buffer ≡ [] → PlaysTick ss (Step host TxPut) Nothing ss
 plays-no_frame ss host wire s free below there on finds adapter empty =
     plays-no_put ss host wire s free stepped.Nothing below there on finds adapter empty refl refl
 
--- another end has no room for it
+-- A step TxPut while another end has no room for the frame.
 pub plays-wire_full : (ss : List StationState) (host wire : ℕ) (s : StationState) (free : Bool) → host < length ss
     → slice_get ss host ≡ Some s → wire ≡ s.wire → IsTrue free ↔ WireHasRoom ss host wire → IsAdapter s.world.adapter
-    → s.world.adapter.transmitter.buffer ≢ [] → free ≡ false → Plays ss (Step host TxPut) WireFull ss
+    → s.world.adapter.transmitter.buffer ≢ [] → free ≡ false → PlaysTick ss (Step host TxPut) WireFull ss
 plays-wire_full ss host wire s free below there on finds adapter some full =
     plays-no_put ss host wire s free stepped.WireFull below there on finds adapter (some, full) refl refl

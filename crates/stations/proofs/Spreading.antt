@@ -1,4 +1,4 @@
--- A frame that is put onto a wire, seen at machines and ends.
+-- A frame is put onto a wire: the machines and the ends after that.
 use Rattle.std.proofs.Common.{◌≡◌, ◌≢◌, ◌<◌, ◌↔◌, ◌==◌, ◌&&◌, not, suc, ℕ, Bool, true, false, List, [], ◌∷◌, ◌++◌, Option, Some, None}
 use Rattle.std.proofs.Common.{length, option_map, slice_get, slice_set, if◌then◌else◌, refl, sym, ap, subst, ◌∙◌, arith}
 use Rattle.std.proofs.lemmas.Option.{slice_get_within}
@@ -18,7 +18,7 @@ use Rattle.adapter.specs.declared.step.StepKind.TheVariants.{TxPut}
 use Rattle.bus.specs.Machines.{after_event}
 use Rattle.bus.specs.Trails.{Occurs}
 use Rattle.bus.specs.declared.event.Event.TheVariants.{Arrives, Steps}
-use Rattle.stations.specs.AtomicSteps.{Plays}
+use Rattle.stations.specs.AtomicSteps.{PlaysTick}
 use Rattle.stations.specs.Stations.{backlog_at, backlog_of}
 use Rattle.stations.specs.declared.tick.Tick.TheVariants.{Deliver, Step}
 use Rattle.std.proofs.Common.{IsTrue, drop}
@@ -26,7 +26,7 @@ use Rattle.stations.proofs.Hosts.{IsThere, Shows, both, get-both, set-both, set-
 use Rattle.stations.proofs.PlayedTicks.{plays-delivery, plays-no_frame, plays-nothing, plays-stays, plays-step, plays-wire_full}
 use Rattle.stations.proofs.PlayedTicks.{puts-oldest}
 
--- lists of which each place is made of the other's are as long
+-- A list whose items are changed one by one keeps its length.
 pub same-length : {X Y : Type 0} (change : ℕ → X → Y) (xs : List X) (ys : List Y)
     → ((k : ℕ) → slice_get ys k ≡ option_map (change k) (slice_get xs k)) → length ys ≡ length xs
 same-length change [] [] same = refl
@@ -35,7 +35,7 @@ same-length change (x ∷ xs) [] same = let first = same 0 in absurd (cc)
 same-length change (x ∷ xs) (y ∷ ys) same =
     ap suc (same-length (λ (k : ℕ). change (suc k)) xs ys (λ k. same (suc k)))
 
--- Room.
+-- Room
 
 pub room-seen : (ms : List MachineState) (es : List EndState) (sender wire : ℕ) → length es ≡ length ms
     → HaveRoom es sender wire ↔ WireHasRoom (stations_of ms es) sender wire
@@ -60,7 +60,7 @@ room-seen ms es sender wire same = (forth, back)
         (get-both ms es k ∙ (ap (λ (o : Option MachineState). both o (slice_get es k)) machine.1
         ∙ ap (both (Some machine.0)) there)) other on
 
--- One machine changed, and each other end of its wire got a frame.
+-- One machine changed, and a frame waits at each other end of its wire.
 waits-there : (sender wire k : ℕ) (frames : List (List ℕ)) (m : Option MachineState) (e : Option EndState)
     → both m (option_map (with_line sender wire frames k) e) ≡ option_map (with_frames sender wire frames k) (both m e)
 waits-there sender wire k frames None e = refl
@@ -87,29 +87,29 @@ spread-both ms es es' host wire frames new there each k =
     (ap (stations_of (slice_set ms host new)) (sym (set-end_same es host there.end there.has_end))
     ∙ set-both ms es host new there.end))
 
--- Ticks of a network.
+-- Ticks of a network
 
 final-is : (ms : List MachineState) (es : List EndState) (host : ℕ) (new : MachineState) (there : IsThere ms es host)
     → stations_of (slice_set ms host new) es ≡ slice_set (stations_of ms es) host (station_of new there.end)
 final-is ms es host new there =
     ap (stations_of (slice_set ms host new)) (sym (set-end_same es host there.end there.has_end)) ∙ set-both ms es host new there.end
 
--- a step of another kind than TxPut
+-- A step of a kind other than TxPut.
 pub machine-steps : (ms : List MachineState) (es : List EndState) (ss : List StationState) (host : ℕ) (m new : MachineState)
     (kind : StepKind) (answer : FrameOutcome) → stations_of ms es ≡ ss → Shows ms es ss host m → kind ≢ TxPut
     → IsAdapter m.world.adapter → put_by answer ≡ [] → Answers kind true m.world.memory m.world.adapter answer
-    → new ≡ after_event (Steps kind true answer) m → Plays ss (Step host kind) answer (stations_of (slice_set ms host new) es)
+    → new ≡ after_event (Steps kind true answer) m → PlaysTick ss (Step host kind) answer (stations_of (slice_set ms host new) es)
 machine-steps ms es ss host m new kind answer shown seen other adapter none answers is =
     let there = seen.there in
     let all = stations_of ms es in
-    subst (λ (list : List StationState). Plays list (Step host kind) answer (stations_of (slice_set ms host new) es)) shown
-    (subst (λ (final : List StationState). Plays all (Step host kind) answer final) (sym (final-is ms es host new there))
+    subst (λ (list : List StationState). PlaysTick list (Step host kind) answer (stations_of (slice_set ms host new) es)) shown
+    (subst (λ (final : List StationState). PlaysTick all (Step host kind) answer final) (sym (final-is ms es host new there))
     (plays-stays all host (station_of there.machine there.end) (station_of new there.end) kind answer seen.inside there.is other
     (subst (λ (x : MachineState). IsAdapter x.world.adapter) seen.machine adapter) none
     (subst (λ (x : MachineState). Answers kind true x.world.memory x.world.adapter answer) seen.machine answers)
     (ap (λ (x : MachineState). station_of x there.end) (is ∙ ap (after_event (Steps kind true answer)) seen.machine))))
 
--- What TxPut finds, where code has the host's machine, its wire, and whether the wire is free.
+-- The host has this machine and this wire, and the wire is free or not.
 pub record FindsWire (ms : List MachineState) (es : List EndState) (ss : List StationState) (host wire : ℕ) (free : Bool) (m : MachineState)
     : Type 0 where
   pub shown : stations_of ms es ≡ ss
@@ -133,18 +133,19 @@ finds-wire ms es ss host wire free m shown same seen on room adapter =
     }
 
 pub finds-no_frame : (ms : List MachineState) (es : List EndState) (ss : List StationState) (host wire : ℕ) (free : Bool) (m : MachineState)
-    → FindsWire ms es ss host wire free m → m.world.adapter.transmitter.buffer ≡ [] → Plays ss (Step host TxPut) Nothing ss
+    → FindsWire ms es ss host wire free m → m.world.adapter.transmitter.buffer ≡ [] → PlaysTick ss (Step host TxPut) Nothing ss
 finds-no_frame ms es ss host wire free m found empty =
-    subst (λ (list : List StationState). Plays list (Step host TxPut) Nothing list) found.shown
+    subst (λ (list : List StationState). PlaysTick list (Step host TxPut) Nothing list) found.shown
     (plays-no_frame (stations_of ms es) host wire (station_of found.seen.there.machine found.seen.there.end) free
     found.seen.inside found.seen.there.is found.on found.finds found.adapter
     (ap (λ (x : MachineState). x.world.adapter.transmitter.buffer) (sym found.seen.machine) ∙ empty))
 
 pub finds-wire_full : (ms : List MachineState) (es : List EndState) (ss : List StationState) (host wire : ℕ) (free : Bool)
     (m : MachineState)
-    → FindsWire ms es ss host wire free m → m.world.adapter.transmitter.buffer ≢ [] → free ≡ false → Plays ss (Step host TxPut) WireFull ss
+    → FindsWire ms es ss host wire free m → m.world.adapter.transmitter.buffer ≢ [] → free ≡ false
+    → PlaysTick ss (Step host TxPut) WireFull ss
 finds-wire_full ms es ss host wire free m found some full =
-    subst (λ (list : List StationState). Plays list (Step host TxPut) WireFull list) found.shown
+    subst (λ (list : List StationState). PlaysTick list (Step host TxPut) WireFull list) found.shown
     (plays-wire_full (stations_of ms es) host wire (station_of found.seen.there.machine found.seen.there.end) free
     found.seen.inside found.seen.there.is found.on found.finds found.adapter
     (λ empty. some (ap (λ (x : MachineState). x.world.adapter.transmitter.buffer) found.seen.machine ∙ empty)) full)
@@ -156,13 +157,13 @@ pub puts-frame : (ms : List MachineState) (es es' : List EndState) (ss : List St
     → Occurs (Steps TxPut true (framed outcome m.world.adapter)) m.world
     → new ≡ after_event (Steps TxPut true (framed outcome m.world.adapter)) m
     → ((k : ℕ) → slice_get es' k ≡ option_map (with_line host wire (frame ∷ []) k) (slice_get es k))
-    → Plays ss (Step host TxPut) (Put frame) (stations_of (slice_set ms host new) es')
+    → PlaysTick ss (Step host TxPut) (Put frame) (stations_of (slice_set ms host new) es')
 puts-frame ms es es' ss host wire m new frame outcome found some first occurs is each =
     let there = found.seen.there in
     let all = stations_of ms es in
     let puts : framed outcome m.world.adapter ≡ Put frame =
     puts-oldest m.world.adapter outcome some occurs.1 ∙ ap Put (sym first) in
-    subst (λ (list : List StationState). Plays list (Step host TxPut) (Put frame) (stations_of (slice_set ms host new) es')) found.shown
+    subst (λ (list : List StationState). PlaysTick list (Step host TxPut) (Put frame) (stations_of (slice_set ms host new) es')) found.shown
     (plays-step all (stations_of (slice_set ms host new) es') host wire (station_of there.machine there.end) (station_of new there.end)
     TxPut true (Put frame) found.seen.inside there.is found.on (λ kind. found.finds) found.adapter
     (subst (λ (x : MachineState). Answers TxPut true x.world.memory x.world.adapter (Put frame)) found.seen.machine
@@ -178,7 +179,7 @@ pub delivers-frame : (ms : List MachineState) (es es' : List EndState) (ss : Lis
     → ((end : EndState) → slice_get es host ≡ Some end → slice_get end.line 0 ≡ Some frame)
     → Occurs (Arrives frame fate) m.world → new ≡ after_event (Arrives frame fate) m
     → ((end : EndState) → slice_get es host ≡ Some end → es' ≡ slice_set es host (record end { line = drop 1 end.line }))
-    → Plays ss (Deliver host) (Delivered frame fate) (stations_of (slice_set ms host new) es')
+    → PlaysTick ss (Deliver host) (Delivered frame fate) (stations_of (slice_set ms host new) es')
 delivers-frame ms es es' ss host m new frame fate shown seen oldest occurs is pops =
     let there = seen.there in
     let all = stations_of ms es in
@@ -186,8 +187,9 @@ delivers-frame ms es es' ss host m new frame fate shown seen oldest occurs is po
     let final : stations_of (slice_set ms host new) es' ≡ slice_set all host (station_of new popped) =
     ap (stations_of (slice_set ms host new)) (pops there.end there.has_end) ∙ set-both ms es host new popped in
     let here = subst (λ (x : MachineState). Occurs (Arrives frame fate) x.world) seen.machine occurs in
-    subst (λ (list : List StationState). Plays list (Deliver host) (Delivered frame fate) (stations_of (slice_set ms host new) es')) shown
-    (subst (λ (list : List StationState). Plays all (Deliver host) (Delivered frame fate) list) (sym final)
+    subst (λ (list : List StationState). PlaysTick list (Deliver host) (Delivered frame fate) (stations_of (slice_set ms host new) es'))
+    shown
+    (subst (λ (list : List StationState). PlaysTick all (Deliver host) (Delivered frame fate) list) (sym final)
     (plays-delivery all host (station_of there.machine there.end) (station_of new popped) frame fate seen.inside there.is
     (record {
       oldest = oldest there.end there.has_end;
@@ -196,8 +198,8 @@ delivers-frame ms es es' ss host m new frame fate shown seen oldest occurs is po
       leaves = ap (λ (x : MachineState). station_of x popped) (is ∙ ap (after_event (Arrives frame fate)) seen.machine);
     })))
 
--- None waits.
+-- No frame waits.
 pub delivers-none : (ms : List MachineState) (es : List EndState) (ss : List StationState) (host : ℕ) → stations_of ms es ≡ ss
-    → (there : IsThere ms es host) → there.end.line ≡ [] → Plays ss (Deliver host) Nothing ss
+    → (there : IsThere ms es host) → there.end.line ≡ [] → PlaysTick ss (Deliver host) Nothing ss
 delivers-none ms es ss host shown there none =
     plays-nothing ss (Deliver host) (ap (λ (list : List StationState). backlog_at list host) (sym shown) ∙ (ap backlog_of there.is ∙ none))

@@ -7,7 +7,7 @@ use Rattle.std.proofs.lemmas.List.Elements.{All-append, All-cons}
 use Rattle.bus.proofs.Lists.{all-head, all-none, all-tail}
 use Rattle.bus.specs.TickGroups.{behind_group, group_of, without_go}
 use Rattle.bus.specs.declared.event.Event.TheVariants.{Accesses, Arrives, Steps}
-use Rattle.stations.specs.AtomicSteps.{At, AtomicStep, Idles, PlaysNoted, Watched, outcome_of, tick_of}
+use Rattle.stations.specs.AtomicSteps.{At, AtomicStep, Idles, PlaysNoted, Watched, step_outcome, tick_of}
 use Rattle.stations.specs.ToldTicks.{ComposesTold, TickTold, tick_told}
 use Rattle.stations.specs.declared.observer.Observer.{Ghosts as OfObserver}
 use Rattle.adapter.specs.Outcomes.{FrameOutcome}
@@ -17,11 +17,11 @@ use Rattle.stations.specs.AtomicRunLaws.{leads_join, steps_told_join}
 use Rattle.stations.specs.AtomicRuns.{IsOfCall, IsTick, counted_by, counted_of, is_go, step_told, steps_told}
 use Rattle.stations.specs.PlayedTicks.{PlaysTicks}
 
--- What an atomic step is that answers a tick other than Go.
+-- What is known of an atomic step of a tick other than Go.
 record AnswersTick (step : AtomicStep) : Type 0 where
   is : IsTick step
   of_call : (caller : ℕ) → IsOfCall caller step
-  told_as : (n : ℕ) → step_told n step ≡ tick_told (tick_of step) n (outcome_of step) ∷ []
+  told_as : (n : ℕ) → step_told n step ≡ tick_told (tick_of step) n (step_outcome step) ∷ []
   counted : (n : ℕ) → counted_by n step ≡ n
 
 answers-tick : (step : AtomicStep) (tick : Tick) → tick_of step ≡ tick → is_go tick ≡ false → AnswersTick step
@@ -36,7 +36,7 @@ answers-tick (Idles t) tick same other =
     let is : is_go t ≡ false = ap is_go same ∙ other in
     record { is = is; of_call = λ caller. is; told_as = λ n. refl; counted = λ n. refl }
 
--- accesses are as many behind ticks as before them
+-- Ticks don't change the number of accesses.
 pub counted-ticks : (n : ℕ) (steps : List AtomicStep) → All IsTick steps → counted_of n steps ≡ n
 counted-ticks n [] are = refl
 counted-ticks n (At host (Steps kind wire_free answer) ∷ later) are = counted-ticks n later (all-tail IsTick _ later are)
@@ -63,7 +63,7 @@ plays-more {O} {g} composes old mid new ticks tick n plays other one =
     let this : steps_told (counted_of n plays.steps) (step ∷ []) ≡ tick_told tick n one.outcome ∷ [] =
     ap (λ (k : ℕ). steps_told k (step ∷ [])) (counted-ticks n plays.steps plays.are)
     ∙ ap (λ (list : List TickTold). list ++ []) (answers.told_as n)
-    ∙ ap (λ (t : Tick). tick_told t n (outcome_of step) ∷ []) one.plays.tick_is
+    ∙ ap (λ (t : Tick). tick_told t n (step_outcome step) ∷ []) one.plays.tick_is
     ∙ ap (λ (o : FrameOutcome). tick_told tick n o ∷ []) one.plays.outcome_is in
     record {
       steps = plays.steps ++ step ∷ [];
@@ -82,9 +82,9 @@ plays-more {O} {g} composes old mid new ticks tick n plays other one =
       room = omega (arith, plays.room, one.room, length-append ticks (tick ∷ []));
     }
 
--- Loops: what was played so far, and what is left to be played.
+-- Loops: the ticks that were played so far, and the remaining ticks
 
--- up to a Go or the end
+-- The ticks of a group up to a place.
 pub record InGroup (ticks front rest : List Tick) : Type 0 where
   pub group : group_of is_go ticks ≡ front ++ group_of is_go rest
   pub behind : behind_group is_go ticks ≡ behind_group is_go rest
@@ -102,7 +102,7 @@ group-goes_on ticks front rest tick so_far other = record {
   behind = so_far.behind ∙ ap (λ (go : Bool). if go then rest else behind_group is_go rest) other;
 }
 
--- all of them, with each Go skipped
+-- A Go is skipped.
 pub skips-go : (front rest : List Tick) (tick : Tick) → is_go tick ≡ true → front ++ without_go is_go (tick ∷ rest) ≡ front
     ++ without_go is_go rest
 skips-go front rest tick go = ap (λ (b : Bool). front ++ (if not b then tick ∷ without_go is_go rest else without_go is_go rest)) go
@@ -113,14 +113,14 @@ keeps-tick front rest tick other =
     ap (λ (b : Bool). front ++ (if not b then tick ∷ without_go is_go rest else without_go is_go rest)) other
     ∙ sym (append_assoc front (tick ∷ []) (without_go is_go rest))
 
--- A loop over a group, in its midst: these ticks of it were played.
+-- The invariant of the loop over a group: these ticks of the group were played.
 pub record GroupPlayed {O : Type 0} (g : OfObserver O) (ticks : List Tick) (n : ℕ) (rest : List Tick) (old mid : Watched O) : Type 0 where
   pub front : List Tick
   pub split : InGroup ticks front rest
   pub plays : PlaysTicks g front n old mid
   pub room : length rest ≤ g.room_left mid.observer
 
--- And a loop over all ticks.
+-- The invariant of the loop over all ticks.
 pub record AllPlayed {O : Type 0} (g : OfObserver O) (ticks : List Tick) (n : ℕ) (rest : List Tick) (old mid : Watched O) : Type 0 where
   pub front : List Tick
   pub split : without_go is_go ticks ≡ front ++ without_go is_go rest
@@ -171,7 +171,7 @@ all-skip old mid ticks rest n so_far = record {
   room = omega (arith, so_far.room);
 }
 
--- At a Go, and at the end, the group is played.
+-- At a Go and at the end of the ticks, the whole group is played.
 pub group-go : {O : Type 0} {g : OfObserver O} (old mid : Watched O) (ticks rest : List Tick) (n : ℕ)
     → GroupPlayed g ticks n (Go ∷ rest) old mid
     → PlaysTicks g (group_of is_go ticks) n old mid × (rest ≡ behind_group is_go ticks)

@@ -1,4 +1,4 @@
--- What a put, a delivery and a new end leave of the ends of wires.
+-- The ends of wires after a put, a delivery, and a new end.
 use Rattle.std.proofs.Common.{◌≡◌, ◌≢◌, ◌<◌, ◌≤◌, ◌+◌, ◌-◌, ◌==◌, ◌&&◌, not, Bool, true, false, ℕ, List, Option, Some, None}
 use Rattle.std.proofs.Common.{[], ◌∷◌, ◌++◌, length, drop, map, take}
 use Rattle.std.proofs.Common.{if◌then◌else◌, option_map, slice_get, slice_set, slice_index_or, inl, inr, refl, sym, ap, ◌∙◌, subst, arith}
@@ -10,7 +10,7 @@ use Rattle.std.proofs.lemmas.Option.{same_Some, slice_get_within}
 use Rattle.circular_buffer.proofs.Places.{slice_get-set_other, slice_get-set_same}
 use Rattle.stations.specs.Ends.{EndState, HaveRoom, with_line}
 use Rattle.stations.specs.LogReaders.{IsReader, MakesRoom, PutsFrame, with_waiting}
-use Rattle.stations.specs.WireLogs.{LogEntry, frame_at, frames_of_others}
+use Rattle.stations.specs.WireLogs.{LogEntry, entry_frame, frames_of_others}
 use Rattle.stations.specs.WiresView.{HaveLogs, ReadsLog, end_of, ends_from, log_of, unread}
 use Rattle.stations.specs.declared.wires.End.{End}
 use Rattle.stations.proofs.ClosedLogs.{frames-appended}
@@ -20,7 +20,7 @@ use Rattle.stations.proofs.WireEnds.{get-end, has-end, log-set_other, log-set_sa
 use Rattle.stations.proofs.WireReaders.{is-end_at}
 use Rattle.stations.proofs.Spreading.{same-length}
 
--- an end of this wire, at which these frames wait
+-- An end of this wire, at which these frames wait.
 abbrev pub line_at : ℕ → List (List ℕ) → EndState
 line_at wire frames = record { wire = wire; line = frames }
 
@@ -30,9 +30,9 @@ equal a b is = elim (eqb_tells a b) [ inl same ↦ same.0 | inr differs ↦ absu
 differ : (a b : ℕ) → a ≢ b → (a == b) ≡ false
 differ a b other = elim (eqb_tells a b) [ inl same ↦ absurd (other same.1) | inr differs ↦ differs.0 ]
 
--- Where each end comes from.
+-- The ends before and after a change
 
--- an end that reads in the log in which it read, and counts what waits there
+-- The end reads in the same log as before, and counts the frames that wait.
 pub record Stays (es : List End) (logs' : List (List LogEntry)) (k : ℕ) (end : End) : Type 0 where
   pub old : End
   pub was : slice_get es k ≡ Some old
@@ -58,7 +58,7 @@ pub no-change : (logs : List (List LogEntry)) (es : List End) → HaveLogs logs 
     → Stays es logs k end
 no-change logs es have k end is = record { old = end; was = is; wire = refl; log = refl; reads = have.reads k end is }
 
--- A delivery.
+-- A delivery
 
 module _ (logs : List (List LogEntry)) (es : List End) (host : ℕ) (e : End) (has : slice_get es host ≡ Some e) (new : End)
     (wire : new.wire ≡ e.wire) (log : new.log ≡ e.log) where
@@ -91,7 +91,7 @@ module _ (logs : List (List LogEntry)) (es : List End) (host : ℕ) (e : End) (h
     | inr differs ↦ no-change logs es have k end (sym (slice_get-set_other es host k new differs.1) ∙ is)
   ])
 
--- A put.
+-- A put
 
 waits-yes : (log sender k : ℕ) (end : End) → k ≢ sender → end.log ≡ log
     → with_waiting log sender k end ≡ record end { waiting = end.waiting + 1 }
@@ -134,14 +134,14 @@ module _ (logs : List (List LogEntry)) (es : List End) (have : HaveLogs logs es)
   abbrev pub logs-put : List (List LogEntry)
   logs-put = slice_set logs s.log longer
 
-  -- the k-th end after the put
+  -- The k-th end after the put.
   abbrev pub end-put : (k : ℕ) → End → End
   end-put k end = with_waiting s.log sender k (record end { cursor = puts.makes.cursors k end })
 
   there : s.log < length logs
   there = have.there sender s has
 
-  -- A frame that the sender put, as another host reads it, and as it reads it itself.
+  -- Another host reads a frame that the sender put; the sender doesn't.
   read-other : (k : ℕ) → k ≢ sender → frames_of_others k ((sender, frame) ∷ []) ≡ frame ∷ []
   read-other k other = ap (λ (b : Bool). map (λ (entry : LogEntry). entry.1) (if not b then (sender, frame) ∷ [] else []))
       (differ sender k (λ same. other (sym same)))
@@ -150,7 +150,7 @@ module _ (logs : List (List LogEntry)) (es : List End) (have : HaveLogs logs es)
   read-own k same = ap (λ (b : Bool). map (λ (entry : LogEntry). entry.1) (if not b then (sender, frame) ∷ [] else []))
       (equal sender k (sym same))
 
-  -- what an end that reads in the log reads then
+  -- The frames of others from the cursor of an end that reads in the log.
   reads-more : (k : ℕ) (end : End) → slice_get es k ≡ Some end → end.log ≡ s.log
       → frames_of_others k (drop (puts.makes.cursors k end) longer) ≡ unread logs k end ++ frames_of_others k ((sender, frame) ∷ [])
   reads-more k end is on =
@@ -160,14 +160,14 @@ module _ (logs : List (List LogEntry)) (es : List End) (have : HaveLogs logs es)
       (puts.makes.same k end is on
       ∙ ap (λ (log : List LogEntry). frames_of_others k (drop end.cursor log)) (was ∙ ap (λ (n : ℕ). slice_index_or logs n []) (sym on)))
 
-  -- An end after the put, with what it shows.
+  -- What is known of the k-th end after the put.
   pub record PutAt (k : ℕ) (end : End) : Type 0 where
     pub wire : (end-put k end).wire ≡ end.wire
     pub log : (end-put k end).log ≡ end.log
     pub reads : ReadsLog (log_of logs-put (end-put k end)) k (end-put k end)
     pub shows : end_of logs-put k (end-put k end) ≡ with_line sender s.wire (frame ∷ []) k (end_of logs k end)
 
-  -- one that reads in the log
+  -- An end that reads in the log.
   put-on : (k : ℕ) (end : End) → slice_get es k ≡ Some end → end.log ≡ s.log → (n : ℕ) (added : List (List ℕ))
       → end-put k end ≡ record end { cursor = puts.makes.cursors k end; waiting = n }
       → n ≡ end.waiting + length added → n ≤ 64 → frames_of_others k ((sender, frame) ∷ []) ≡ added
@@ -206,7 +206,7 @@ module _ (logs : List (List LogEntry)) (es : List End) (have : HaveLogs logs es)
             ∙ sym shown;
       }
 
-  -- one that doesn't
+  -- An end that reads in another log.
   put-off : (k : ℕ) (end : End) → slice_get es k ≡ Some end → end.log ≢ s.log → PutAt k end
   put-off k end is off =
       let at : end-put k end ≡ end =
@@ -281,7 +281,7 @@ module _ (logs : List (List LogEntry)) (es : List End) (have : HaveLogs logs es)
       from None at = refl
       from (Some end) at = ap (λ (x : EndState). Some x) (put-at k end at).shows
 
--- The room that was there is there once room was made in the log.
+-- Making room in the log doesn't change the room at the ends.
 pub room_made : (log sender : ℕ) (before after : List LogEntry) (old made : List End) → MakesRoom log before after old made
     → ((k : ℕ) (end : End) → slice_get old k ≡ Some end → k ≢ sender → end.log ≡ log → end.waiting < 64)
     → (k : ℕ) (end : End) → slice_get made k ≡ Some end → k ≢ sender → end.log ≡ log → end.waiting < 64
@@ -296,7 +296,7 @@ room_made log sender before after old made makes room k end is other on = from (
         let count = ap (λ (x : End). x.waiting) same in
         omega (arith, free, count)
 
--- What a put asks for, at the ends that code finds.
+-- The preconditions of a put
 module _ (logs : List (List LogEntry)) (es : List End) (ss : List EndState) (shown : ends_from logs 0 es ≡ ss) (have : HaveLogs logs es)
     (sender : ℕ) (e : End) (below : sender < length ss) (is : e ≡ slice_index_or es sender e) where
   pub has-sender : slice_get es sender ≡ Some e
@@ -311,7 +311,7 @@ module _ (logs : List (List LogEntry)) (es : List End) (ss : List EndState) (sho
     reads = ap (λ (x : End). x.log) (is-end_at es sender e has-sender);
   }
 
-  -- the log that code finds
+  -- The log that was found.
   pub found-log : (log : List LogEntry) → log ≡ slice_index_or logs e.log log → log ≡ log_of logs e
   found-log log found = found ∙ get_or_default logs e.log log [] (have.there sender e has-sender)
 
@@ -334,16 +334,16 @@ module _ (logs : List (List LogEntry)) (es : List End) (ss : List EndState) (sho
       ((room-shown logs es ss shown sender wire have.reads).1 room k (slice_get_within es k end at) other
       (ap (λ (x : End). x.wire) one ∙ same ∙ sym (its-wire wire on)))
 
--- Code writes the whole list of ends back.
+-- The whole list of ends is replaced.
 pub written-back : (new es : List End) (n : ℕ) → length new ≡ length es → n ≡ length es → take n (new ++ drop (length new) es) ≡ new
 written-back new es n same count =
     ap (λ (l : List End). take n (new ++ l)) (drop_of_length-le es (omega (arith, same)))
     ∙ ap (take n) (append-nil new)
     ∙ take_all n new (omega (arith, same, count))
 
--- A frame was read from the place at which the next one stands.
+-- The frame at the place of the next waiting frame was read
 module _ (log : List LogEntry) (host : ℕ) (e : End) (place : ℕ) (below : place < length log)
-    (first : frames_of_others host (drop e.cursor log) ≡ frame_at place log ∷ frames_of_others host (drop (place + 1) log)) where
+    (first : frames_of_others host (drop e.cursor log) ≡ entry_frame place log ∷ frames_of_others host (drop (place + 1) log)) where
   abbrev pub read-on : End
   read-on = record e { cursor = place + 1; waiting = e.waiting - 1 }
 
@@ -362,7 +362,7 @@ module _ (log : List LogEntry) (host : ℕ) (e : End) (place : ℕ) (below : pla
   pub line-on : frames_of_others host (drop (place + 1) log) ≡ drop 1 (frames_of_others host (drop e.cursor log))
   line-on = sym (ap (drop 1) first)
 
--- where no frame waits, the end stays
+-- If no frame waits, the end doesn't change.
 pub stays-empty : (ss : List EndState) (host : ℕ) (end : EndState) → slice_get ss host ≡ Some end → end.line ≡ []
     → ss ≡ slice_set ss host (record end { line = drop 1 end.line })
 stays-empty ss host end is none =

@@ -44,7 +44,7 @@ module _ (logs : List (List LogEntry)) (es : List End) (ss : List EndState) (sho
       (ap (option_map (end_of logs host)) (sym has) ∙ sym (get-end logs es host)
       ∙ ap (λ (l : List EndState). slice_get l host) shown ∙ is)
 
-  -- the frames that wait at a host's end, read in the log that code finds
+  -- The frames that wait at a host's end, read from the log that was found.
   pub line-read : HaveLogs logs es → (host : ℕ) (e : End) (log : List LogEntry) → host < length ss → e ≡ slice_index_or es host e
       → log ≡ slice_index_or logs e.log log → (end : EndState) → slice_get ss host ≡ Some end
       → frames_of_others host (drop e.cursor log) ≡ end.line
@@ -56,7 +56,7 @@ module _ (logs : List (List LogEntry)) (es : List End) (ss : List EndState) (sho
   pub has-log : HaveLogs logs es → (host : ℕ) (e : End) → host < length ss → e ≡ slice_index_or es host e → e.log < length logs
   has-log have host e below is = have.there host e (has-end host e below is)
 
-  -- room at the ends that code counts is room at those that contracts list
+  -- The ends as counted by the code have room exactly if the ends in contracts have room.
   pub room-shown : (sender wire : ℕ) → ((k : ℕ) (e : End) → slice_get es k ≡ Some e → ReadsLog (log_of logs e) k e)
       → OthersHaveRoom (length es) sender wire es ↔ HaveRoom ss sender wire
   room-shown sender wire reads = (forth, back)
@@ -82,7 +82,7 @@ module _ (logs : List (List LogEntry)) (es : List End) (ss : List EndState) (sho
           let free = room k (end_of logs k e) is other on in
           omega (arith, free, counts)
 
--- The frames that wait are the last of the others' in the log.
+-- The frames that wait are the last frames of other senders in the log.
 pub waits-last : (log : List LogEntry) (k cursor : ℕ) → last_of_others k (length (frames_of_others k (drop cursor log))) log
     ≡ frames_of_others k (drop cursor log)
 waits-last log k cursor =
@@ -96,7 +96,7 @@ waits-last log k cursor =
     ∙ ap (drop (length earlier + 0)) all
     ∙ drop-append-add earlier waiting 0
 
--- A log is set, or appended.
+-- A log is replaced or appended
 pub log-set_other : (logs : List (List LogEntry)) (log : ℕ) (l : List LogEntry) (e : End) → e.log ≢ log
     → log_of (slice_set logs log l) e ≡ log_of logs e
 log-set_other logs log l e other = get_or-set_other logs log e.log l [] other

@@ -1,7 +1,7 @@
--- Two runs of atomic steps are one.
+-- Laws for two lists of atomic steps, one after the other.
 use Rattle.std.proofs.Common.{◌≡◌, ℕ, List, [], ◌∷◌, ◌++◌, map, refl, sym, ap, subst, ◌∙◌, append_assoc}
 use Rattle.std.proofs.lemmas.Grind.{flat_map-append}
-use Rattle.bus.specs.PastOfStretch.{joined}
+use Rattle.bus.specs.Pasts.{joined}
 use Rattle.bus.specs.TrailLaws.{past_of-append}
 use Rattle.bus.specs.Trails.{past_of}
 use Rattle.bus.specs.declared.event.Event.TheVariants.{Accesses, Arrives, Steps}
@@ -18,7 +18,7 @@ use Rattle.stations.specs.AtomicRuns.{
   events_by,
   noted_by,
   noted_of,
-  numbered,
+  numbered_outcome,
   past_at,
   step_told,
   steps_told,
@@ -44,15 +44,15 @@ steps_told_join n (step ∷ first) later =
     ap (λ (list : List TickTold). step_told n step ++ list) (steps_told_join (counted_by n step) first later)
     ∙ sym (append_assoc (step_told n step) (steps_told (counted_by n step) first) (steps_told (counted_of (counted_by n step) first) later))
 
--- What is noted of steps is what an observer is told of them, without the ticks.
+-- The outcomes to note for atomic steps are the outcomes that an observer is told, without their ticks.
 pub steps_told_noted : (n : ℕ) (steps : List AtomicStep) → map note_of (steps_told n steps) ≡ noted_of n steps
 steps_told_noted n [] = refl
 steps_told_noted n (At host (Steps kind wire_free answer) ∷ later) =
-    ap (λ (list : List Numbered). numbered n (At host (Steps kind wire_free answer)) ++ list) (steps_told_noted n later)
+    ap (λ (list : List Numbered). numbered_outcome n (At host (Steps kind wire_free answer)) ++ list) (steps_told_noted n later)
 steps_told_noted n (At host (Arrives frame fate) ∷ later) =
-    ap (λ (list : List Numbered). numbered n (At host (Arrives frame fate)) ++ list) (steps_told_noted n later)
+    ap (λ (list : List Numbered). numbered_outcome n (At host (Arrives frame fate)) ++ list) (steps_told_noted n later)
 steps_told_noted n (At host (Accesses access) ∷ later) = steps_told_noted (counted_by n (At host (Accesses access))) later
-steps_told_noted n (Idles tick ∷ later) = ap (λ (list : List Numbered). numbered n (Idles tick) ++ list) (steps_told_noted n later)
+steps_told_noted n (Idles tick ∷ later) = ap (λ (list : List Numbered). numbered_outcome n (Idles tick) ++ list) (steps_told_noted n later)
 
 pub counted_join : (n : ℕ) (first later : List AtomicStep) → counted_of n (first ++ later) ≡ counted_of (counted_of n first) later
 counted_join n [] later = refl

@@ -2,11 +2,11 @@
 use Rattle.std.specs.Prelude.{⊤, ◌≡◌, ◌+◌, ◌==◌, ◌++◌, ℕ, Bool, false, true, List, [], ◌∷◌, min, if◌then◌else◌}
 use Rattle.std.specs.List.{flat_map}
 use Rattle.bus.specs.LivelyBuses.{most_accesses}
-use Rattle.bus.specs.PastOfStretch.{Past}
+use Rattle.bus.specs.Pasts.{Past}
 use Rattle.bus.specs.Trails.{past_of}
 use Rattle.bus.specs.declared.event.Event.{Event}
 use Rattle.bus.specs.declared.event.Event.TheVariants.{Accesses, Arrives, Steps}
-use Rattle.stations.specs.AtomicSteps.{At, AtomicStep, CanHappen, Idles, after, outcome_of}
+use Rattle.stations.specs.AtomicSteps.{At, AtomicStep, CanHappen, Idles, after, step_outcome}
 use Rattle.stations.specs.Stations.{StationState}
 use Rattle.stations.specs.ToldTicks.{TickTold, tick_told}
 use Rattle.adapter.specs.declared.outcome.Outcome.TheVariants.{Delivered, Nothing}
@@ -14,32 +14,31 @@ use Rattle.stations.specs.declared.outcomes.Numbered.{Numbered}
 use Rattle.stations.specs.declared.tick.Tick.{Tick}
 use Rattle.stations.specs.declared.tick.Tick.TheVariants.{Deliver, Go, Step}
 
--- The tick is Go, which only ends a group of ticks.
+-- The tick is Go.
 abbrev pub is_go : Tick → Bool
 is_go Go = true
 is_go (Step host kind) = false
 is_go (Deliver host) = false
 
--- This atomic step can be part of a call of host `caller`: an access is that host's, and a Go isn't played by itself.
+-- This atomic step can be part of a call of host `caller`: an access is at this host, and Go isn't an idle tick.
 abbrev pub IsOfCall : (caller : ℕ) → AtomicStep → Type 0
 IsOfCall caller (At host (Steps kind wire_free answer)) = ⊤
 IsOfCall caller (At host (Arrives frame fate)) = ⊤
 IsOfCall caller (At host (Accesses access)) = host ≡ caller
 IsOfCall caller (Idles tick) = is_go tick ≡ false
 
--- These atomic steps lead from one state of all stations to another.
+-- These atomic steps can happen one after the other in a call of host `caller`, and lead from one state of all stations
+-- to another.
 abbrev pub LeadsTo : (caller : ℕ) → List AtomicStep → (old new : List StationState) → Type 0
 LeadsTo caller [] old new = new ≡ old
 LeadsTo caller (step ∷ later) old new = CanHappen step old × IsOfCall caller step × LeadsTo caller later (after step old) new
 
--- the atomic step is a tick other than Go, and no access
+-- The atomic step is a tick other than Go, so it isn't an access.
 abbrev pub IsTick : AtomicStep → Type 0
 IsTick (At host (Steps kind wire_free answer)) = ⊤
 IsTick (At host (Arrives frame fate)) = ⊤
 IsTick (At host (Accesses access)) = false ≡ true
 IsTick (Idles tick) = is_go tick ≡ false
-
--- What happened at one host.
 
 -- The event of an atomic step, if it is at this host.
 abbrev pub events_by : (host : ℕ) → AtomicStep → List Event
@@ -50,24 +49,22 @@ events_by k (Idles tick) = []
 abbrev pub events_at : (host : ℕ) → List AtomicStep → List Event
 events_at k steps = flat_map (events_by k) steps
 
--- What happened at one host in these atomic steps.
+-- What happened in these atomic steps at one host.
 abbrev pub past_at : (host : ℕ) → List AtomicStep → Past
 past_at k steps = past_of (events_at k steps)
 
--- Outcomes with the number of accesses before them.
+-- The outcome of an atomic step, with the number of accesses before the step.
+abbrev pub numbered_outcome : ℕ → AtomicStep → List Numbered
+numbered_outcome n step = record { accesses = n; outcome = step_outcome step } ∷ []
 
--- The outcome of an atomic step, with the number of accesses before it.
-abbrev pub numbered : ℕ → AtomicStep → List Numbered
-numbered n step = record { accesses = n; outcome = outcome_of step } ∷ []
-
--- the outcome to note for an atomic step after this number of accesses: none for an access
+-- The outcome of an atomic step, with the number of accesses before the step; no outcome for an access.
 abbrev pub noted_by : ℕ → AtomicStep → List Numbered
-noted_by n (At host (Steps kind wire_free answer)) = numbered n (At host (Steps kind wire_free answer))
-noted_by n (At host (Arrives frame fate)) = numbered n (At host (Arrives frame fate))
+noted_by n (At host (Steps kind wire_free answer)) = numbered_outcome n (At host (Steps kind wire_free answer))
+noted_by n (At host (Arrives frame fate)) = numbered_outcome n (At host (Arrives frame fate))
 noted_by n (At host (Accesses access)) = []
-noted_by n (Idles tick) = numbered n (Idles tick)
+noted_by n (Idles tick) = numbered_outcome n (Idles tick)
 
--- The number of accesses after an atomic step, by the number before it; it saturates.
+-- The number of accesses after an atomic step, from the number before the step. It saturates at the greatest u64.
 abbrev pub counted_by : ℕ → AtomicStep → ℕ
 counted_by n (At host (Steps kind wire_free answer)) = n
 counted_by n (At host (Arrives frame fate)) = n
@@ -79,9 +76,8 @@ abbrev pub noted_of : ℕ → List AtomicStep → List Numbered
 noted_of n [] = []
 noted_of n (step ∷ later) = noted_by n step ++ noted_of (counted_by n step) later
 
--- What an observer is told of them: each outcome with its tick.
-
--- What an observer is told of an atomic step: its outcome with its tick; of an access, nothing.
+-- What an observer is told of an atomic step: its tick, the number of accesses before it, and its outcome. An observer is
+-- told nothing of an access.
 abbrev pub step_told : ℕ → AtomicStep → List TickTold
 step_told n (At host (Steps kind wire_free answer)) = tick_told (Step host kind) n answer ∷ []
 step_told n (At host (Arrives frame fate)) = tick_told (Deliver host) n (Delivered frame fate) ∷ []
@@ -93,7 +89,7 @@ abbrev pub steps_told : ℕ → List AtomicStep → List TickTold
 steps_told n [] = []
 steps_told n (step ∷ later) = step_told n step ++ steps_told (counted_by n step) later
 
--- The number of accesses after atomic steps, by the number before them.
+-- The number of accesses after atomic steps, from the number before them.
 abbrev pub counted_of : ℕ → List AtomicStep → ℕ
 counted_of n [] = n
 counted_of n (step ∷ later) = counted_of (counted_by n step) later

@@ -1,4 +1,4 @@
--- The atomic steps of a network: one access of a driver, one step of an adapter, one delivery; and ticks that find nothing to do.
+-- The atomic steps of a network: one access, one step of an adapter, one delivery, or an idle tick.
 use Rattle.std.specs.Prelude.{⊤, ◌≡◌, ◌≤◌, ◌+◌, ◌∷◌, ◌↔◌, IsTrue, ℕ, None, Some, List, [], slice_get}
 use Rattle.rx_engine.specs.declared.arrival.Fate.{Fate}
 use Rattle.adapter.specs.Receiving.{IsFate}
@@ -15,20 +15,20 @@ use Rattle.adapter.specs.declared.outcome.Outcome.TheVariants.{Delivered, Nothin
 use Rattle.stations.specs.declared.tick.Tick.{Tick}
 use Rattle.stations.specs.declared.tick.Tick.TheVariants.{Deliver, Go, Step}
 
--- The smallest part of a run: one event at one host, or a tick that does nothing.
+-- An atomic step: one event at one host, or an idle tick.
 pub data AtomicStep : Type 0 where
-  -- an event at a host
+  -- An event at a host.
   At : (host : ℕ) (event : Event) → AtomicStep
-  -- a tick that does nothing, because its host isn't there or no frame waits
+  -- An idle tick: Go, a tick of a host that doesn't exist, or a delivery at an end where no frame waits.
   Idles : (tick : Tick) → AtomicStep
 
--- the tick of an event; an access counts as Go
+-- The tick of an event. The tick of an access is Go.
 abbrev pub tick_of_event : (host : ℕ) → Event → Tick
 tick_of_event host (Steps kind wire_free answer) = Step host kind
 tick_of_event host (Arrives frame fate) = Deliver host
 tick_of_event host (Accesses access) = Go
 
--- The outcome of an event at a host; that of an access is Nothing.
+-- The outcome of an event at a host. The outcome of an access is Nothing.
 abbrev pub outcome_of_event : Event → FrameOutcome
 outcome_of_event (Steps kind wire_free outcome) = outcome
 outcome_of_event (Arrives frame fate) = Delivered frame fate
@@ -40,18 +40,18 @@ tick_of (At host event) = tick_of_event host event
 tick_of (Idles tick) = tick
 
 -- The outcome of an atomic step.
-abbrev pub outcome_of : AtomicStep → FrameOutcome
-outcome_of (At host event) = outcome_of_event event
-outcome_of (Idles tick) = Nothing
+abbrev pub step_outcome : AtomicStep → FrameOutcome
+step_outcome (At host event) = outcome_of_event event
+step_outcome (Idles tick) = Nothing
 
--- An event agrees with the wire: TxPut finds it free exactly if each other end has room, and a delivery is of the
--- oldest frame that waits.
+-- An event agrees with the wire. For TxPut, the wire is free exactly if each other end has room. A delivery is of the oldest frame that
+-- waits.
 abbrev pub SuitsWire : (host wire : ℕ) → Event → List StationState → Type 0
 SuitsWire host wire (Steps kind wire_free answer) stations = kind ≡ TxPut → IsTrue wire_free ↔ WireHasRoom stations host wire
 SuitsWire host wire (Arrives frame fate) stations = slice_get (backlog_at stations host) 0 ≡ Some frame
 SuitsWire host wire (Accesses access) stations = ⊤
 
--- The event can happen at this host.
+-- The event can happen at this host, which exists.
 pub record OccursAt (host : ℕ) (event : Event) (stations : List StationState) : Type 0 where
   -- The number of the host's wire.
   pub wire : ℕ
@@ -59,17 +59,18 @@ pub record OccursAt (host : ℕ) (event : Event) (stations : List StationState) 
   pub on_wire : wire_at stations host ≡ Some wire
   -- The event can happen to the host's adapter and memory.
   pub occurs : Occurs event (world_at stations host)
-  -- The wire has room for a frame that is put, and a frame that arrives is the oldest that waits.
+  -- The event agrees with the wire.
   pub suits_wire : SuitsWire host wire event stations
 
--- The oldest frame that waits at a station's end is delivered, and meets this fate.
+-- The frame is the oldest one that waits at a station's end, and its delivery, with this fate, changes the station to
+-- the new one.
 pub record IsDelivered (old : StationState) (frame : List ℕ) (fate : Fate) (new : StationState) : Type 0 where
   pub oldest : slice_get old.backlog 0 ≡ Some frame
   pub adapter : IsAdapter old.world.adapter
   pub fated : IsFate old.world.adapter frame fate
   pub leaves : new ≡ station_after (Arrives frame fate) old
 
--- The tick has nothing to do: it is Go, or its host isn't there, or it is a delivery and no frame waits.
+-- The tick is idle: it is Go, its host doesn't exist, or it is a delivery and no frame waits.
 abbrev pub FindsNothing : Tick → List StationState → Type 0
 FindsNothing Go stations = ⊤
 FindsNothing (Step host kind) stations = slice_get stations host ≡ None
@@ -80,7 +81,7 @@ abbrev pub CanHappen : AtomicStep → List StationState → Type 0
 CanHappen (At host event) stations = OccursAt host event stations
 CanHappen (Idles tick) stations = FindsNothing tick stations
 
--- the atomic step isn't an access, because no access is played by itself
+-- The atomic step isn't an access.
 abbrev pub IsNoAccess : AtomicStep → Type 0
 IsNoAccess (At host (Steps kind wire_free answer)) = ⊤
 IsNoAccess (At host (Arrives frame fate)) = ⊤
@@ -92,16 +93,16 @@ abbrev pub after : AtomicStep → List StationState → List StationState
 after (At host event) stations = stations_after host event stations
 after (Idles tick) stations = stations
 
--- A tick is played, with this outcome.
-pub record Plays (old : List StationState) (tick : Tick) (outcome : FrameOutcome) (new : List StationState) : Type 0 where
+-- A tick is played with this outcome: one atomic step happens that isn't an access.
+pub record PlaysTick (old : List StationState) (tick : Tick) (outcome : FrameOutcome) (new : List StationState) : Type 0 where
   pub step : AtomicStep
   pub tick_is : tick_of step ≡ tick
-  pub outcome_is : outcome_of step ≡ outcome
+  pub outcome_is : step_outcome step ≡ outcome
   pub no_access : IsNoAccess step
   pub happens : CanHappen step old
   pub leaves : new ≡ after step old
 
--- A network, and the observer of what is played on it.
+-- All stations of a network, and the observer of the ticks that are played on them.
 pub record Watched (O : Type 0) : Type 0 where
   pub stations : List StationState
   pub observer : O
@@ -109,9 +110,10 @@ pub record Watched (O : Type 0) : Type 0 where
 abbrev pub watched : {O : Type 0} → List StationState → O → Watched O
 watched stations observer = record { stations = stations; observer = observer }
 
--- A tick is played, after this number of accesses, and the observer is told its outcome.
+-- A tick is played after this number of accesses, and the observer is told its outcome. The observer's room shrinks by
+-- at most one outcome.
 pub record PlaysNoted {O : Type 0} (observers : OfObserver O) (tick : Tick) (accesses : ℕ) (old new : Watched O) : Type 0 where
   pub outcome : FrameOutcome
-  pub plays : Plays old.stations tick outcome new.stations
+  pub plays : PlaysTick old.stations tick outcome new.stations
   pub heard : observers.heard old.observer new.observer (tick_told tick accesses outcome ∷ [])
   pub room : observers.room_left old.observer ≤ observers.room_left new.observer + 1

@@ -2,16 +2,16 @@
 use Rattle.std.specs.Prelude.{◌≡◌, ◌≢◌, ◌<◌, ◌==◌, ◌&&◌, not, ℕ, Some, List, ◌++◌, length, slice_get, if◌then◌else◌}
 
 pub record EndState : Type 0 where
-  -- the wire that it is an end of
+  -- The number of the wire.
   pub wire : ℕ
-  -- the frames that wait at this end to be delivered, the oldest first
+  -- The frames that wait at this end to be delivered, the oldest first.
   pub line : List (List ℕ)
 
--- the greatest number of frames that wait at an end (our choice)
+-- The greatest number of frames that wait at an end (our choice).
 abbrev pub end_frames : ℕ
 end_frames = 64
 
--- this end has room for one more frame, unless it is the sender's or of another wire
+-- This end has room for one more frame, unless it is the sender's or an end of another wire.
 abbrev pub EndHasRoomFor : (sender wire k : ℕ) → EndState → Type 0
 EndHasRoomFor sender wire k end = k ≢ sender → end.wire ≡ wire → length end.line < end_frames
 
@@ -19,7 +19,7 @@ EndHasRoomFor sender wire k end = k ≢ sender → end.wire ≡ wire → length 
 abbrev pub HaveRoom : List EndState → (sender wire : ℕ) → Type 0
 HaveRoom ends sender wire = (k : ℕ) (end : EndState) → slice_get ends k ≡ Some end → EndHasRoomFor sender wire k end
 
--- frames that a sender puts onto a wire wait at this end, if it is another end of that wire
+-- The k-th end after a sender put frames onto a wire: the frames wait there, too, if it is another end of this wire.
 abbrev pub with_line : (sender wire : ℕ) → List (List ℕ) → (k : ℕ) → EndState → EndState
 with_line sender wire frames k end =
     if not (k == sender) && (end.wire == wire) then record end { line = end.line ++ frames } else end

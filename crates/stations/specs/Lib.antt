@@ -12,5 +12,5 @@ pub mod AtomicSteps
 pub mod AtomicRuns
 pub mod AtomicRunLaws
 pub mod PlayedTicks
-pub mod Retelling
-pub mod RetellingLaws
+pub mod LentBuses
+pub mod LentBusLaws

@@ -1,4 +1,4 @@
--- What a put does to the ends that read in a log (our choice).
+-- What a put does to the ends that read a log (our choice).
 use Rattle.std.specs.Prelude.{◌≡◌, ◌≢◌, ◌≤◌, ◌<◌, ◌-◌, ◌+◌, ◌⊎◌, ◌↔◌, ◌++◌, ◌==◌, ◌&&◌, not, ℕ, Some, List}
 use Rattle.std.specs.Prelude.{[], ◌∷◌, drop, length, option_map, slice_get}
 use Rattle.std.specs.Prelude.{slice_index_or, if◌then◌else◌}
@@ -10,52 +10,52 @@ use Rattle.stations.specs.declared.wires.End.{End}
 abbrev pub end_at : List End → (k : ℕ) → End
 end_at ends k = slice_index_or ends k (record { wire = 0; log = 0; cursor = 0; waiting = 0 })
 
--- an end has this number, and reads in this log
+-- There is a k-th end, and it reads this log.
 pub record IsReader (log : ℕ) (ends : List End) (k : ℕ) : Type 0 where
   pub there : k < length ends
   pub reads : (end_at ends k).log ≡ log
 
--- An end of this wire reads in this log.
+-- An end of this wire reads this log.
 pub record IsReaderOn (wire log : ℕ) (ends : List End) : Type 0 where
   pub k : ℕ
   pub is : IsReader log ends k
   pub on : (end_at ends k).wire ≡ wire
 
--- each end before this place that is of the wire, but the sender's, has room for one more frame
+-- Each of the first `number` ends that is an end of the wire, except the sender's, has room for one more frame.
 abbrev pub OthersHaveRoom : (number sender wire : ℕ) → List End → Type 0
 OthersHaveRoom number sender wire ends =
     (k : ℕ) → k < number → k ≢ sender → (end_at ends k).wire ≡ wire → (end_at ends k).waiting < end_frames
 
--- the next end of a wire reads in this log: exactly the ends of the wire read in it
+-- This is the log for the next end of a wire: exactly the ends of the wire read in it.
 pub record IsLogFor (wire : ℕ) (ends : List End) (logs : List (List LogEntry)) (log : ℕ) : Type 0 where
   pub there : log < length logs
   pub one : (k : ℕ) → k < length ends → (end_at ends k).wire ≡ wire ↔ ((end_at ends k).log ≡ log)
 
--- Each log is unchanged. There may be more logs.
+-- Each log is unchanged, and further logs may follow.
 pub record KeepsLogs (old new : List (List LogEntry)) : Type 0 where
   pub more : List (List LogEntry)
   pub is : new ≡ old ++ more
 
--- of the ends before this place that read in the log, this end has read least
+-- The end `reader` reads the log, and none of the first `number` ends that read the log has a smaller cursor.
 pub record IsSlowest (number log : ℕ) (ends : List End) (reader : ℕ) : Type 0 where
   pub is : IsReader log ends reader
   pub least : (k : ℕ) → k < number → (end_at ends k).log ≡ log → (end_at ends reader).cursor ≤ (end_at ends k).cursor
 
--- Another end than this one reads in the log, with this cursor.
+-- An end other than `but` reads the log, with this cursor.
 pub record HasCursor (log but cursor : ℕ) (ends : List End) : Type 0 where
   pub k : ℕ
   pub is : IsReader log ends k
   pub other : k ≢ but
   pub at : (end_at ends k).cursor ≡ cursor
 
--- The least cursor of the ends before this place that read in the log, without one end; `limit` if it is less.
+-- The least of `limit` and the cursors in the log of the first `number` ends, without the end `but`.
 pub record IsLeastCursor (number log but limit : ℕ) (ends : List End) (cursor : ℕ) : Type 0 where
   pub most : cursor ≤ limit
   pub least : (k : ℕ) → k < number → k ≢ but → (end_at ends k).log ≡ log → cursor ≤ (end_at ends k).cursor
   pub found : (cursor ≡ limit) ⊎ HasCursor log but cursor ends
 
--- A cursor in a log from which this number of entries were dropped. If fewer were before its cursor, it then reads from
--- the front.
+-- The end after this number of entries were dropped from a log. If it reads this log, its cursor is reduced by this number, to at least
+-- 0.
 abbrev pub moved_cursor : (log dropped : ℕ) → End → End
 moved_cursor log dropped end = if end.log == log then record end { cursor = end.cursor - dropped } else end
 
@@ -63,11 +63,12 @@ abbrev pub with_waiting : (log sender k : ℕ) → End → End
 with_waiting log sender k end =
     if not (k == sender) && (end.log == log) then record end { waiting = end.waiting + 1 } else end
 
--- each end that reads in the log counts the frames that wait there
+-- Each end that reads the log has a cursor in it, and counts the frames that wait.
 abbrev pub ReadIn : (log : ℕ) → List LogEntry → List End → Type 0
 ReadIn log entries ends = (k : ℕ) (end : End) → slice_get ends k ≡ Some end → end.log ≡ log → ReadsLog entries k end
 
--- There is room in a log for an entry. Each end that reads in it has still the same frames to read. The others don't change.
+-- The log now has room for one more entry. The same frames wait at each end that reads the log, and only the cursors of these ends
+-- change.
 pub record MakesRoom (log : ℕ) (before after : List LogEntry) (old new : List End) : Type 0 where
   pub room : length after < log_entries
   pub cursors : (k : ℕ) → End → ℕ
@@ -77,7 +78,8 @@ pub record MakesRoom (log : ℕ) (before after : List LogEntry) (old new : List 
   pub same : (k : ℕ) (end : End) → slice_get old k ≡ Some end → end.log ≡ log
       → frames_of_others k (drop (cursors k end) after) ≡ frames_of_others k (drop end.cursor before)
 
--- A frame is put into a log: once there is room, it is appended, and waits at each other end that reads in the log.
+-- A frame is put into a log: room is made, and the frame is appended. Each end that reads the log, except the sender's, counts one more
+-- waiting frame.
 pub record PutsFrame (log sender : ℕ) (frame : List ℕ) (before longer : List LogEntry) (old new : List End) : Type 0 where
   pub after : List LogEntry
   pub made : List End

@@ -12,15 +12,15 @@ pub record OutcomeList : Type 0 where
 abbrev pub outcomes_of : Inside → OutcomeList
 outcomes_of inside = record { list = inside.list.items; room = length inside.spare.items }
 
--- each outcome that there is room for has its place
+-- The list's memory has room for an outcome for each spare frame.
 pub record HasPlaces (inside : Inside) : Type 0 where
   pub places : length inside.list.items + length inside.spare.items ≤ vec_capacity inside.list
 
--- an outcome, with the number of accesses before it
+-- The outcome that an observer was told, with the number of accesses before its tick.
 abbrev pub note_of : TickTold → Numbered
 note_of told = record { accesses = told.accesses; outcome = told.outcome }
 
--- What was told was appended, in order.
+-- The outcomes that were told were appended, in order.
 abbrev pub Collects : (before after : OutcomeList) → List TickTold → Type 0
 Collects before after told = after.list ≡ before.list ++ map note_of told
 

@@ -1,4 +1,4 @@
--- What is collected in two intervals is collected in both together.
+-- Lemmas: the outcomes collected in two consecutive intervals are those of the first, followed by those of the second.
 use Rattle.std.proofs.Common.{◌++◌, [], List, map, sym, ap, ◌∙◌, append_assoc}
 use Rattle.std.proofs.lemmas.List.{append-nil, map-append}
 use Rattle.stations.specs.Outcomes.{Collects, OutcomeList, note_of, room_of}
@@ -17,6 +17,6 @@ collects_join a b c first later one two =
     ∙ append_assoc a.list (map note_of first) (map note_of later)
     ∙ ap (λ (list : List Numbered). a.list ++ list) (sym (map-append note_of first later))
 
--- the collector of outcomes, as an observer
+-- The ghost members of `Outcomes` as an observer.
 abbrev pub collector : OfObserver OutcomeList
 collector = record { heard = Collects; room_left = room_of }

@@ -5,7 +5,8 @@ use Rattle.stations.specs.declared.observer.Observer.{Ghosts as OfObserver}
 use Rattle.stations.specs.declared.tick.Tick.{Tick}
 use Rattle.stations.specs.AtomicRuns.{IsTick, LeadsTo, steps_told}
 
--- These ticks were played, one atomic step for each, in order. The observer was told each outcome, with the number of accesses before it.
+-- These ticks were played in order, each as one atomic step. The observer was told each outcome, with this number of
+-- accesses.
 pub record PlaysTicks {O : Type 0} (observers : OfObserver O) (ticks : List Tick) (accesses : ℕ) (old new : Watched O) : Type 0 where
   pub steps : List AtomicStep
   pub are : All IsTick steps

@@ -1,4 +1,4 @@
--- The hosts of a network as plain data, and what an event at one host changes of all hosts.
+-- The stations of a network as plain data, and how an event at one host changes the stations of all hosts.
 use Rattle.std.specs.Prelude.{◌≡◌, ◌≢◌, ◌<◌, ◌==◌, ◌&&◌, not, ℕ, suc, Option, Some, None, List, [], ◌∷◌, ◌++◌, drop, length, slice_get}
 use Rattle.std.specs.Prelude.{if◌then◌else◌}
 use Rattle.mdic_phy.specs.declared.phy.Link.TheVariants.{Never}
@@ -9,16 +9,16 @@ use Rattle.bus.specs.declared.event.Event.{Event}
 use Rattle.bus.specs.declared.event.Event.TheVariants.{Accesses, Arrives, Steps}
 use Rattle.stations.specs.Ends.{end_frames}
 
--- a host's adapter and memory, and its end of a wire
+-- A host's adapter and memory, and its end of a wire.
 pub record StationState : Type 0 where
   -- The host's adapter and memory.
   pub world : World
-  -- the wire that it is on
+  -- The number of the host's wire.
   pub wire : ℕ
-  -- the frames that wait at its end of the wire to be delivered, the oldest first
+  -- The frames that wait to be delivered at the host's end of the wire, the oldest first.
   pub backlog : List (List ℕ)
 
--- What is known of a host, also of one that isn't there: that one is on no wire, and no frame waits at its end.
+-- The parts of a station. They are also defined for a host that doesn't exist: it is on no wire, and no frame waits at its end.
 
 -- The adapter and the memory of a host.
 abbrev pub world_of : Option StationState → World
@@ -47,52 +47,48 @@ wire_at stations host = wire_of (slice_get stations host)
 abbrev pub backlog_at : List StationState → (host : ℕ) → List (List ℕ)
 backlog_at stations host = backlog_of (slice_get stations host)
 
--- Room.
-
--- this station has room for one more frame at its end, unless it is the sender or on another wire
+-- This station has room for one more frame at its end, unless it is the sender's or on another wire.
 abbrev pub HasRoomFrom : (sender wire host : ℕ) → StationState → Type 0
 HasRoomFrom sender wire host station = host ≢ sender → station.wire ≡ wire → length station.backlog < end_frames
 
--- each other end of the wire has room for one more frame
+-- Each end of the wire, except the sender's, has room for one more frame.
 abbrev pub WireHasRoom : List StationState → (sender wire : ℕ) → Type 0
 WireHasRoom stations sender wire =
     (host : ℕ) (station : StationState) → slice_get stations host ≡ Some station → HasRoomFrom sender wire host station
 
--- What an event leaves.
-
--- the frames that wait after an event: an arrival takes the oldest
+-- The frames that wait after an event at this host: an arrival removes the oldest.
 abbrev pub backlog_after : Event → List (List ℕ) → List (List ℕ)
 backlog_after (Steps kind wire_free answer) backlog = backlog
 backlog_after (Arrives frame fate) backlog = drop 1 backlog
 backlog_after (Accesses access) backlog = backlog
 
--- the station of the host after an event at it
+-- The station after an event at its host.
 abbrev pub station_after : Event → StationState → StationState
 station_after event station = record station {
   world = world_after event station.world;
   backlog = backlog_after event station.backlog;
 }
 
--- the station after a sender put frames onto a wire: they wait at this host's end, if it is another end of that wire
+-- The station after a sender put frames onto a wire: the frames wait at its end, too, if it is another end of this wire.
 abbrev pub with_frames : (sender wire : ℕ) → List (List ℕ) → (host : ℕ) → StationState → StationState
 with_frames sender wire frames host station =
     if not (host == sender) && (station.wire == wire) then record station { backlog = station.backlog ++ frames } else station
 
--- the k-th station after an event at `host`, which is on this wire
+-- The k-th station after an event at the host `host`, which is on the wire `wire`.
 abbrev pub each_after : (host wire : ℕ) → Event → (k : ℕ) → StationState → StationState
 each_after host wire event k station =
     if k == host then station_after event station else with_frames host wire (past_of_event event).put k station
 
--- each station changed by `change k`: k is the first station's number here, and grows by 1 from each to the next
+-- Each station changed by `change` with its number, if the first of these stations has number k.
 abbrev pub at_each : (ℕ → StationState → StationState) → ℕ → List StationState → List StationState
 at_each change k [] = []
 at_each change k (station ∷ later) = change k station ∷ at_each change (suc k) later
 
--- All stations after an event at a host, if there is such a host.
+-- All stations after an event at a host; unchanged if there is no such host.
 abbrev pub all_after : Option StationState → (host : ℕ) → Event → List StationState → List StationState
 all_after None host event stations = stations
 all_after (Some station) host event stations = at_each (each_after host station.wire event) 0 stations
 
--- all stations after an event at a host
+-- All stations after an event at a host; unchanged if there is no such host.
 abbrev pub stations_after : (host : ℕ) → Event → List StationState → List StationState
 stations_after host event stations = all_after (slice_get stations host) host event stations

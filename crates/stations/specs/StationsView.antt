@@ -1,4 +1,5 @@
--- How `Stations` keeps them (our choice): the machines of all hosts in one list, and their ends of wires in another.
+-- How `Stations` stores the stations (our choice): the machines of all hosts in one list, and the hosts' ends of wires
+-- in another list.
 use Rattle.std.specs.Prelude.{◌≡◌, List, [], ◌∷◌, length}
 use Rattle.bus.specs.Machines.{MachineState}
 use Rattle.stations.specs.Ends.{EndState}

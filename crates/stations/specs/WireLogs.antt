@@ -1,34 +1,35 @@
--- The log of a wire: the frames put on it, in order (our choice).
+-- The log of a wire: frames that were put on it, in order (our choice).
 use Rattle.std.specs.Prelude.{◌-◌, ◌==◌, ◌++◌, not, Bool, ℕ, List, [], drop, filter, length, map, take, slice_index_or}
 
--- an entry: the number of the host that put the frame, and the frame
+-- An entry: the number of the host that put the frame, and the frame.
 abbrev pub LogEntry : Type 0
 LogEntry = ℕ × List ℕ
 
--- the greatest number of entries of a log (our choice)
+-- The greatest number of entries of a log (our choice).
 abbrev pub log_entries : ℕ
 log_entries = 1024
 
--- the entry at this place
+-- The entry at this place.
 abbrev pub entry_at : (place : ℕ) → List LogEntry → LogEntry
 entry_at place entries = slice_index_or entries place (0, [])
 
-abbrev pub frame_at : (place : ℕ) → List LogEntry → List ℕ
-frame_at place entries = (entry_at place entries).1
+abbrev pub entry_frame : (place : ℕ) → List LogEntry → List ℕ
+entry_frame place entries = (entry_at place entries).1
 
--- whether another host put the frame: then this host reads it
+-- Whether another host put the frame, so that this host reads it.
 abbrev pub is_of_other : (reader : ℕ) → LogEntry → Bool
 is_of_other reader entry = not (entry.0 == reader)
 
--- the frames of these entries that other hosts put, in order
+-- The frames of these entries that other hosts put, in order.
 abbrev pub frames_of_others : (reader : ℕ) → List LogEntry → List (List ℕ)
 frames_of_others reader entries = map (λ (entry : LogEntry). entry.1) (filter (is_of_other reader) entries)
 
--- the last frames of these entries that other hosts put, this many
+-- The last `count` of the frames of these entries that other hosts put.
 abbrev pub last_of_others : (reader count : ℕ) → List LogEntry → List (List ℕ)
 last_of_others reader count entries = drop (length (frames_of_others reader entries) - count) (frames_of_others reader entries)
 
--- A full log without the entries that each end but their sender's has read: those before `first`, the cursor of the end
--- that read least, and those that the host of this end put before `second`, the least cursor of the other ends.
+-- A log without the entries before `first`, and without the entries of the host `reader` before `second`. If `first` is
+-- the least cursor, `reader` is its end's host, and `second` is the least cursor of the other ends, these are entries
+-- that each end except their sender's has read.
 abbrev pub closed_up : (reader first second : ℕ) → List LogEntry → List LogEntry
 closed_up reader first second entries = filter (is_of_other reader) (take (second - first) (drop first entries)) ++ drop second entries

@@ -1,11 +1,11 @@
--- How the wires keep the frames that wait (our choice): one log for each wire, and for each end its place in the log.
+-- How the wires store the frames that wait (our choice): a log for each wire, and for each end its cursor in the log.
 use Rattle.std.specs.Prelude.{◌≡◌, ◌≤◌, ◌<◌, ◌↔◌, ℕ, suc, Some, List, [], ◌∷◌, drop, length, slice_get, slice_index_or, vec_capacity}
 use Rattle.stations.specs.Ends.{EndState, end_frames}
 use Rattle.stations.specs.WireLogs.{LogEntry, frames_of_others, log_entries}
 use Rattle.stations.specs.declared.wire_log.WireLog.TheInside.{Inside as InsideLog}
 use Rattle.stations.specs.declared.wires.End.{End}
 
--- The memory of a log has room for all its entries from the start.
+-- The log has at most the greatest number of entries, and its memory has room for that number.
 pub record HasLogRoom (inside : InsideLog) : Type 0 where
   pub fits : length inside.entries.items ≤ log_entries
   pub room : log_entries ≤ vec_capacity inside.entries
@@ -13,25 +13,25 @@ pub record HasLogRoom (inside : InsideLog) : Type 0 where
 abbrev pub log_of : List (List LogEntry) → End → List LogEntry
 log_of logs end = slice_index_or logs end.log []
 
--- the frames that wait at the k-th end: those of other senders from its cursor on
+-- The frames that wait at the k-th end: the frames of other senders from its cursor on.
 abbrev pub unread : List (List LogEntry) → (k : ℕ) → End → List (List ℕ)
 unread logs k end = frames_of_others k (drop end.cursor (log_of logs end))
 
 abbrev pub end_of : List (List LogEntry) → (k : ℕ) → End → EndState
 end_of logs k end = record { wire = end.wire; line = unread logs k end }
 
--- the ends from the k-th on
+-- These ends as plain data, if the first of them has number k.
 abbrev pub ends_from : List (List LogEntry) → (k : ℕ) → List End → List EndState
 ends_from logs k [] = []
 ends_from logs k (end ∷ ends) = end_of logs k end ∷ ends_from logs (suc k) ends
 
--- The k-th end reads in a log. It counts the frames that wait.
+-- The k-th end has its cursor in this log, and counts the frames that wait, at most `end_frames`.
 pub record ReadsLog (log : List LogEntry) (k : ℕ) (end : End) : Type 0 where
   pub cursor : end.cursor ≤ length log
   pub counts : end.waiting ≡ length (frames_of_others k (drop end.cursor log))
   pub most : end.waiting ≤ end_frames
 
--- Each end reads in a log, and two ends are of one wire exactly if they read in one log.
+-- Each end reads a log that exists, and two ends are ends of one wire exactly if they read one log.
 pub record HaveLogs (logs : List (List LogEntry)) (ends : List End) : Type 0 where
   pub there : (k : ℕ) (end : End) → slice_get ends k ≡ Some end → end.log < length logs
   pub reads : (k : ℕ) (end : End) → slice_get ends k ≡ Some end → ReadsLog (log_of logs end) k end

@@ -9,8 +9,8 @@ use bus::{Bus, HonestBus};
 impl<'a, 't, O: Observer> Bus for LentBus<'a, 't, O> {
     ghost use Rattle.std.specs.Prelude.{◌≡◌, length, ⊤};
     ghost use Rattle.std.proofs.Common.{refl};
-    ghost use Rattle.stations.specs.Retelling.{Retells, SameLent, bytes_here, world_here};
-    ghost use Rattle.stations.specs.RetellingLaws.{retells_join, retells_none, same_lent_here, same_lent_on};
+    ghost use Rattle.stations.specs.LentBuses.{HappenedLent, SameLent, bytes_here, world_here};
+    ghost use Rattle.stations.specs.LentBusLaws.{lent_happened_join, lent_happened_none, same_lent_here, same_lent_on};
 
     ghost extent = { bytes_here };
 
@@ -20,13 +20,13 @@ impl<'a, 't, O: Observer> Bus for LentBus<'a, 't, O> {
 
     ghost world = { world_here };
 
-    ghost happened = { Retells };
+    ghost happened = { HappenedLent };
 
     ghost lent_stays = { SameLent };
 
     ghost composes = { record {
-      stays = retells_none O.composes;
-      joins = retells_join O.composes;
+      stays = lent_happened_none O.composes;
+      joins = lent_happened_join O.composes;
       lent_stays_here = same_lent_here;
       lent_stays_on = same_lent_on;
     } };
@@ -61,13 +61,13 @@ impl<'a, 't, O: Observer> Bus for LentBus<'a, 't, O> {
 impl<'a, 't, O: Observer> HonestBus for LentBus<'a, 't, O> {
     ghost use Rattle.std.specs.Prelude.{min};
     ghost use Rattle.bus.specs.LivelyBuses.{most_accesses};
-    ghost use Rattle.stations.specs.RetellingLaws.{retells_count};
+    ghost use Rattle.stations.specs.LentBusLaws.{lent_happened_count};
 
     ghost counted = { λ bus. min bus.accesses most_accesses };
 
     ghost always = { λ bus. tt };
 
-    ghost counts = { retells_count };
+    ghost counts = { lent_happened_count };
 
     fn accesses(&self) -> u64 {
         self.accesses

@@ -8,10 +8,11 @@ use descriptors::LONGEST_LEGAL;
 use std::alloc::{AllocError, Global};
 use std::marker::Model;
 
-/// An Ethernet frame of at most 1,518 bytes, without its check sequence, whose bytes are on the heap, so a value that
-/// may have a frame is small.
+/// An Ethernet frame of at most 1,518 bytes, without its frame check sequence. Its bytes are on the heap, so a type
+/// that contains a frame is small.
 ///
-/// Its memory is taken when it is made, so that to fill it takes none. In contracts it is the list of its bytes.
+/// [`with_room`](HeapFrame::with_room) allocates the memory of a frame, so that [`fill`](HeapFrame::fill) allocates no
+/// memory. In contracts, a frame is the list of its bytes.
 #[derive(Debug, Drop)]
 pub struct HeapFrame {
     bytes: Vec<u8>,
@@ -36,7 +37,7 @@ impl HeapFrame {
     ///
     /// # Errors
     ///
-    /// Only if memory is refused.
+    /// Returns an error only if an allocation fails.
     pub fn with_room(alloc: Global) -> Result<HeapFrame, AllocError>
         ensures { IfOk result (λ frame. frame ≡ []) }
     {
@@ -45,7 +46,7 @@ impl HeapFrame {
         })
     }
 
-    /// Replaces the bytes of the frame by these, at most 1,518.
+    /// Replaces the bytes of the frame with these bytes, at most 1,518.
     pub fn fill(&mut self, bytes: &[u8])
         requires fits { length bytes.now ≤ LONGEST_LEGAL }
         ensures { self.new ≡ bytes.now }

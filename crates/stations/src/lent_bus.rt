@@ -1,4 +1,4 @@
-// The lent bus.
+// The bus that is lent to a call of one host.
 
 ghost use Rattle.std.specs.Prelude.{◌<◌, ◌≤◌, length};
 
@@ -6,32 +6,34 @@ use crate::observer::Observer;
 use crate::stations::Stations;
 use crate::tick::Tick;
 
-/// The stations of a network, lent to the call of one host, and the ticks that are to be played before its accesses.
+/// The bus of one host's call. It contains the stations of the network, lent to the call, and the ticks to play in the
+/// call: before each access, and after the last access ([`finish`](LentBus::finish)).
 ///
-/// Before an access the ticks up to the next `Go` are played, and none if none are left.
+/// Before each access, it plays the ticks up to the next `Go`, or all remaining ticks if there is no further `Go`.
 #[derive(Drop)]
 pub struct LentBus<'a, 't, O: Observer> {
     /// The stations of all hosts.
     pub stations: &'a mut Stations,
-    /// The ticks that are still to be played, with a `Go` for the next access.
+    /// The ticks that are still to be played. A `Go` ends the ticks that are played before one access.
     pub ticks: &'t [Tick],
-    /// The host whose call it is.
+    /// The number of the host that makes the call.
     pub host: usize,
-    /// How many accesses the call has made, up to the greatest `u64`.
+    /// The number of accesses that the call has made; it saturates at the greatest `u64`.
     pub accesses: u64,
-    /// The observer. It is told the outcome of each tick, with the number of accesses before it.
+    /// The observer. It is told the outcome of each tick, with the number of accesses that the call made before the
+    /// tick.
     pub observer: &'a mut O,
     ghost there: { host < length stations.now },
     ghost room: { length ticks.now ≤ O.room_left observer.now },
 }
 
 impl<'a, 't, O: Observer> LentBus<'a, 't, O> {
-    ghost use Rattle.stations.specs.Retelling.{Finished, Prepared};
+    ghost use Rattle.stations.specs.LentBuses.{Finished, PreparedLent};
 
-    /// Plays the next group of ticks, and counts the access after it.
+    /// Plays the ticks up to the next `Go`, and counts the access that follows them.
     #[inline(always)]
     pub(crate) fn prepare(&mut self)
-        ensures { Prepared self.old self.new }
+        ensures { PreparedLent self.old self.new }
     {
         if self.ticks.is_empty() {
             self.accesses = self.accesses.saturating_add(1);
@@ -40,10 +42,11 @@ impl<'a, 't, O: Observer> LentBus<'a, 't, O> {
         self.prepare_group();
     }
 
-    /// As [`prepare`](LentBus::prepare), if there are ticks.
+    /// Plays the ticks up to the next `Go`, and counts the access. [`prepare`](LentBus::prepare) calls this function
+    /// only if ticks remain.
     #[inline(never)]
     fn prepare_group(&mut self)
-        ensures { Prepared self.old self.new }
+        ensures { PreparedLent self.old self.new }
     {
         let accesses = self.accesses;
         self.ticks = self
@@ -52,7 +55,7 @@ impl<'a, 't, O: Observer> LentBus<'a, 't, O> {
         self.accesses = accesses.saturating_add(1);
     }
 
-    /// Plays the ticks that are left, after the call's last access, and skips each `Go`.
+    /// Plays the remaining ticks, after the call's last access, and skips each `Go`.
     #[inline(always)]
     pub fn finish(&mut self)
         ensures { Finished self.old self.new }
@@ -63,7 +66,7 @@ impl<'a, 't, O: Observer> LentBus<'a, 't, O> {
         self.finish_ticks();
     }
 
-    /// As [`finish`](LentBus::finish), if there are ticks.
+    /// Plays the remaining ticks. [`finish`](LentBus::finish) calls this function only if ticks remain.
     #[inline(never)]
     fn finish_ticks(&mut self)
         ensures { Finished self.old self.new }

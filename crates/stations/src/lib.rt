@@ -1,9 +1,11 @@
-//! The hosts of a network as the adapters see it: each an adapter, its memory and its end of a wire; what is played on
-//! all of them, one step of one adapter or one delivery at a time; and the bus that lends them to a call of one host.
+//! The stations of a network: for each host an adapter, its memory and its end of a wire.
 //!
-//! A wire has no time of its own: a frame that a host puts onto it waits at each other end until it is delivered there.
-//! Before each access of a call ticks are played on all hosts, as its caller chose them, and an observer is told what
-//! came of each.
+//! Ticks are played on the stations. A tick is one step of one adapter, or one delivery. A bus lends the stations to a
+//! call of one host.
+//!
+//! A wire never delivers by itself: a frame that a host puts onto a wire waits at each other end until a tick delivers
+//! it there. Before each access of a call, the ticks that the caller chose are played on all hosts, and an observer is
+//! told the outcome of each tick.
 #![tactic(auto)]
 
 mod accesses;

@@ -1,4 +1,4 @@
-// The observer, which is told the outcomes of ticks.
+// Observers, which are told the outcomes of ticks.
 
 ghost use Rattle.std.specs.Prelude.{◌≤◌, ◌<◌, ◌+◌, ◌∷◌, [], ℕ, List, length};
 ghost use Rattle.descriptors.specs.Frames.{longest_frame};
@@ -8,28 +8,29 @@ ghost use Rattle.stations.specs.ToldTicks.{ComposesTold, TickTold, tick_told};
 use crate::tick::Tick;
 use adapter::Outcome;
 
-/// Is told the outcome of each tick, in order. A frame is lent to it; it must copy a frame that it needs later.
+/// An observer is told the outcome of each tick, in order. It only borrows the frame of an outcome: it must copy a
+/// frame that it needs later.
 pub trait Observer {
-    /// Between these two of its states, it was told exactly this list, in order.
+    /// Between these two states of the observer, it was told exactly this list, in order.
     ghost heard: { Self → Self → List TickTold → Type 0 };
 
-    /// The number of further outcomes for which it has room.
+    /// The number of further outcomes for which the observer has room.
     ghost room_left: { Self → ℕ };
 
-    /// A tick is played, and this is its outcome. `accesses` is the number of accesses that its call made before it.
-    /// The frame is the one that was put or delivered, if there is one; it has at most 1,518 bytes.
+    /// Reports to the observer that this tick was played, with this outcome, after `accesses` accesses of the call.
+    /// `frame` is the frame that was put or delivered, of at most 1,518 bytes; it has no meaning for other outcomes.
     fn note(&mut self, tick: Tick, accesses: u64, outcome: Outcome<()>, frame: &[u8])
         requires room { 0 < room_left self.old }
         requires fits { length frame.now ≤ longest_frame }
         ensures heard { heard self.old self.new (tick_told tick accesses (with_frame frame.now outcome) ∷ []) }
         ensures room { room_left self.old ≤ room_left self.new + 1 };
 
-    /// From a state to itself it was told nothing, and what it was told in two consecutive intervals it was told in
-    /// both together.
+    /// From a state to itself, the observer was told nothing. Over two consecutive intervals together, it was told both
+    /// lists, joined in order.
     ghost composes: { ComposesTold heard };
 }
 
-/// An observer that keeps nothing: for calls in which no tick is played.
+/// An observer that stores nothing, for calls in which no tick is played.
 #[derive(Clone, Copy, Debug, PartialEq, Eq, Drop)]
 pub struct Nobody;
 

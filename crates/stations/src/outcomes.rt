@@ -7,10 +7,10 @@ use adapter::Outcome;
 use std::alloc::{AllocError, Global};
 use std::marker::Model;
 
-/// An outcome, with the number of accesses that its call had made before it.
+/// An outcome of a tick, with the number of accesses that the call had made before the tick.
 #[derive(Debug, Drop, PartialEq, Eq)]
 pub struct Numbered {
-    /// How many accesses the call had made.
+    /// The number of accesses that the call had made.
     pub accesses: u64,
     /// The outcome of the tick.
     pub outcome: Outcome<HeapFrame>,
@@ -18,11 +18,12 @@ pub struct Numbered {
 
 /// An observer that collects the outcomes of a call's ticks, in order. Room for an outcome includes room for its frame.
 ///
-/// In contracts it is the list of these outcomes and the room that is left, an `OutcomeList`.
+/// In contracts, the value is an `OutcomeList`: the list of these outcomes, and the number of further outcomes for
+/// which it has room.
 #[derive(Debug, Drop)]
 pub struct Outcomes {
     list: Vec<Numbered>,
-    /// A frame for each outcome that there is room for.
+    /// An empty frame for each further outcome.
     spare: Vec<HeapFrame>,
 }
 
@@ -41,7 +42,7 @@ impl Model for Outcomes {
 impl Outcomes {
     ghost use Rattle.std.specs.Prelude.{◌≡◌, ◌≤◌, [], IfOk};
 
-    /// An empty list, with no room for outcomes. It takes no memory.
+    /// An empty list, without room for outcomes. It allocates no memory.
     pub fn new(alloc: Global) -> Outcomes
         ensures none { result.list ≡ [] }
     {
@@ -51,11 +52,11 @@ impl Outcomes {
         }
     }
 
-    /// An empty list, with room for this many outcomes.
+    /// An empty list, with room for at least `room` outcomes.
     ///
     /// # Errors
     ///
-    /// If memory is refused.
+    /// Returns an error only if an allocation fails.
     pub fn with_room(alloc: Global, room: usize) -> Result<Outcomes, AllocError>
         ensures none { IfOk result (λ outcomes. outcomes.list ≡ []) }
         ensures room { IfOk result (λ outcomes. room ≤ outcomes.room) }
@@ -65,11 +66,11 @@ impl Outcomes {
         Ok(outcomes)
     }
 
-    /// Makes room for this many further outcomes, and for a frame of each. The list doesn't change.
+    /// Makes room for at least `more` further outcomes, each with its frame. The list doesn't change.
     ///
     /// # Errors
     ///
-    /// If memory is refused.
+    /// Returns an error only if an allocation fails.
     pub fn reserve(&mut self, alloc: Global, more: usize) -> Result<(), AllocError>
         ensures stays { self.new.list ≡ self.old.list }
         ensures room { IfOk result (λ done. more ≤ self.new.room) }

@@ -1,4 +1,4 @@
-// What is played on the stations of a network.
+// How ticks are played on the stations of a network.
 
 ghost use Rattle.std.specs.Prelude.{◌≡◌, ◌<◌, ◌≤◌, length};
 ghost use Rattle.adapter.specs.declared.step.StepKind.TheVariants.{TxPut};
@@ -14,7 +14,7 @@ use crate::tick::Tick;
 use adapter::{Outcome, StepKind};
 
 impl Stations {
-    /// Plays a tick. The observer is told its outcome, with the number of accesses that the call made before it.
+    /// Plays a tick. The observer is told its outcome, with the number of accesses that the call made before the tick.
     #[inline(always)]
     pub fn play<O: Observer>(&mut self, tick: Tick, accesses: u64, observer: &mut O)
         requires room { 0 < O.room_left observer.old }
@@ -28,8 +28,8 @@ impl Stations {
         }
     }
 
-    /// A host's adapter takes a step. If there is no such host, the outcome is `Nothing`. Other stations change only if
-    /// the step is TxPut: the frame then waits at the other ends of the wire.
+    /// Plays a step of a host's adapter. If there is no such host, the outcome is `Nothing`. Other stations change only
+    /// if the step puts a frame (TxPut): the frame then waits at the other ends of the wire.
     #[inline(always)]
     fn play_step<O: Observer>(
         &mut self,
@@ -56,7 +56,8 @@ impl Stations {
         }
     }
 
-    /// A host's adapter puts its oldest frame onto the wire, if each other end has room. The frame then waits there.
+    /// Plays the step TxPut of a host's adapter. The wire is free if each other end has room. A frame that the step
+    /// puts waits at each other end.
     #[inline(never)]
     fn put<O: Observer>(&mut self, host: usize, accesses: u64, observer: &mut O)
         requires there { host < length self.old }
@@ -80,7 +81,7 @@ impl Stations {
         self.machines[host].step(StepKind::TxPut, true);
     }
 
-    /// The oldest frame that waits at a host's end is delivered.
+    /// Delivers the oldest frame that waits at a host's end, if there is one.
     #[inline(never)]
     fn deliver<O: Observer>(&mut self, host: usize, accesses: u64, observer: &mut O)
         requires room { 0 < O.room_left observer.old }
@@ -101,7 +102,7 @@ impl Stations {
         self.wires.pop(host);
     }
 
-    /// Plays the ticks up to the next `Go`, and returns those after it.
+    /// Plays the ticks up to the next `Go`, and returns the ticks after this `Go`.
     #[inline(never)]
     pub(crate) fn play_group<'t, O: Observer>(
         &mut self,
@@ -126,7 +127,7 @@ impl Stations {
         rest
     }
 
-    /// Plays all ticks but each `Go`. The observer is told each outcome, with this number of accesses.
+    /// Plays all ticks except each `Go`. The observer is told each outcome, with this number of accesses.
     #[inline(never)]
     pub fn play_rest<O: Observer>(&mut self, ticks: &[Tick], accesses: u64, observer: &mut O)
         requires room { length ticks.now ≤ O.room_left observer.old }

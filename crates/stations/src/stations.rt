@@ -10,10 +10,10 @@ use descriptors::Frame;
 use std::alloc::{AllocError, Global};
 use std::marker::Model;
 
-/// The stations of a network. Each host has one: its adapter with the host's memory, and its end of a wire. Stations
-/// have numbers, in the order in which they were connected.
+/// The stations of a network. Each host has a station: its adapter with the host's memory, and its end of a wire.
+/// Stations are numbered in the order in which they were connected.
 ///
-/// In contracts it is a list of `StationState`, plain data that `specs/Stations.antt` lists.
+/// In contracts, the value is a list of `StationState` (`specs/Stations.antt`).
 #[derive(Drop)]
 pub struct Stations {
     pub(crate) machines: Vec<Machine>,
@@ -33,11 +33,11 @@ impl Model for Stations {
     ghost invariant = { HasEndsOfWires };
 }
 
-/// Makes room for a machine more, and an end of this wire.
+/// Makes room for one more machine, and appends an end of this wire.
 ///
 /// # Errors
 ///
-/// Only if memory is refused. Then nothing has changed.
+/// Returns an error only if an allocation fails. Then nothing has changed.
 fn make_place(
     machines: &mut Vec<Machine>,
     wires: &mut Wires,
@@ -53,7 +53,7 @@ fn make_place(
     wires.connect(alloc, wire)
 }
 
-/// Appends a machine to those for which there is room.
+/// Appends a machine to a list that has room for it.
 fn append(machines: &mut Vec<Machine>, machine: Machine)
     requires room { length machines.old.items < vec_capacity machines.old }
     ensures { machines.new.items ≡ machines.old.items ++ machine ∷ [] }
@@ -88,11 +88,11 @@ impl Stations {
         }
     }
 
-    /// Appends a station with this machine, on this wire. No frame waits at its end.
+    /// Appends a station with this machine on this wire. No frame waits at its end of the wire.
     ///
     /// # Errors
     ///
-    /// Only if memory is refused. Then nothing has changed.
+    /// Returns an error only if an allocation fails. Then nothing has changed.
     pub fn connect(
         &mut self,
         alloc: Global,
@@ -126,7 +126,8 @@ impl Stations {
         &self.machines[host]
     }
 
-    /// What the statistics registers of a host's adapter hold; none is cleared.
+    /// The values of MPC, RNBC, GPRC and GPTC of a host's adapter, without clearing them (section 13.7 of Intel's
+    /// manual).
     pub fn counts(&self, host: usize) -> FrameCounts
         requires there { host < length self.now }
         ensures missed { result.missed ≡ (world_at self.now host).adapter.missed_packets }
@@ -137,8 +138,8 @@ impl Stations {
         self.machine(host).counts()
     }
 
-    /// Appends the frames that a host has to send to `sending`, and those that it holds to `holding`. See
-    /// [`Adapter::pending`](adapter::Adapter::pending).
+    /// Appends the frames that a host's adapter has still to send to `sending`, and the received frames that it holds
+    /// to `holding`. See [`Adapter::pending`](adapter::Adapter::pending).
     pub fn pending(
         &self,
         host: usize,
@@ -159,8 +160,7 @@ impl Stations {
         self.machine(host).pending(oldest, sending, holding);
     }
 
-    /// Performs one step of a host's adapter. No other station and no wire changes. The step isn't TxPut, so it
-    /// doesn't matter whether the wire is free.
+    /// Performs one step of a host's adapter, other than TxPut. No other station and no wire changes.
     pub fn step(&mut self, host: usize, kind: StepKind) -> Outcome<()>
         requires there { host < length self.old }
         requires stays { kind ≢ TxPut }
@@ -172,9 +172,9 @@ impl Stations {
         self.machines[host].step(kind, true)
     }
 
-    /// The log of a host's wire: the frames that were put on it, in order, each with the number of its sender. Entries
-    /// that each other end has read may be missing. The frames that wait at the host's end are the last of those that
-    /// other hosts put.
+    /// The log of a host's wire: frames that were put on it, in order, each with the number of its sender. Entries that
+    /// each other end has read may be missing. The frames that wait at the host's end are the last ones in the log from
+    /// other senders.
     pub fn log(&self, host: usize) -> &[(usize, Frame)]
         requires there { host < length self.now }
         ensures waits { backlog_at self.now host
@@ -233,7 +233,7 @@ impl Stations {
         self.machines[host].store(address, bytes);
     }
 
-    /// How many bytes a host's memory has.
+    /// The number of bytes of a host's memory.
     pub(crate) fn size(&self, host: usize) -> u64
         requires there { host < length self.now }
         ensures { result ≡ length (world_at self.now host).memory }

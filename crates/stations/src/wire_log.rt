@@ -3,18 +3,18 @@
 ghost use Rattle.std.specs.Prelude.{◌≡◌, ◌+◌, ◌<◌, ◌≤◌, ◌↔◌, ◌∷◌, ◌++◌, [], IfOk, IfSome, IsNone, Some};
 ghost use Rattle.std.specs.Prelude.{drop, length, slice_get};
 ghost use Rattle.descriptors.specs.Frames.{longest_frame};
-ghost use Rattle.stations.specs.WireLogs.{closed_up, frame_at, frames_of_others, log_entries};
+ghost use Rattle.stations.specs.WireLogs.{closed_up, entry_frame, frames_of_others, log_entries};
 
 use descriptors::Frame;
 use std::alloc::{AllocError, Global};
 use std::marker::Model;
 
-/// The most entries that the log of a wire has (our choice).
+/// The greatest number of entries of a wire's log (our choice).
 pub const LOG_ENTRIES: usize = 1024;
 
-/// The log of a wire: the frames that hosts put on it, in order, each with the number of its sender.
+/// The log of a wire: frames that hosts put on it, in order, each with the number of its sender.
 ///
-/// Its memory is allocated when it is made. In contracts it is a list of `LogEntry`.
+/// [`new`](WireLog::new) allocates its memory. In contracts, the value is a list of `LogEntry`.
 #[derive(Drop)]
 pub(crate) struct WireLog {
     entries: Vec<(usize, Frame)>,
@@ -38,7 +38,7 @@ impl WireLog {
     ///
     /// # Errors
     ///
-    /// Only if memory is refused.
+    /// Returns an error only if an allocation fails.
     pub(crate) fn new(alloc: Global) -> Result<WireLog, AllocError>
         ensures { IfOk result (λ log. log ≡ []) }
     {
@@ -63,7 +63,7 @@ impl WireLog {
         self.entries.as_slice()
     }
 
-    /// Appends a frame of a sender. The log isn't full.
+    /// Appends a frame of a sender. The log must not be full.
     pub(crate) fn append(&mut self, sender: usize, frame: &[u8])
         requires room { length self.old < log_entries }
         requires fits { length frame.now ≤ longest_frame }
@@ -72,13 +72,13 @@ impl WireLog {
         let _ = self.entries.push((sender, Frame::from_slice(frame)));
     }
 
-    /// The place of the first frame from this place on that another host put.
+    /// The place of the first entry, at `from` or later, whose sender isn't `reader`.
     pub(crate) fn next(&self, reader: usize, from: usize) -> Option<usize>
         ensures none { IsNone result ↔ (frames_of_others reader (drop from self.now) ≡ []) }
         ensures there { IfSome result (λ place. (from ≤ place) × (place < length self.now)) }
         ensures most { IfSome result (λ place. place < log_entries) }
         ensures first { IfSome result (λ place. frames_of_others reader (drop from self.now)
-            ≡ frame_at place self.now ∷ frames_of_others reader (drop (place + 1) self.now)) }
+            ≡ entry_frame place self.now ∷ frames_of_others reader (drop (place + 1) self.now)) }
     {
         for place in from..self.entries.len() {
             if self.entries[place].0 != reader {
@@ -88,16 +88,16 @@ impl WireLog {
         None
     }
 
-    /// The frame at a place.
+    /// The frame of the entry at this place.
     pub(crate) fn frame(&self, place: usize) -> &[u8]
         requires there { place < length self.now }
-        ensures value { result.now ≡ frame_at place self.now }
+        ensures value { result.now ≡ entry_frame place self.now }
         ensures fits { length result.now ≤ longest_frame }
     {
         self.entries[place].1.as_slice()
     }
 
-    /// The first frame from this place on that another host put, if there is one.
+    /// The frame of the first entry, at `from` or later, whose sender isn't `reader`.
     pub(crate) fn front(&self, reader: usize, from: usize) -> Option<&[u8]>
         ensures none { IsNone result ↔ (frames_of_others reader (drop from self.now) ≡ []) }
         ensures oldest { IfSome result (λ frame. slice_get (frames_of_others reader (drop from self.now)) 0
@@ -108,8 +108,9 @@ impl WireLog {
         Some(self.frame(place))
     }
 
-    /// Drops the entries for which no end waits: all before `first`, the cursor of the end that read least, and those
-    /// of that end's own host before `second`, the least cursor of the other ends.
+    /// Drops all entries before `first`, and the entries before `second` that `reader` sent. Each end has read the
+    /// dropped entries of other senders if `first` is the least cursor, `reader` is the end with this cursor, and
+    /// `second` is the least cursor of the other ends.
     pub(crate) fn close_up(&mut self, reader: usize, first: usize, second: usize)
         requires order { first ≤ second }
         requires there { second ≤ length self.old }

@@ -16,17 +16,18 @@ use descriptors::Frame;
 use std::alloc::{AllocError, Global};
 use std::marker::Model;
 
-/// How many frames may wait at an end of a wire (our choice).
+/// The greatest number of frames that may wait at an end of a wire (our choice).
 pub const END_FRAMES: u8 = 64;
 
-/// An end of a wire: where its host reads in the wire's log.
+/// An end of a wire, with the place in the wire's log up to which its host has read.
 #[derive(Drop)]
 pub(crate) struct End {
-    /// The number of its wire.
+    /// The number of the end's wire.
     wire: usize,
     /// The place of the wire's log in the list of logs.
     log: usize,
-    /// The first entry of the log that the host may not have read. The frames of other senders from there on wait.
+    /// The place of the first entry of the log that the host may not have read. The frames of other senders from this
+    /// place on wait.
     cursor: usize,
     /// The number of frames that wait.
     waiting: u8,
@@ -34,7 +35,7 @@ pub(crate) struct End {
 
 /// The wires of a network: a log for each wire, and an end for each host, in the order of their numbers.
 ///
-/// In contracts it is a list of `EndState`, plain data that `specs/Ends.antt` lists.
+/// In contracts, the value is a list of `EndState` (`specs/Ends.antt`).
 #[derive(Drop)]
 pub(crate) struct Wires {
     logs: Vec<WireLog>,
@@ -54,7 +55,7 @@ impl Model for Wires {
     ghost invariant = { λ inside. HaveLogs inside.logs.items inside.ends.items };
 }
 
-/// The log in which the ends of a wire read. A wire without ends has none.
+/// The log in which the ends of a wire read. A wire without ends has no log.
 fn log_of(ends: &[End], wire: usize) -> Option<usize>
     ensures none { IsNone result → (k : ℕ) → k < length ends.now → (end_at ends.now k).wire ≢ wire }
     ensures some { IfSome result (λ log. IsReaderOn wire log ends.now) }
@@ -67,11 +68,11 @@ fn log_of(ends: &[End], wire: usize) -> Option<usize>
     None
 }
 
-/// The log for the next end of a wire: that of its other ends, or a new one.
+/// The log for the next end of a wire: the log of its other ends, or a new log.
 ///
 /// # Errors
 ///
-/// Only if memory is refused. Then nothing has changed.
+/// Returns an error only if an allocation fails. Then nothing has changed.
 fn log_for(
     logs: &mut Vec<WireLog>,
     ends: &[End],
@@ -104,7 +105,7 @@ fn others_have_room(ends: &[End], sender: usize, wire: usize) -> bool
     true
 }
 
-/// The end that read least of a log. The sender's end reads in this log.
+/// The end with the least cursor among the ends that read a log. The sender's end must read this log.
 fn slowest(ends: &[End], log: usize, sender: usize) -> usize
     requires there { IsReader log ends.now sender }
     ensures { IsSlowest (length ends.now) log ends.now result }
@@ -118,7 +119,7 @@ fn slowest(ends: &[End], log: usize, sender: usize) -> usize
     reader
 }
 
-/// The least cursor in a log, of all ends but one; `most` if there is no other end.
+/// The least cursor in a log, of all ends except the end `but`; `most` if no such cursor is less.
 fn least_cursor(ends: &[End], log: usize, but: usize, most: usize) -> usize
     ensures { IsLeastCursor (length ends.now) log but most ends.now result }
 {
@@ -131,8 +132,7 @@ fn least_cursor(ends: &[End], log: usize, but: usize, most: usize) -> usize
     least
 }
 
-/// Sets the cursors in a log from which entries were dropped, this many. The slowest end had at most as many before its
-/// cursor, so it then reads from the front.
+/// Subtracts the number of dropped entries from each cursor in a log; a smaller cursor becomes 0.
 fn move_cursors(ends: &mut [End], log: usize, dropped: usize)
     ensures { (k : ℕ) → slice_get ends.new k ≡ option_map (moved_cursor log dropped) (slice_get ends.old k) }
 {
@@ -143,7 +143,7 @@ fn move_cursors(ends: &mut [End], log: usize, dropped: usize)
     }
 }
 
-/// Makes room for an entry in a log. If it is full, it drops those entries for which no end waits.
+/// Makes room for an entry in a log. If the log is full, entries that each other end has read are dropped.
 fn make_room(ends: &mut [End], wire_log: &mut WireLog, log: usize, sender: usize)
     requires there { IsReader log ends.old sender }
     requires reads { ReadIn log wire_log.old ends.old }
@@ -159,7 +159,7 @@ fn make_room(ends: &mut [End], wire_log: &mut WireLog, log: usize, sender: usize
     move_cursors(ends, log, entries - wire_log.len());
 }
 
-/// Counts one more waiting frame at each end of a log but the sender's.
+/// Counts one more waiting frame at each end of a log except the sender's.
 fn count_waiting(ends: &mut [End], log: usize, sender: usize)
     requires room { (k : ℕ) (end : End) → slice_get ends.old k ≡ Some end → k ≢ sender → end.log ≡ log
         → end.waiting < END_FRAMES }
@@ -172,7 +172,7 @@ fn count_waiting(ends: &mut [End], log: usize, sender: usize)
     }
 }
 
-/// Puts a frame of a sender into a log: it waits at each other end that reads in the log.
+/// Appends a sender's frame to a log. The frame then waits at each other end that reads the log.
 fn put_frame(ends: &mut [End], wire_log: &mut WireLog, log: usize, sender: usize, frame: &[u8])
     requires there { IsReader log ends.old sender }
     requires reads { ReadIn log wire_log.old ends.old }
@@ -197,11 +197,11 @@ impl Wires {
         }
     }
 
-    /// The next host gets an end of this wire.
+    /// Appends an end of this wire, for the next host.
     ///
     /// # Errors
     ///
-    /// Only if memory is refused. Then nothing has changed.
+    /// Returns an error only if an allocation fails. Then nothing has changed.
     pub(crate) fn connect(&mut self, alloc: Global, wire: usize) -> Result<(), AllocError>
         ensures connected { IfOk result (λ done. self.new ≡ self.old ++ record { wire = wire; line = [] } ∷ []) }
         ensures err { OnErr result (self.new ≡ self.old) }
@@ -226,14 +226,15 @@ impl Wires {
         self.ends[host].wire
     }
 
-    /// Whether each other end of the wire has room for one more frame.
+    /// Whether each end of the wire, except the sender's, has room for one more frame.
     pub(crate) fn have_room(&self, sender: usize, wire: usize) -> bool
         ensures { IsTrue result ↔ HaveRoom self.now sender wire }
     {
         others_have_room(self.ends.as_slice(), sender, wire)
     }
 
-    /// Puts a frame onto its sender's wire: it waits at each other end of this wire. Each of these ends must have room.
+    /// Puts a frame onto its sender's wire. The frame then waits at each other end of this wire; each of these ends
+    /// must have room.
     pub(crate) fn put(&mut self, sender: usize, wire: usize, frame: &[u8])
         requires there { sender < length self.old }
         requires on { (end : EndState) → slice_get self.old sender ≡ Some end → wire ≡ end.wire }
@@ -279,7 +280,8 @@ impl Wires {
         end.waiting -= 1;
     }
 
-    /// The log of a host's wire.
+    /// The log of a host's wire. The frames that wait at the host's end are the last ones in the log from other
+    /// senders.
     pub(crate) fn log(&self, host: usize) -> &[(usize, Frame)]
         requires there { host < length self.now }
         ensures waits { (end : EndState) → slice_get self.now host ≡ Some end

@@ -1,25 +1,26 @@
--- How the engine keeps its packet buffer (our choice): the frames in one queue, and what their descriptors ask for in another.
+-- How the engine stores its packet buffer (our choice): the frames in one queue, and the reports in another. A report is the address and
+-- the RS bit of a frame's descriptor.
 use Rattle.std.specs.Prelude.{◌≡◌, ℕ, List, [], ◌∷◌, length, not}
 use Rattle.tx_engine.specs.Transmitter.{Queued, Transmitter}
 use Rattle.tx_engine.specs.declared.report.Report.{Report}
 use Rattle.tx_engine.specs.declared.engine.TxEngine.TheInside.{Inside}
 
--- Frames and what their descriptors ask for, side by side.
+-- The frames, each with its report.
 abbrev pub side_by_side : List (List ℕ) → List Report → List Queued
 side_by_side [] reports = []
 side_by_side (frame ∷ frames) [] = []
 side_by_side (frame ∷ frames) (report ∷ reports) = record { frame = frame; descriptor = report.descriptor; report = report.wanted }
     ∷ side_by_side frames reports
 
--- The plain data of a transmit engine, as contracts see it.
+-- The plain data of a transmit engine, in contracts.
 abbrev pub transmitter_of : Inside → Transmitter
 transmitter_of engine = record { buffer = side_by_side engine.frames.frames engine.reports.items; stopped = not engine.running }
 
--- What holds of the fields at all times.
+-- The invariant of the fields.
 pub record IsWhole (engine : Inside) : Type 0 where
   -- The queue of frames has four places.
   pub frames : engine.frames.capacity ≡ 4
-  -- The queue of what their descriptors ask for has four places.
+  -- The queue of reports has four places.
   pub reports : engine.reports.capacity ≡ 4
-  -- Both have the same number of entries.
+  -- Both queues have the same number of entries.
   pub same : length engine.frames.frames ≡ length engine.reports.items

@@ -1,4 +1,4 @@
--- Frames and what their descriptors ask for, side by side.
+-- Lemmas about frames, each paired with the report of its descriptor.
 use Rattle.std.proofs.Common.{◌≡◌, ◌<◌, not, length-append, ◌++◌, ◌∷◌, [], ℕ, List, length, map, flat_map, slice_get, Some, ◌↔◌}
 use Rattle.std.proofs.Common.{refl, ap, ◌∙◌, arith}
 use Rattle.circular_buffer.specs.Buffer.{Buffer, buffer, keep_last}
@@ -11,7 +11,7 @@ use Rattle.tx_engine.specs.Steps.{IfFront}
 use Rattle.tx_engine.specs.declared.report.Report.{Report}
 use Rattle.tx_engine.specs.declared.engine.TxEngine.TheInside.{Inside}
 
--- There are as many pairs as frames.
+-- The number of pairs is the number of frames.
 pub length-side_by_side : (frames : List (List ℕ)) (reports : List Report) → length frames ≡ length reports
     → length (side_by_side frames reports) ≡ length frames
 length-side_by_side [] reports same = refl
@@ -20,7 +20,7 @@ length-side_by_side (frame ∷ frames) (report ∷ reports) same =
     let rest = length-side_by_side frames reports (omega arith) in
     omega arith
 
--- One more frame is in the last pair.
+-- One more frame, with its report, is the last pair.
 pub side_by_side-push : (frames : List (List ℕ)) (reports : List Report) (frame : List ℕ) (report : Report) → length frames ≡ length reports
     → side_by_side (frames ++ frame ∷ []) (reports ++ report ∷ [])
     ≡ side_by_side frames reports ++ record { frame = frame; descriptor = report.descriptor; report = report.wanted } ∷ []
@@ -38,7 +38,7 @@ side_by_side-none [] reports same = (λ none. refl, λ none. refl)
 side_by_side-none (frame ∷ frames) [] same = absurd (omega arith)
 side_by_side-none (frame ∷ frames) (report ∷ reports) same = (λ none. cc, λ none. cc)
 
--- The oldest frame is in the first pair.
+-- The oldest frame is the frame of the first pair.
 pub side_by_side-front : (frames : List (List ℕ)) (reports : List Report) (frame : List ℕ) → length frames ≡ length reports
     → slice_get frames 0 ≡ Some frame → IfFront (side_by_side frames reports) (λ queued. queued.frame ≡ frame)
 side_by_side-front [] reports frame same front = tt
@@ -52,7 +52,7 @@ side_by_side-frames [] reports same = refl
 side_by_side-frames (frame ∷ frames) [] same = absurd (omega arith)
 side_by_side-frames (frame ∷ frames) (report ∷ reports) same = ap (λ fs. frame ∷ fs) (side_by_side-frames frames reports (omega arith))
 
--- Of their descriptors the pairs feed to a hasher what the reports feed.
+-- The pairs feed the same addresses and RS bits to a hasher as the reports.
 pub side_by_side-reports : (frames : List (List ℕ)) (reports : List Report) → length frames ≡ length reports
     → flat_map queued_writes (side_by_side frames reports) ≡ flat_map report_writes reports
 side_by_side-reports [] [] same = refl
@@ -61,14 +61,14 @@ side_by_side-reports (frame ∷ frames) [] same = absurd (omega arith)
 side_by_side-reports (frame ∷ frames) (report ∷ reports) same =
     ap (λ ws. report_writes report ++ ws) (side_by_side-reports frames reports (omega arith))
 
--- A frame more, in both queues: the reports in order.
+-- After a frame and its report are added, this report is the last one.
 pushed-reports : (engine : Inside) (report : Report) (reports : Buffer Report) → IsWhole engine → length engine.frames.frames < 4
     → reports ≡ buffer (keep_last engine.reports.capacity (engine.reports.items ++ report ∷ [])) engine.reports.capacity
     → reports.items ≡ engine.reports.items ++ report ∷ []
 pushed-reports engine report reports whole room pushed = ap (λ (b : Buffer Report). b.items) pushed
     ∙ keep_last-room engine.reports.items engine.reports.capacity report (omega (arith, whole.reports, whole.same))
 
--- A frame more, in both queues, keeps them side by side.
+-- Adding a frame and its report preserves the invariant.
 pub pushed-whole : (engine : Inside) (frame : List ℕ) (report : Report) (frames : Frames) (reports : Buffer Report) → IsWhole engine
     → length engine.frames.frames < 4 → frames ≡ record engine.frames { frames = engine.frames.frames ++ frame ∷ [] }
     → reports ≡ buffer (keep_last engine.reports.capacity (engine.reports.items ++ report ∷ [])) engine.reports.capacity
@@ -83,7 +83,7 @@ pushed-whole engine frame report frames reports whole room pushed_frame pushed_r
           (omega (arith, whole.same, length-append engine.frames.frames (frame ∷ []), length-append engine.reports.items (report ∷ [])));
     }
 
--- One more frame, in both queues, is the last one of the packet buffer.
+-- After a frame and its report are added, the frame is the last one of the packet buffer.
 pub pushed-view : (engine : Inside) (frame : List ℕ) (report : Report) (frames : Frames) (reports : Buffer Report) (seen : Transmitter)
     → transmitter_of engine ≡ seen → IsWhole engine → length engine.frames.frames < 4
     → frames ≡ record engine.frames { frames = engine.frames.frames ++ frame ∷ [] }

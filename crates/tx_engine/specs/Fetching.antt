@@ -1,4 +1,4 @@
--- What the transmit engine reads ("3.3 Packet Transmission" of Intel's manual), and when it reads at all.
+-- What the transmit engine reads from memory, and under which conditions ("3.3 Packet Transmission" of Intel's manual).
 use Rattle.std.specs.Prelude.{◌≡◌, ◌<◌, ◌≤◌, ◌⊎◌, if◌then◌else◌, Bool, IsTrue, ℕ, List, length}
 use Rattle.dma_memory.specs.HostMemory.{bytes_at, LiesIn}
 use Rattle.registers.specs.Bits.{HasBit, is_set}
@@ -11,7 +11,7 @@ use Rattle.descriptors.specs.TxDesc.{tx_desc_of}
 use Rattle.descriptors.specs.TxFields.{command_bits, tx_dext, tx_eop, tx_rs}
 use Rattle.tx_engine.specs.Transmitter.{Queued, Transmitter}
 
--- Whether a transmit control register pads short packets: PSP ("13.4.33 Transmit Control Register").
+-- Whether this value of TCTL pads short packets: PSP is set ("13.4.33 Transmit Control Register").
 abbrev pub pads : ℕ → Bool
 pads control = is_set control tctl_psp
 
@@ -23,11 +23,11 @@ descriptor_at memory address = tx_desc_of (bytes_at memory address 16)
 abbrev pub named_by : List ℕ → TxDesc → List ℕ
 named_by memory desc = bytes_at memory desc.address desc.length
 
--- A frame as it goes onto the wire: with padding, followed by zeros up to 60 bytes.
+-- A frame as it is put onto the wire. If the adapter pads, the frame is followed by zeros up to 60 bytes.
 abbrev pub as_sent : Bool → List ℕ → List ℕ
 as_sent pad frame = if pad then padded frame else frame
 
--- The frame that the descriptor at an address names, as it goes onto the wire.
+-- The frame that the descriptor at an address names, as it is put onto the wire.
 abbrev pub frame_at : Bool → List ℕ → ℕ → List ℕ
 frame_at pad memory address = as_sent pad (named_by memory (descriptor_at memory address))
 
@@ -40,12 +40,12 @@ fetched pad memory address = record {
 }
 
 -- The engine has nothing to take: TCTL.EN is 0, a fault has stopped it, its buffer holds four frames (our choice), or head equals tail.
-abbrev pub IsIdle : ℕ → Transmitter → Ring → Type 0
-IsIdle control engine ring =
+abbrev pub HasNoFrameToTake : ℕ → Transmitter → Ring → Type 0
+HasNoFrameToTake control engine ring =
     (¬ (HasBit control tctl_en)) ⊎ (IsTrue engine.stopped ⊎ ((length engine.buffer ≡ 4) ⊎ (ring.head ≡ ring.tail)))
 
--- A descriptor that this adapter can transmit (our choice; by the manual a packet may span several descriptors): it holds the end
--- of its packet, it has the legacy format, and it names 1 to 1,518 bytes of memory.
+-- A descriptor that this adapter can transmit (our choice; by the manual a packet may span several descriptors). It contains the end of its
+-- packet, has the legacy format, and names 1 to 1,518 bytes of memory.
 pub record IsTransmittable (memory : List ℕ) (desc : TxDesc) : Type 0 where
   -- The frame ends in this descriptor: EOP is set.
   pub ends : HasBit (command_bits desc.command) tx_eop
@@ -58,8 +58,8 @@ pub record IsTransmittable (memory : List ℕ) (desc : TxDesc) : Type 0 where
   -- The frame is inside memory.
   pub lies : LiesIn memory desc.address desc.length
 
--- The engine can take the frame at the head: head and tail are slots of the ring, the descriptor at the head is inside memory, and it
--- can be transmitted.
+-- The engine can take the frame at the head. Head and tail are slots of the ring. The descriptor at the head is inside memory, and can be
+-- transmitted.
 pub record IsFetchable (memory : List ℕ) (ring : Ring) : Type 0 where
   -- TDH and TDT are indices of descriptors in the ring.
   pub sound : HasValidIndices ring

@@ -1,4 +1,4 @@
--- The frames to be sent, step by step.
+-- Lemmas: the effect of each step on the frames to be sent.
 use Rattle.std.proofs.Common.{◌≡◌, ◌-◌, replicate, ◌++◌, ◌∷◌, [], Bool, true, false, ℕ, List, length, map, refl, sym, ap, ◌∙◌, append_assoc}
 use Rattle.std.proofs.Common.{arith, cond}
 use Rattle.std.proofs.lemmas.List.{append-nil, map-append}
@@ -8,7 +8,7 @@ use Rattle.tx_engine.specs.Transmitter.{Queued}
 use Rattle.tx_engine.specs.Fetching.{descriptor_at, named_by, frame_at, fetched, as_sent}
 use Rattle.tx_engine.specs.ToSend.{to_send, TakingMovesFrames, PuttingTakesFront, OfferingAddsFrames}
 
--- Taking moves the frame of the slot at the head from the ring's part to the buffer's end.
+-- A take step moves the frame of the slot at the head from the ring to the end of the buffer.
 pub to_send-take : TakingMovesFrames
 unfolding to_send
 to_send-take memory ring pad buffer sound apart =
@@ -20,12 +20,12 @@ to_send-take memory ring pad buffer sound apart =
     ∙ append_assoc (map (λ (queued : Queued). queued.frame) buffer) (last.frame ∷ []) (map frames rest)
     ∙ ap (λ (behind : List (List ℕ)). map (λ (queued : Queued). queued.frame) buffer ++ behind) (sym whole)
 
--- Putting takes the first of the frames to be sent.
+-- A put step removes the first of the frames to be sent.
 pub to_send-put : PuttingTakesFront
 unfolding to_send
 to_send-put memory ring pad queued buffer = refl
 
--- A driver that moves tail on adds the frame of the slot at the old tail.
+-- If a driver advances the tail, the frame of the slot at the old tail is added.
 pub to_send-offer : OfferingAddsFrames
 unfolding to_send
 to_send-offer memory ring pad buffer sound apart =
@@ -35,7 +35,7 @@ to_send-offer memory ring pad buffer sound apart =
     ∙ ap (λ (behind : List (List ℕ)). front ++ behind) (map-append frames (offered_places ring) (ring.tail ∷ []))
     ∙ sym (append_assoc front (map frames (offered_places ring)) (frames ring.tail ∷ []))
 
--- A frame followed by zeros up to 60 bytes, or up to none, is the frame as it is sent.
+-- A frame, followed by zeros up to 60 bytes if the adapter pads, is the frame as it is sent.
 zeros-as_sent : (pad : Bool) (frame : List ℕ) (least : ℕ) → least ≡ cond pad 60 0
     → frame ++ replicate (least - length frame) 0 ≡ as_sent pad frame
 zeros-as_sent true frame least same = ap (λ (n : ℕ). frame ++ replicate (n - length frame) 0) same
@@ -43,7 +43,7 @@ zeros-as_sent false frame least same =
     let none : least - length frame ≡ 0 = omega arith in
     ap (λ (n : ℕ). frame ++ replicate n 0) none ∙ append-nil frame
 
--- What is pushed of a descriptor, with padding or without, is what the engine makes of it.
+-- The frame that is pushed for a descriptor, padded or not, is the frame that the engine fetches.
 pub pushed-fetched : (pad : Bool) (memory bytes : List ℕ) (address descriptor least : ℕ) (reports : Bool)
     → bytes ≡ named_by memory (descriptor_at memory address) → descriptor ≡ address → reports ≡ (fetched pad memory address).report
     → least ≡ cond pad 60 0

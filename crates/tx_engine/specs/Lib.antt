@@ -4,6 +4,7 @@ pub mod Hashed
 pub mod Buffer
 pub mod Steps
 pub mod ToSend
+pub mod QueuedFrames
 pub mod Laws
 pub mod BufferLaws
 pub mod StatusLaws

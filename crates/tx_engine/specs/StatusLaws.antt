@@ -1,4 +1,4 @@
--- What written bytes don't change: the other bytes, and the frames that are elsewhere.
+-- Lemmas: a write doesn't change bytes and frames that are apart from it.
 use Rattle.std.proofs.Common.{◌≡◌, ◌<◌, ◌+◌, ◌++◌, ◌∷◌, [], Bool, true, false, ◌&&◌, if◌then◌else◌, ℕ, zero, suc, List, length, map, drop}
 use Rattle.std.proofs.Common.{slice_index, refl, sym, ap, ◌∙◌, arith, lit≤}
 use Rattle.std.proofs.lemmas.Bool.{and_parts, ltb-true}
@@ -19,7 +19,7 @@ use Rattle.tx_engine.specs.Laws.{to_send-put}
 use Rattle.tx_engine.specs.Steps.{IfFront, status_place, written_back}
 use Rattle.tx_engine.specs.ToSend.{to_send, IsAwayFrom, OtherBytesLeaveFrames}
 
--- A number after a place is the number from that place on.
+-- If the first i bytes of a list are dropped, the place of each number moves by i.
 little_from-drop : (j n i : ℕ) (bytes : List ℕ) → little_from j n (drop i bytes) ≡ little_from (i + j) n bytes
 little_from-drop j zero i bytes = refl
 little_from-drop j (suc n) i bytes =
@@ -29,7 +29,7 @@ little_from-drop j (suc n) i bytes =
     let first : slice_index (drop i bytes) j ≡ slice_index bytes (i + j) = get_or-drop i bytes j 0 in
     rw (first, rest) refl
 
--- Address and length of a descriptor are in its first ten bytes.
+-- The address and the length of a descriptor are in its first ten bytes.
 address-first_ten : (memory : List ℕ) (address : ℕ)
     → little_number 8 (bytes_at memory address 16) ≡ little_number 8 (bytes_at memory address 10)
 address-first_ten memory address = little_from-take 0 8 16 (drop address memory) (lit≤ tt)
@@ -42,7 +42,7 @@ length-first_ten memory address =
     ∙ little_from-take 8 2 16 (drop address memory) (lit≤ tt)
     ∙ sym (little_from-take 8 2 10 (drop address memory) (lit≤ tt))
 
--- If the first ten bytes don't change, address and length don't.
+-- If the first ten bytes of a descriptor don't change, its address and length don't change.
 same-address : (memory changed : List ℕ) (address : ℕ) → bytes_at changed address 10 ≡ bytes_at memory address 10
     → (descriptor_at changed address).address ≡ (descriptor_at memory address).address
 unfolding tx_desc_of
@@ -55,7 +55,7 @@ unfolding tx_desc_of
 same-length memory changed address same = length-first_ten changed address ∙ ap (little_from 8 2) same
     ∙ sym (length-first_ten memory address)
 
--- Bytes away from a descriptor and its frame don't change the frame.
+-- A write apart from a descriptor and its frame doesn't change the frame.
 frame_at-away : (memory bytes : List ℕ) (pad : Bool) (place address : ℕ) → LiesIn memory place (length bytes)
     → IsAwayFrom memory (area_at place (length bytes)) address
     → frame_at pad (with_bytes memory place bytes) address ≡ frame_at pad memory address
@@ -83,28 +83,27 @@ frames-away memory bytes ring pad place (slot ∷ slots) lies away =
     ap (λ (frame : List ℕ). frame ∷ map (λ (slot : ℕ). frame_at pad (with_bytes memory place bytes) (address_of ring slot)) slots) first
     ∙ ap (λ (frames : List (List ℕ)). frame_at pad memory (address_of ring slot) ∷ frames) rest
 
--- Bytes away from the descriptors that the adapter owns and their frames don't change the frames to be sent.
+-- A write apart from the descriptors that the adapter owns and their frames doesn't change the frames to be sent.
 pub to_send-elsewhere : OtherBytesLeaveFrames
 unfolding to_send
 to_send-elsewhere memory ring pad buffer place bytes lies away =
     ap (λ (frames : List (List ℕ)). map (λ (queued : Queued). queued.frame) buffer ++ frames)
     (frames-away memory bytes ring pad place (offered_places ring) lies away)
 
--- One byte away from the descriptors that the adapter owns and their frames doesn't change the frames to be sent.
+-- A write of one byte apart from the descriptors that the adapter owns and their frames doesn't change the frames to be sent.
 pub to_send-away : (memory : List ℕ) (ring : Ring) (pad : Bool) (buffer : List Queued) (place byte : ℕ) → LiesIn memory place 1
     → All (λ slot. IsAwayFrom memory (area_at place 1) (address_of ring slot)) (offered_places ring)
     → to_send (with_bytes memory place (byte ∷ [])) ring pad buffer ≡ to_send memory ring pad buffer
 to_send-away memory ring pad buffer place byte lies away = to_send-elsewhere memory ring pad buffer place (byte ∷ []) lies away
 
--- Of two memories with the same frames to be sent, either has them.
+-- If two memories have the same frames to be sent, the memory that a test selects has these frames, too.
 to_send-either : (test : Bool) (memory changed : List ℕ) (ring : Ring) (pad : Bool) (buffer : List Queued)
     → (test ≡ true → to_send changed ring pad buffer ≡ to_send memory ring pad buffer)
     → to_send (if test then changed else memory) ring pad buffer ≡ to_send memory ring pad buffer
 to_send-either true memory changed ring pad buffer same = same refl
 to_send-either false memory changed ring pad buffer same = refl
 
--- The status byte of a frame that has gone out, away from them, doesn't change the frames to be sent, whether it is
--- written or not.
+-- The write-back of a frame that was put on the wire doesn't change the frames to be sent, if the status byte is apart from them.
 pub to_send-written_back : (memory : List ℕ) (ring : Ring) (pad : Bool) (buffer : List Queued) (queued : Queued)
     → All (λ slot. IsAwayFrom memory (area_at (status_place queued) 1) (address_of ring slot)) (offered_places ring)
     → to_send (written_back memory queued) ring pad buffer ≡ to_send memory ring pad buffer
@@ -116,7 +115,7 @@ to_send-written_back memory ring pad buffer queued away =
     (and_parts queued.report lies_there written).1 in
     to_send-away memory ring pad buffer (status_place queued) 1 (omega arith) away)
 
--- After the oldest frame of the buffer is put, the frames to be sent are those from before without their first.
+-- After the oldest frame of the buffer is put on the wire, the frames to be sent are those from before without the first.
 pub to_send-gone : (memory changed : List ℕ) (buffer : List Queued) → IfFront buffer (λ queued. changed ≡ written_back memory queued)
     → IfFront buffer (λ queued. (ring : Ring) (pad : Bool)
     → All (λ slot. IsAwayFrom memory (area_at (status_place queued) 1) (address_of ring slot)) (offered_places ring)

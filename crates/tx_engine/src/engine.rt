@@ -13,14 +13,14 @@ use std::alloc::{AllocError, Global};
 use std::hash::{Hash, Hasher};
 use std::marker::Model;
 
-/// How many frames the transmit packet buffer holds.
+/// The greatest number of frames in the transmit packet buffer.
 pub const PACKET_BUFFER_FRAMES: u8 = 4;
 
 /// The transmit engine of an adapter: the transmit packet buffer, which holds at most four frames, and whether a
 /// fault has stopped the engine.
 ///
-/// In contracts it is the list of the frames in the buffer, the oldest first, each with the address of its descriptor
-/// and whether that asks for a report, and the flag. Its memory is taken when it is made.
+/// In contracts, the value is the list of frames in the buffer, the oldest first, and the flag. Each frame has the
+/// address of its descriptor, and whether this descriptor asks for a report (RS). `new` allocates the memory.
 #[derive(Drop)]
 pub struct TxEngine {
     frames: FrameQueue,
@@ -43,11 +43,11 @@ impl Model for TxEngine {
 impl Clone for TxEngine {
     ghost is_clone = { λ engine copy. copy ≡ engine };
 
-    /// An engine in the same state.
+    /// A copy of the engine, in the same state.
     ///
     /// # Errors
     ///
-    /// If memory was refused.
+    /// Returns an error only if an allocation fails.
     fn clone(&self) -> Result<TxEngine, AllocError> {
         Ok(TxEngine {
             frames: self.frames.clone()?,
@@ -62,7 +62,7 @@ impl TxEngine {
     ///
     /// # Errors
     ///
-    /// Only if memory is refused.
+    /// Returns an error only if an allocation fails.
     pub fn new(alloc: Global) -> Result<TxEngine, AllocError>
         ensures { IfOk result (λ engine. engine ≡ new_transmitter) }
     {
@@ -82,7 +82,7 @@ impl TxEngine {
         self.running = true;
     }
 
-    /// How many frames the buffer holds.
+    /// The number of frames in the buffer.
     pub fn len(&self) -> u8
         ensures count { result ≡ length self.now.buffer }
         ensures fits { result ≤ 4 }
@@ -90,14 +90,14 @@ impl TxEngine {
         self.frames.len()
     }
 
-    /// Whether the buffer holds no frame.
+    /// Whether no frame is in the buffer.
     pub fn is_empty(&self) -> bool
         ensures { IsTrue result ↔ (self.now.buffer ≡ []) }
     {
         self.frames.is_empty()
     }
 
-    /// Whether the buffer holds as many frames as it can.
+    /// Whether the buffer is full: it contains four frames.
     pub fn is_full(&self) -> bool
         ensures full { IsTrue result ↔ (length self.now.buffer ≡ 4) }
         ensures fits { length self.now.buffer ≤ 4 }
@@ -112,8 +112,8 @@ impl TxEngine {
         !self.running
     }
 
-    /// The oldest frame of the buffer as it goes onto the wire, without a copy; `None` exactly if the buffer is empty.
-    /// It has 1,518 bytes at most.
+    /// The oldest frame of the buffer as it is put onto the wire, without a copy; `None` exactly if the buffer is
+    /// empty. The frame has at most 1,518 bytes.
     pub fn front(&self) -> Option<&[u8]>
         ensures none { IsNone result ↔ (self.now.buffer ≡ []) }
         ensures oldest { IfSome result (λ frame. IfFront self.now.buffer (λ queued. queued.frame ≡ frame.now)) }
@@ -142,14 +142,14 @@ impl TxEngine {
         feed_reports(wrapped, hasher);
     }
 
-    /// After a fault: the engine takes no frame until a reset.
+    /// Stops the engine after a fault: it takes no frame until a reset.
     pub(crate) fn stop(&mut self)
         ensures { self.new ≡ record self.old { stopped = true } }
     {
         self.running = false;
     }
 
-    /// Puts a frame after the others, followed by zeros up to `least` bytes. The buffer isn't full.
+    /// Appends a frame, followed by zeros up to `least` bytes. The buffer must not be full.
     pub(crate) fn push(&mut self, named: Named<'_>, least: usize)
         requires room { length self.old.buffer < 4 }
         requires fits { length named.bytes.now ≤ 1518 }
@@ -170,7 +170,8 @@ impl TxEngine {
         });
     }
 
-    /// Drops the oldest frame and returns what its descriptor asks for; `None` exactly if the buffer is empty.
+    /// Removes the oldest frame. Returns the address and the RS bit of its descriptor; `None` exactly if the buffer is
+    /// empty.
     pub(crate) fn pop(&mut self) -> Option<Report>
         ensures none { IsNone result ↔ (self.old.buffer ≡ []) }
         ensures rest { self.new ≡ record self.old { buffer = drop 1 self.old.buffer } }

@@ -9,18 +9,18 @@ use bitflags::Flags;
 use descriptors::{LONGEST_SENDABLE, Ring, TX_DESC_BYTES, TxCommand, TxDesc};
 use dma_memory::HostMemory;
 
-/// A frame that a descriptor names, lent from the host's memory.
+/// A frame that a descriptor names, borrowed from the host's memory.
 #[derive(Clone, Copy)]
 pub struct Named<'a> {
     /// The bytes of the frame.
     pub bytes: &'a [u8],
     /// The address at which the descriptor was read.
     pub descriptor: u64,
-    /// Whether the descriptor asks for a report.
+    /// Whether the descriptor asks for a report (RS).
     pub reports: bool,
 }
 
-/// Whether a descriptor holds the end of its packet: EOP is set.
+/// Whether a descriptor contains the end of its packet: EOP is set.
 fn ends_packet(command: TxCommand) -> bool
     ensures { IsTrue result ↔ HasBit (command_bits command) tx_eop }
 {
@@ -41,7 +41,7 @@ fn asks_report(command: TxCommand) -> bool
     command.contains(TxCommand::RS)
 }
 
-/// The descriptor at the head, with its address; `None` exactly if it doesn't lie in memory.
+/// The descriptor at the head, with its address; `None` exactly if the descriptor isn't inside memory.
 fn descriptor_at_head(ring: &Ring, memory: &HostMemory) -> Option<(u64, TxDesc)>
     ensures lies { IsSome result ↔ LiesIn memory.now (address_of ring.now ring.now.head) 16 }
     ensures address { IfSome result (λ found. found.0 ≡ address_of ring.now ring.now.head) }
@@ -58,7 +58,7 @@ fn descriptor_at_head(ring: &Ring, memory: &HostMemory) -> Option<(u64, TxDesc)>
     Some((address, TxDesc::from_bytes(&bytes)))
 }
 
-/// The bytes that a descriptor names, or `None` exactly if it can't be transmitted.
+/// The bytes that a descriptor names, or `None` exactly if the descriptor can't be transmitted.
 fn bytes_of<'a>(desc: &TxDesc, memory: &'a HostMemory) -> Option<&'a [u8]>
     ensures transmittable { IsSome result ↔ IsTransmittable memory.now desc.now }
     ensures value { IfSome result (λ bytes. bytes.now ≡ named_by memory.now desc.now) }

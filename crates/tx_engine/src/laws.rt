@@ -1,11 +1,12 @@
 ghost use Rattle.tx_engine.specs.ToSend.{TakingMovesFrames, PuttingTakesFront, OtherBytesLeaveFrames};
 ghost use Rattle.tx_engine.specs.ToSend.{OfferingAddsFrames};
 
-/// Laws of the frames to be sent: those in the transmit packet buffer, then those that the descriptors from head to
-/// tail name. Taking moves the first of the ring's part to the buffer's end, putting takes the front, bytes written
-/// apart from these descriptors and their frames don't change the list, and moving tail on adds a frame at its end.
+/// Laws of the frames to be sent: first the frames in the transmit packet buffer, then the frames that the descriptors
+/// from head to tail name. A take step moves the frame at the head to the end of the buffer, so it doesn't change the
+/// list. A put step removes the first frame. A write apart from these descriptors and their frames doesn't change the
+/// list. If the tail advances, a frame is added at the end of the list.
 ///
-/// It does nothing: its contract is the laws.
+/// The function does nothing: its contract is the laws.
 pub fn frames_to_be_sent()
     ensures take { TakingMovesFrames }
     ensures put { PuttingTakesFront }

@@ -9,6 +9,7 @@ mod engine;
 mod fetching;
 mod laws;
 mod putting;
+mod queued;
 mod report;
 mod taking;
 
@@ -16,4 +17,5 @@ pub use answers::{Put, Take};
 pub use engine::{PACKET_BUFFER_FRAMES, TxEngine};
 pub use laws::frames_to_be_sent;
 pub use putting::put;
+pub use queued::append_queued;
 pub use taking::{is_idle, take};

@@ -11,19 +11,19 @@ use bitflags::Flags;
 use descriptors::TxStatus;
 use dma_memory::HostMemory;
 
-/// The place of the status byte in a transmit descriptor.
+/// The offset of the status byte in a transmit descriptor, in bytes.
 const STATUS_PLACE: u64 = 12;
 
-/// One step of transmission: puts the oldest frame of the packet buffer onto the wire. The caller finds its bytes in
-/// [`TxEngine::front`] before the step.
+/// One step of transmission: puts the oldest frame of the packet buffer onto the wire. The caller can read its bytes
+/// with [`TxEngine::front`] before the step.
 ///
 /// - `Nothing` exactly if the buffer is empty.
 /// - Otherwise `WireFull` exactly if the wire isn't free.
-/// - Otherwise `Put`: the frame has left the buffer. Where its descriptor asks for a report (RS), the status byte of
-///   that descriptor, at the address where it was read, becomes 1 (DD); in a memory that ends before that byte
-///   nothing is written. `reported` tells whether it asks.
+/// - Otherwise `Put`: the frame is removed from the buffer. `reported` is whether its descriptor asks for a report
+///   (RS). If so, the descriptor's status byte becomes 1 (DD), at the address from which `take` read the descriptor. If
+///   memory ends before this byte, nothing is written.
 ///
-/// If memory has the size that it had for [`take`](crate::take), that byte is in it.
+/// If memory has the same size as in the call of [`take`](crate::take), the status byte is inside memory.
 pub fn put(engine: &mut TxEngine, memory: &mut HostMemory, wire_free: bool) -> Put
     ensures nothing { (result ≡ Put.Nothing) ↔ (engine.old.buffer ≡ []) }
     ensures wire_full { (result ≡ Put.WireFull) ↔ ((¬ (engine.old.buffer ≡ [])) × (wire_free ≡ false)) }
@@ -37,7 +37,8 @@ pub fn put(engine: &mut TxEngine, memory: &mut HostMemory, wire_free: bool) -> P
     ensures one_byte { IfFront engine.old.buffer
         (λ queued. DiffersAtMostAt (status_place queued) memory.old memory.new) }
 
-    // The first frame to be sent is on the wire, and the others are unchanged, if the status byte is apart from them.
+    // If the status byte is apart from the frames to be sent, the first of them is put on the wire, and the others
+    // don't change.
     ensures to_send { IfPut result (λ _. IfFront engine.old.buffer (λ queued.
         (ring : Ring) (pad : Bool)
         → All (λ slot. IsAwayFrom memory.old (area_at (status_place queued) 1) (address_of ring slot))

@@ -1,11 +1,11 @@
 ghost use Rattle.std.specs.Prelude.{◌+◌, ◌<◌, ◌^◌};
 
-/// What is to be done once a frame has gone out.
+/// What a put step needs to write back the descriptor of a frame.
 #[derive(Clone, Copy)]
 pub struct Report {
     /// The address at which the frame's descriptor was read.
     pub descriptor: u64,
-    /// Whether the descriptor asks for a report.
+    /// Whether the descriptor asks for a report (RS).
     pub wanted: bool,
     pub ghost fits: { descriptor + 12 < 2 ^ 64 },
 }

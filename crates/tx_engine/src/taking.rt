@@ -1,6 +1,6 @@
 ghost use Rattle.std.specs.Prelude.{◌≡◌, ◌==◌, ◌<◌, ◌↔◌, false, true, IsTrue, if◌then◌else◌, length};
 ghost use Rattle.descriptors.specs.Ring.{next_of};
-ghost use Rattle.tx_engine.specs.Fetching.{IsIdle, IsFetchable, pads};
+ghost use Rattle.tx_engine.specs.Fetching.{HasNoFrameToTake, IsFetchable, pads};
 ghost use Rattle.tx_engine.specs.Steps.{IfTook, Takes};
 ghost use Rattle.tx_engine.specs.ToSend.{to_send};
 
@@ -11,9 +11,9 @@ use descriptors::{Ring, SHORTEST_LEGAL};
 use dma_memory::HostMemory;
 use registers::Tctl;
 
-/// Whether [`take`] has nothing to do: it would be `Nothing`.
+/// Whether [`take`] has nothing to do and would return `Nothing`.
 pub fn is_idle(engine: &TxEngine, ring: &Ring, control: Tctl) -> bool
-    ensures idle { IsTrue result ↔ IsIdle control.0 engine.now ring.now }
+    ensures idle { IsTrue result ↔ HasNoFrameToTake control.0 engine.now ring.now }
     ensures room { (result ≡ false) → length engine.now.buffer < 4 }
 {
     !control.is_enabled() || engine.is_stopped() || engine.is_full() || ring.head == ring.tail
@@ -23,14 +23,14 @@ pub fn is_idle(engine: &TxEngine, ring: &Ring, control: Tctl) -> bool
 ///
 /// - `Nothing` exactly if TCTL.EN is 0, the engine is stopped, its buffer holds four frames, or head equals tail.
 /// - Otherwise `Fault` exactly if the ring has no descriptors or head or tail isn't one of its slots, the
-///   descriptor or the bytes that it names don't lie in memory (addresses don't wrap), EOP is clear, DEXT is set, or
+///   descriptor or the bytes that it names aren't inside memory (addresses don't wrap), EOP is clear, DEXT is set, or
 ///   the length is 0 or above 1,518. Ring and buffer are unchanged, and the engine takes no frame until a reset.
-/// - Otherwise `Took`: the frame is in the buffer, with TCTL.PSP followed by zeros up to 60 bytes, and head has moved
-///   on.
+/// - Otherwise `Took`: the frame is in the buffer, and head has advanced. If TCTL.PSP is set, zeros follow up to 60
+/// bytes.
 pub fn take(engine: &mut TxEngine, ring: &mut Ring, control: Tctl, memory: &HostMemory) -> Take
-    ensures nothing { (result ≡ Take.Nothing) ↔ IsIdle control.0 engine.old ring.old }
+    ensures nothing { (result ≡ Take.Nothing) ↔ HasNoFrameToTake control.0 engine.old ring.old }
     ensures fault { (result ≡ Take.Fault)
-        ↔ ((¬ (IsIdle control.0 engine.old ring.old)) × (¬ (IsFetchable memory.now ring.old))) }
+        ↔ ((¬ (HasNoFrameToTake control.0 engine.old ring.old)) × (¬ (IsFetchable memory.now ring.old))) }
 
     ensures untouched { (result ≡ Take.Nothing) → (engine.new ≡ engine.old) × (ring.new ≡ ring.old) }
     ensures stopped { (result ≡ Take.Fault) → (engine.new ≡ record engine.old { stopped = true })
@@ -39,7 +39,7 @@ pub fn take(engine: &mut TxEngine, ring: &mut Ring, control: Tctl, memory: &Host
     ensures fetchable { IfTook result (λ _. IsFetchable memory.now ring.old) }
     ensures emptied { IfTook result (λ emptied. emptied ≡ (ring.new.head == ring.new.tail)) }
 
-    // Whatever the answer, the frames to be sent are the same.
+    // Whatever the answer, the frames to be sent don't change.
     ensures to_send { to_send memory.now ring.new (pads control.0) engine.new.buffer
         ≡ to_send memory.now ring.old (pads control.0) engine.old.buffer }
 {
@@ -57,7 +57,7 @@ pub fn take(engine: &mut TxEngine, ring: &mut Ring, control: Tctl, memory: &Host
     }
 }
 
-/// The least bytes of a frame as it goes onto the wire.
+/// The least number of bytes of a frame as it is put onto the wire: 60 if TCTL.PSP is set, else 0.
 fn least_of(control: Tctl) -> usize
     ensures { result ≡ (if pads control.0 then 60 else 0) }
 {

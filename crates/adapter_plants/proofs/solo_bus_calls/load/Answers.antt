@@ -12,7 +12,8 @@ returns-clause-state c =
     let q = c.load-2.ensures.acts tt in
     let again = subst (λ (s : SoloState). Recounts s c.load-2.new.self q.past) (sym c.requires.state) q.told in
     state_one c.args.one.now c.load.new.self c.load-2.new.self p.past q.past
-    (Loads c.args.address (length c.args.into.now)) (Loads c.args.address (length c.args.other_into.now)) p.only q.only (refl, c.requires.length) p.told again
+    (Loads c.args.address (length c.args.into.now)) (Loads c.args.address (length c.args.other_into.now)) p.only q.only
+    (refl, c.requires.length) p.told again
 
 pub returns-clause-bytes : goal.returns-clause-bytes
 returns-clause-bytes c =
@@ -20,7 +21,8 @@ returns-clause-bytes c =
     let q = c.load-2.ensures.acts tt in
     let again = subst (λ (s : SoloState). Recounts s c.load-2.new.self q.past) (sym c.requires.state) q.told in
     let one = state_one c.args.one.now c.load.new.self c.load-2.new.self p.past q.past
-    (Loads c.args.address (length c.args.into.now)) (Loads c.args.address (length c.args.other_into.now)) p.only q.only (refl, c.requires.length) p.told again in
+    (Loads c.args.address (length c.args.into.now)) (Loads c.args.address (length c.args.other_into.now)) p.only q.only
+    (refl, c.requires.length) p.told again in
     p.effect_is.0
     ∙ ap (λ (w : World). bytes_at w.memory c.args.address (length c.args.into.now)) (sym p.effect_is.1 ∙ one.world ∙ q.effect_is.1)
     ∙ ap (λ (n : ℕ). bytes_at q.middle.memory c.args.address n) c.requires.length

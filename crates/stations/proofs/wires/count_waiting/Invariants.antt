@@ -2,7 +2,7 @@ use Rattle.std.proofs.Common.{◌≡◌, ℕ, slice_get, nat_lt, option_map, if�
 use Rattle.stations.specs.LogReaders.{with_waiting}
 use Rattle.stations.proofs.wires.count_waiting.Given as goal
 
--- the ends before this place count it
+-- the ends before this place have counted the frame
 abbrev pub invariant-loop-number : goal.invariant-loop-number
 invariant-loop-number l =
     (k : ℕ)

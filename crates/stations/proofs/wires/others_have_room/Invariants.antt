@@ -1,6 +1,6 @@
 use Rattle.stations.specs.LogReaders.{OthersHaveRoom}
 use Rattle.stations.proofs.wires.others_have_room.Given as goal
 
--- the ends before this place have room
+-- the other ends of the wire before this place have room
 abbrev pub invariant-loop-number : goal.invariant-loop-number
 invariant-loop-number l = OthersHaveRoom l.number l.sender l.wire l.ends

@@ -31,3 +31,6 @@ pub returns-clause-memory : goal.returns-clause-memory
 returns-clause-memory c =
     rw (c.outcome_of.ensures, c.rx_data-answer.ensures.memory, c.rctl.ensures, c.ring-ring.ensures, sym c.self.view_is)
     (memory_by-data _ c.rx_data-answer.result c.args.memory.now (state_of c.self.inside))
+
+pub returns-clause-only : goal.returns-clause-only
+returns-clause-only c = rw (sym c.self.view_is) (rw (c.rctl.ensures, c.ring-ring.ensures) at c.rx_data-answer.ensures.only)

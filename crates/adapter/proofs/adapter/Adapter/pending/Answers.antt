@@ -3,7 +3,7 @@ use Rattle.std.proofs.lemmas.List.{append_assoc, length-append, length-map}
 use Rattle.descriptors.specs.declared.ring.Ring.{Ring}
 use Rattle.descriptors.specs.Ring.{offered_places}
 use Rattle.tx_engine.specs.Transmitter.{Queued}
-use Rattle.adapter.specs.QueuedFrames.{queued_in}
+use Rattle.tx_engine.specs.QueuedFrames.{queued_in}
 use Rattle.adapter.specs.Rings.{ring_of}
 use Rattle.adapter.specs.State.{AdapterState}
 use Rattle.adapter.specs.World.{World, transmit_ring}

@@ -24,7 +24,7 @@ unwrap-requires-2 c =
     let within = below c.self.inside c.args.self.now c.args.index c.self.view_is c.requires in
     copied_some _ _ (c.get-2.ensures ∙ slice_get-get_or _ _ 0 within)
 
--- The frame begins where the frames before it end.
+-- The frame begins at the end of the frames before it.
 begins : (first start before index : ℕ) (ns : List ℕ) → start ≡ first + total (take before ns) → index ≤ before → before ≤ index
     → start ≡ first + total (take index ns)
 begins first start before index ns is last within =

@@ -17,7 +17,7 @@ below queue seen i view within =
     let asked = rw (← view) at within in
     omega (arith, asked, count)
 
--- The frame stands in one of the places.
+-- The frame is in one of the places.
 place : (queue : Inside) (i : ℕ) → IsConsistent queue → i < length queue.lengths.items
     → wrapped queue.lengths.capacity (queue.first + i) < queue.lengths.capacity
 place queue i whole within = wrapped-within queue.lengths.capacity (queue.first + i) (omega (arith, whole.first, whole.count, within))

@@ -2,7 +2,7 @@ use Rattle.std.proofs.Common.{length, ap, arith, refl, ◌∙◌}
 use Rattle.adapter.specs.World.{World}
 use Rattle.bus.specs.declared.event.Access.TheVariants.{Stores}
 use Rattle.dma_memory.specs.Laws.{length-with_bytes}
-use Rattle.stations.specs.Retelling.{world_here}
+use Rattle.stations.specs.LentBuses.{world_here}
 use Rattle.std.proofs.Common.{List, arith, ◌∙◌}
 use Rattle.bus.specs.declared.event.Event.TheVariants.{Accesses}
 use Rattle.stations.specs.Stations.{StationState}

@@ -2,7 +2,7 @@ use Rattle.std.proofs.Common.{◌≡◌, ◌≤◌, ℕ, List, drop}
 use Rattle.stations.specs.WireLogs.{LogEntry, frames_of_others}
 use Rattle.stations.proofs.wire_log.WireLog.next.Given as goal
 
--- from the one place up to the other there is no frame of another host
+-- The entries between these two places are the reader's own.
 pub record NoneBetween (reader from place : ℕ) (entries : List LogEntry) : Type 0 where
   pub start : from ≤ place
   pub none : frames_of_others reader (drop from entries) ≡ frames_of_others reader (drop place entries)

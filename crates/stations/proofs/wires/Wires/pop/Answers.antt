@@ -1,6 +1,6 @@
 use Rattle.std.proofs.Common.{◌≡◌, ◌≤◌, ◌∷◌, ◌+◌, List, ℕ, drop, slice_set, refl, ap, sym, subst, ◌∙◌, arith}
 use Rattle.stations.specs.Ends.{EndState}
-use Rattle.stations.specs.WireLogs.{LogEntry, frame_at, frames_of_others}
+use Rattle.stations.specs.WireLogs.{LogEntry, entry_frame, frames_of_others}
 use Rattle.stations.specs.WiresView.{ReadsLog, log_of}
 use Rattle.stations.specs.declared.wires.End.{End}
 use Rattle.stations.proofs.WireChanges.{found-log, had-one, has-sender, line-on, line_at, read-on, reads-on, same-end, set-logs, set-shown}
@@ -66,7 +66,7 @@ invariant_of-self c =
     let was = found-log logs es ss c.self.view_is have host c.index-end.result.now c.requires.there c.index-end.ensures log c.index.ensures
     ∙ ap (log_of logs) same in
     let first = subst (λ (x : End). frames_of_others host (drop x.cursor log)
-    ≡ frame_at place log ∷ frames_of_others host (drop (place + 1) log)) same c.in-Some.ensures.first in
+    ≡ entry_frame place log ∷ frames_of_others host (drop (place + 1) log)) same c.in-Some.ensures.first in
     set-logs logs es host e has (read-on log host e place c.in-Some.ensures.there.1 first) refl refl have
     (subst (λ (l : List LogEntry). ReadsLog l host (read-on log host e place c.in-Some.ensures.there.1 first)) was
     (reads-on log host e place c.in-Some.ensures.there.1 first
@@ -88,7 +88,7 @@ returns c = λ end is.
     let was = found-log logs es ss c.self.view_is have host c.index-end.result.now c.requires.there c.index-end.ensures log c.index.ensures
     ∙ ap (log_of logs) same in
     let first = subst (λ (x : End). frames_of_others host (drop x.cursor log)
-    ≡ frame_at place log ∷ frames_of_others host (drop (place + 1) log)) same c.in-Some.ensures.first in
+    ≡ entry_frame place log ∷ frames_of_others host (drop (place + 1) log)) same c.in-Some.ensures.first in
     let new = read-on log host e place c.in-Some.ensures.there.1 first in
     let old = shows-end logs es ss c.self.view_is host e end has is in
     let line : frames_of_others host (drop (place + 1) (log_of logs new)) ≡ drop 1 end.line =

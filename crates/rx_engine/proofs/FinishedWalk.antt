@@ -10,11 +10,11 @@ use Rattle.descriptors.specs.RxStatus.{dd, eop, status_bits}
 use Rattle.dma_memory.specs.HostMemory.{bytes_at}
 use Rattle.rx_engine.specs.Descriptors.{descriptor_at}
 use Rattle.rx_engine.specs.Pieces.{Piece, begun_from, frames_from}
-use Rattle.adapter.specs.HostFrames.{named, piece_in}
-use Rattle.adapter.specs.Slots.{done_slots, is_done}
-use Rattle.adapter.specs.JoinedPieces.{AreShort, alone}
-use Rattle.adapter.specs.FinishedSlots.{NamesMemory, done_from, pieces_from}
-use Rattle.adapter.proofs.PiecesInTurn.{begun-append, first-short, frames-append, later-short}
+use Rattle.rx_engine.specs.FinishedSlots.{NamesMemory, done_from, named, piece_in, pieces_from}
+use Rattle.rx_engine.specs.JoinedLaws.{first-short, later-short}
+use Rattle.rx_engine.specs.JoinedPieces.{AreShort, alone}
+use Rattle.rx_engine.specs.PieceLaws.{begun-append, frames-append}
+use Rattle.rx_engine.specs.Slots.{done_slots, is_done}
 
 pub is-done-status : (memory : List ℕ) (descriptor : ℕ)
     → is_set (status_bits (descriptor_at memory descriptor).status) dd ≡ is_done memory descriptor
@@ -77,7 +77,7 @@ walks memory ring place left begun some done lie short =
       frames = sym (frames-append begun (piece ∷ []) later) ∙ ap (frames_from begun) (sym pieces);
     }
 
--- what was loaded is the piece of the slot
+-- the bytes that were loaded are the piece of the slot
 pub piece-is : (memory : List ℕ) (at : ℕ) (ends : Bool) (bytes : List ℕ)
     → bytes ≡ bytes_at memory (named memory at).address (named memory at).size
     → ends ≡ is_set (status_bits (descriptor_at memory at).status) eop
@@ -85,6 +85,3 @@ pub piece-is : (memory : List ℕ) (at : ℕ) (ends : Bool) (bytes : List ℕ)
 piece-is memory at ends bytes bytes_are ends_are =
     ap (λ (b : Bool). alone b bytes) ends_are
     ∙ ap (λ (list : List ℕ). alone (is_set (status_bits (descriptor_at memory at).status) eop) list) bytes_are
-
-pub alone-one : (begun bytes : List ℕ) (ends : Bool) → ends ≡ true → length (frames_from begun (alone ends bytes)) ≡ 1
-alone-one begun bytes ends yes_ends = ap (λ (b : Bool). length (frames_from begun (alone b bytes))) yes_ends

@@ -1,7 +1,7 @@
 use Rattle.std.proofs.Common.{◌≡◌, ◌++◌, ℕ, List, replicate, take, ap, ◌∙◌}
 use Rattle.std.proofs.lemmas.List.{take-replicate}
-use Rattle.adapter.proofs.QueuedWalk.{sent-is}
-use Rattle.adapter.proofs.queued.frame_as_sent.Goals as goal
+use Rattle.tx_engine.proofs.QueuedWalk.{sent-is}
+use Rattle.tx_engine.proofs.queued.frame_as_sent.Goals as goal
 
 pub returns : goal.returns
 returns c =

@@ -4,24 +4,24 @@ use Rattle.bus.specs.declared.event.Access.{Access}
 
 -- What happened in an interval.
 pub record Past : Type 0 where
-  -- the frames that the adapter put onto the wire
+  -- The frames that the adapter put onto the wire.
   pub put : List (List ℕ)
-  -- the frames from the wire that its packet buffer stored
+  -- The frames from the wire that its packet buffer stored.
   pub stored : List (List ℕ)
-  -- the number of frames that it missed
+  -- The number of frames that the adapter missed.
   pub missed : ℕ
   -- The number of ticks of the EEPROM.
   pub eeprom_ticks : ℕ
   -- The number of ticks of the PHY.
   pub phy_ticks : ℕ
-  -- the accesses of the driver
+  -- The accesses of the driver.
   pub accesses : List Access
 
 -- The interval in which nothing happened.
 abbrev pub nothing : Past
 nothing = record { put = []; stored = []; missed = 0; eeprom_ticks = 0; phy_ticks = 0; accesses = [] }
 
--- one interval, then another
+-- What happened in two consecutive intervals, together.
 abbrev pub joined : Past → Past → Past
 joined first later = record {
   put = first.put ++ later.put;

@@ -7,9 +7,9 @@ use Rattle.rx_engine.specs.Pieces.{Piece, begun_from, frames_from}
 pub record AreShort (begun : List ℕ) (pieces : List Piece) : Type 0 where
   -- Each frame that ends in these pieces has at most 1,518 bytes.
   pub frames : All (λ frame. length frame ≤ 1518) (frames_from begun pieces)
-  -- The frame that doesn't end in them has at most 1,518 bytes so far.
+  -- The frame that doesn't end in these pieces has at most 1,518 bytes so far.
   pub rest : length (begun_from begun pieces) ≤ 1518
 
--- one piece alone
+-- A list that consists of one piece.
 abbrev pub alone : Bool → List ℕ → List Piece
 alone ends bytes = piece_of ends bytes ∷ []

@@ -3,9 +3,9 @@ use Rattle.std.proofs.lemmas.List.{length-append, append_assoc}
 use Rattle.descriptors.specs.Ring.{address_of, count_of, distance_of, next_of, slots_from}
 use Rattle.descriptors.specs.RingLaws.{next-below}
 use Rattle.tx_engine.specs.Fetching.{as_sent, frame_at}
-use Rattle.adapter.specs.QueuedFrames.{CanBeCopied}
-use Rattle.adapter.proofs.QueuedWalk.{places-begin, places-length, places-next}
-use Rattle.adapter.proofs.queued.append_queued.Goals as goal
+use Rattle.tx_engine.specs.QueuedFrames.{CanBeCopied}
+use Rattle.tx_engine.proofs.QueuedWalk.{places-begin, places-length, places-next}
+use Rattle.tx_engine.proofs.queued.append_queued.Goals as goal
 
 pub loop-left-init : goal.loop-left-init
 loop-left-init c =

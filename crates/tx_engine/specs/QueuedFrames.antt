@@ -5,11 +5,11 @@ use Rattle.descriptors.specs.declared.ring.Ring.{Ring}
 use Rattle.descriptors.specs.Ring.{address_of, offered_places}
 use Rattle.tx_engine.specs.Fetching.{descriptor_at, frame_at}
 
--- The bytes that a descriptor names lie in memory, and are at most 1,518.
+-- The bytes that a descriptor names are inside memory, and there are at most 1,518 of them.
 pub record CanBeCopied (memory : List ℕ) (descriptor : ℕ) : Type 0 where
   -- The bytes are in memory.
   pub lies : LiesIn memory (descriptor_at memory descriptor).address (descriptor_at memory descriptor).length
-  -- There are at most 1,518.
+  -- There are at most 1,518 bytes.
   pub short : (descriptor_at memory descriptor).length ≤ 1518
 
 -- The frames of the descriptors from head to tail, padded if the adapter pads.

@@ -1,11 +1,11 @@
--- Pieces joined.
-use Rattle.std.proofs.Common.{suc, zero, slice_index_or, ◌≡◌, ◌≤◌, ◌++◌, ◌∷◌, [], ℕ, List, All, length, arith, refl, ap, subst}
+-- Lemmas about frames of pieces that have at most 1,518 bytes. Other crates use them, too.
+use Rattle.std.proofs.Common.{suc, zero, true, Bool, slice_index_or, ◌≡◌, ◌≤◌, ◌++◌, ◌∷◌, [], ℕ, List, All, length, arith, refl, ap, subst}
 use Rattle.std.proofs.lemmas.List.{length-append}
 use Rattle.rx_engine.specs.Pieces.{Piece, begun_from, frames_from}
 use Rattle.rx_engine.specs.Pieces.Piece.{Last, Part}
-use Rattle.adapter.specs.JoinedPieces.{AreShort}
+use Rattle.rx_engine.specs.JoinedPieces.{AreShort, alone}
 
--- what is begun is short
+-- The beginning of the first frame has at most 1,518 bytes.
 pub begun-short : (begun : List ℕ) (pieces : List Piece) → AreShort begun pieces → length begun ≤ 1518
 begun-short begun [] short = short.rest
 begun-short begun (Part bytes ∷ later) short =
@@ -14,7 +14,7 @@ begun-short begun (Part bytes ∷ later) short =
 begun-short begun (Last bytes ∷ later) short =
     omega (arith, short.frames 0 [] (omega arith), length-append begun bytes)
 
--- the first piece alone, and the others behind it
+-- If the frames of a list of pieces are short, so are those of the first piece, and those of the pieces after it.
 pub first-short : (begun : List ℕ) (piece : Piece) (later : List Piece) → AreShort begun (piece ∷ later) → AreShort begun (piece ∷ [])
 first-short begun (Part bytes) later short = record {
   frames = λ k d below. absurd (omega (arith, below));
@@ -35,19 +35,7 @@ later-short begun (Last bytes) later short = record {
   rest = short.rest;
 }
 
--- the frames and the rest of two lists
-pub frames-append : (begun : List ℕ) (a b : List Piece)
-    → frames_from begun (a ++ b) ≡ frames_from begun a ++ frames_from (begun_from begun a) b
-frames-append begun [] b = refl
-frames-append begun (Part bytes ∷ later) b = frames-append (begun ++ bytes) later b
-frames-append begun (Last bytes ∷ later) b = ap (λ (l : List (List ℕ)). (begun ++ bytes) ∷ l) (frames-append [] later b)
-
-pub begun-append : (begun : List ℕ) (a b : List Piece) → begun_from begun (a ++ b) ≡ begun_from (begun_from begun a) b
-begun-append begun [] b = refl
-begun-append begun (Part bytes ∷ later) b = begun-append (begun ++ bytes) later b
-begun-append begun (Last bytes ∷ later) b = begun-append [] later b
-
--- The pieces at the front alone, and those behind them.
+-- If the frames of a list of pieces are short, so are those of its first pieces, and those of the pieces after them.
 pub front-short : (begun : List ℕ) (a b : List Piece) → AreShort begun (a ++ b) → AreShort begun a
 front-short begun [] b short = record { frames = λ k d below. absurd (omega (arith, below)); rest = begun-short begun b short }
 front-short begun (Part bytes ∷ a) b short =
@@ -66,3 +54,7 @@ pub back-short : (begun : List ℕ) (a b : List Piece) → AreShort begun (a ++ 
 back-short begun [] b short = short
 back-short begun (Part bytes ∷ a) b short = back-short (begun ++ bytes) a b (later-short begun (Part bytes) (a ++ b) short)
 back-short begun (Last bytes ∷ a) b short = back-short [] a b (later-short begun (Last bytes) (a ++ b) short)
+
+-- Exactly one frame ends in a list that consists of the last piece of a frame.
+pub alone-one : (begun bytes : List ℕ) (ends : Bool) → ends ≡ true → length (frames_from begun (alone ends bytes)) ≡ 1
+alone-one begun bytes ends yes_ends = ap (λ (b : Bool). length (frames_from begun (alone b bytes))) yes_ends

@@ -1,11 +1,11 @@
 // The frames of a transmit ring.
 
-ghost use Rattle.std.specs.Prelude.{◌≡◌, ◌≤◌, ◌<◌, ◌+◌, ◌-◌, ◌⊎◌, ◌++◌, ◌∷◌, [], All, IfSome, IsSome, length, map};
+ghost use Rattle.std.specs.Prelude.{◌≡◌, ◌≤◌, ◌<◌, ◌+◌, ◌-◌, ◌*◌, ◌⊎◌, ◌++◌, ◌∷◌, [], All, IfSome, IsSome, length, map};
 ghost use Rattle.std.specs.Prelude.{vec_capacity, if◌then◌else◌};
+ghost use Rattle.dma_memory.specs.HostMemory.{LiesIn};
 ghost use Rattle.descriptors.specs.Ring.{address_of, count_of, offered_places};
 ghost use Rattle.tx_engine.specs.Fetching.{as_sent, descriptor_at, frame_at, named_by};
-ghost use Rattle.adapter.specs.FinishedSlots.{LiesWhole};
-ghost use Rattle.adapter.specs.QueuedFrames.{CanBeCopied, queued_in};
+ghost use Rattle.tx_engine.specs.QueuedFrames.{CanBeCopied, queued_in};
 
 use arrayvec::ArrayVec;
 use descriptors::{Frame, Ring, SHORTEST_LEGAL, TX_DESC_BYTES, TxDesc};
@@ -31,7 +31,7 @@ fn extend(whole: &mut ArrayVec<u8, 1518>, bytes: &[u8])
     let _ = whole.try_extend_from_slice(bytes);
 }
 
-/// A frame as it goes onto the wire.
+/// A frame as it is put onto the wire.
 fn frame_as_sent(bytes: &[u8], pad: bool) -> Frame
     requires short { length bytes.now ≤ 1518 }
     ensures { result ≡ as_sent pad bytes.now }
@@ -44,7 +44,7 @@ fn frame_as_sent(bytes: &[u8], pad: bool) -> Frame
     Frame::from_slice(whole.as_slice())
 }
 
-/// Appends a frame as it goes onto the wire.
+/// Appends a frame as it is put onto the wire.
 fn append_padded(bytes: &[u8], pad: bool, frames: &mut Vec<Frame>)
     requires short { length bytes.now ≤ 1518 }
     requires room { length frames.old.items < vec_capacity frames.old }
@@ -56,7 +56,7 @@ fn append_padded(bytes: &[u8], pad: bool, frames: &mut Vec<Frame>)
 
 /// The descriptor in a slot of a ring.
 fn descriptor_in(memory: &HostMemory, ring: &Ring, place: u16) -> Option<TxDesc>
-    requires ring { LiesWhole memory.now ring.now }
+    requires ring { LiesIn memory.now ring.now.base (16 * count_of ring.now) }
     requires place { place < count_of ring.now }
     ensures there { IsSome result }
     ensures value { IfSome result (λ desc. desc ≡ descriptor_at memory.now (address_of ring.now place)) }
@@ -73,7 +73,7 @@ fn descriptor_in(memory: &HostMemory, ring: &Ring, place: u16) -> Option<TxDesc>
 
 /// The bytes that the descriptor in a slot of a ring names.
 fn queued_bytes<'a>(memory: &'a HostMemory, ring: &Ring, place: u16) -> Option<&'a [u8]>
-    requires ring { LiesWhole memory.now ring.now }
+    requires ring { LiesIn memory.now ring.now.base (16 * count_of ring.now) }
     requires place { place < count_of ring.now }
     requires lies { CanBeCopied memory.now (address_of ring.now place) }
     ensures there { IsSome result }
@@ -85,9 +85,10 @@ fn queued_bytes<'a>(memory: &'a HostMemory, ring: &Ring, place: u16) -> Option<&
     memory.view(desc.address, usize::from(desc.length)).ok()
 }
 
-/// Appends the frames that the descriptors from head to tail name, as they go onto the wire.
-pub(crate) fn append_queued(memory: &HostMemory, ring: &Ring, pad: bool, frames: &mut Vec<Frame>)
-    requires ring { LiesWhole memory.now ring.now }
+/// Appends the frames that the descriptors from head to tail name, as they are put onto the wire. The list must have
+/// room for these frames.
+pub fn append_queued(memory: &HostMemory, ring: &Ring, pad: bool, frames: &mut Vec<Frame>)
+    requires ring { LiesIn memory.now ring.now.base (16 * count_of ring.now) }
     requires slot { (ring.now.head < count_of ring.now) ⊎ (offered_places ring.now ≡ []) }
     requires lie { All (λ slot. CanBeCopied memory.now (address_of ring.now slot)) (offered_places ring.now) }
     requires room { length frames.old.items + length (offered_places ring.now) ≤ vec_capacity frames.old }

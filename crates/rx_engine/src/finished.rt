@@ -1,25 +1,27 @@
-// The frames of a receive ring.
+// The frames in the slots of a receive ring.
 
 ghost use Rattle.std.specs.Prelude.{◌≡◌, ◌≤◌, ◌<◌, ◌+◌, ◌++◌, ◌∷◌, ◌⊎◌, [], All, IfSome, IfNone, IsSome};
 ghost use Rattle.std.specs.Prelude.{length, vec_capacity, true, false};
-ghost use Rattle.dma_memory.specs.HostMemory.{bytes_at};
+ghost use Rattle.dma_memory.specs.HostMemory.{LiesIn, bytes_at};
 ghost use Rattle.descriptors.specs.Ring.{address_of, count_of};
-ghost use Rattle.rx_engine.specs.Descriptors.{descriptor_at};
+ghost use Rattle.rx_engine.specs.Descriptors.{descriptor_at, named_address};
+ghost use Rattle.rx_engine.specs.Held.{bytes_of_work};
 ghost use Rattle.registers.specs.Bits.{is_set};
 ghost use Rattle.descriptors.specs.RxStatus.{dd, eop, status_bits};
 ghost use Rattle.rx_engine.specs.Pieces.{begun_from, frames_from};
-ghost use Rattle.adapter.specs.Slots.{is_done, outstanding, done_slots};
-ghost use Rattle.adapter.specs.HostFrames.{named};
-ghost use Rattle.adapter.specs.JoinedPieces.{AreShort, alone};
-ghost use Rattle.adapter.specs.FinishedSlots.{LiesWhole, NamesMemory, finished_in};
+ghost use Rattle.rx_engine.specs.FinishedSlots.{LiesWhole, NamesMemory, finished_in, named};
+ghost use Rattle.rx_engine.specs.JoinedPieces.{AreShort, alone};
+ghost use Rattle.rx_engine.specs.Slots.{is_done, outstanding, done_slots};
 
+use crate::engine::Work;
 use arrayvec::ArrayVec;
 use bitflags::Flags;
 use descriptors::{Frame, RX_DESC_BYTES, Ring, RxDesc, RxStatus};
 use dma_memory::HostMemory;
 
-/// The next piece is added to the frame that is begun. If it is the last one, the frame is added to the list.
-pub(crate) fn append_piece(
+/// Adds the next piece to the frame whose beginning is in `begun`. If the frame ends in the piece, appends the frame to
+/// the list and clears `begun`.
+pub fn append_piece(
     bytes: &[u8],
     ends: bool,
     begun: &mut ArrayVec<u8, 1518>,
@@ -45,7 +47,7 @@ fn shows_done(desc: &RxDesc) -> bool
     desc.status.contains(RxStatus::DD)
 }
 
-/// Whether a frame ends in a descriptor's piece.
+/// Whether a frame ends in the descriptor's piece.
 fn shows_end(desc: &RxDesc) -> bool
     ensures { result ≡ is_set (status_bits desc.now.status) eop }
 {
@@ -93,9 +95,22 @@ fn finished_piece<'a>(memory: &'a HostMemory, ring: &Ring, place: u16) -> Option
     Some((piece, shows_end(&desc)))
 }
 
-/// Appends the frames that end in the finished slots of a ring, from the oldest one on, and leaves in `begun` the bytes
-/// after the last end.
-pub(crate) fn append_finished(
+/// The bytes of the piece in progress, at the address that its descriptor names.
+pub fn bytes_in_progress<'a>(memory: &'a HostMemory, work: &Work) -> Option<&'a [u8]>
+    requires descriptor { LiesIn memory.now work.now.descriptor 16 }
+    requires piece { LiesIn memory.now (named_address memory.now work.now.descriptor) work.now.length }
+    ensures there { IsSome result }
+    ensures bytes { IfSome result (λ bytes. bytes.now ≡ bytes_of_work memory.now work.now) }
+{
+    let mut bytes = [0; RX_DESC_BYTES];
+    memory.load(work.descriptor, &mut bytes).ok()?;
+    let address = RxDesc::from_bytes(&bytes).address;
+    memory.view(address, usize::from(work.length)).ok()
+}
+
+/// Appends the frames that end in the finished slots of a ring, from slot `oldest` on. Stores the bytes after the last
+/// end of a frame in `begun`. Both the list and `begun` must have room for them.
+pub fn append_finished(
     memory: &HostMemory,
     ring: &Ring,
     oldest: u16,

@@ -1,8 +1,8 @@
 use Rattle.std.proofs.Common.{◌≡◌, ◌≤◌, ◌<◌, ◌+◌, ◌++◌, ℕ, All, length, map, vec_capacity}
 use Rattle.descriptors.specs.Ring.{address_of, count_of, slots_from}
 use Rattle.tx_engine.specs.Fetching.{frame_at}
-use Rattle.adapter.specs.QueuedFrames.{CanBeCopied, queued_in}
-use Rattle.adapter.proofs.queued.append_queued.Given as goal
+use Rattle.tx_engine.specs.QueuedFrames.{CanBeCopied, queued_in}
+use Rattle.tx_engine.proofs.queued.append_queued.Given as goal
 
 abbrev pub invariant-loop-left : goal.invariant-loop-left
 invariant-loop-left l = record {

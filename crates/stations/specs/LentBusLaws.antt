@@ -1,7 +1,7 @@
--- The record of a lent bus over two intervals is the two records joined.
+-- Lemmas: what a lent bus states for each of two consecutive intervals, it states for both together.
 use Rattle.std.proofs.Common.{◌≡◌, ◌+◌, ◌++◌, ℕ, List, [], length, map, min, refl, sym, ap, subst, ◌∙◌, arith, length-append}
 use Rattle.std.proofs.lemmas.List.{map-append}
-use Rattle.bus.specs.PastOfStretch.{Past, joined, nothing}
+use Rattle.bus.specs.Pasts.{Past, joined, nothing}
 use Rattle.bus.specs.TickGroupLaws.{played_joins, waiting_joins}
 use Rattle.bus.specs.TickGroups.{played_in, waiting_after}
 use Rattle.stations.specs.AtomicSteps.{tick_of}
@@ -12,7 +12,7 @@ use Rattle.stations.specs.declared.tick.Tick.TheVariants.{Go}
 use Rattle.stations.specs.AtomicRunLaws.{counted_join, leads_join, past_join, steps_told_join}
 use Rattle.bus.specs.LivelyBuses.{most_accesses}
 use Rattle.stations.specs.AtomicRuns.{LeadsTo, counted_of, is_go, past_at, steps_told}
-use Rattle.stations.specs.Retelling.{Retells, SameLent}
+use Rattle.stations.specs.LentBuses.{HappenedLent, SameLent}
 use Rattle.stations.specs.declared.lent_bus.LentBus.{LentBus}
 
 pub same_lent_here : {O : Type 0} {g : OfObserver O} (a : LentBus O g) → SameLent a a
@@ -25,8 +25,8 @@ same_lent_on a b c one two = record {
   host = two.host ∙ one.host;
 }
 
-pub retells_none : {O : Type 0} {g : OfObserver O} → ComposesTold g.heard → (a : LentBus O g) → Retells a a nothing
-retells_none composes a = record {
+pub lent_happened_none : {O : Type 0} {g : OfObserver O} → ComposesTold g.heard → (a : LentBus O g) → HappenedLent a a nothing
+lent_happened_none composes a = record {
   lent = same_lent_here a;
   steps = [];
   leads = refl;
@@ -37,10 +37,10 @@ retells_none composes a = record {
   accesses = record { number = refl; count = omega arith };
 }
 
-unfoldable pub retells_join : {O : Type 0} {g : OfObserver O} → ComposesTold g.heard → (a b c : LentBus O g) (first later : Past)
-    → Retells a b first → Retells b c later
-    → Retells a c (joined first later)
-retells_join {O} {g} composes a b c first later one two =
+unfoldable pub lent_happened_join : {O : Type 0} {g : OfObserver O} → ComposesTold g.heard → (a b c : LentBus O g) (first later : Past)
+    → HappenedLent a b first → HappenedLent b c later
+    → HappenedLent a c (joined first later)
+lent_happened_join {O} {g} composes a b c first later one two =
     let host = one.lent.host in
     record {
       lent = same_lent_on a b c one.lent two.lent;
@@ -74,6 +74,6 @@ retells_join {O} {g} composes a b c first later one two =
       };
     }
 
-pub retells_count : {O : Type 0} {g : OfObserver O} (a b : LentBus O g) (past : Past) → Retells a b past
+pub lent_happened_count : {O : Type 0} {g : OfObserver O} (a b : LentBus O g) (past : Past) → HappenedLent a b past
     → min b.accesses most_accesses ≡ min (min a.accesses most_accesses + length past.accesses) most_accesses
-retells_count a b past told = omega (arith, told.accesses.count)
+lent_happened_count a b past told = omega (arith, told.accesses.count)

@@ -1,13 +1,11 @@
 // PBA: how the packet buffer is divided.
 
 ghost use Rattle.std.specs.Prelude.{◌≡◌, ◌≤◌, ◌*◌};
-ghost use Rattle.rx_engine.specs.Room.{most_room};
-ghost use Rattle.adapter.specs.PacketBuffer.{allocation_shown, allocation_written};
+ghost use Rattle.registers.specs.PacketBuffer.{allocation_shown, allocation_written};
 
 use std::marker::Model;
 
-/// The kilobytes of the packet buffer, of which the receive part takes RXA and the transmit part
-/// the rest.
+/// The size of the packet buffer in kilobytes: RXA for the receive part, and the rest for the transmit part.
 const WHOLE_KILOBYTES: u32 = 64;
 
 /// RXA after power-on.
@@ -22,22 +20,22 @@ const MOST_KILOBYTES: u32 = 48;
 /// RXA, bits 15:0 of PBA.
 const RXA_BITS: u32 = 0xFFFF;
 
-/// The bytes of a kilobyte.
+/// The number of bytes of a kilobyte.
 const KILOBYTE_BYTES: u32 = 1_024;
 
-/// The lowest bit of the transmit part's kilobytes, the upper half of PBA.
+/// The place of the lowest bit of PBA's upper half, which shows the kilobytes of the transmit part.
 const TXA_SHIFT: u32 = 16;
 
-/// PBA, the packet buffer allocation register: the kilobytes of the receive part, RXA, an even
-/// number from 2 to 48 (our choice).
+/// PBA, the packet buffer allocation register (13.4.16): the kilobytes of the receive part, RXA, an even number from 2
+/// to 48 (our choice).
 #[derive(Clone, Copy)]
-pub(crate) struct PacketBufferAllocation {
+pub struct PacketBufferAllocation {
     receive_kilobytes: u32,
 }
 
 impl Model for PacketBufferAllocation {
     ghost use Rattle.std.specs.Prelude.{ℕ};
-    ghost use Rattle.adapter.specs.PacketBuffer.{IsAllocation};
+    ghost use Rattle.registers.specs.PacketBuffer.{IsAllocation};
 
     ghost Value = { ℕ };
 
@@ -49,10 +47,10 @@ impl Model for PacketBufferAllocation {
 }
 
 impl PacketBufferAllocation {
-    ghost use Rattle.adapter.specs.PacketBuffer.{IsAllocation};
+    ghost use Rattle.registers.specs.PacketBuffer.{IsAllocation};
 
-    /// The division after power-on, 48 kilobytes for the receive part.
-    pub(crate) fn new() -> Self
+    /// The allocation after power-on: 48 kilobytes for the receive part.
+    pub fn new() -> Self
         ensures { result ≡ 48 }
     {
         PacketBufferAllocation {
@@ -61,7 +59,7 @@ impl PacketBufferAllocation {
     }
 
     /// A write of PBA: RXA is set if it is an even number from 2 to 48; any other write is ignored (our choice).
-    pub(crate) fn write(&mut self, value: u32)
+    pub fn write(&mut self, value: u32)
         ensures { self.new ≡ allocation_written value self.old }
     {
         let kilobytes = value & RXA_BITS;
@@ -70,8 +68,8 @@ impl PacketBufferAllocation {
         }
     }
 
-    /// What PBA reads: RXA, and the kilobytes of the transmit part in the upper half.
-    pub(crate) fn read(&self) -> u32
+    /// The value of PBA: RXA, and the kilobytes of the transmit part in the upper half.
+    pub fn read(&self) -> u32
         ensures shown { result ≡ allocation_shown self.now }
         ensures allocation { IsAllocation self.now }
     {
@@ -79,10 +77,10 @@ impl PacketBufferAllocation {
         transmit_kilobytes << TXA_SHIFT | self.receive_kilobytes
     }
 
-    /// The size of the receive part in bytes.
-    pub(crate) fn bytes(&self) -> u32
+    /// The size of the receive part in bytes: at most 49,152.
+    pub fn bytes(&self) -> u32
         ensures room { result ≡ self.now * 1024 }
-        ensures fits { result ≤ most_room }
+        ensures fits { result ≤ 49152 }
     {
         self.receive_kilobytes * KILOBYTE_BYTES
     }

@@ -1,7 +1,7 @@
--- A lent bus, and its record of what happened.
+-- The states of a lent bus, and what happened between two of them.
 use Rattle.std.specs.Prelude.{◌≡◌, ◌+◌, ℕ, List, [], length, map, min}
 use Rattle.adapter.specs.World.{World}
-use Rattle.bus.specs.PastOfStretch.{Past}
+use Rattle.bus.specs.Pasts.{Past}
 use Rattle.bus.specs.TickGroups.{behind_group, group_of, played_in, waiting_after, without_go}
 use Rattle.stations.specs.AtomicSteps.{AtomicStep, Watched, tick_of, watched}
 use Rattle.stations.specs.declared.observer.Observer.{Ghosts as OfObserver}
@@ -12,33 +12,34 @@ use Rattle.stations.specs.AtomicRuns.{LeadsTo, counted_of, is_go, past_at, steps
 use Rattle.stations.specs.PlayedTicks.{PlaysTicks}
 use Rattle.stations.specs.declared.lent_bus.LentBus.{LentBus}
 
--- the world of the host whose call it is
+-- The world of the host that makes the call.
 abbrev pub world_here : {O : Type 0} {g : OfObserver O} → LentBus O g → World
 world_here bus = world_at bus.stations.now bus.host
 
 abbrev pub bytes_here : {O : Type 0} {g : OfObserver O} → LentBus O g → ℕ
 bytes_here bus = length (world_here bus).memory
 
--- the network and the observer that are lent
+-- The stations and the observer that are lent.
 abbrev pub watched_by : {O : Type 0} {g : OfObserver O} → LentBus O g → Watched O
 watched_by bus = watched bus.stations.now bus.observer.now
 
--- Both lent buses have the same network and the same observer, for a call of the same host.
+-- Both states are of one bus: the same stations and the same observer are lent, to a call of the same host.
 pub record SameLent {O : Type 0} {g : OfObserver O} (a b : LentBus O g) : Type 0 where
   pub stations : b.stations.ghost_name ≡ a.stations.ghost_name
   pub observer : b.observer.ghost_name ≡ a.observer.ghost_name
   pub host : b.host ≡ a.host
 
--- the count of the calling host's accesses
+-- How the bus counts the accesses of the call.
 pub record CountsAccesses {O : Type 0} {g : OfObserver O} (a b : LentBus O g) (steps : List AtomicStep) (past : Past) : Type 0 where
   -- Each access among the steps is counted.
   pub number : b.accesses ≡ counted_of a.accesses steps
-  -- The count grows by the driver's accesses, up to the greatest count.
+  -- The count grows by the number of accesses, up to the greatest count.
   pub count : min b.accesses most_accesses ≡ min (a.accesses + length past.accesses) most_accesses
 
--- What happened from one state to another: these atomic steps, exactly those of the groups of ticks that belong to these accesses, each
--- group before its access; and the observer was told the outcome of each tick in order, with the number of accesses before it.
-pub record Retells {O : Type 0} {g : OfObserver O} (a b : LentBus O g) (past : Past) : Type 0 where
+-- What happened between two states of a lent bus. The atomic steps `steps` are exactly the accesses in `past`, each
+-- after the ticks up to its Go. The observer was told the outcome of each tick in order, with the number of accesses
+-- before the tick.
+pub record HappenedLent {O : Type 0} {g : OfObserver O} (a b : LentBus O g) (past : Past) : Type 0 where
   pub lent : SameLent a b
   pub steps : List AtomicStep
   pub leads : LeadsTo a.host steps a.stations.now b.stations.now
@@ -48,14 +49,14 @@ pub record Retells {O : Type 0} {g : OfObserver O} (a b : LentBus O g) (past : P
   pub heard : g.heard a.observer.now b.observer.now (steps_told a.accesses steps)
   pub accesses : CountsAccesses a b steps past
 
--- What comes before an access: the next group of ticks is played, and the access is counted.
-pub record Prepared {O : Type 0} {g : OfObserver O} (a b : LentBus O g) : Type 0 where
+-- The bus before an access: the ticks up to the next Go are played, and the access is counted.
+pub record PreparedLent {O : Type 0} {g : OfObserver O} (a b : LentBus O g) : Type 0 where
   pub lent : SameLent a b
   pub plays : PlaysTicks g (group_of is_go a.ticks.now) a.accesses (watched_by a) (watched_by b)
   pub waiting : b.ticks.now ≡ behind_group is_go a.ticks.now
   pub count : b.accesses ≡ min (a.accesses + 1) most_accesses
 
--- What comes after the last access: all ticks that are left are played.
+-- The bus after the last access: all remaining ticks are played, except each Go.
 pub record Finished {O : Type 0} {g : OfObserver O} (a b : LentBus O g) : Type 0 where
   pub lent : SameLent a b
   pub plays : PlaysTicks g (without_go is_go a.ticks.now) a.accesses (watched_by a) (watched_by b)

@@ -1,9 +1,9 @@
 use Rattle.std.proofs.Common.{◌≡◌, ◌≤◌, ◌<◌, ◌++◌, All, vec_capacity}
 use Rattle.descriptors.specs.Ring.{count_of}
 use Rattle.rx_engine.specs.Pieces.{begun_from, frames_from}
-use Rattle.adapter.specs.JoinedPieces.{AreShort}
-use Rattle.adapter.specs.FinishedSlots.{NamesMemory, done_from, finished_in, pieces_from}
-use Rattle.adapter.proofs.finished.append_finished.Given as goal
+use Rattle.rx_engine.specs.JoinedPieces.{AreShort}
+use Rattle.rx_engine.specs.FinishedSlots.{NamesMemory, done_from, finished_in, pieces_from}
+use Rattle.rx_engine.proofs.finished.append_finished.Given as goal
 
 abbrev pub invariant-loop-left : goal.invariant-loop-left
 invariant-loop-left l = record {

@@ -3,11 +3,11 @@ use Rattle.std.proofs.lemmas.List.{length-append, append_assoc, append-nil}
 use Rattle.descriptors.specs.Ring.{address_of, count_of, distance_of, next_of}
 use Rattle.descriptors.specs.RingLaws.{next-below}
 use Rattle.rx_engine.specs.Pieces.{Piece, begun_from, frames_from}
-use Rattle.adapter.specs.HostFrames.{piece_in}
-use Rattle.adapter.specs.JoinedPieces.{AreShort, alone}
-use Rattle.adapter.specs.FinishedSlots.{NamesMemory, done_from, finished_in, pieces_from}
-use Rattle.adapter.proofs.FinishedWalk.{done-next, done-none, is-done-status, slots-begin, Walks, alone-one, piece-is, walks}
-use Rattle.adapter.proofs.finished.append_finished.Goals as goal
+use Rattle.rx_engine.specs.JoinedLaws.{alone-one}
+use Rattle.rx_engine.specs.JoinedPieces.{AreShort, alone}
+use Rattle.rx_engine.specs.FinishedSlots.{NamesMemory, done_from, finished_in, piece_in, pieces_from}
+use Rattle.rx_engine.proofs.FinishedWalk.{done-next, done-none, is-done-status, slots-begin, Walks, piece-is, walks}
+use Rattle.rx_engine.proofs.finished.append_finished.Goals as goal
 
 pub loop-left-init : goal.loop-left-init
 loop-left-init c =
@@ -59,7 +59,7 @@ returns-in_default-clause-frames c =
     sym (append-nil l.frames.items)
     ∙ sym (ap (λ (list : List ℕ). l.frames.items ++ frames_from l.begun.items (map (piece_in memory) list)) slots) ∙ l.invariant.frames
 
--- The next piece, where the slot is done.
+-- The next piece, if the slot is done.
 walk : (c : goal.After-append_piece-arg-in-loop-left-1)
     → Walks c.args.memory.now c.args.ring.now c.loop-left.place c.loop-left.left c.loop-left.begun.items
     (piece_in c.args.memory.now (address_of c.args.ring.now c.loop-left.place))
